@@ -1,0 +1,57 @@
+use Rattle.std.proofs.Common.{◌≡◌, ℕ, ◌+◌, ◌-◌, ◌*◌, ◌/◌, ◌%◌, ◌<◌, Bool, false, not, ◌&&◌, List, [], ◌∷◌, ◌++◌, length, get_or, set, map, sym, ap, ◌∙◌, inl, inr, arith}
+use Rattle.std.specs.List.{range_with_len, zip}
+use Rattle.std.proofs.lemmas.Slice.Zip.{get_or-zip, length-zip}
+use Rattle.std.proofs.Math.Nat.{mod-eq_of_lt}
+use Rattle.std.proofs.lemmas.Nat.{div-mul-add, mod-mul-add}
+use Rattle.std.proofs.lemmas.List.{get_or-set_same, get_or-set_other, length-set, get_or_append_left, get_or-append_right, length-append, length-map, get_or-map}
+use Rattle.std.proofs.lemmas.List.FromFn.{length-map-range_with_len, get_or-map-range_with_len}
+use Rattle.std.proofs.lemmas.Bool.{cases_eq, cases_lt}
+use Rattle.bitmap_core.specs.Chunk.{chunk_bit}
+use Rattle.bitmap_core.specs.Bits.{bit_of, bits, IsChunkCount, IsBitPut}
+use Rattle.bitmap_core.proofs.Places.{index_below, full_len}
+use Rattle.bitmap_core.proofs.ChunkBits.{chunk_bit-mod}
+use Rattle.bitmap_core.proofs.BitLists.{get_or-bits, bits-more, bits_are, bits-same, len_is}
+use Rattle.bitmap_core.proofs.ChunkLists.{bit_of-push_in, bit_of-push_here}
+
+pub bits-put : (n : ℕ) (xs ys : List (List ℕ)) (i : ℕ) (b : Bool) (len : ℕ) (v : List Bool) → IsBitPut n xs ys i b → bits n xs len ≡ v → i < len → bits n ys len ≡ set v i b
+bits-put n xs ys i b len v p e h =
+    bits_are n ys len (set v i b) (length-set v i b ∙ len_is n xs len v e) (λ j s. elim (cases_eq j i) [
+      | inl q ↦ ap (λ k. bit_of n ys k) q ∙ p.here ∙ sym (get_or-set_same v i b false (omega (arith, len_is n xs len v e))) ∙ ap (λ k. get_or (set v i b) k false) (sym q)
+      | inr q ↦ p.others j q ∙ sym (get_or-bits n xs len j false s) ∙ ap (λ x. get_or x j false) e ∙ sym (get_or-set_other v i j b false q)
+    ])
+
+pub bits-push : (n : ℕ) (xs ys : List (List ℕ)) (len : ℕ) (b : Bool) (v : List Bool) → IsBitPut n xs ys len b → bits n xs len ≡ v → bits n ys (len + 1) ≡ v ++ b ∷ []
+bits-push n xs ys len b v p e =
+    bits-more n ys len ∙ ap (λ x. bits n ys len ++ x ∷ []) p.here ∙ ap (λ l. l ++ b ∷ []) (bits-same n xs ys len (λ i s. p.others i (λ q. absurd (omega arith))) ∙ e)
+
+pub bits-pop : (n : ℕ) (xs ys : List (List ℕ)) (last len : ℕ) (v : List Bool) → last + 1 ≡ len → ((i : ℕ) → i < last → bit_of n ys i ≡ bit_of n xs i) → bits n xs len ≡ v → v ≡ bits n ys last ++ bit_of n xs last ∷ []
+bits-pop n xs ys last len v e s h =
+    sym h ∙ ap (λ k. bits n xs k) (sym e) ∙ bits-more n xs last ∙ ap (λ l. l ++ bit_of n xs last ∷ []) (sym (bits-same n xs ys last s))
+
+pub bits-push_chunk : (n : ℕ) (xs : List (List ℕ)) (len : ℕ) (c : List ℕ) (v : List Bool) → 0 < n → len % (8 * n) ≡ 0 → IsChunkCount n (length xs) len → bits n xs len ≡ v → bits n (xs ++ c ∷ []) (len + 8 * n) ≡ v ++ map (chunk_bit n c) (range_with_len 0 (8 * n))
+bits-push_chunk n xs len c v p e k b =
+    let l = len_is n xs len v b in
+    let f = full_len n (length xs) len p k e in
+    let m = length-map-range_with_len (chunk_bit n c) 0 (8 * n) in
+    bits_are n (xs ++ c ∷ []) (len + 8 * n) (v ++ map (chunk_bit n c) (range_with_len 0 (8 * n))) (omega (arith, length-append v (map (chunk_bit n c) (range_with_len 0 (8 * n))))) (λ i h. elim (cases_lt i len) [
+      | inl s ↦ bit_of-push_in n xs c i (index_below n (length xs) len i p s k) ∙ sym (get_or-bits n xs len i false s) ∙ ap (λ x. get_or x i false) b ∙ sym (get_or_append_left v (map (chunk_bit n c) (range_with_len 0 (8 * n))) false i (omega arith))
+      | inr s ↦
+          let at : i ≡ length xs * (8 * n) + (i - len) = grind arith in
+          let q : i / (8 * n) ≡ length xs = ap (λ x. x / (8 * n)) at ∙ div-mul-add (length xs) (8 * n) (i - len) (omega arith) in
+          let r : i % (8 * n) ≡ (i - len) % (8 * n) = ap (λ x. x % (8 * n)) at ∙ mod-mul-add (length xs) (8 * n) (i - len) (omega arith) ∙ sym (mod-eq_of_lt {n = i - len} {m = 8 * n} (omega arith)) in
+          bit_of-push_here n xs c i q ∙ chunk_bit-mod n c i (i - len) p r ∙ sym (get_or-map-range_with_len (chunk_bit n c) 0 (8 * n) (i - len) (i - len) false (omega arith) (omega arith)) ∙ sym (get_or-append_right v (map (chunk_bit n c) (range_with_len 0 (8 * n))) len i false l s)
+    ])
+
+pub bits-flip : (n : ℕ) (xs ys zs : List (List ℕ)) (len : ℕ) (v : List Bool) → bits n xs len ≡ v → ((i : ℕ) → i < len → bit_of n ys i ≡ not (bit_of n xs i)) → ((i : ℕ) → i < len → bit_of n zs i ≡ bit_of n ys i) → bits n zs len ≡ map not v
+bits-flip n xs ys zs len v e f g =
+    bits_are n zs len (map not v) (length-map v not ∙ len_is n xs len v e) (λ i s. g i s ∙ f i s ∙ ap not (sym (get_or-bits n xs len i false s) ∙ ap (λ x. get_or x i false) e) ∙ sym (get_or-map not v i false false (omega (arith, len_is n xs len v e))))
+
+pub bits-and : (n : ℕ) (xs os ys : List (List ℕ)) (len : ℕ) (v w : List Bool) → bits n xs len ≡ v → bits n os len ≡ w → ((i : ℕ) → bit_of n ys i ≡ bit_of n xs i && bit_of n os i) → bits n ys len ≡ map (λ (p : Bool × Bool). p.0 && p.1) (zip v w)
+bits-and n xs os ys len v w e f h =
+    let l = len_is n xs len v e in
+    let m = len_is n os len w f in
+    let z : length (zip v w) ≡ len = omega (arith, length-zip v w) in
+    bits_are n ys len (map (λ (p : Bool × Bool). p.0 && p.1) (zip v w)) (length-map (zip v w) (λ (p : Bool × Bool). p.0 && p.1) ∙ z) (λ i s.
+    let a = sym (get_or-bits n xs len i false s) ∙ ap (λ x. get_or x i false) e in
+    let b = sym (get_or-bits n os len i false s) ∙ ap (λ x. get_or x i false) f in
+    h i ∙ ap (λ x. x && bit_of n os i) a ∙ ap (λ x. get_or v i false && x) b ∙ sym (get_or-map (λ (p : Bool × Bool). p.0 && p.1) (zip v w) i (false, false) false (omega arith) ∙ ap (λ (p : Bool × Bool). p.0 && p.1) (get_or-zip v w i (false, false) (omega arith) (omega arith))))

@@ -1,0 +1,39 @@
+use Rattle.std.proofs.Common.{◌≡◌, ◌+◌, ◌-◌, ◌∙◌, arith}
+use Rattle.bitmap_core.proofs.BitLists.{len_is}
+use Rattle.bitmap_core.proofs.Places.{last_within}
+use Rattle.bitmap_core.proofs.BitEdits.{bits-pop}
+use Rattle.bitmap_core.proofs.ChunkLists.{IsZeroFrom-pop}
+use Rattle.bitmap_core.proofs.bitmap.BitMap.pop.Goals as goal
+
+pub overflow_sub-last : goal.overflow_sub-last
+overflow_sub-last g c = omega (arith, len_is _ _ _ _ c.self.view_is)
+
+pub get_bit-bit-requires : goal.get_bit-bit-requires
+get_bit-bit-requires g c =
+    let l = len_is _ _ _ _ c.self.view_is in
+    let e : c.self.inside.len - 1 + 1 ≡ c.self.inside.len = omega arith in
+    (omega (arith, c.self.invariant.1), (c.self.invariant.0, (c.self.invariant.1, last_within _ _ _ c.self.invariant.0 (rw e c.self.invariant.2))))
+
+pub set_bit-requires : goal.set_bit-requires
+set_bit-requires g c =
+    let l = len_is _ _ _ _ c.self.view_is in
+    let e : c.self.inside.len - 1 + 1 ≡ c.self.inside.len = omega arith in
+    (omega (arith, c.self.invariant.1), (c.self.invariant.0, (c.self.invariant.1, last_within _ _ _ c.self.invariant.0 (rw e c.self.invariant.2))))
+
+pub drop_room-requires : goal.drop_room-requires
+drop_room-requires g c =
+    let l = len_is _ _ _ _ c.self.view_is in
+    let e : c.self.inside.len - 1 + 1 ≡ c.self.inside.len = omega arith in
+    (omega (arith, c.self.invariant.1), (c.self.invariant.0, (c.self.invariant.1, (rw (e, c.set_bit.ensures.count) c.self.invariant.2, IsZeroFrom-pop _ _ _ _ _ e c.set_bit.ensures c.self.invariant.3))))
+
+pub invariant_of-self : goal.invariant_of-self
+invariant_of-self g c =
+    let l = len_is _ _ _ _ c.self.view_is in
+    let e : c.self.inside.len - 1 + 1 ≡ c.self.inside.len = omega arith in
+    (c.self.invariant.0, c.self.invariant.1, c.drop_room.ensures.count, λ i h. c.drop_room.ensures.same i ∙ IsZeroFrom-pop _ _ _ _ _ e c.set_bit.ensures c.self.invariant.3 i h)
+
+pub returns : goal.returns
+returns g c =
+    let l = len_is _ _ _ _ c.self.view_is in
+    let e : c.self.inside.len - 1 + 1 ≡ c.self.inside.len = omega arith in
+    rw c.get_bit-bit.ensures (bits-pop _ _ _ _ _ _ e (λ i h. c.drop_room.ensures.same i ∙ c.set_bit.ensures.others i (λ q. absurd (omega arith))) c.self.view_is)

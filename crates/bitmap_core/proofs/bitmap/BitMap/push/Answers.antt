@@ -1,0 +1,22 @@
+use Rattle.std.proofs.Common.{◌%◌, ◌*◌, ◌∙◌, ap, arith}
+use Rattle.std.proofs.lemmas.Bool.{false≢true}
+use Rattle.bitmap_core.proofs.BitLists.{len_is, bits-same}
+use Rattle.bitmap_core.proofs.BitEdits.{bits-push}
+use Rattle.bitmap_core.proofs.ChunkLists.{IsBitPut_same}
+use Rattle.bitmap_core.proofs.bitmap.BitMap.push.Goals as goal
+use Rattle.bitmap_core.proofs.bitmap.BitMap.push.Goals.{then-bit, else-bit}
+
+pub returns-in_err-make_room-clause-partial : goal.returns-in_err-make_room-clause-partial
+returns-in_err-make_room-clause-partial g c =
+    λ h. absurd (false≢true (c.in_err-make_room.ensures.partial (λ q. h (ap (λ x. x % (8 * g.row.N)) (len_is _ _ _ _ c.self.view_is) ∙ q))))
+
+pub overflow_add-self : goal.overflow_add-self
+overflow_add-self g c = omega (arith, len_is _ _ _ _ c.self.view_is)
+
+pub returns-clause-ok : goal.returns-clause-ok
+returns-clause-ok g c =
+    let e = bits-same _ _ _ _ (λ i _. c.in_ok-make_room.ensures.same i) ∙ c.self.view_is in
+    elim c.if-bit.branch [
+      | then-bit w ↦ rw (w.self-inside-is, w.if-bit.true) (bits-push _ _ _ _ _ _ w.set_bit.ensures e)
+      | else-bit w ↦ rw (w.self-inside-is, w.if-bit.false) (bits-push _ _ _ _ _ _ (IsBitPut_same _ _ _ _ (c.in_ok-make_room.ensures.same _ ∙ c.self.invariant.3 _ (omega arith))) e)
+    ]

@@ -1,0 +1,17 @@
+-- The bits of one chunk.
+use Rattle.std.specs.Prelude.{◌≡◌, ℕ, ◌*◌, ◌/◌, ◌%◌, Bool, List, map, ◌==◌, slice_index_or}
+use Rattle.std.specs.List.{range_with_len}
+use Rattle.std.specs.Int.{bit_at}
+
+-- bit i of a chunk of n bytes: it stands in byte (i / 8) mod n, at place i mod 8
+abbrev pub chunk_bit : ℕ → List ℕ → ℕ → Bool
+chunk_bit n chunk i = bit_at (slice_index_or chunk (i / 8 % n) 0) (i % 8) == 1
+
+-- the bits of a chunk of n bytes, in order
+abbrev pub chunk_bits : ℕ → List ℕ → List Bool
+chunk_bits n chunk = map (chunk_bit n chunk) (range_with_len 0 (8 * n))
+
+-- the chunk has bit i as value, and each bit at another place as the old one has it
+pub record IsBitWritten (n : ℕ) (old new : List ℕ) (i : ℕ) (value : Bool) : Type 0 where
+  pub here : chunk_bit n new i ≡ value
+  pub others : (j : ℕ) → (j % (8 * n) ≡ i % (8 * n) → ⊥) → chunk_bit n new j ≡ chunk_bit n old j
