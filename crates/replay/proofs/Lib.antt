@@ -1,0 +1,5 @@
+pub mod Ends
+pub mod Counting
+pub mod Simulates
+pub mod Runs
+pub mod Steps

@@ -1,0 +1,55 @@
+-- What a session does by its own marks, a machine that it agrees with may do by its touched chunks.
+use Rattle.std.proofs.Common.{◌≡◌, ℕ, List, [], ◌∷◌, ◌++◌, Bool, true, false, Option, Some, None, refl, subst, inl, inr, arith}
+use Rattle.std.specs.Prelude.{◌&&◌, MatchOption, IsTrue, ◌⊎◌, ◌||◌, nat_eq, if◌then◌else◌}
+use Rattle.std.specs.Set.{is_member}
+use Rattle.replay.specs.declared.command.Command.{Command}
+use Rattle.replay.specs.declared.command.Refusal.{Refusal}
+use Rattle.replay.specs.declared.command.Refusal.TheVariants.{NoMemory}
+use Rattle.replay.specs.History.{IsWithin}
+use Rattle.replay.specs.Machine.{Machine, State, Answer, Agrees, StepTo, Step, Accepts, Refuses, after, refusal_of, takes_memory, is_dirty, state_after, touches}
+use Rattle.replay.proofs.Counting.{count_within}
+
+or_assoc : (a b c : Bool) → (a || (b || c)) ≡ ((a || b) || c)
+or_assoc true b c = refl
+or_assoc false b c = refl
+
+or_true : (b : Bool) → (b || true) ≡ true
+or_true true = refl
+or_true false = refl
+
+is_member-append : (xs ys : List ℕ) (q : ℕ) → is_member nat_eq (xs ++ ys) q ≡ (is_member nat_eq xs q || is_member nat_eq ys q)
+is_member-append [] ys q = refl
+is_member-append (x ∷ xs) ys q = rw (is_member-append xs ys q) (or_assoc (nat_eq q x) (is_member nat_eq xs q) (is_member nat_eq ys q))
+
+either_side : (a b c : Bool) → (a ≡ true → b ≡ true) → (a || c) ≡ true → (b || c) ≡ true
+either_side true b c f h = rw (f refl) refl
+either_side false b c f h = rw h (or_true b)
+
+within_both : (xs ys zs : List ℕ) → IsWithin xs ys → IsWithin (xs ++ zs) (ys ++ zs)
+within_both xs ys zs w q h = rw is_member-append (either_side (is_member nat_eq xs q) (is_member nat_eq ys q) (is_member nat_eq zs q) (w q) (rw is_member-append at h))
+
+either : (b : Bool) (zs xs ys : List ℕ) → IsWithin xs ys → IsWithin (if b then xs ++ zs else []) (if b then ys ++ zs else [])
+either true zs xs ys w = within_both xs ys zs w
+either false zs xs ys w = λ q h. h
+
+agrees_after : (N : ℕ) (s : State) (marks touched : List ℕ) (command : Command N) (cost : ℕ) (new : Machine) → IsWithin marks touched → Agrees new (after N (record { state = s; touched = marks }) command cost) → Agrees new (after N (record { state = s; touched = touched }) command cost)
+agrees_after N s marks touched command cost new w a = record { same = a.same; within = λ k h. either (is_dirty s && is_dirty (state_after N s command 0)) (touches N s command) marks touched w k (a.within k h) }
+
+abbrev Same : Machine → Machine → Type 0
+Same a b = a ≡ b
+
+by_refusal : (N : ℕ) (s : State) (marks touched : List ℕ) (command : Command N) (answer : Answer) (new : Machine) (r : Option Refusal) → IsWithin marks touched
+    → MatchOption r (Accepts N Agrees (record { state = s; touched = marks }) command answer new ⊎ (IsTrue (takes_memory N s command) × Refuses N Agrees (record { state = s; touched = marks }) NoMemory answer new)) (λ refusal. Refuses N Agrees (record { state = s; touched = marks }) refusal answer new)
+    → (next : Machine) × Agrees new next × MatchOption r (Accepts N Same (record { state = s; touched = touched }) command answer next ⊎ (IsTrue (takes_memory N s command) × Refuses N Same (record { state = s; touched = touched }) NoMemory answer next)) (λ refusal. Refuses N Same (record { state = s; touched = touched }) refusal answer next)
+by_refusal N s marks touched command answer new (Some refusal) w h = (record { state = s; touched = touched }, record { same = h.1.same; within = λ k x. w k (h.1.within k x) }, (h.0, refl))
+by_refusal N s marks touched command answer new None w (inl h) = (after N (record { state = s; touched = touched }) command h.1.0, agrees_after N s marks touched command h.1.0 new w h.1.2, inl (h.0, (h.1.0, omega (arith, h.1.1, count_within marks touched w), refl)))
+by_refusal N s marks touched command answer new None w (inr h) = (record { state = s; touched = touched }, record { same = h.1.1.same; within = λ k x. w k (h.1.1.within k x) }, inr (h.0, (h.1.0, refl)))
+
+simulated : (N : ℕ) (s : State) (marks touched : List ℕ) (command : Command N) (answer : Answer) (new : Machine) → IsWithin marks touched → StepTo N Agrees (record { state = s; touched = marks }) command answer new → (next : Machine) × Agrees new next × Step N (record { state = s; touched = touched }) command answer next
+simulated N s marks touched command answer new w step = by_refusal N s marks touched command answer new (refusal_of N s command) w step
+
+-- a session's step is one of each machine that agrees with it
+pub simulates : (N : ℕ) (old new before : Machine) (command : Command N) (answer : Answer) → Agrees old before → StepTo N Agrees old command answer new → (next : Machine) × Agrees new next × Step N before command answer next
+simulates N old new before command answer a step =
+    let from : StepTo N Agrees (record { state = before.state; touched = old.touched }) command answer new = subst (λ (s : State). StepTo N Agrees (record { state = s; touched = old.touched }) command answer new) a.same step in
+    simulated N before.state old.touched before.touched command answer new a.within from

@@ -1,0 +1,66 @@
+-- A command that no refusal holds of is accepted.
+use Rattle.std.proofs.Common.{◌≡◌, ◌≢◌, ℕ, ◌+◌, ◌<◌, ◌≤◌, ◌^◌, List, [], ◌∷◌, ◌++◌, Bool, Some, None, Option, refl, ap, inl, arith, leb, false, length, eqb}
+use Rattle.std.specs.Prelude.{MatchOption, nat_eq}
+use Rattle.std.specs.Option.{option_map}
+use Rattle.std.specs.Map.{lookup}
+use Rattle.std.proofs.lemmas.Bool.{false≢true, ne_eqb}
+use Rattle.std.proofs.lemmas.Bool.Decides.{nat_tests}
+use Rattle.std.proofs.lemmas.Map.Made.{lookup-map_values}
+use Rattle.bitmap_core.specs.PrunedBits.{PrunedBits, unpruned_bits, bit_len, pushed, popped, last_bit, set_at}
+use Rattle.replay.specs.declared.command.Command.TheVariants.{Push, Pop, Set, Commit, Abort}
+use Rattle.replay.specs.History.{History, kept_under, latest}
+use Rattle.replay.specs.Copies.{whole}
+use Rattle.replay.specs.Machine.{Machine, Done, Bit, Agrees, StepTo}
+use Rattle.replay.specs.Seen.{no_costs}
+
+-- a session without and with pending edits
+abbrev pub clean : PrunedBits → History → Machine
+clean current history = record { state = record { current = current; pending = None; history = history; costs = no_costs history }; touched = [] }
+
+abbrev pub dirty : PrunedBits → History → PrunedBits → Machine
+dirty current history pending = record { state = record { current = current; pending = Some pending; history = history; costs = no_costs history }; touched = [] }
+
+not_too_long : (n : ℕ) → n + 1 < 2 ^ 64 → leb (2 ^ 64) (n + 1) ≡ false
+not_too_long n h = grind (arith, nat_tests)
+
+not_past : (len k : ℕ) → k < len → leb len k ≡ false
+not_past len k h = grind (arith, nat_tests)
+
+pub push_accepted : (N : ℕ) (current pending : PrunedBits) (history : History) (value : Bool) → bit_len N pending + 1 < 2 ^ 64 → StepTo N Agrees (dirty current history pending) (Push value) Done (dirty current history (pushed pending value))
+push_accepted N current pending history value bound = rw (not_too_long _ bound) (inl (refl, (0, omega arith, record { same = refl; within = λ q h. absurd (false≢true h) })))
+
+pub pop_accepted : (N : ℕ) (current pending : PrunedBits) (history : History) → 0 < length pending.bits → StepTo N Agrees (dirty current history pending) Pop (Bit (last_bit pending)) (dirty current history (popped pending))
+pop_accepted N current pending history some =
+    let e : eqb (length pending.bits) 0 ≡ false = grind (arith, nat_tests) in
+    rw e (inl (refl, (0, omega arith, record { same = refl; within = λ q h. absurd (false≢true h) })))
+
+pub set_accepted : (N : ℕ) (current pending : PrunedBits) (history : History) (position : ℕ) (value : Bool) → position < bit_len N pending → StepTo N Agrees (dirty current history pending) (Set position value) Done (dirty current history (set_at N pending position value))
+set_accepted N current pending history position value bound = rw (not_past _ _ bound) (inl (refl, (0, omega arith, record { same = refl; within = λ q h. absurd (false≢true h) })))
+
+pub abort_accepted : (N : ℕ) (current pending : PrunedBits) (history : History) → StepTo N Agrees (dirty current history pending) Abort Done (clean current history)
+abort_accepted N current pending history = inl (refl, (0, omega arith, record { same = refl; within = λ q h. absurd (false≢true h) }))
+
+-- the commits that are kept are below the number
+abbrev pub IsAbove : Option ℕ → ℕ → Type 0
+IsAbove last number = MatchOption last (0 ≤ number) (λ previous. previous < number)
+
+-- one more copy costs nothing
+no_costs-more : (history : History) (number : ℕ) (b : PrunedBits) → no_costs (history ++ (number, b) ∷ []) ≡ no_costs history ++ (number, 0) ∷ []
+no_costs-more [] number b = refl
+no_costs-more (e ∷ history) number b = ap (λ (xs : List (ℕ × ℕ)). (e.0, 0) ∷ xs) (no_costs-more history number b)
+
+kept_more : (current pending : PrunedBits) (history : History) (number : ℕ) → (clean pending (history ++ (number, pending) ∷ [])).state ≡ record { current = pending; pending = None; history = history ++ (number, pending) ∷ []; costs = no_costs history ++ (number, 0) ∷ [] }
+kept_more current pending history number = rw (no_costs-more history number pending) refl
+
+commit_at : (N : ℕ) (current pending : PrunedBits) (history : History) (number : ℕ) (last : Option ℕ) → latest history ≡ last → number ≢ 18446744073709551615 → IsAbove last number → StepTo N Agrees (dirty current history pending) (Commit number) Done (clean pending (history ++ (number, pending) ∷ []))
+commit_at N current pending history number None e m a =
+    rw (ne_eqb number 18446744073709551615 m, e) (inl (refl, (0, omega arith, record { same = kept_more current pending history number; within = λ q h. absurd (false≢true h) })))
+commit_at N current pending history number (Some previous) e m a =
+    rw (ne_eqb number 18446744073709551615 m, e, not_past _ _ a) (inl (refl, (0, omega arith, record { same = kept_more current pending history number; within = λ q h. absurd (false≢true h) })))
+
+pub commit_accepted : (N : ℕ) (current pending : PrunedBits) (history : History) (number : ℕ) → number ≢ 18446744073709551615 → IsAbove (latest history) number → StepTo N Agrees (dirty current history pending) (Commit number) Done (clean pending (history ++ (number, pending) ∷ []))
+commit_accepted N current pending history number m h = commit_at N current pending history number (latest history) refl m h
+
+-- a look-up among whole copies
+pub kept_whole : (copies : List (ℕ × List Bool)) (number : ℕ) → kept_under (whole copies) number ≡ option_map unpruned_bits (lookup (nat_eq number) copies)
+kept_whole copies number = lookup-map_values unpruned_bits (nat_eq number) copies

@@ -1,0 +1,5 @@
+pub mod Copies
+pub mod History
+pub mod Machine
+pub mod Seen
+pub mod Width

@@ -1,0 +1,56 @@
+//! Commands, and the replies to them.
+
+use bitmap_core::bitmap::BitMap;
+
+/// What a session is asked to do. Positions count bits from 0.
+#[derive(Drop, Debug)]
+pub enum Command<const N: usize> {
+    /// Begins a batch on a copy of the current bitmap.
+    Begin,
+    /// Appends a bit to the pending bitmap.
+    Push(bool),
+    /// Removes and replies the last bit of the pending bitmap.
+    Pop,
+    /// Replaces the bit at a position of the pending bitmap.
+    Set(u64, bool),
+    /// Replies the bit at a position: of the pending bitmap in a batch, else of the current one.
+    Get(u64),
+    /// Replies the length, as `Get` reads.
+    Len,
+    /// Ends the batch: the pending bitmap is current, and kept under the number.
+    Commit(u64),
+    /// Ends the batch and drops its edits.
+    Abort,
+    /// Replies the bitmap that was committed under the number.
+    At(u64),
+}
+
+/// Why a command was refused. Refused, it has changed nothing.
+#[derive(Clone, Copy, Debug, PartialEq, Eq)]
+pub enum Refusal {
+    /// The command wants a batch and there is none, or the other way round.
+    WrongMode,
+    /// The position is at or past the length.
+    OutOfBounds,
+    /// The length would pass `u64`.
+    TooLong,
+    /// There is no bit to pop.
+    NoRetainedBit,
+    /// The number is `u64::MAX`, which is never kept.
+    ReservedCommitNumber,
+    /// The number is not above the latest kept one, `previous`.
+    NonMonotonicCommit { previous: u64, attempted: u64 },
+    /// There was not enough memory.
+    NoMemory,
+}
+
+/// What a session replies.
+#[derive(Drop)]
+pub enum Reply<const N: usize> {
+    Done,
+    Bit(bool),
+    Number(u64),
+    /// A kept bitmap, or `None` where the number is not kept.
+    Snapshot(Option<BitMap<N>>),
+    Refused(Refusal),
+}

@@ -1,0 +1,49 @@
+//! Runs a script of commands on a bitmap and prints the replies.
+#![tactic(auto)]
+
+mod command;
+mod program;
+mod script;
+mod session;
+mod store;
+#[cfg(test)]
+mod tests;
+
+use std::fs::File;
+use std::process::ExitCode;
+use std::{env, io};
+
+// The words after the program's name.
+fn read_words(rt: &HostRuntime) -> Result<Vec<String>, io::Error> {
+    Ok(env::args(rt)?.skip(1).collect(rt.alloc())?)
+}
+
+// Ends for the want of words: words that are not text are wrong arguments too.
+fn end_without_words(rt: &HostRuntime, error: io::Error) -> ExitCode {
+    if error.kind() == io::ErrorKind::OutOfMemory {
+        let _ = rt.eprintln("replay: out of memory");
+        return ExitCode::from(3);
+    }
+    let _ = rt.eprintln(program::USAGE);
+    ExitCode::from(2)
+}
+
+fn main(rt: HostRuntime) -> ExitCode {
+    let words = match read_words(&rt) {
+        Ok(words) => words,
+        Err(error) => return end_without_words(&rt, error),
+    };
+    let Some(width) = program::read_width(words.as_slice()) else {
+        let _ = rt.eprintln(program::USAGE);
+        return ExitCode::from(2);
+    };
+    let script = File::open(&rt, words[1].as_str());
+    let status = program::run_script(
+        rt.alloc(),
+        width,
+        script,
+        &mut rt.stdout(),
+        &mut rt.stderr(),
+    );
+    ExitCode::from(status)
+}

@@ -1,0 +1,221 @@
+//! The program: a script is read, checked, run, and its replies are printed.
+
+ghost use Rattle.std.specs.Prelude.{◌≡◌, ℕ, ◌*◌, ◌^◌, ◌<◌, length, IfSome, OnSome};
+ghost use Rattle.replay.specs.Width.{IsWidth};
+
+use crate::command::{Command, Refusal, Reply};
+use crate::script;
+use crate::session::Session;
+use bitmap_core::bitmap::BitMap;
+use std::alloc::{AllocError, Global};
+use std::io;
+use std::io::{BufWriter, Read, Write};
+
+/// What is said of wrong arguments.
+pub const USAGE: &str = "replay: usage: replay WIDTH SCRIPT, WIDTH one of 1, 3, 4, 8, 32";
+
+// Why a script was not run, or its replies not printed.
+enum Fault {
+    CannotRead,
+    // The line, counted from 0.
+    NotACommand(usize),
+    OutOfMemory,
+    CannotWrite,
+}
+
+impl From<AllocError> for Fault {
+    fn from(_error: AllocError) -> Fault {
+        Fault::OutOfMemory
+    }
+}
+
+// An error of a reader, or of what stands between it and the program.
+fn read_fault(error: io::Error) -> Fault {
+    match error.kind() {
+        io::ErrorKind::OutOfMemory => Fault::OutOfMemory,
+        _ => Fault::CannotRead,
+    }
+}
+
+// An error of the writer, or of the buffer before it.
+fn write_fault(error: io::Error) -> Fault {
+    match error.kind() {
+        io::ErrorKind::OutOfMemory => Fault::OutOfMemory,
+        _ => Fault::CannotWrite,
+    }
+}
+
+/// The width in bytes a chunk, where there are exactly two words and the first is one of the five widths.
+pub fn read_width(args: &[String]) -> Option<u8>
+    ensures width { IfSome result IsWidth }
+    ensures words { OnSome result (length args.now ≡ 2) }
+{
+    let [width, _] = args else {
+        return None;
+    };
+    match width.as_bytes() {
+        b"1" => Some(1),
+        b"3" => Some(3),
+        b"4" => Some(4),
+        b"8" => Some(8),
+        b"32" => Some(32),
+        _ => None,
+    }
+}
+
+fn read_all<R: Read + Drop>(alloc: Global, script: Result<R, io::Error>) -> Result<Vec<u8>, Fault> {
+    let mut text = Vec::new(alloc);
+    let mut reader = script.map_err(read_fault)?;
+    reader.read_to_end(&mut text).map_err(read_fault)?;
+    Ok(text)
+}
+
+// Finds the first line that is no command, and takes no memory.
+fn check_lines<const N: usize>(text: &[u8]) -> Result<(), Fault> {
+    for (index, line) in text.split(|byte| *byte == b'\n').enumerate() {
+        if !script::is_skipped(line) && script::command::<N>(line).is_none() {
+            return Err(Fault::NotACommand(index));
+        }
+    }
+    Ok(())
+}
+
+fn read_commands<const N: usize>(alloc: Global, text: &[u8]) -> Result<Vec<Command<N>>, Fault> {
+    check_lines::<N>(text)?;
+    let mut commands = Vec::new(alloc);
+    for line in text.split(|byte| *byte == b'\n') {
+        if !script::is_skipped(line)
+            && let Some(command) = script::command::<N>(line)
+        {
+            commands.push(command).map_err(AllocError::from)?;
+        }
+    }
+    Ok(commands)
+}
+
+fn write_refusal<W: Write>(out: &mut W, refusal: Refusal) -> io::Result<()> {
+    match refusal {
+        Refusal::WrongMode => writeln!(out, "refused wrong-mode"),
+        Refusal::OutOfBounds => writeln!(out, "refused out-of-bounds"),
+        Refusal::TooLong => writeln!(out, "refused too-long"),
+        Refusal::NoRetainedBit => writeln!(out, "refused no-retained-bit"),
+        Refusal::ReservedCommitNumber => writeln!(out, "refused reserved-commit-number"),
+        Refusal::NonMonotonicCommit {
+            previous,
+            attempted,
+        } => writeln!(out, "refused non-monotonic-commit {previous} {attempted}"),
+        Refusal::NoMemory => writeln!(out, "refused no-memory"),
+    }
+}
+
+// The bits in order, `-` where there are none.
+fn write_bits<const N: usize, W: Write>(out: &mut W, bits: &BitMap<N>) -> io::Result<()> {
+    if bits.is_empty() {
+        return out.write_all(b"-");
+    }
+    for position in 0..bits.len() {
+        let digit = if bits.get(position) { b"1" } else { b"0" };
+        out.write_all(digit)?;
+    }
+    Ok(())
+}
+
+fn write_reply<const N: usize, W: Write>(out: &mut W, reply: &Reply<N>) -> io::Result<()> {
+    match reply {
+        Reply::Done => writeln!(out, "done"),
+        Reply::Bit(bit) => {
+            let digit = u8::from(*bit);
+            writeln!(out, "bit {digit}")
+        }
+        Reply::Number(number) => writeln!(out, "number {number}"),
+        Reply::Snapshot(None) => writeln!(out, "none"),
+        Reply::Snapshot(Some(bits)) => {
+            write!(out, "bitmap 0 ")?;
+            write_bits(out, bits)?;
+            writeln!(out)
+        }
+        Reply::Refused(refusal) => write_refusal(out, *refusal),
+    }
+}
+
+fn write_replies<const N: usize, W: Write>(
+    alloc: Global,
+    replies: &[Reply<N>],
+    out: &mut W,
+) -> io::Result<()> {
+    let mut buffer = BufWriter::new(alloc, out)?;
+    for reply in replies {
+        write_reply(&mut buffer, reply)?;
+    }
+    buffer.flush()
+}
+
+fn run_at<const N: usize, W: Write>(alloc: Global, text: &[u8], out: &mut W) -> Result<(), Fault>
+    requires positive { 0 < N }
+    requires fits { 8 * N < 2 ^ 64 }
+{
+    let commands = read_commands::<N>(alloc, text)?;
+    let mut session = Session::<N>::new(alloc);
+    let mut replies = Vec::new(alloc);
+    session.run(commands.as_slice(), &mut replies)?;
+    write_replies(alloc, replies.as_slice(), out).map_err(write_fault)
+}
+
+fn run_width<R: Read + Drop, W: Write>(
+    alloc: Global,
+    width: u8,
+    script: Result<R, io::Error>,
+    out: &mut W,
+) -> Result<(), Fault>
+    requires { IsWidth width }
+{
+    let text = read_all(alloc, script)?;
+    match width {
+        1 => run_at::<1, W>(alloc, text.as_slice(), out),
+        3 => run_at::<3, W>(alloc, text.as_slice(), out),
+        4 => run_at::<4, W>(alloc, text.as_slice(), out),
+        8 => run_at::<8, W>(alloc, text.as_slice(), out),
+        32 => run_at::<32, W>(alloc, text.as_slice(), out),
+        _ => unreachable!(),
+    }
+}
+
+// Says what went wrong, and answers the exit status.
+fn report<E: Write>(fault: Fault, err: &mut E) -> u8 {
+    match fault {
+        Fault::CannotRead => {
+            let _ = writeln!(err, "replay: cannot read the script");
+            3
+        }
+        Fault::NotACommand(index) => {
+            let line = index as u128 + 1;
+            let _ = writeln!(err, "replay: line {line} is not a command");
+            2
+        }
+        Fault::OutOfMemory => {
+            let _ = writeln!(err, "replay: out of memory");
+            3
+        }
+        Fault::CannotWrite => {
+            let _ = writeln!(err, "replay: cannot write");
+            3
+        }
+    }
+}
+
+/// Runs the script that opening a file answered, with chunks of `width` bytes; prints the replies to `out`, or one
+/// line on what went wrong to `err`; and answers the exit status.
+pub fn run_script<R: Read + Drop, W: Write, E: Write>(
+    alloc: Global,
+    width: u8,
+    script: Result<R, io::Error>,
+    out: &mut W,
+    err: &mut E,
+) -> u8
+    requires { IsWidth width }
+{
+    match run_width(alloc, width, script, out) {
+        Ok(()) => 0,
+        Err(fault) => report(fault, err),
+    }
+}

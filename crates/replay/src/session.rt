@@ -1,0 +1,263 @@
+//! A session: runs commands on a bitmap with its history.
+
+ghost use Rattle.std.specs.Prelude.{◌≡◌, ℕ, ◌+◌, ◌*◌, ◌^◌, ◌<◌, ◌≤◌, List, [], ◌∷◌, ◌++◌, length, map, OnErr, OnOk, vec_len, vec_capacity};
+ghost use Rattle.bitmap_core.specs.PrunedBits.{unpruned_bits};
+ghost use Rattle.replay.specs.Machine.{Agrees, StepTo, RunsOn, shown, start};
+ghost use Rattle.replay.specs.Seen.{seen, said};
+
+use crate::command::{Command, Refusal, Reply};
+use crate::store::{Clean, Dirty};
+use bitmap_core::bitmap::BitMap;
+use std::alloc::{AllocError, Global};
+use std::marker::Model;
+use std::mem;
+
+// The two modes.
+#[derive(Drop)]
+enum State<const N: usize> {
+    Clean(Clean<N>),
+    Dirty(Dirty<N>),
+}
+
+fn begin<const N: usize>(state: State<N>) -> (State<N>, Reply<N>)
+    ensures { StepTo N Agrees (seen state.entry) Command.Begin (said result.1) (seen result.0) }
+{
+    match state {
+        State::Clean(clean) => match clean.into_dirty() {
+            Ok(dirty) => (State::Dirty(dirty), Reply::Done),
+            Err((clean, _)) => (State::Clean(clean), Reply::Refused(Refusal::NoMemory)),
+        },
+        State::Dirty(dirty) => (State::Dirty(dirty), Reply::Refused(Refusal::WrongMode)),
+    }
+}
+
+#[tactic(auto, using(crate::proofs::Steps::push_accepted))]
+fn push<const N: usize>(state: State<N>, bit: bool) -> (State<N>, Reply<N>)
+    ensures { StepTo N Agrees (seen state.entry) (Command.Push bit) (said result.1) (seen result.0) }
+{
+    match state {
+        State::Clean(clean) => (State::Clean(clean), Reply::Refused(Refusal::WrongMode)),
+        State::Dirty(mut dirty) => {
+            if dirty.pending().len() == u64::MAX {
+                return (State::Dirty(dirty), Reply::Refused(Refusal::TooLong));
+            }
+            match dirty.push(bit) {
+                Ok(()) => (State::Dirty(dirty), Reply::Done),
+                Err(_) => (State::Dirty(dirty), Reply::Refused(Refusal::NoMemory)),
+            }
+        }
+    }
+}
+
+#[tactic(auto, using(crate::proofs::Steps::pop_accepted))]
+fn pop<const N: usize>(state: State<N>) -> (State<N>, Reply<N>)
+    ensures { StepTo N Agrees (seen state.entry) Command.Pop (said result.1) (seen result.0) }
+{
+    match state {
+        State::Clean(clean) => (State::Clean(clean), Reply::Refused(Refusal::WrongMode)),
+        State::Dirty(mut dirty) => {
+            if dirty.pending().is_empty() {
+                return (State::Dirty(dirty), Reply::Refused(Refusal::NoRetainedBit));
+            }
+            let bit = dirty.pop();
+            (State::Dirty(dirty), Reply::Bit(bit))
+        }
+    }
+}
+
+#[tactic(auto, using(crate::proofs::Steps::set_accepted))]
+fn set<const N: usize>(state: State<N>, position: u64, value: bool) -> (State<N>, Reply<N>)
+    ensures { StepTo N Agrees (seen state.entry) (Command.Set position value) (said result.1) (seen result.0) }
+{
+    match state {
+        State::Clean(clean) => (State::Clean(clean), Reply::Refused(Refusal::WrongMode)),
+        State::Dirty(mut dirty) => {
+            if position >= dirty.pending().len() {
+                return (State::Dirty(dirty), Reply::Refused(Refusal::OutOfBounds));
+            }
+            dirty.set(position, value);
+            (State::Dirty(dirty), Reply::Done)
+        }
+    }
+}
+
+#[tactic(auto, using(crate::proofs::Steps::commit_accepted))]
+fn commit<const N: usize>(state: State<N>, number: u64) -> (State<N>, Reply<N>)
+    ensures { StepTo N Agrees (seen state.entry) (Command.Commit number) (said result.1) (seen result.0) }
+{
+    match state {
+        State::Clean(clean) => (State::Clean(clean), Reply::Refused(Refusal::WrongMode)),
+        State::Dirty(dirty) => {
+            if number == u64::MAX {
+                return (
+                    State::Dirty(dirty),
+                    Reply::Refused(Refusal::ReservedCommitNumber),
+                );
+            }
+            if let Some(previous) = dirty.latest()
+                && number <= previous
+            {
+                let refusal = Refusal::NonMonotonicCommit {
+                    previous,
+                    attempted: number,
+                };
+                return (State::Dirty(dirty), Reply::Refused(refusal));
+            }
+            match dirty.commit(number) {
+                Ok(clean) => (State::Clean(clean), Reply::Done),
+                Err((dirty, _)) => (State::Dirty(dirty), Reply::Refused(Refusal::NoMemory)),
+            }
+        }
+    }
+}
+
+#[tactic(auto, using(crate::proofs::Steps::abort_accepted))]
+fn abort<const N: usize>(state: State<N>) -> (State<N>, Reply<N>)
+    ensures { StepTo N Agrees (seen state.entry) Command.Abort (said result.1) (seen result.0) }
+{
+    match state {
+        State::Clean(clean) => (State::Clean(clean), Reply::Refused(Refusal::WrongMode)),
+        State::Dirty(dirty) => (State::Clean(dirty.abort()), Reply::Done),
+    }
+}
+
+// What reads show: the pending bitmap in a batch, else the current one.
+fn shown_bits<'a, const N: usize>(state: &'a State<N>) -> &'a BitMap<N>
+    ensures { unpruned_bits result.now ≡ shown (seen state.now).state }
+{
+    match state {
+        State::Clean(clean) => clean.current(),
+        State::Dirty(dirty) => dirty.pending(),
+    }
+}
+
+fn get<const N: usize>(state: &State<N>, position: u64) -> Reply<N>
+    ensures { StepTo N Agrees (seen state.now) (Command.Get position) (said result) (seen state.now) }
+{
+    let bits = shown_bits(state);
+    if position >= bits.len() {
+        Reply::Refused(Refusal::OutOfBounds)
+    } else {
+        Reply::Bit(bits.get(position))
+    }
+}
+
+fn len<const N: usize>(state: &State<N>) -> Reply<N>
+    ensures { StepTo N Agrees (seen state.now) Command.Len (said result) (seen state.now) }
+{
+    Reply::Number(shown_bits(state).len())
+}
+
+fn at<const N: usize>(state: &State<N>, number: u64) -> Reply<N>
+    ensures { StepTo N Agrees (seen state.now) (Command.At number) (said result) (seen state.now) }
+{
+    match state {
+        State::Clean(clean) => match clean.at(number) {
+            Ok(bits) => Reply::Snapshot(bits),
+            Err(_) => Reply::Refused(Refusal::NoMemory),
+        },
+        State::Dirty(_) => Reply::Refused(Refusal::WrongMode),
+    }
+}
+
+// One command: the state after it, and the reply.
+fn step<const N: usize>(state: State<N>, command: &Command<N>) -> (State<N>, Reply<N>)
+    ensures { StepTo N Agrees (seen state.entry) command.now (said result.1) (seen result.0) }
+{
+    match command {
+        Command::Begin => begin(state),
+        Command::Push(bit) => push(state, *bit),
+        Command::Pop => pop(state),
+        Command::Set(position, value) => set(state, *position, *value),
+        Command::Commit(number) => commit(state, *number),
+        Command::Abort => abort(state),
+        Command::Len => {
+            let reply = len(&state);
+            (state, reply)
+        }
+        Command::Get(position) => {
+            let reply = get(&state, *position);
+            (state, reply)
+        }
+        Command::At(number) => {
+            let reply = at(&state, *number);
+            (state, reply)
+        }
+    }
+}
+
+// Appends a reply that there is room for.
+fn append<const N: usize>(replies: &mut Vec<Reply<N>>, reply: Reply<N>)
+    requires { vec_len replies.old < vec_capacity replies.old }
+    ensures items { replies.new.items ≡ replies.old.items ++ reply.entry ∷ [] }
+    ensures len { vec_len replies.new ≡ vec_len replies.old + 1 }
+    ensures room { vec_capacity replies.old ≤ vec_capacity replies.new }
+{
+    let _ = replies.push(reply);
+}
+
+/// A bitmap of `N`-byte chunks with its history, which commands read and change.
+#[derive(Drop)]
+pub struct Session<const N: usize> {
+    state: State<N>,
+    alloc: Global,
+}
+
+impl<const N: usize> Model for Session<N> {
+    ghost use Rattle.std.specs.Prelude.{ℕ, ◌*◌, ◌^◌, ◌<◌};
+    ghost use Rattle.replay.specs.Machine.{Machine};
+
+    ghost Value = { Machine };
+
+    ghost use Rattle.replay.specs.Seen.{seen};
+
+    ghost view = { λ s. seen s.state };
+
+    ghost invariant = { λ s. (0 < N) × (8 * N < 2 ^ 64) };
+}
+
+impl<const N: usize> Session<N> {
+    /// Clean, empty and without commits. `N` is at least 1, and `8N` fits `u64`. No memory.
+    pub fn new(alloc: Global) -> Self
+        requires positive { 0 < N }
+        requires fits { 8 * N < 2 ^ 64 }
+        ensures { result ≡ start }
+    {
+        Session {
+            state: State::Clean(Clean::new(alloc)),
+            alloc,
+        }
+    }
+
+    // Runs one command.
+    fn serve(&mut self, command: &Command<N>) -> Reply<N>
+        ensures { StepTo N Agrees self.old command.now (said result) self.new }
+    {
+        let empty = State::Clean(Clean::new(self.alloc));
+        let state = mem::replace(&mut self.state, empty);
+        let (state, reply) = step(state, command);
+        self.state = state;
+        reply
+    }
+
+    /// Runs the commands in order and appends one reply for each.
+    ///
+    /// Room for the replies is taken first: refused there, the session and the replies are as they were. A command
+    /// that finds no memory later is answered by `NoMemory`.
+    pub fn run(
+        &mut self,
+        commands: &[Command<N>],
+        replies: &mut Vec<Reply<N>>,
+    ) -> Result<(), AllocError>
+        ensures run { OnOk result ((new : List (Reply N)) × (replies.new.items ≡ replies.old.items ++ new)
+            × RunsOn N self.old commands.now (map said new) self.new) }
+        ensures refused { OnErr result ((self.new ≡ self.old) × (replies.new.items ≡ replies.old.items)) }
+    {
+        replies.reserve(commands.len())?;
+        for command in commands {
+            let reply = self.serve(command);
+            append(replies, reply);
+        }
+        Ok(())
+    }
+}
