@@ -1,6 +1,6 @@
 //! The bits of one chunk. Masks and bytes are touched here and nowhere else.
 
-ghost use Rattle.std.specs.Prelude.{◌≡◌, ℕ, ◌*◌, ◌/◌, ◌%◌, ◌^◌, ◌<◌, Bool};
+ghost use Rattle.std.specs.Prelude.{◌≡◌, ℕ, ◌-◌, ◌*◌, ◌/◌, ◌%◌, ◌^◌, ◌<◌, ◌≤◌, Bool, false, not};
 ghost use Rattle.bitmap_core.specs.Chunk.{chunk_bit, IsBitWritten};
 
 // The byte of a chunk in which a bit stands.
@@ -18,6 +18,13 @@ fn bit_mask(bit: u64) -> u8
     ensures fits { result < 256 }
 {
     1 << (bit % 8)
+}
+
+// The mask of the bits below a bit in its byte.
+fn low_mask(bit: u64) -> u8
+    ensures { result ≡ 2 ^ (bit % 8) - 1 }
+{
+    (1 << (bit % 8)) - 1
 }
 
 /// Bit `bit mod 8N` of a chunk. No memory.
@@ -40,5 +47,29 @@ pub fn set_bit<const N: usize>(chunk: &mut [u8; N], bit: u64, value: bool)
         chunk[byte] |= mask;
     } else {
         chunk[byte] &= !mask;
+    }
+}
+
+/// Inverts bit `bit mod 8N` of a chunk, and no other. No memory.
+pub fn flip_bit<const N: usize>(chunk: &mut [u8; N], bit: u64)
+    requires positive { 0 < N }
+    requires fits { 8 * N < 2 ^ 64 }
+    ensures { IsBitWritten N chunk.old chunk.new bit (not (chunk_bit N chunk.old bit)) }
+{
+    chunk[byte_index::<N>(bit)] ^= bit_mask(bit);
+}
+
+/// Clears the bits of a chunk from a position below `8N` on. No memory.
+pub fn clear_from<const N: usize>(chunk: &mut [u8; N], from: u64)
+    requires positive { 0 < N }
+    requires fits { 8 * N < 2 ^ 64 }
+    requires within { from < 8 * N }
+    ensures below { (i : ℕ) → i % (8 * N) < from → chunk_bit N chunk.new i ≡ chunk_bit N chunk.old i }
+    ensures above { (i : ℕ) → from ≤ i % (8 * N) → chunk_bit N chunk.new i ≡ false }
+{
+    let byte = (from / 8) as usize;
+    chunk[byte] &= low_mask(from);
+    for j in byte + 1..N {
+        chunk[j] = 0;
     }
 }
