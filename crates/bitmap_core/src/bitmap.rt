@@ -10,7 +10,7 @@ mod growth;
 use crate::bitmap::chunks::{
     chunk_bits, chunk_count, clear_tail, drop_room, flip_bit, get_bit, make_room, set_bit,
 };
-use crate::bitmap::growth::{append_copies, extend_zeros, shorten};
+use crate::bitmap::growth::{append_bools, append_copies, extend_zeros, from_bools, shorten};
 use crate::chunk;
 use std::alloc::{AllocError, Global};
 use std::collections::VecDeque;
@@ -174,6 +174,32 @@ impl<const N: usize> BitMap<N> {
         append_copies(&mut chunks, chunk_count::<N>(size), [u8::MAX; N])?;
         clear_tail(&mut chunks, size);
         Ok(BitMap { chunks, len: size })
+    }
+
+    /// The bits that are given, in order.
+    ///
+    /// Takes memory once, for their chunks, and errs where that is refused.
+    pub fn from_bools(alloc: Global, bools: &[bool]) -> Result<Self, AllocError>
+        requires positive { 0 < N }
+        requires fits { 8 * N < 2 ^ 64 }
+        ensures { IfOk result (λ b. b ≡ bools.now) }
+    {
+        Ok(BitMap {
+            chunks: from_bools(alloc, bools)?,
+            len: bools.len() as u64,
+        })
+    }
+
+    /// The bits in order, one boolean each.
+    ///
+    /// Takes memory once, for the booleans, and errs where that is refused.
+    pub fn to_bools(&self) -> Result<Vec<bool>, AllocError>
+        ensures { IfOk result (λ v. v.items ≡ self.now) }
+    {
+        let len = self.len;
+        let mut bools = Vec::with_capacity(*self.chunks.allocator(), len as usize)?;
+        append_bools(&self.chunks, len, &mut bools);
+        Ok(bools)
     }
 
     /// Whether the length is a multiple of `8N`. No memory.

@@ -1,10 +1,11 @@
 //! A bitmap's deque of chunks, made longer and shorter by whole chunks.
 
-ghost use Rattle.std.specs.Prelude.{◌≡◌, ℕ, ◌+◌, ◌*◌, ◌^◌, ◌<◌, ◌≤◌, ◌++◌, length, replicate, OnOk, OnErr, IsOk};
-ghost use Rattle.bitmap_core.specs.Bits.{bit_of, IsChunkCount, IsZeroFrom};
+ghost use Rattle.std.specs.Prelude.{◌≡◌, ℕ, ◌+◌, ◌*◌, ◌^◌, ◌<◌, ◌≤◌, ◌++◌, length, false, replicate, slice_index_or, vec_len, vec_capacity, IfOk, OnOk, OnErr, IsOk};
+ghost use Rattle.bitmap_core.specs.Bits.{bit_of, bits, IsChunkCount, IsZeroFrom};
 
-use crate::bitmap::chunks::{chunk_count, clear_tail};
-use std::alloc::AllocError;
+use crate::bitmap::chunks::{chunk_bits, chunk_count, clear_tail};
+use crate::chunk;
+use std::alloc::{AllocError, Global};
 use std::collections::VecDeque;
 
 // Appends copies of a chunk, or none where their memory is refused.
@@ -54,4 +55,42 @@ pub fn shorten<const N: usize>(chunks: &mut VecDeque<[u8; N]>, shorter: u64)
 {
     chunks.truncate(chunk_count::<N>(shorter));
     clear_tail(chunks, shorter);
+}
+
+// The chunks of booleans, with zeros after them.
+pub fn from_bools<const N: usize>(
+    alloc: Global,
+    bools: &[bool],
+) -> Result<VecDeque<[u8; N]>, AllocError>
+    requires positive { 0 < N }
+    requires fits { 8 * N < 2 ^ 64 }
+    ensures count { IfOk result (λ q. IsChunkCount N (length q.items) (length bools.now)) }
+    ensures bits { IfOk result (λ q. (i : ℕ) → bit_of N q.items i ≡ slice_index_or bools.now i false) }
+{
+    let width = chunk_bits::<N>() as usize;
+    let count = chunk_count::<N>(bools.len() as u64);
+    let mut chunks = VecDeque::with_capacity(alloc, count)?;
+    for i in 0..count {
+        let from = width * i;
+        let size = width.min(bools.len() - from);
+        chunks.push_back_reserved(chunk::from_bools(&bools[from..from + size]));
+    }
+    Ok(chunks)
+}
+
+// Appends the bits of chunks to booleans that have room for them.
+pub fn append_bools<const N: usize>(chunks: &VecDeque<[u8; N]>, len: u64, bools: &mut Vec<bool>)
+    requires positive { 0 < N }
+    requires fits { 8 * N < 2 ^ 64 }
+    requires count { IsChunkCount N (length chunks.now.items) len }
+    requires room { vec_len bools.old + len ≤ vec_capacity bools.old }
+    ensures { bools.new.items ≡ bools.old.items ++ bits N chunks.now.items len }
+{
+    let width = chunk_bits::<N>();
+    let mut left = len;
+    for i in 0..chunks.len() {
+        let count = left.min(width);
+        chunk::append_bools(&chunks[i], count, bools);
+        left -= count;
+    }
 }
