@@ -2,7 +2,7 @@
 
 ghost use Rattle.std.specs.Prelude.{◌≡◌, ℕ, ◌+◌, ◌-◌, ◌*◌, ◌/◌, ◌%◌, ◌^◌, ◌<◌, ◌≤◌, [], ◌∷◌, ◌++◌, length, false, slice_index_or, slice_set, replicate, take, true, not, IfOk, OnOk, OnErr, IsOk, ◌==◌};
 ghost use Rattle.std.specs.Int.{div_ceil};
-ghost use Rattle.bitmap_core.specs.Chunk.{chunk_bit, chunk_bits as bits_of_chunk};
+ghost use Rattle.bitmap_core.specs.Chunk.{chunk_bit, chunk_bits};
 
 mod chunks;
 mod growth;
@@ -135,9 +135,9 @@ impl<const N: usize> BitMap<N> {
         bit
     }
 
-    /// An empty bitmap whose pushes up to `size` bits take no memory, as a test shows.
+    /// An empty bitmap with memory for `size` bits. A test alone shows that pushes up to there take no more.
     ///
-    /// Takes memory for the chunks of `size` bits, and errs where that is refused.
+    /// Takes memory once, for the chunks of `size` bits, and errs where that is refused.
     pub fn with_capacity(alloc: Global, size: u64) -> Result<Self, AllocError>
         requires positive { 0 < N }
         requires fits { 8 * N < 2 ^ 64 }
@@ -223,7 +223,7 @@ impl<const N: usize> BitMap<N> {
 
     /// Bit `bit mod 8N` of a chunk. No memory.
     pub fn get_bit_from_chunk(chunk: &[u8; N], bit: u64) -> bool
-        requires { 0 < N }
+        requires positive { 0 < N }
         ensures { result ≡ chunk_bit N chunk.now bit }
     {
         chunk::get_bit(chunk, bit)
@@ -252,7 +252,7 @@ impl<const N: usize> BitMap<N> {
     pub fn push_chunk(&mut self, chunk: &[u8; N]) -> Result<(), AllocError>
         requires aligned { length self.old % (8 * N) ≡ 0 }
         requires room { length self.old + 8 * N < 2 ^ 64 }
-        ensures ok { OnOk result (self.new ≡ self.old ++ bits_of_chunk N chunk.now) }
+        ensures ok { OnOk result (self.new ≡ self.old ++ chunk_bits N chunk.now) }
         ensures err { OnErr result (self.new ≡ self.old) }
     {
         let len = self.len;
@@ -266,8 +266,7 @@ impl<const N: usize> BitMap<N> {
         requires { n ≤ length self.old }
         ensures { self.new ≡ take n self.old }
     {
-        let chunks = &mut self.chunks;
-        shorten(chunks, n);
+        shorten(&mut self.chunks, n);
         self.len = n;
     }
 

@@ -94,3 +94,40 @@ pub fn append_bools<const N: usize>(chunks: &VecDeque<[u8; N]>, len: u64, bools:
         left -= count;
     }
 }
+
+#[cfg(test)]
+mod tests {
+    use crate::bitmap::BitMap;
+    use std::test::Fail;
+
+    #[test]
+    fn pushes_within_capacity_take_no_memory(rt: HostRuntime) -> Result<(), Fail> {
+        let mut map: BitMap<4> = BitMap::with_capacity(rt.alloc(), 70)?;
+        let room = map.chunks.capacity();
+        for _ in 0..70 {
+            map.push(true)?;
+        }
+        assert_eq!(rt; map.chunks.capacity(), room);
+        Ok(())
+    }
+
+    #[test]
+    fn sizes_and_bools(rt: HostRuntime) -> Result<(), Fail> {
+        assert!(rt; BitMap::<8>::zeroes(rt.alloc(), u64::MAX).is_err());
+        let mut map: BitMap<3> = BitMap::ones(rt.alloc(), 26)?;
+        map.flip(24);
+        map.extend_to(30)?;
+        map.truncate(27);
+        let bools = map.to_bools()?;
+        assert_eq!(rt; bools.len(), 27);
+        assert!(rt; bools[23] && !bools[24] && bools[25] && !bools[26]);
+        let same: BitMap<3> = BitMap::from_bools(rt.alloc(), &bools)?;
+        assert!(rt; same.get(25) && !same.get(26) && !same.is_chunk_aligned());
+        let mut whole: BitMap<3> = BitMap::zeroes(rt.alloc(), 24)?;
+        whole.push_chunk(&[1, 0, 0])?;
+        assert!(rt; whole.is_chunk_aligned() && whole.get(24) && !whole.get(25));
+        assert!(rt; BitMap::<3>::get_bit_from_chunk(&[0, 2, 0], 9));
+        assert_eq!(rt; BitMap::<3>::max_encode_size(25), 14);
+        Ok(())
+    }
+}
