@@ -6,4 +6,7 @@ pub mod ChunkLists
 pub mod BitEdits
 pub mod Equality
 pub mod Counts
+pub mod PlaceCounts
 pub mod WordBits
+pub mod ByteRanges
+pub mod FlatBits

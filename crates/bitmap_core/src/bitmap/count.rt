@@ -27,7 +27,7 @@ impl<const N: usize> BitMap<N> {
 
     /// Whether no bit of a range of positions is set. The range ends within the length. No memory.
     ///
-    /// In an empty range, and in one that ends before it starts, there is none.
+    /// An empty range has none, and so has one that ends before it starts: the answer is true.
     pub fn is_unset(&self, range: Range<u64>) -> bool
         requires { range.end ≤ length self.now }
         ensures { result ≡ list_all not (slice_range self.now range.start range.end) }

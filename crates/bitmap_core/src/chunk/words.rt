@@ -1,6 +1,6 @@
 //! Bytes, gone through in words of 64 bits. Bit `i` of a slice stands in byte `i / 8`, at place `i mod 8`.
 
-ghost use Rattle.std.specs.Prelude.{◌≡◌, ℕ, ◌+◌, ◌-◌, ◌*◌, ◌^◌, ◌<◌, ◌≤◌, length, not, ◌==◌, slice_index};
+ghost use Rattle.std.specs.Prelude.{◌≡◌, ℕ, ◌+◌, ◌-◌, ◌*◌, ◌^◌, ◌<◌, ◌≤◌, length, not, ◌==◌};
 ghost use Rattle.std.specs.Int.{bit_at};
 ghost use Rattle.std.specs.List.{count_by, list_all, range_with_len, slice_range};
 ghost use Rattle.bitmap_core.specs.Chunk.{chunk_bit, chunk_bits};
@@ -94,7 +94,6 @@ fn are_bytes_zero(bytes: &[u8]) -> bool
 fn load(word: &[u8; 8]) -> u64
     ensures { (t : ℕ) → t < 64 → (bit_at result t == 1) ≡ chunk_bit 8 word.now t }
 {
-    fit(word);
     u64::from_le_bytes(*word)
 }
 
@@ -107,8 +106,3 @@ fn is_byte_unset(byte: u8, from: u64, to: u64) -> bool
     let mask = (u8::MAX >> (8 - (to - from))) << from;
     byte & mask == 0
 }
-
-// What the type of bytes says of them.
-fn fit(bytes: &[u8])
-    ensures { (k : ℕ) → slice_index bytes.now k < 256 }
-{}

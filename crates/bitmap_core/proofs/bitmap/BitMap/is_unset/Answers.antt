@@ -1,6 +1,6 @@
 use Rattle.std.proofs.Common.{◌∙◌, arith}
 use Rattle.bitmap_core.proofs.BitLists.{len_is}
-use Rattle.bitmap_core.proofs.WordBits.{none_range}
+use Rattle.bitmap_core.proofs.PlaceCounts.{none_range}
 use Rattle.bitmap_core.proofs.bitmap.BitMap.is_unset.Goals as goal
 
 pub is_range_unset-requires : goal.is_range_unset-requires

@@ -1,6 +1,7 @@
 use Rattle.std.proofs.Common.{◌≡◌, ◌*◌, ◌+◌, ◌∙◌, length, sym, ap, refl, arith}
 use Rattle.bitmap_core.proofs.Counts.{ones_from}
-use Rattle.bitmap_core.proofs.WordBits.{byte_bit, count-chunk, more_byte, ones_from_mono}
+use Rattle.bitmap_core.proofs.WordBits.{byte_bit, count-chunk, more_byte}
+use Rattle.bitmap_core.proofs.PlaceCounts.{ones_from_mono}
 use Rattle.bitmap_core.proofs.chunk.words.byte_ones.Goals as goal
 
 pub overflow_add-total : goal.overflow_add-total
