@@ -7,3 +7,7 @@ pub mod BitEdits
 pub mod Equality
 pub mod Counts
 pub mod Packing
+pub mod PlaceCounts
+pub mod WordBits
+pub mod ByteRanges
+pub mod FlatBits

@@ -5,6 +5,8 @@ ghost use Rattle.std.specs.List.{range_with_len};
 ghost use Rattle.std.specs.Int.{bit_at};
 ghost use Rattle.bitmap_core.specs.Chunk.{chunk_bit, IsBitWritten};
 
+pub mod words;
+
 // The byte of a chunk in which a bit stands.
 fn byte_index<const N: usize>(bit: u64) -> usize
     requires { 0 < N }

@@ -1,0 +1,108 @@
+//! Bytes, gone through in words of 64 bits. Bit `i` of a slice stands in byte `i / 8`, at place `i mod 8`.
+
+ghost use Rattle.std.specs.Prelude.{◌≡◌, ℕ, ◌+◌, ◌-◌, ◌*◌, ◌^◌, ◌<◌, ◌≤◌, length, not, ◌==◌};
+ghost use Rattle.std.specs.Int.{bit_at};
+ghost use Rattle.std.specs.List.{count_by, list_all, range_with_len, slice_range};
+ghost use Rattle.bitmap_core.specs.Chunk.{chunk_bit, chunk_bits};
+ghost use Rattle.bitmap_core.specs.Bits.{bits};
+
+/// The number of ones in some bytes, which fits `u64`. No memory.
+pub fn count_ones(bytes: &[u8]) -> u64
+    requires { count_by (λ b. b) (chunk_bits (length bytes.now) bytes.now) < 2 ^ 64 }
+    ensures { result ≡ count_by (λ b. b) (chunk_bits (length bytes.now) bytes.now) }
+{
+    let (words, rest) = bytes.as_chunks::<8>();
+    word_ones(words) + byte_ones(rest)
+}
+
+/// Whether no bit from `from` on and below `to` is set. No memory.
+pub fn is_unset(bytes: &[u8], from: u64, to: u64) -> bool
+    requires { to ≤ 8 * length bytes.now }
+    ensures { result ≡ list_all not (slice_range (chunk_bits (length bytes.now) bytes.now) from to) }
+{
+    if from >= to {
+        return true;
+    }
+    let first = (from / 8) as usize;
+    let last = ((to - 1) / 8) as usize;
+    let past = (to - 1) % 8 + 1;
+    if first == last {
+        return is_byte_unset(bytes[first], from % 8, past);
+    }
+    is_byte_unset(bytes[first], from % 8, 8)
+        && is_byte_unset(bytes[last], 0, past)
+        && is_zero(&bytes[first + 1..last])
+}
+
+// Whether every byte is zero.
+fn is_zero(bytes: &[u8]) -> bool
+    ensures { result ≡ list_all not (chunk_bits (length bytes.now) bytes.now) }
+{
+    let (words, rest) = bytes.as_chunks::<8>();
+    are_words_zero(words) && are_bytes_zero(rest)
+}
+
+// The number of ones in some words.
+fn word_ones(words: &[[u8; 8]]) -> u64
+    requires { count_by (λ b. b) (bits 8 words.now (64 * length words.now)) < 2 ^ 64 }
+    ensures { result ≡ count_by (λ b. b) (bits 8 words.now (64 * length words.now)) }
+{
+    let mut total = 0u64;
+    for word in words {
+        total += load(word).count_ones() as u64;
+    }
+    total
+}
+
+// The number of ones in some bytes, one by one.
+fn byte_ones(bytes: &[u8]) -> u64
+    requires { count_by (λ b. b) (chunk_bits (length bytes.now) bytes.now) < 2 ^ 64 }
+    ensures { result ≡ count_by (λ b. b) (chunk_bits (length bytes.now) bytes.now) }
+{
+    let mut total = 0u64;
+    for byte in bytes {
+        total += byte.count_ones() as u64;
+    }
+    total
+}
+
+// Whether every word is zero.
+fn are_words_zero(words: &[[u8; 8]]) -> bool
+    ensures { result ≡ list_all not (bits 8 words.now (64 * length words.now)) }
+{
+    for word in words {
+        if load(word) != 0 {
+            return false;
+        }
+    }
+    true
+}
+
+// Whether every byte is zero, one by one.
+fn are_bytes_zero(bytes: &[u8]) -> bool
+    ensures { result ≡ list_all not (chunk_bits (length bytes.now) bytes.now) }
+{
+    for byte in bytes {
+        if *byte != 0 {
+            return false;
+        }
+    }
+    true
+}
+
+// Eight bytes as a word.
+fn load(word: &[u8; 8]) -> u64
+    ensures { (t : ℕ) → t < 64 → (bit_at result t == 1) ≡ chunk_bit 8 word.now t }
+{
+    u64::from_le_bytes(*word)
+}
+
+// Whether no bit of a byte from `from` on and below `to` is set.
+fn is_byte_unset(byte: u8, from: u64, to: u64) -> bool
+    requires some { from < to }
+    requires within { to ≤ 8 }
+    ensures { result ≡ list_all (λ t. not (bit_at byte t == 1)) (range_with_len from (to - from)) }
+{
+    let mask = (u8::MAX >> (8 - (to - from))) << from;
+    byte & mask == 0
+}
