@@ -57,8 +57,7 @@ fn all_wide<const N: usize>(chunks: &[[u8; N]])
 // What the type of a chunk says of its width.
 fn wide<const N: usize>(chunk: &[u8; N])
     ensures { length chunk.now ≡ N }
-{
-}
+{}
 
 // The bytes of chunks, in two pieces.
 fn run<const N: usize>(chunks: &VecDeque<[u8; N]>) -> (&[u8], &[u8])
@@ -75,7 +74,10 @@ impl<const N: usize> BitMap<N> {
     /// Appends the bits of another bitmap, whose chunks may have another width. The lengths add up to less than `2 ^ 64`.
     ///
     /// Takes memory for the chunks that the length comes to fill, all at once. Refused, the bitmap is as it was.
-    pub fn extend_from_bitmap<const M: usize>(&mut self, other: &BitMap<M>) -> Result<(), AllocError>
+    pub fn extend_from_bitmap<const M: usize>(
+        &mut self,
+        other: &BitMap<M>,
+    ) -> Result<(), AllocError>
         requires room { length self.old + length other.now < 2 ^ 64 }
         ensures ok { OnOk result (self.new ≡ self.old ++ other.now) }
         ensures err { OnErr result (self.new ≡ self.old) }

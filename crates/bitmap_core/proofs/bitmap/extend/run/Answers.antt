@@ -1,4 +1,3 @@
-use Rattle.std.proofs.Common.{refl}
 use Rattle.bitmap_core.proofs.Runs.{bit_in-pieces}
 use Rattle.bitmap_core.proofs.bitmap.extend.run.Goals as goal
 

@@ -1,4 +1,4 @@
-use Rattle.std.proofs.Common.{◌≡◌, ◌∙◌, ◌+◌, ◌-◌, ◌/◌, ◌%◌, ◌++◌, ap, get_or, set, refl, arith}
+use Rattle.std.proofs.Common.{◌∙◌, ◌-◌, ◌/◌, ◌%◌, ◌++◌, ap, set, refl}
 use Rattle.std.specs.Int.{bit_at}
 use Rattle.bitmap_core.proofs.Runs.{opened_kept, opened_joined}
 use Rattle.bitmap_core.proofs.chunk.join.join.Goals as goal
