@@ -9,10 +9,11 @@ use Rattle.std.proofs.lemmas.List.{get_or_append_left, get_or-append_right, get_
 use Rattle.std.proofs.lemmas.Grind.{flat_map-append}
 use Rattle.std.proofs.lemmas.Bool.{cases_eq, cases_lt}
 use Rattle.bitmap_core.specs.Chunk.{chunk_bit, bit_in}
-use Rattle.bitmap_core.specs.Bits.{bit_of}
+use Rattle.bitmap_core.specs.Bits.{bit_of, IsChunkCount}
 use Rattle.bitmap_core.proofs.ByteBits.{low_bit_below, low_bit_above}
+use Rattle.bitmap_core.proofs.Places.{full_len}
 use Rattle.bitmap_core.proofs.ChunkBits.{mod_parts}
-use Rattle.bitmap_core.proofs.ChunkLists.{bit_of-set_here, bit_of-set_other}
+use Rattle.bitmap_core.proofs.ChunkLists.{bit_of-set_here, bit_of-set_other, bit_of-push_here}
 
 -- ---- shifted bytes
 
@@ -170,20 +171,19 @@ joined_here n xs len run new p w joined i h s =
     let e : i % (8 * n) - len % (8 * n) ≡ i - len = omega arith in
     bit_of-set_here n xs (len / (8 * n)) new i w q ∙ joined i (omega arith) ∙ ap (bit_in run) e
 
-pub whole_kept : (n : ℕ) (xs : List (List ℕ)) (len q : ℕ) (new : List ℕ) → 0 < n → len / (8 * n) < q → (i : ℕ) → i < len → bit_of n (set xs q new) i ≡ bit_of n xs i
-whole_kept n xs len q new p w i h =
-    let up : i / (8 * n) ≤ len / (8 * n) = (le-div_iff_mul-le {k = 8 * n} {x = i / (8 * n)} {y = len} (omega arith)).1 (omega (arith, div-mul-le_self i (8 * n))) in
-    bit_of-set_other n xs q new i (λ e. absurd (omega arith))
+pub joined_full : (n : ℕ) (xs : List (List ℕ)) (len : ℕ) (run : List ℕ) → 0 < n → IsChunkCount n (length xs) len → len % (8 * n) ≡ 0 → (i : ℕ) → len ≤ i → i / (8 * n) < length xs → bit_of n xs i ≡ bit_in run (i - len)
+joined_full n xs len run p c e i h s =
+    let f = full_len n (length xs) len p c e in
+    let up : length xs ≤ i / (8 * n) = (le-div_iff_mul-le {k = 8 * n} {x = length xs} {y = i} (omega arith)).1 (grind arith) in
+    absurd (omega arith)
 
-pub whole_here : (n : ℕ) (xs : List (List ℕ)) (len q : ℕ) (run new : List ℕ) → 0 < n → len / (8 * n) < q → q < length xs → ((i : ℕ) → chunk_bit n new i ≡ bit_in run (8 * n * q - len + i % (8 * n))) → (i : ℕ) → i / (8 * n) ≡ q → bit_of n (set xs q new) i ≡ bit_in run (i - len)
-whole_here n xs len q run new p w s filled i e =
-    let d = div-add-mod len (8 * n) in
+-- a whole chunk of the run pushed
+pub pushed_here : (n : ℕ) (xs : List (List ℕ)) (len : ℕ) (run new : List ℕ) → len ≤ 8 * n * length xs → ((i : ℕ) → chunk_bit n new i ≡ bit_in run (8 * n * length xs - len + i % (8 * n))) → (i : ℕ) → i / (8 * n) ≡ length xs → bit_of n (xs ++ new ∷ []) i ≡ bit_in run (i - len)
+pushed_here n xs len run new w filled i e =
     let f = div-add-mod i (8 * n) in
-    let r = mod_below len (8 * n) (omega arith) in
     let m = ap (λ x. 8 * n * x) e in
-    let u : 8 * n * (len / (8 * n)) + 8 * n ≤ 8 * n * q = grind arith in
-    let g : 8 * n * q - len + i % (8 * n) ≡ i - len = omega arith in
-    bit_of-set_here n xs q new i s e ∙ filled i ∙ ap (bit_in run) g
+    let g : 8 * n * length xs - len + i % (8 * n) ≡ i - len = omega arith in
+    bit_of-push_here n xs new i e ∙ filled i ∙ ap (bit_in run) g
 
 -- ---- chunks as a run of bytes
 

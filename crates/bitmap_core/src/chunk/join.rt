@@ -57,34 +57,36 @@ fn fill_from<const N: usize>(chunk: &mut [u8; N], from: usize, front: &[u8], bac
     }
 }
 
-// Fills a chunk with the bits that begin `skip` bits into bytes more than its own.
-fn fill_whole<const N: usize>(chunk: &mut [u8; N], bytes: &[u8], skip: u64)
+// The chunk of the bits that begin `skip` bits into bytes more than its own.
+fn chunk_within<const N: usize>(bytes: &[u8], skip: u64) -> [u8; N]
     requires positive { 0 < N }
     requires place { skip < 8 }
     requires more { N < length bytes.now }
-    ensures { (i : ℕ) → chunk_bit N chunk.new i ≡ bit_in bytes.now (skip + i % (8 * N)) }
+    ensures { (i : ℕ) → chunk_bit N result i ≡ bit_in bytes.now (skip + i % (8 * N)) }
 {
+    let mut chunk = [0; N];
     for j in 0..N {
         chunk[j] = joined_byte(bytes[j], bytes[j + 1], skip);
     }
+    chunk
 }
 
-/// Fills a chunk with the run from bit `bit` on. No memory.
-pub fn fill<const N: usize>(chunk: &mut [u8; N], front: &[u8], back: &[u8], bit: u64)
+/// The chunk of the run from bit `bit` on. No memory.
+pub fn chunk_from<const N: usize>(front: &[u8], back: &[u8], bit: u64) -> [u8; N]
     requires positive { 0 < N }
     requires fits { 8 * N < 2 ^ 64 }
-    ensures { (i : ℕ) → chunk_bit N chunk.new i ≡ bit_in (front.now ++ back.now) (bit + i % (8 * N)) }
+    ensures { (i : ℕ) → chunk_bit N result i ≡ bit_in (front.now ++ back.now) (bit + i % (8 * N)) }
 {
     let at = (bit / 8) as usize;
     if at + N < front.len() {
-        fill_whole(chunk, &front[at..], bit % 8);
-        return;
+        return chunk_within(&front[at..], bit % 8);
     }
     if front.len() <= at && at - front.len() + N < back.len() {
-        fill_whole(chunk, &back[at - front.len()..], bit % 8);
-        return;
+        return chunk_within(&back[at - front.len()..], bit % 8);
     }
-    fill_from(chunk, 0, front, back, bit);
+    let mut chunk = [0; N];
+    fill_from(&mut chunk, 0, front, back, bit);
+    chunk
 }
 
 /// Writes the run from bit `len mod 8N` of a chunk on, and keeps the bits before it. No memory.

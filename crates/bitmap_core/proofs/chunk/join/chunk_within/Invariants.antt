@@ -1,7 +1,7 @@
 use Rattle.std.proofs.Common.{◌≡◌, ℕ, ◌+◌, ◌*◌, ◌<◌, length, get_or, eqb}
 use Rattle.std.specs.Int.{bit_at}
 use Rattle.bitmap_core.specs.Chunk.{bit_in}
-use Rattle.bitmap_core.proofs.chunk.join.fill_whole.Given as goal
+use Rattle.bitmap_core.proofs.chunk.join.chunk_within.Given as goal
 
 abbrev pub invariant-loop-j : goal.invariant-loop-j
 invariant-loop-j g l = record {

@@ -1,7 +1,7 @@
 use Rattle.std.proofs.Common.{◌≡◌, ◌∙◌, ◌+◌, ◌-◌, ◌%◌, ◌*◌, ap, arith}
 use Rattle.bitmap_core.specs.Chunk.{bit_in}
 use Rattle.bitmap_core.proofs.Runs.{filled_bits}
-use Rattle.bitmap_core.proofs.chunk.join.fill_whole.Goals as goal
+use Rattle.bitmap_core.proofs.chunk.join.chunk_within.Goals as goal
 
 pub returns : goal.returns
 returns g c = λ i.
