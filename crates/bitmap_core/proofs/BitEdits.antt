@@ -1,4 +1,5 @@
 use Rattle.std.proofs.Common.{◌≡◌, ℕ, ◌+◌, ◌-◌, ◌*◌, ◌/◌, ◌%◌, ◌<◌, ◌≤◌, Bool, false, not, ◌&&◌, List, [], ◌∷◌, ◌++◌, length, get_or, set, take, replicate, map, sym, ap, ◌∙◌, inl, inr, arith}
+use Rattle.std.proofs.Common.{◌≡◌, ℕ, ◌+◌, ◌-◌, ◌*◌, ◌/◌, ◌%◌, ◌<◌, ◌≤◌, Bool, false, not, ◌&&◌, List, [], ◌∷◌, ◌++◌, length, get_or, set, map, sym, ap, ◌∙◌, inl, inr, arith}
 use Rattle.std.specs.List.{range_with_len, zip}
 use Rattle.std.proofs.lemmas.Slice.Zip.{get_or-zip, length-zip}
 use Rattle.std.proofs.Math.Nat.{mod-eq_of_lt}
@@ -70,3 +71,12 @@ bits-and n xs os ys len v w e f h =
     let a = sym (get_or-bits n xs len i false s) ∙ ap (λ x. get_or x i false) e in
     let b = sym (get_or-bits n os len i false s) ∙ ap (λ x. get_or x i false) f in
     h i ∙ ap (λ x. x && bit_of n os i) a ∙ ap (λ x. get_or v i false && x) b ∙ sym (get_or-map (λ (p : Bool × Bool). p.0 && p.1) (zip v w) i (false, false) false (omega arith) ∙ ap (λ (p : Bool × Bool). p.0 && p.1) (get_or-zip v w i (false, false) (omega arith) (omega arith))))
+
+pub bits-append : (n m : ℕ) (xs ys os : List (List ℕ)) (len more : ℕ) (v w : List Bool) → 0 < n → IsChunkCount n (length ys) (len + more) → bits n xs len ≡ v → bits m os more ≡ w → ((i : ℕ) → i < len → bit_of n ys i ≡ bit_of n xs i) → ((i : ℕ) → len ≤ i → i / (8 * n) < length ys → bit_of n ys i ≡ bit_of m os (i - len)) → bits n ys (len + more) ≡ v ++ w
+bits-append n m xs ys os len more v w p k e f kept joined =
+    let l = len_is n xs len v e in
+    let o = len_is m os more w f in
+    bits_are n ys (len + more) (v ++ w) (omega (arith, length-append v w)) (λ i h. elim (cases_lt i len) [
+      | inl s ↦ kept i s ∙ sym (get_or-bits n xs len i false s) ∙ ap (λ x. get_or x i false) e ∙ sym (get_or_append_left v w false i (omega arith))
+      | inr s ↦ joined i s (index_below n (length ys) (len + more) i p h k) ∙ sym (get_or-bits m os more (i - len) false (omega arith)) ∙ ap (λ x. get_or x (i - len) false) f ∙ sym (get_or-append_right v w len i false l s)
+    ])

@@ -11,3 +11,4 @@ pub mod PlaceCounts
 pub mod WordBits
 pub mod ByteRanges
 pub mod FlatBits
+pub mod Runs

@@ -77,3 +77,20 @@ IsChunkCount-missing n k len longer p c h =
 -- where the chunks hold a length, none is missing
 pub none_missing : (n k longer : ℕ) → 0 < n → longer ≤ 8 * n * k → div_ceil longer (8 * n) - k ≡ 0
 none_missing n k longer p h = let f = fewer_chunks (8 * n) (div_ceil longer (8 * n)) k longer (IsChunkCount-ceil n longer p).1 h in omega arith
+-- each chunk begins below the length
+pub chunk_start : (n k len bound : ℕ) → IsChunkCount n k len → len < bound → (q : ℕ) → q < k → 8 * n * q < bound
+chunk_start n k len bound c s q h = let m = mul-add (8 * n) q 1 in let u : 8 * n * (q + 1) ≤ 8 * n * k = grind arith in omega arith
+
+-- a length that grows fills no fewer chunks
+pub more_ceil : (n k len total : ℕ) → 0 < n → IsChunkCount n k len → len ≤ total → k ≤ div_ceil total (8 * n)
+more_ceil n k len total p c h = fewer_chunks (8 * n) k (div_ceil total (8 * n)) total (omega (arith, c.1)) (IsChunkCount-ceil n total p).0
+
+-- where the last chunk is open, the next bit stands in it
+pub open_last : (n k len : ℕ) → 0 < n → IsChunkCount n k len → (len % (8 * n) ≡ 0 → ⊥) → k ≡ len / (8 * n) + 1
+open_last n k len p c d =
+    let w = last_within n k len p (IsChunkCount-same n k len p c d) in
+    let l = fewer_chunks (8 * n) k (len / (8 * n) + 1) len c.1 (rw (mul-add (8 * n) (len / (8 * n)) 1) (omega (arith, div-add-mod len (8 * n), mod_below len (8 * n) (omega arith)))) in
+    omega arith
+
+pub within_more : (n j k len : ℕ) → len ≤ 8 * n * j → j ≤ k → len ≤ 8 * n * k
+within_more n j k len h s = grind arith

@@ -15,3 +15,7 @@ chunk_bits n chunk = map (chunk_bit n chunk) (range_with_len 0 (8 * n))
 pub record IsBitWritten (n : ℕ) (old new : List ℕ) (i : ℕ) (value : Bool) : Type 0 where
   pub here : chunk_bit n new i ≡ value
   pub others : (j : ℕ) → (j % (8 * n) ≡ i % (8 * n) → ⊥) → chunk_bit n new j ≡ chunk_bit n old j
+
+-- bit i of a run of bytes: it stands in byte i / 8, at place i mod 8; past the bytes it is zero
+abbrev pub bit_in : List ℕ → ℕ → Bool
+bit_in bytes i = bit_at (slice_index_or bytes (i / 8) 0) (i % 8) == 1

@@ -7,6 +7,7 @@ ghost use Rattle.bitmap_core.specs.Chunk.{chunk_bit, chunk_bits};
 mod chunks;
 mod growth;
 mod count;
+mod extend;
 
 use crate::bitmap::chunks::{
     chunk_bits, chunk_count, clear_tail, drop_room, flip_bit, get_bit, make_room, set_bit,

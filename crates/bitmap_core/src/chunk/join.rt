@@ -1,0 +1,103 @@
+//! Chunks filled from a run of bytes that begins at any bit. The run stands in two pieces, `front` and then `back`; past it every bit is zero.
+
+ghost use Rattle.std.specs.Prelude.{◌≡◌, ℕ, ◌+◌, ◌-◌, ◌*◌, ◌%◌, ◌^◌, ◌<◌, ◌≤◌, ◌++◌, length, ◌==◌, slice_index_or};
+ghost use Rattle.std.specs.Int.{bit_at};
+ghost use Rattle.bitmap_core.specs.Chunk.{chunk_bit, bit_in};
+
+use crate::chunk::byte_index;
+
+// The eight bits that begin `skip` bits into `low` and go on in `high`.
+fn joined_byte(low: u8, high: u8, skip: u64) -> u8
+    requires { skip < 8 }
+    ensures low { (t : ℕ) → t + skip < 8 → bit_at result t ≡ bit_at low (t + skip) }
+    ensures high { (t : ℕ) → t < 8 → 8 ≤ t + skip → bit_at result t ≡ bit_at high (t + skip - 8) }
+{
+    (low >> skip) | ((high << (7 - skip)) << 1)
+}
+
+// The low `shift` bits of `kept`, and above them those of `next`.
+fn opened_byte(kept: u8, next: u8, shift: u64) -> u8
+    requires { shift < 8 }
+    ensures low { (t : ℕ) → t < shift → bit_at result t ≡ bit_at kept t }
+    ensures high { (t : ℕ) → t < 8 → shift ≤ t → bit_at result t ≡ bit_at next (t - shift) }
+{
+    (kept & ((1 << shift) - 1)) | (next << shift)
+}
+
+// Byte `at` of the run.
+fn byte_at(front: &[u8], back: &[u8], at: usize) -> u8
+    ensures { result ≡ slice_index_or (front.now ++ back.now) at 0 }
+{
+    if at < front.len() {
+        return front[at];
+    }
+    let rest = at - front.len();
+    if rest < back.len() { back[rest] } else { 0 }
+}
+
+// The eight bits of the run that begin `skip` bits into byte `at`.
+fn bits_from(front: &[u8], back: &[u8], at: usize, skip: u64) -> u8
+    requires place { skip < 8 }
+    requires room { at + 1 < 2 ^ 64 }
+    ensures { (t : ℕ) → t < 8 → (bit_at result t == 1) ≡ bit_in (front.now ++ back.now) (8 * at + skip + t) }
+{
+    joined_byte(byte_at(front, back, at), byte_at(front, back, at + 1), skip)
+}
+
+// Fills a chunk from byte `from` on with the run from bit `bit` on.
+fn fill_from<const N: usize>(chunk: &mut [u8; N], from: usize, front: &[u8], back: &[u8], bit: u64)
+    requires positive { 0 < N }
+    requires fits { 8 * N < 2 ^ 64 }
+    ensures kept { (i : ℕ) → i % (8 * N) < 8 * from → chunk_bit N chunk.new i ≡ chunk_bit N chunk.old i }
+    ensures filled { (i : ℕ) → 8 * from ≤ i % (8 * N) → chunk_bit N chunk.new i ≡ bit_in (front.now ++ back.now) (bit + (i % (8 * N) - 8 * from)) }
+{
+    let at = (bit / 8) as usize;
+    for j in from..N {
+        chunk[j] = bits_from(front, back, at + (j - from), bit % 8);
+    }
+}
+
+// The chunk of the bits that begin `skip` bits into bytes more than its own.
+fn chunk_within<const N: usize>(bytes: &[u8], skip: u64) -> [u8; N]
+    requires positive { 0 < N }
+    requires place { skip < 8 }
+    requires more { N < length bytes.now }
+    ensures { (i : ℕ) → chunk_bit N result i ≡ bit_in bytes.now (skip + i % (8 * N)) }
+{
+    let mut chunk = [0; N];
+    for j in 0..N {
+        chunk[j] = joined_byte(bytes[j], bytes[j + 1], skip);
+    }
+    chunk
+}
+
+/// The chunk of the run from bit `bit` on. No memory.
+pub fn chunk_from<const N: usize>(front: &[u8], back: &[u8], bit: u64) -> [u8; N]
+    requires positive { 0 < N }
+    requires fits { 8 * N < 2 ^ 64 }
+    ensures { (i : ℕ) → chunk_bit N result i ≡ bit_in (front.now ++ back.now) (bit + i % (8 * N)) }
+{
+    let at = (bit / 8) as usize;
+    if at + N < front.len() {
+        return chunk_within(&front[at..], bit % 8);
+    }
+    if front.len() <= at && at - front.len() + N < back.len() {
+        return chunk_within(&back[at - front.len()..], bit % 8);
+    }
+    let mut chunk = [0; N];
+    fill_from(&mut chunk, 0, front, back, bit);
+    chunk
+}
+
+/// Writes the run from bit `len mod 8N` of a chunk on, and keeps the bits before it. No memory.
+pub fn join<const N: usize>(chunk: &mut [u8; N], len: u64, front: &[u8], back: &[u8])
+    requires positive { 0 < N }
+    requires fits { 8 * N < 2 ^ 64 }
+    ensures kept { (i : ℕ) → i % (8 * N) < len % (8 * N) → chunk_bit N chunk.new i ≡ chunk_bit N chunk.old i }
+    ensures joined { (i : ℕ) → len % (8 * N) ≤ i % (8 * N) → chunk_bit N chunk.new i ≡ bit_in (front.now ++ back.now) (i % (8 * N) - len % (8 * N)) }
+{
+    let byte = byte_index::<N>(len);
+    let shift = len % 8;
+    chunk[byte] = opened_byte(chunk[byte], byte_at(front, back, 0), shift);
+    fill_from(chunk, byte + 1, front, back, 8 - shift);
+}
