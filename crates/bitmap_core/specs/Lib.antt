@@ -1,3 +1,4 @@
 pub mod Chunk
 pub mod Bits
 pub mod PrunedBits
+pub mod Text

@@ -3,8 +3,11 @@
 ghost use Rattle.std.specs.Prelude.{◌≡◌, ℕ, ◌+◌, ◌-◌, ◌*◌, ◌/◌, ◌%◌, ◌^◌, ◌<◌, ◌≤◌, [], ◌∷◌, ◌++◌, length, false, slice_index_or, slice_set, OnOk, OnErr, IsOk, ◌==◌};
 
 mod chunks;
+mod debug;
+mod iter;
 
 use crate::bitmap::chunks::{drop_room, get_bit, make_room, set_bit};
+pub use crate::bitmap::iter::Iterator;
 use std::alloc::{AllocError, Global};
 use std::collections::VecDeque;
 use std::marker::Model;
