@@ -6,3 +6,4 @@ pub mod ChunkLists
 pub mod BitEdits
 pub mod Equality
 pub mod Counts
+pub mod WordMasks

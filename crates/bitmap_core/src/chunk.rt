@@ -3,6 +3,8 @@
 ghost use Rattle.std.specs.Prelude.{◌≡◌, ℕ, ◌*◌, ◌/◌, ◌%◌, ◌^◌, ◌<◌, Bool};
 ghost use Rattle.bitmap_core.specs.Chunk.{chunk_bit, IsBitWritten};
 
+pub mod load;
+
 // The byte of a chunk in which a bit stands.
 fn byte_index<const N: usize>(bit: u64) -> usize
     requires { 0 < N }
