@@ -7,3 +7,6 @@ pub mod BitEdits
 pub mod Equality
 pub mod Counts
 pub mod WordMasks
+pub mod SetPositions
+pub mod WordScan
+pub mod Meanings

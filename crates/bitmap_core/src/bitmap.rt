@@ -5,6 +5,7 @@ ghost use Rattle.std.specs.Prelude.{◌≡◌, ℕ, ◌+◌, ◌-◌, ◌*◌, �
 mod chunks;
 mod debug;
 mod iter;
+pub mod readable;
 
 use crate::bitmap::chunks::{drop_room, get_bit, make_room, set_bit};
 pub use crate::bitmap::iter::Iterator;
