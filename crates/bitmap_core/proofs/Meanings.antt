@@ -1,10 +1,10 @@
 -- What a bitmap is to its readers, read by chunks and made of a list of bits.
 use Rattle.std.proofs.Common.{◌≡◌, ℕ, ◌+◌, ◌-◌, ◌*◌, ◌/◌, ◌%◌, ◌^◌, ◌<◌, min, max, Bool, false, List, [], length, get_or, sym, ap, ◌∙◌, arith}
 use Rattle.std.specs.List.{filter, range_with_len}
-use Rattle.std.proofs.Math.Nat.{div-add-mod, mod-eq_of_lt, div-le_self}
+use Rattle.std.proofs.Math.Nat.{div-add-mod, mod-eq_of_lt, div-le_self, lt_of_mul-lt-mul_left}
 use Rattle.std.proofs.lemmas.Nat.{mod_below, div-mul-add, mod-mul-add}
 use Rattle.bitmap_core.specs.Chunk.{chunk_bit}
-use Rattle.bitmap_core.specs.Bits.{bits}
+use Rattle.bitmap_core.specs.Bits.{bits, IsChunkCount}
 use Rattle.bitmap_core.specs.Meaning.{Meaning, plain_meaning, IsLawful, ShowsChunk, ones, ones_between}
 use Rattle.bitmap_core.proofs.ChunkBits.{chunk_bit-mod}
 use Rattle.bitmap_core.proofs.BitLists.{get_or-bits, len_is}
@@ -38,6 +38,14 @@ plain_shows n chunks len v c bytes p e r k h s =
     ∙ ap (λ x. chunk_bit n x (8 * n * c + k)) (r ∙ ap (λ x. get_or chunks x []) (sym q))
     ∙ sym (get_or-bits n chunks len (8 * n * c + k) false (omega arith))
     ∙ ap (λ x. get_or x (8 * n * c + k) false) e
+
+-- a chunk with a bit is there
+pub plain_has : (n : ℕ) (chunks : List (List ℕ)) (len : ℕ) (v : List Bool) (c : ℕ) → bits n chunks len ≡ v → IsChunkCount n (length chunks) len → 8 * n * c < length v → c < length chunks
+plain_has n chunks len v c e k h = lt_of_mul-lt-mul_left (8 * n) (omega (arith, len_is n chunks len v e, k.0))
+
+-- and so the last one
+pub plain_has_last : (n : ℕ) (chunks : List (List ℕ)) (len : ℕ) (v : List Bool) → bits n chunks len ≡ v → IsChunkCount n (length chunks) len → 0 < length v → (length v - 1) / (8 * n) < length chunks
+plain_has_last n chunks len v e k h = plain_has n chunks len v ((length v - 1) / (8 * n)) e k (omega (arith, div-add-mod (length v - 1) (8 * n)))
 
 -- the set positions of a list
 pub plain_ones : (n : ℕ) (v : List Bool) → ones n (plain_meaning v) 0 (length v) ≡ filter (λ k. get_or v k false) (range_with_len 0 (length v))
