@@ -8,5 +8,7 @@ pub mod Equality
 pub mod Counts
 pub mod WordMasks
 pub mod SetPositions
+pub mod WordStarts
+pub mod LoadedWords
 pub mod WordScan
 pub mod Meanings

@@ -1,15 +1,14 @@
 -- The bits of a word: read out of bytes, masked, and without its lowest one.
-use Rattle.std.proofs.Common.{◌≡◌, ◌≢◌, ℕ, zero, suc, ◌+◌, ◌-◌, ◌*◌, ◌/◌, ◌%◌, ◌^◌, ◌<◌, ◌≤◌, false, eqb, List, length, get_or, drop, min, refl, ap, sym, ◌∙◌, inl, inr, arith}
+use Rattle.std.proofs.Common.{◌≡◌, ◌≢◌, ℕ, zero, suc, ◌+◌, ◌-◌, ◌*◌, ◌/◌, ◌%◌, ◌^◌, ◌<◌, ◌≤◌, eqb, List, get_or, drop, min, refl, ap, sym, ◌∙◌, inl, inr, arith}
 use Rattle.std.specs.Int.{bit_at, w64, bit_not, trailing_zeros, sum_through, byte_worth, from_le_bytes}
 use Rattle.std.specs.Prelude.{bit_and}
 use Rattle.std.proofs.lemmas.Nat.{mul-add-lt}
 use Rattle.std.proofs.lemmas.Nat.Bits.{bit_at-trailing_zeros, bit_at_clear_same, bit_at_clear_other, bit_at_cat_low, bit_at_cat_high, bit_at_and, bit_at-lt, ones_shl, bit_at_mask_inside, bit_at_mask_below}
-use Rattle.std.proofs.lemmas.List.{get_or_past, get_or-drop}
+use Rattle.std.proofs.lemmas.List.{get_or-drop}
 use Rattle.std.proofs.Math.Pow.{pow-add, pow-lt}
 use Rattle.std.proofs.Math.Nat.{pow-suc, mod-eq_of_lt}
 use Rattle.std.proofs.lemmas.Bool.{cases_lt}
 use Rattle.bitmap_core.specs.Chunk.{chunk_bit}
-use Rattle.bitmap_core.proofs.ByteBits.{bit_of_zero_byte}
 
 -- ---- bytes as a number, the lowest first
 
@@ -60,9 +59,6 @@ rest_bit n chunk byte t h =
     let r : t % 8 ≡ (8 * byte + t) % 8 = omega arith in
     let m : byte + t / 8 ≡ (8 * byte + t) / 8 % n = sym (ap (λ x. x % n) q ∙ mod-eq_of_lt {n = byte + t / 8} {m = n} (omega arith)) in
     ap (λ b. eqb (bit_at b (t % 8)) 1) (get_or-drop byte chunk (t / 8) 0 ∙ ap (λ x. get_or chunk x 0) m) ∙ ap (λ x. eqb (bit_at (get_or chunk ((8 * byte + t) / 8 % n) 0) x) 1) r
-
-pub rest_bit-past : (chunk : List ℕ) (byte t : ℕ) → 8 * length chunk ≤ 8 * byte + t → eqb (bit_at (get_or (drop byte chunk) (t / 8) 0) (t % 8)) 1 ≡ false
-rest_bit-past chunk byte t h = bit_of_zero_byte _ (t % 8) (get_or-drop byte chunk (t / 8) 0 ∙ get_or_past chunk (byte + t / 8) 0 (omega arith))
 
 -- ---- a part of a word
 

@@ -15,18 +15,41 @@ use std::ops::Range;
 
 /// A bitmap as its readers see it: bits in chunks of `N` bytes, some of which may be pruned at the front.
 ///
-/// Positions count bits and chunk indices count chunks, both from the start of the bitmap as it was before any pruning.
+/// Positions count bits and indices count chunks, both from the first bit that the bitmap ever had.
 /// A position is retained where it is neither pruned nor past the end.
 ///
-/// An implementor answers five questions about one bitmap, its `meaning`, which stays the same as long as the value is borrowed.
-/// It promises that `8N` and the length fit `u64`, that `N` is at least 1, and that no more is pruned than the length.
-/// Bits of a chunk at or past the length may be anything: no reader looks at them.
-/// The other functions follow from the five and cannot be replaced.
+/// An implementor says what bitmap a value holds, its `meaning`, and answers five questions about it.
+/// It promises that `N` is at least 1, that `8N` and the length fit `u64`, and that no more is pruned than the length.
+/// The bits of a chunk at or past the length may be any: no reader looks at them.
+/// The other five functions follow, and cannot be replaced.
+///
+/// Eight bits in one chunk of one byte:
 ///
 /// ```
-/// fn last_set<B: Readable<N>, const N: usize>(bitmap: &B) -> Option<u64> {
-///     let _ = bitmap.len();
-///     bitmap.ones_iter_from(0).last()
+/// struct Byte(u8);
+///
+/// impl Readable<1> for Byte {
+///     ghost meaning = { λ b. record { pruned = 0; len = 8; bit = chunk_bit 1 (b.0 ∷ []) } };
+///
+///     fn complete_chunks(&self) -> usize {
+///         1
+///     }
+///
+///     fn get_chunk(&self, _chunk: usize) -> [u8; 1] {
+///         [self.0]
+///     }
+///
+///     fn last_chunk(&self) -> ([u8; 1], u64) {
+///         ([self.0], 8)
+///     }
+///
+///     fn pruned_chunks(&self) -> usize {
+///         0
+///     }
+///
+///     fn len(&self) -> u64 {
+///         8
+///     }
 /// }
 /// ```
 pub trait Readable<const N: usize> {
@@ -207,12 +230,7 @@ fn following_word<const N: usize>(base: u64) -> Option<u64>
     ensures { MatchOption result (2 ^ 64 ≤ next_word N base) (λ k. k ≡ next_word N base) }
 {
     let width = 8 * N as u64;
-    let within = base % width;
-    let stride = if within < width && width - within > 64 {
-        64
-    } else {
-        width - within
-    };
+    let stride = (width - base % width).min(64);
     base.checked_add(stride)
 }
 

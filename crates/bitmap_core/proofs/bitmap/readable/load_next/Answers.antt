@@ -1,5 +1,6 @@
 use Rattle.std.proofs.Common.{arith}
-use Rattle.bitmap_core.proofs.WordScan.{step, left_loaded}
+use Rattle.bitmap_core.proofs.LoadedWords.{left_loaded}
+use Rattle.bitmap_core.proofs.WordScan.{step}
 use Rattle.bitmap_core.proofs.bitmap.readable.load_next.Goals as goal
 
 pub turn_chunk-requires : goal.turn_chunk-requires

@@ -1,7 +1,9 @@
 use Rattle.std.proofs.Common.{ℕ, ◌-◌, ◌*◌, min, max, sym, ◌∙◌, ap, arith, refl}
 use Rattle.bitmap_core.specs.Meaning.{Meaning, word_start}
 use Rattle.bitmap_core.proofs.SetPositions.{ones_between-none, ones_between-at}
-use Rattle.bitmap_core.proofs.WordScan.{IsMasked, masked_cut, left_none, left_loaded, first_scan, first_loaded, start_of, start_near, start_chunk, end_near, counted_first}
+use Rattle.bitmap_core.proofs.WordStarts.{start_of, start_near, start_chunk, end_near}
+use Rattle.bitmap_core.proofs.LoadedWords.{IsMasked, masked_cut, left_none, left_loaded, first_loaded}
+use Rattle.bitmap_core.proofs.WordScan.{first_scan, counted_first}
 use Rattle.bitmap_core.proofs.bitmap.readable.Readable.ones_iter_range.Goals as goal
 use Rattle.bitmap_core.proofs.bitmap.readable.Readable.ones_iter_range.Given.{Over}
 use Rattle.bitmap_core.proofs.bitmap.readable.Readable.ones_iter_range.Goals.{After-high_bits}
