@@ -23,10 +23,8 @@ impl<const N: usize> Readable<N> for BitMap<N> {
 
     fn last_chunk(&self) -> ([u8; N], u64) {
         let last = self.len() - 1;
-        (
-            self.chunks[chunk_index::<N>(last)],
-            last % chunk_bits::<N>() + 1,
-        )
+        let used = last % chunk_bits::<N>() + 1;
+        (self.chunks[chunk_index::<N>(last)], used)
     }
 
     fn pruned_chunks(&self) -> usize {
