@@ -12,3 +12,9 @@ pub mod WordBits
 pub mod ByteRanges
 pub mod FlatBits
 pub mod Runs
+pub mod WordMasks
+pub mod SetPositions
+pub mod WordStarts
+pub mod LoadedWords
+pub mod WordScan
+pub mod Meanings

@@ -1,3 +1,5 @@
 pub mod Chunk
 pub mod Bits
 pub mod PrunedBits
+pub mod Text
+pub mod Meaning

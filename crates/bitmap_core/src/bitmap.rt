@@ -14,6 +14,12 @@ use crate::bitmap::chunks::{
 };
 use crate::bitmap::growth::{append_bools, append_copies, extend_zeros, from_bools, shorten};
 use crate::chunk;
+mod debug;
+mod iter;
+pub mod readable;
+
+use crate::bitmap::chunks::{drop_room, get_bit, make_room, set_bit};
+pub use crate::bitmap::iter::Iterator;
 use std::alloc::{AllocError, Global};
 use std::collections::VecDeque;
 use std::marker::Model;

@@ -7,6 +7,7 @@ ghost use Rattle.bitmap_core.specs.Chunk.{chunk_bit, IsBitWritten};
 
 pub mod words;
 pub mod join;
+pub mod load;
 
 // The byte of a chunk in which a bit stands.
 fn byte_index<const N: usize>(bit: u64) -> usize

@@ -1,0 +1,89 @@
+-- The bits of a word: read out of bytes, masked, and without its lowest one.
+use Rattle.std.proofs.Common.{◌≡◌, ◌≢◌, ℕ, zero, suc, ◌+◌, ◌-◌, ◌*◌, ◌/◌, ◌%◌, ◌^◌, ◌<◌, ◌≤◌, eqb, List, get_or, drop, min, refl, ap, sym, ◌∙◌, inl, inr, arith}
+use Rattle.std.specs.Int.{bit_at, w64, bit_not, trailing_zeros, sum_through, byte_worth, from_le_bytes}
+use Rattle.std.specs.Prelude.{bit_and}
+use Rattle.std.proofs.lemmas.Nat.{mul-add-lt}
+use Rattle.std.proofs.lemmas.Nat.Bits.{bit_at-trailing_zeros, bit_at_clear_same, bit_at_clear_other, bit_at_cat_low, bit_at_cat_high, bit_at_and, bit_at-lt, ones_shl, bit_at_mask_inside, bit_at_mask_below}
+use Rattle.std.proofs.lemmas.List.{get_or-drop}
+use Rattle.std.proofs.Math.Pow.{pow-add, pow-lt}
+use Rattle.std.proofs.Math.Nat.{pow-suc, mod-eq_of_lt}
+use Rattle.std.proofs.lemmas.Bool.{cases_lt}
+use Rattle.bitmap_core.specs.Chunk.{chunk_bit}
+
+-- ---- bytes as a number, the lowest first
+
+worth_pow : (k : ℕ) → 256 ^ k ≡ 2 ^ (8 * k)
+worth_pow zero = refl
+worth_pow (suc k) =
+    let e : 8 * k + 8 ≡ 8 * suc k = omega arith in
+    pow-suc 256 k ∙ ap (λ x. x * 256) (worth_pow k) ∙ sym (pow-add 2 (8 * k) 8) ∙ ap (λ x. 2 ^ x) e
+
+spelled : (ℕ → ℕ) → ℕ → ℕ
+spelled f k = sum_through (λ i. byte_worth i (f i)) k
+
+spelled-suc : (f : ℕ → ℕ) (k : ℕ) → spelled f (suc k) ≡ f (suc k) * 2 ^ (8 * suc k) + spelled f k
+unfolding spelled
+spelled-suc f k = let e = ap (λ x. f (suc k) * x) (worth_pow (suc k)) in omega arith
+
+spelled-lt : (f : ℕ → ℕ) (k : ℕ) → ((i : ℕ) → i ≤ k → f i < 256) → spelled f k < 2 ^ (8 * suc k)
+unfolding spelled
+spelled-lt f zero h = omega (arith, h 0 (omega arith))
+spelled-lt f (suc k) h =
+    let l = spelled-lt f k (λ i s. h i (omega arith)) in
+    let e : 8 * suc k + 8 ≡ 8 * suc (suc k) = omega arith in
+    let p : 2 ^ (8 * suc (suc k)) ≡ 2 ^ (8 * suc k) * 256 = ap (λ x. 2 ^ x) (sym e) ∙ pow-add 2 (8 * suc k) 8 in
+    rw (spelled-suc f k, p) (mul-add-lt _ _ _ _ (h (suc k) (omega arith)) l)
+
+bit_at-spelled : (f : ℕ → ℕ) (k : ℕ) → ((i : ℕ) → i ≤ k → f i < 256) → (t : ℕ) → t < 8 * suc k → bit_at (spelled f k) t ≡ bit_at (f (t / 8)) (t % 8)
+unfolding spelled
+bit_at-spelled f zero h t s = let q : t / 8 ≡ 0 = omega arith in let r : t % 8 ≡ t = omega arith in rw (q, r)
+bit_at-spelled f (suc k) h t s = ap (λ x. bit_at x t) (spelled-suc f k) ∙ elim (cases_lt t (8 * suc k)) [
+  | inl l ↦ bit_at_cat_low (f (suc k)) (8 * suc k) (spelled f k) t l ∙ bit_at-spelled f k (λ i m. h i (omega arith)) t l
+  | inr l ↦
+      let q : t / 8 ≡ suc k = omega arith in
+      let r : t % 8 ≡ t - 8 * suc k = omega arith in
+      bit_at_cat_high (f (suc k)) (8 * suc k) (spelled f k) t (spelled-lt f k (λ i m. h i (omega arith))) l ∙ rw (q, r)
+]
+
+-- a word of eight bytes has the bits of the bytes that it was made of
+pub word_bits : (bytes word : List ℕ) → ((i : ℕ) → get_or bytes i 0 < 256) → ((k : ℕ) → k < 8 → get_or word k 0 ≡ get_or bytes k 0) → (t : ℕ) → t < 64 → bit_at (from_le_bytes w64 word) t ≡ bit_at (get_or bytes (t / 8) 0) (t % 8)
+unfolding spelled
+word_bits bytes word h same t s =
+    bit_at-spelled (λ k. get_or word k 0) 7 (λ k m. let e = same k (omega arith) in let b = h k in omega arith) t s ∙ ap (λ b. bit_at b (t % 8)) (same (t / 8) (omega arith))
+
+-- ---- a word of a chunk
+
+pub rest_bit : (n : ℕ) (chunk : List ℕ) (byte t : ℕ) → 8 * byte + t < 8 * n → eqb (bit_at (get_or (drop byte chunk) (t / 8) 0) (t % 8)) 1 ≡ chunk_bit n chunk (8 * byte + t)
+rest_bit n chunk byte t h =
+    let q : (8 * byte + t) / 8 ≡ byte + t / 8 = omega arith in
+    let r : t % 8 ≡ (8 * byte + t) % 8 = omega arith in
+    let m : byte + t / 8 ≡ (8 * byte + t) / 8 % n = sym (ap (λ x. x % n) q ∙ mod-eq_of_lt {n = byte + t / 8} {m = n} (omega arith)) in
+    ap (λ b. eqb (bit_at b (t % 8)) 1) (get_or-drop byte chunk (t / 8) 0 ∙ ap (λ x. get_or chunk x 0) m) ∙ ap (λ x. eqb (bit_at (get_or chunk ((8 * byte + t) / 8 % n) 0) x) 1) r
+
+-- ---- a part of a word
+
+pub low_mask : (count : ℕ) → count < 64 → 1 * 2 ^ count % 2 ^ 64 - 1 ≡ 2 ^ count - 1
+low_mask count h = let p : 2 ^ count < 2 ^ 64 = pow-lt h in omega arith
+
+pub high_mask : (word start t : ℕ) → start < 64 → bit_at (bit_and word ((2 ^ 64 - 1) * 2 ^ start % 2 ^ 64)) t ≡ min (bit_at word t) (bit_at (2 ^ 64 - 2 ^ start) t)
+high_mask word start t h = rw (ones_shl 64 start (omega arith)) (bit_at_and word (2 ^ 64 - 2 ^ start) t)
+
+pub high_bit_kept : (word start t : ℕ) → start < 64 → start ≤ t → t < 64 → bit_at (bit_and word ((2 ^ 64 - 1) * 2 ^ start % 2 ^ 64)) t ≡ bit_at word t
+high_bit_kept word start t h a b = omega (arith, high_mask word start t h, bit_at_mask_inside start 64 t a b, bit_at-lt word t)
+
+pub high_bit_cut : (word start t : ℕ) → start < 64 → t < start → bit_at (bit_and word ((2 ^ 64 - 1) * 2 ^ start % 2 ^ 64)) t ≡ 0
+high_bit_cut word start t h a = omega (arith, high_mask word start t h, bit_at_mask_below start 64 t a)
+
+-- ---- the lowest bit of a word
+
+pub lowest : (word : ℕ) → 0 < word → word < 2 ^ 64 → (trailing_zeros w64 word < 64) × (bit_at word (trailing_zeros w64 word) ≡ 1) × ((t : ℕ) → t < trailing_zeros w64 word → bit_at word t ≡ 0)
+lowest word h f = bit_at-trailing_zeros w64 word h f
+
+abbrev pub without : ℕ → ℕ → ℕ
+without word place = bit_and word (bit_not w64 (1 * 2 ^ place % 2 ^ 64))
+
+pub without_here : (word place : ℕ) → place < 64 → bit_at (without word place) place ≡ 0
+without_here word place h = bit_at_clear_same w64 word place h
+
+pub without_other : (word place t : ℕ) → place < 64 → t < 64 → t ≢ place → bit_at (without word place) t ≡ bit_at word t
+without_other word place t h s d = bit_at_clear_other w64 word place h t s d

@@ -1,0 +1,90 @@
+-- What a bitmap is to its readers. A chunk has n bytes.
+use Rattle.std.specs.Prelude.{◌≡◌, ℕ, ◌+◌, ◌-◌, ◌*◌, ◌/◌, ◌%◌, ◌^◌, ◌<◌, ◌≤◌, min, max, Bool, true, false, List, ◌++◌, length, slice_index_or, ◌==◌, nat_lt, if◌then◌else◌}
+use Rattle.std.specs.Int.{bit_at}
+use Rattle.std.specs.List.{filter, range_with_len}
+use Rattle.bitmap_core.specs.Chunk.{chunk_bit}
+
+-- how many chunks are pruned at the front, how many bits there are (the pruned ones counted), and the bit at each position
+pub record Meaning : Type 0 where
+  pub pruned : ℕ
+  pub len : ℕ
+  pub bit : ℕ → Bool
+
+-- a list of bits, as a bitmap with nothing pruned
+abbrev pub plain_meaning : List Bool → Meaning
+plain_meaning v = record { pruned = 0; len = length v; bit = λ k. slice_index_or v k false }
+
+-- what holds of every bitmap
+pub record IsLawful (n : ℕ) (m : Meaning) : Type 0 where
+  pub positive : 0 < n
+  pub width : 8 * n < 2 ^ 64
+  pub pruned_within : 8 * n * m.pruned ≤ m.len
+  pub len_fits : m.len < 2 ^ 64
+  pub chunks_fit : m.len / (8 * n) < 2 ^ 64
+
+-- chunk c has a retained bit
+abbrev pub IsRetainedChunk : ℕ → Meaning → ℕ → Type 0
+IsRetainedChunk n m c = (m.pruned ≤ c) × (8 * n * c < m.len)
+
+-- position k has a retained bit
+abbrev pub IsRetained : ℕ → Meaning → ℕ → Type 0
+IsRetained n m k = (8 * n * m.pruned ≤ k) × (k < m.len)
+
+-- the bytes have the bits of chunk c below the length, and any bits past it
+abbrev pub ShowsChunk : ℕ → Meaning → ℕ → List ℕ → Type 0
+ShowsChunk n m c bytes = (k : ℕ) → k < 8 * n → 8 * n * c + k < m.len → chunk_bit n bytes k ≡ m.bit (8 * n * c + k)
+
+-- the positions from lo up to hi whose bit is true
+abbrev pub ones_between : (ℕ → Bool) → ℕ → ℕ → List ℕ
+ones_between bit lo hi = filter bit (range_with_len lo (hi - lo))
+
+-- the retained positions from a up to b whose bit is true
+abbrev pub ones : ℕ → Meaning → ℕ → ℕ → List ℕ
+ones n m a b = ones_between m.bit (max a (8 * n * m.pruned)) (min b m.len)
+
+-- a word begins at k: words of 64 bits stand side by side from the start of each chunk, and its last one may be short
+abbrev pub starts_word : ℕ → ℕ → Bool
+starts_word n k = ((k % (8 * n)) % 64) == 0
+
+-- where the word begins that has position k
+abbrev pub word_start : ℕ → ℕ → ℕ
+word_start n k = k - (k % (8 * n)) % 64
+
+-- where the next word begins after one that begins at k
+abbrev pub next_word : ℕ → ℕ → ℕ
+next_word n k = k + (if nat_lt (k % (8 * n) + 64) (8 * n) then 64 else 8 * n - k % (8 * n))
+
+-- how many words meet lo up to hi
+abbrev pub words_between : ℕ → ℕ → ℕ → ℕ
+words_between n lo hi = if nat_lt lo hi then length (ones_between (starts_word n) (word_start n lo) hi) else 0
+
+-- how many words meet the retained positions from a up to b
+abbrev pub words : ℕ → Meaning → ℕ → ℕ → ℕ
+words n m a b = words_between n (max a (8 * n * m.pruned)) (min b m.len)
+
+-- an iterator over set positions: those that are left, the words that were loaded, and how many words meet its range
+pub record Scan : Type 0 where
+  pub left : List ℕ
+  pub loads : ℕ
+  pub words : ℕ
+
+-- the bits of a word that begins at base, by position
+abbrev pub word_bit : ℕ → ℕ → ℕ → Bool
+word_bit base word k = bit_at word (k - base) == 1
+
+-- the set positions in a word at base, and then those in the bitmap from the next word on
+abbrev pub left_from : ℕ → Meaning → ℕ → ℕ → ℕ → List ℕ
+left_from n m base word end = ones_between (word_bit base word) base (base + 64) ++ ones_between m.bit (next_word n base) end
+
+-- what holds of the fields of an iterator
+pub record IsScan (n : ℕ) (m : Meaning) (base : ℕ) (end : ℕ) (chunk : List ℕ) (loads : ℕ) (first : ℕ) : Type 0 where
+  pub lawful : IsLawful n m
+  pub within : end ≤ m.len
+  pub aligned : base < end → starts_word n base ≡ true
+  pub retained : base < end → 8 * n * m.pruned ≤ base
+  pub shown : base < end → ShowsChunk n m (base / (8 * n)) chunk
+  pub counted : loads + length (ones_between (starts_word n) (base + 1) end) ≤ words_between n first end
+
+-- a word at base has no bit at or past the end
+abbrev pub IsCut : ℕ → ℕ → ℕ → Type 0
+IsCut base word end = (i : ℕ) → i < 64 → end ≤ base + i → (bit_at word i == 1) ≡ false

@@ -1,0 +1,55 @@
+//! A bitmap as text.
+
+ghost use Rattle.std.specs.Prelude.{◌≤◌, drop, take, length, Some};
+ghost use Rattle.std.specs.List.{flat_map};
+ghost use Rattle.std.specs.Fmt.{DisplaysOnOk};
+ghost use Rattle.bitmap_core.specs.Text.{digit};
+
+use crate::bitmap::BitMap;
+use std::fmt;
+
+// The most bits that are all shown.
+const SHOWN_WHOLE: u64 = 64;
+
+// How many bits are shown at each end of a bitmap with more.
+const SHOWN_END: u64 = 32;
+
+// Writes the bits from `start` up to `end`, as `1` and `0`.
+fn write_bits<const N: usize, W: fmt::Write>(
+    bitmap: &BitMap<N>,
+    start: u64,
+    end: u64,
+    f: &mut fmt::Formatter<W>,
+) -> fmt::Result
+    requires order { start ≤ end }
+    requires within { end ≤ length bitmap.now }
+    ensures { DisplaysOnOk W.write_str_gives f.old result (Some (flat_map digit (drop start (take end bitmap.now)))) f.new }
+{
+    for i in start..end {
+        let digit = if bitmap.get(i) { "1" } else { "0" };
+        f.write_str(digit)?;
+    }
+    Ok(())
+}
+
+impl<const N: usize> fmt::Debug for BitMap<N> {
+    ghost use Rattle.bitmap_core.specs.Text.{debug_text};
+
+    ghost debug_output = { λ b. Some (debug_text b) };
+
+    /// `BitMap[`, the bits in order as `1` and `0`, and `]`.
+    ///
+    /// Of more than 64 bits it shows the first 32, `...` and the last 32.
+    fn fmt<W: fmt::Write>(&self, f: &mut fmt::Formatter<W>) -> fmt::Result {
+        let len = self.len();
+        f.write_str("BitMap[")?;
+        if len <= SHOWN_WHOLE {
+            write_bits(self, 0, len, f)?;
+        } else {
+            write_bits(self, 0, SHOWN_END, f)?;
+            f.write_str("...")?;
+            write_bits(self, len - SHOWN_END, len, f)?;
+        }
+        f.write_str("]")
+    }
+}

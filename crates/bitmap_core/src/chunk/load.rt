@@ -1,0 +1,73 @@
+//! Words of 64 bits out of a chunk. The lowest bit of a word is its first.
+
+ghost use Rattle.std.specs.Prelude.{◌≡◌, ◌≢◌, ℕ, ◌+◌, ◌*◌, ◌/◌, ◌%◌, ◌<◌, ◌≤◌, ◌==◌, true, false, length, slice_index_or};
+ghost use Rattle.std.specs.Int.{bit_at};
+ghost use Rattle.bitmap_core.specs.Chunk.{chunk_bit};
+
+/// The 64 bits of a chunk from byte `byte` on, with zeros past the end of the chunk. No memory.
+pub fn word_at<const N: usize>(chunk: &[u8; N], byte: usize) -> u64
+    requires { byte ≤ N }
+    ensures inside { (t : ℕ) → t < 64 → 8 * byte + t < 8 * N → (bit_at result t == 1) ≡ chunk_bit N chunk.now (8 * byte + t) }
+    ensures past { (t : ℕ) → t < 64 → 8 * N ≤ 8 * byte + t → (bit_at result t == 1) ≡ false }
+{
+    let bytes = &chunk[..];
+    first_word(&bytes[byte..])
+}
+
+// The first eight bytes, with zeros where there are fewer.
+fn first_word(bytes: &[u8]) -> u64
+    ensures { (t : ℕ) → t < 64 → bit_at result t ≡ bit_at (slice_index_or bytes.now (t / 8) 0) (t % 8) }
+{
+    match bytes.first_chunk::<8>() {
+        Some(word) => u64::from_le_bytes(*word),
+        None => short_word(bytes),
+    }
+}
+
+// Fewer than eight bytes, with zeros after them.
+fn short_word(bytes: &[u8]) -> u64
+    requires { length bytes.now < 8 }
+    ensures { (t : ℕ) → t < 64 → bit_at result t ≡ bit_at (slice_index_or bytes.now (t / 8) 0) (t % 8) }
+{
+    let mut word = [0; 8];
+    for i in 0..bytes.len() {
+        word[i] = bytes[i];
+    }
+    u64::from_le_bytes(word)
+}
+
+/// A word with zeros in place of its bits from `count` on. No memory.
+pub fn low_bits(word: u64, count: u64) -> u64
+    ensures kept { (t : ℕ) → t < 64 → t < count → (bit_at result t == 1) ≡ (bit_at word t == 1) }
+    ensures cut { (t : ℕ) → t < 64 → count ≤ t → (bit_at result t == 1) ≡ false }
+{
+    if count < 64 {
+        word & ((1 << count) - 1)
+    } else {
+        word
+    }
+}
+
+/// A word with zeros in place of its bits below `start`. No memory.
+pub fn high_bits(word: u64, start: u64) -> u64
+    requires { start < 64 }
+    ensures kept { (t : ℕ) → t < 64 → start ≤ t → (bit_at result t == 1) ≡ (bit_at word t == 1) }
+    ensures cut { (t : ℕ) → t < start → (bit_at result t == 1) ≡ false }
+{
+    word & (u64::MAX << start)
+}
+
+/// Clears the lowest set bit of a word that is not 0, and answers its place. No memory.
+pub fn take_lowest(word: &mut u64) -> u64
+    requires { 0 < word.old }
+    ensures within { result < 64 }
+    ensures set { (bit_at word.old result == 1) ≡ true }
+    ensures lowest { (t : ℕ) → t < result → (bit_at word.old t == 1) ≡ false }
+    ensures cleared { (bit_at word.new result == 1) ≡ false }
+    ensures others { (t : ℕ) → t < 64 → t ≢ result → (bit_at word.new t == 1) ≡ (bit_at word.old t == 1) }
+{
+    let old = *word;
+    let place = old.trailing_zeros();
+    *word = old & !(1 << place);
+    place as u64
+}
