@@ -5,20 +5,18 @@ ghost use Rattle.std.specs.Int.{div_ceil};
 ghost use Rattle.bitmap_core.specs.Chunk.{chunk_bit, chunk_bits};
 
 mod chunks;
-mod growth;
 mod count;
+mod debug;
 mod extend;
+mod growth;
+mod iter;
+pub mod readable;
 
 use crate::bitmap::chunks::{
     chunk_bits, chunk_count, clear_tail, drop_room, flip_bit, get_bit, make_room, set_bit,
 };
 use crate::bitmap::growth::{append_bools, append_copies, extend_zeros, from_bools, shorten};
 use crate::chunk;
-mod debug;
-mod iter;
-pub mod readable;
-
-use crate::bitmap::chunks::{drop_room, get_bit, make_room, set_bit};
 pub use crate::bitmap::iter::Iterator;
 use std::alloc::{AllocError, Global};
 use std::collections::VecDeque;
