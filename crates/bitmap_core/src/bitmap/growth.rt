@@ -104,7 +104,7 @@ mod tests {
     fn pushes_within_capacity_take_no_memory(rt: HostRuntime) -> Result<(), Fail> {
         let mut map: BitMap<4> = BitMap::with_capacity(rt.alloc(), 70)?;
         let room = map.chunks.capacity();
-        for _ in 0..70 {
+        for _ in 0u64..70 {
             map.push(true)?;
         }
         assert_eq!(rt; map.chunks.capacity(), room);
