@@ -4,5 +4,8 @@ pub mod ChunkBits
 pub mod BitLists
 pub mod ChunkLists
 pub mod BitEdits
+pub mod WholeBits
+pub mod ChunkRuns
+pub mod ChunkBytes
 pub mod Equality
 pub mod Counts

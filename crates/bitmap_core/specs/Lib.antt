@@ -1,3 +1,5 @@
 pub mod Chunk
 pub mod Bits
+pub mod Gates
+pub mod Fed
 pub mod PrunedBits

@@ -1,6 +1,6 @@
 //! A bitmap's deque of chunks.
 
-ghost use Rattle.std.specs.Prelude.{◌≡◌, ℕ, ◌+◌, ◌*◌, ◌/◌, ◌%◌, ◌^◌, ◌<◌, length, OnOk, OnErr, IsOk};
+ghost use Rattle.std.specs.Prelude.{◌≡◌, ℕ, ◌+◌, ◌*◌, ◌/◌, ◌%◌, ◌^◌, ◌<◌, ◌≤◌, length, OnOk, OnErr, IsOk};
 ghost use Rattle.bitmap_core.specs.Bits.{bit_of, IsChunkCount, IsBitPut, IsZeroFrom};
 
 use crate::chunk;
@@ -69,5 +69,20 @@ pub fn drop_room<const N: usize>(chunks: &mut VecDeque<[u8; N]>, len: u64)
 {
     if len % chunk_bits::<N>() == 0 {
         let _ = chunks.pop_back();
+    }
+}
+
+// Clears the bits of the chunks from `len` on.
+pub fn clear_tail<const N: usize>(chunks: &mut VecDeque<[u8; N]>, len: u64)
+    requires positive { 0 < N }
+    requires fits { 8 * N < 2 ^ 64 }
+    requires count { IsChunkCount N (length chunks.old.items) len }
+    ensures count { length chunks.new.items ≡ length chunks.old.items }
+    ensures below { (i : ℕ) → i < len → bit_of N chunks.new.items i ≡ bit_of N chunks.old.items i }
+    ensures zero { IsZeroFrom N chunks.new.items len }
+{
+    let at = len % chunk_bits::<N>();
+    if at != 0 {
+        chunk::clear_from(&mut chunks[chunk_index::<N>(len)], at);
     }
 }
