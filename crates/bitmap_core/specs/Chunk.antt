@@ -16,7 +16,7 @@ pub record IsBitWritten (n : ℕ) (old new : List ℕ) (i : ℕ) (value : Bool) 
   pub here : chunk_bit n new i ≡ value
   pub others : (j : ℕ) → (j % (8 * n) ≡ i % (8 * n) → ⊥) → chunk_bit n new j ≡ chunk_bit n old j
 
--- n bytes
+-- a list of n bytes
 pub record IsChunk (n : ℕ) (chunk : List ℕ) : Type 0 where
   pub len : length chunk ≡ n
   pub bytes : (k : ℕ) → slice_index chunk k < 256

@@ -89,7 +89,11 @@ pub fn combine<G: Gate, const N: usize>(chunk: &mut [u8; N], other: &[u8; N])
     requires { 0 < N }
     ensures { (i : ℕ) → chunk_bit N chunk.new i ≡ G.gives (chunk_bit N chunk.old i) (chunk_bit N other.now i) }
 {
+    // Copies, so that no write can be taken for one to `other`: whole words are joined at once.
+    let other = *other;
+    let mut joined = *chunk;
     for j in 0..N {
-        chunk[j] = G::join(chunk[j], other[j]);
+        joined[j] = G::join(joined[j], other[j]);
     }
+    *chunk = joined;
 }
