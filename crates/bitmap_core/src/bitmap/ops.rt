@@ -140,3 +140,76 @@ impl<const N: usize> BitXor<&BitMap<N>> for &BitMap<N> {
         Ok(difference)
     }
 }
+
+#[cfg(test)]
+mod tests {
+    use super::*;
+    use std::alloc::Global;
+    use std::hash::DefaultHasher;
+    use std::test::Fail;
+
+    // Nine bits, so that two chunks are begun: two of the test's own, then ones.
+    fn nine(alloc: Global, first: bool, second: bool) -> Result<BitMap<1>, AllocError> {
+        let mut map = BitMap::new(alloc);
+        map.push(first)?;
+        map.push(second)?;
+        map.push(true)?;
+        map.push(true)?;
+        map.push(true)?;
+        map.push(true)?;
+        map.push(true)?;
+        map.push(true)?;
+        map.push(true)?;
+        Ok(map)
+    }
+
+    fn hashed(map: &BitMap<1>) -> u64 {
+        let mut state = DefaultHasher::new();
+        map.hash(&mut state);
+        state.finish()
+    }
+
+    #[test]
+    fn whole_bitmaps(rt: HostRuntime) -> Result<(), Fail> {
+        let mut map = nine(rt.alloc(), true, false)?;
+        let same = nine(rt.alloc(), true, false)?;
+        let other = nine(rt.alloc(), false, true)?;
+        assert!(rt; map == same);
+        assert!(rt; map != other);
+        assert_eq!(rt; hashed(&map), hashed(&same));
+        map.flip_all();
+        assert!(rt; map != same);
+        map.flip_all();
+        assert!(rt; map == same);
+        map.set_all(true);
+        let ones = nine(rt.alloc(), true, true)?;
+        assert!(rt; map == ones);
+        map.set_all(false);
+        map.flip_all();
+        assert!(rt; map == ones);
+        Ok(())
+    }
+
+    #[test]
+    fn joined(rt: HostRuntime) -> Result<(), Fail> {
+        let mut left: BitMap<1> = BitMap::new(rt.alloc());
+        left.push(true)?;
+        left.push(true)?;
+        left.push(false)?;
+        let mut right = BitMap::new(rt.alloc());
+        right.push(true)?;
+        right.push(false)?;
+        right.push(false)?;
+        let mut middle = BitMap::new(rt.alloc());
+        middle.push(false)?;
+        middle.push(true)?;
+        middle.push(false)?;
+        let both = (&left & &right)?;
+        assert!(rt; both == right);
+        let either = (&right | &middle)?;
+        assert!(rt; either == left);
+        let difference = (&left ^ &right)?;
+        assert!(rt; difference == middle);
+        Ok(())
+    }
+}
