@@ -1,6 +1,10 @@
 use Rattle.std.proofs.Common.{◌≡◌, ◌≢◌, ℕ, ◌-◌, ◌^◌, ◌<◌, ◌≤◌, true, false, not, ◌&&◌, eqb, bit_and, bit_or, bit_xor, w8, ap, ◌∙◌, arith}
 use Rattle.std.specs.Int.{bit_at}
 use Rattle.std.proofs.lemmas.Nat.Bits.{and_pow, bit_at-lt, bit_at_or, bit_at_and, bit_at_xor, bit_at_not, bit_at-pow_same, bit_at-pow_other, bit_at-zero, bit_at_ones, bit_at_ones_above}
+use Rattle.std.proofs.Common.{◌≡◌, ◌≢◌, ℕ, zero, suc, ◌+◌, ◌-◌, ◌%◌, ◌^◌, ◌<◌, ◌≤◌, true, false, not, ◌&&◌, ◌||◌, eqb, bit_and, bit_or, bit_xor, w8, refl, ap, ◌∙◌, arith}
+use Rattle.std.proofs.Math.Bool.{xor}
+use Rattle.std.specs.Int.{bit_at}
+use Rattle.std.proofs.lemmas.Nat.Bits.{and_pow, bit_at-lt, bit_at_or, bit_at_and, bit_at_not, bit_at_xor, bit_at-pow_same, bit_at-pow_other, bit_at-zero, bit_at_ones, bit_at_ones_above}
 use Rattle.std.proofs.lemmas.Bool.Decides.{nat_tests}
 
 pub bit_test : (b k : ℕ) → not (eqb (bit_and b (2 ^ k)) 0) ≡ eqb (bit_at b k) 1
@@ -56,3 +60,22 @@ low_bit_above a m k h = let e = bit_at_and a (2 ^ m - 1) k in let o = bit_at_one
 
 pub bit_same : (a b : ℕ) → a < 2 → b < 2 → eqb a 1 ≡ eqb b 1 → a ≡ b
 bit_same a b h s e = grind (arith, nat_tests)
+
+pub or_bit : (a b k : ℕ) → eqb (bit_at (bit_or a b) k) 1 ≡ eqb (bit_at a k) 1 || eqb (bit_at b k) 1
+or_bit a b k = let e = bit_at_or a b k in let p = bit_at-lt a k in let q = bit_at-lt b k in grind (arith, nat_tests)
+
+xor_digits : (m p : ℕ) → m < 2 → p < 2 → eqb ((m + p) % 2) 1 ≡ xor (eqb m 1) (eqb p 1)
+unfolding xor
+xor_digits zero zero h s = refl
+xor_digits zero (suc zero) h s = refl
+xor_digits (suc zero) zero h s = refl
+xor_digits (suc zero) (suc zero) h s = refl
+xor_digits (suc (suc m)) p h s = absurd (omega arith)
+xor_digits zero (suc (suc p)) h s = absurd (omega arith)
+xor_digits (suc zero) (suc (suc p)) h s = absurd (omega arith)
+
+pub xor_bit : (a b k : ℕ) → eqb (bit_at (bit_xor a b) k) 1 ≡ xor (eqb (bit_at a k) 1) (eqb (bit_at b k) 1)
+xor_bit a b k = ap (λ x. eqb x 1) (bit_at_xor a b k) ∙ xor_digits (bit_at a k) (bit_at b k) (bit_at-lt a k) (bit_at-lt b k)
+
+pub bit_of_ones_byte : (k : ℕ) → k < 8 → eqb (bit_at 255 k) 1 ≡ true
+bit_of_ones_byte k h = ap (λ x. eqb x 1) (bit_at_ones 8 k h)

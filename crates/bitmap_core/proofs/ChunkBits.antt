@@ -1,10 +1,10 @@
-use Rattle.std.proofs.Common.{◌≡◌, ◌≢◌, ℕ, ◌+◌, ◌-◌, ◌*◌, ◌/◌, ◌%◌, ◌^◌, ◌<◌, ◌≤◌, false, List, length, get_or, set, eqb, bit_and, sym, ap, ◌∙◌, inl, inr, arith}
+use Rattle.std.proofs.Common.{◌≡◌, ◌≢◌, ℕ, ◌+◌, ◌-◌, ◌*◌, ◌/◌, ◌%◌, ◌^◌, ◌<◌, ◌≤◌, Bool, false, List, length, get_or, set, replicate, eqb, bit_and, sym, ap, ◌∙◌, inl, inr, arith}
 use Rattle.std.specs.Int.{bit_at}
 use Rattle.std.proofs.Math.Arith.{mod-mul}
 use Rattle.std.proofs.Math.Nat.{div-add-mod, mod-eq_of_lt}
 use Rattle.std.proofs.lemmas.Nat.{mod_below, div-mul-add, mod-mul-add}
 use Rattle.std.proofs.lemmas.Nat.Bits.{bit_at-lt, same_from_bits_below}
-use Rattle.std.proofs.lemmas.List.{get_or-set_same, get_or-set_other}
+use Rattle.std.proofs.lemmas.List.{get_or-set_same, get_or-set_other, get_or-replicate}
 use Rattle.std.proofs.lemmas.Bool.{cases_eq, cases_lt}
 use Rattle.bitmap_core.specs.Chunk.{chunk_bit}
 use Rattle.bitmap_core.proofs.ByteBits.{bit_of_zero_byte, low_bit_below, low_bit_above, bit_same}
@@ -56,3 +56,7 @@ byte_from_bits n a b j s h g e =
     let m : j % n ≡ j = mod-eq_of_lt s in
     let k : (j * 8 + t) / 8 % n ≡ j = ap (λ x. x % n) q ∙ m in
     bit_same _ _ (bit_at-lt _ t) (bit_at-lt _ t) (ap (λ x. eqb (bit_at (get_or a j 0) x) 1) (sym r) ∙ ap (λ x. eqb (bit_at (get_or a x 0) ((j * 8 + t) % 8)) 1) (sym k) ∙ e (j * 8 + t) ∙ ap (λ x. eqb (bit_at (get_or b x 0) ((j * 8 + t) % 8)) 1) k ∙ ap (λ x. eqb (bit_at (get_or b j 0) x) 1) r))
+
+-- a chunk that repeats one byte whose bits are alike
+pub chunk_bit-fill : (n : ℕ) (v : ℕ) (b : Bool) (i : ℕ) → 0 < n → ((k : ℕ) → k < 8 → eqb (bit_at v k) 1 ≡ b) → chunk_bit n (replicate {A = ℕ} n v) i ≡ b
+chunk_bit-fill n v b i p h = ap (λ x. eqb (bit_at x (i % 8)) 1) (get_or-replicate {A = ℕ} n (i / 8 % n) v 0 (mod_below (i / 8) n p)) ∙ h (i % 8) (mod_below i 8 (omega arith))

@@ -12,13 +12,16 @@ pub decides_from : {P : Type 0} (r : Bool) → (r ≡ true → P) → (r ≡ fal
 decides_from true f g = (f, λ _. refl)
 decides_from false f g = (f, λ p. absurd (g refl p))
 
-pub same_values : (n : ℕ) (xs ys : List (List ℕ)) (len len' : ℕ) (v w : List Bool) (r : Bool) → bits n xs len ≡ v → bits n ys len' ≡ w → len ≡ len' → IsZeroFrom n xs len → IsZeroFrom n ys len' → (r ≡ true → (i : ℕ) → bit_of n xs i ≡ bit_of n ys i) → (r ≡ false → ((i : ℕ) → bit_of n xs i ≡ bit_of n ys i) → ⊥) → r ≡ pointwise beq v w
-same_values n xs ys len len' v w r e f l z y t u =
+pub same_values : (n : ℕ) (xs ys : List (List ℕ)) (len len' : ℕ) (v w : List Bool) (r : Bool) → bits n xs len ≡ v → bits n ys len' ≡ w → len ≡ len' → IsZeroFrom n xs len → IsZeroFrom n ys len' → Decides r ((i : ℕ) → bit_of n xs i ≡ bit_of n ys i) → r ≡ pointwise beq v w
+same_values n xs ys len len' v w r e f l z y d =
     let g : bits n ys len ≡ w = ap (λ k. bits n ys k) l ∙ f in
-    same_from_decides {P = v ≡ w} r (pointwise beq v w) (decides_from r (λ q. sym e ∙ bits-same n ys xs len (λ i _. t q i) ∙ g) (λ q h. u q (λ i. elim (cases_lt i len) [
-      | inl s ↦ sym (get_or-bits n xs len i false s) ∙ ap (λ x. get_or x i false) (e ∙ h ∙ sym g) ∙ get_or-bits n ys len i false s
-      | inr s ↦ z i s ∙ sym (y i (omega arith))
-    ]))) (pointwise_decides booleans_Decides v w)
+    same_from_decides {P = v ≡ w} r (pointwise beq v w) (
+      λ q. sym e ∙ bits-same n ys xs len (λ i _. d.0 q i) ∙ g,
+      λ h. d.1 (λ i. elim (cases_lt i len) [
+        | inl s ↦ sym (get_or-bits n xs len i false s) ∙ ap (λ x. get_or x i false) (e ∙ h ∙ sym g) ∙ get_or-bits n ys len i false s
+        | inr s ↦ z i s ∙ sym (y i (omega arith))
+      ]),
+    ) (pointwise_decides booleans_Decides v w)
 
 pub other_lengths : (n : ℕ) (xs ys : List (List ℕ)) (len len' : ℕ) (v w : List Bool) → bits n xs len ≡ v → bits n ys len' ≡ w → len ≢ len' → eqb len len' ≡ pointwise beq v w
 other_lengths n xs ys len len' v w e f d =

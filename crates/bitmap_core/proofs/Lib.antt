@@ -4,6 +4,9 @@ pub mod ChunkBits
 pub mod BitLists
 pub mod ChunkLists
 pub mod BitEdits
+pub mod WholeBits
+pub mod ChunkRuns
+pub mod ChunkBytes
 pub mod Equality
 pub mod Counts
 pub mod Packing

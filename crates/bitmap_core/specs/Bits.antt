@@ -1,7 +1,7 @@
 -- A dense bitmap: a list of bits, packed into chunks of n bytes.
 use Rattle.std.specs.Prelude.{◌≡◌, ℕ, ◌+◌, ◌*◌, ◌/◌, ◌<◌, ◌≤◌, Bool, false, List, [], length, map, slice_index_or}
 use Rattle.std.specs.List.{range_with_len}
-use Rattle.bitmap_core.specs.Chunk.{chunk_bit}
+use Rattle.bitmap_core.specs.Chunk.{chunk_bit, IsChunk}
 
 -- bit i of chunks of n bytes: bit i of chunk i / 8n
 abbrev pub bit_of : ℕ → List (List ℕ) → ℕ → Bool
@@ -24,3 +24,7 @@ pub record IsBitPut (n : ℕ) (old new : List (List ℕ)) (i : ℕ) (value : Boo
   pub here : bit_of n new i ≡ value
   pub others : (j : ℕ) → (j ≡ i → ⊥) → bit_of n new j ≡ bit_of n old j
   pub count : length new ≡ length old
+
+-- each is a chunk of n bytes
+abbrev pub AreChunks : ℕ → List (List ℕ) → Type 0
+AreChunks n chunks = (i : ℕ) → i < length chunks → IsChunk n (slice_index_or chunks i [])

@@ -1,6 +1,6 @@
 -- The bits of one chunk.
-use Rattle.std.specs.Prelude.{◌≡◌, ℕ, ◌*◌, ◌/◌, ◌%◌, Bool, List, map, ◌==◌, slice_index_or}
-use Rattle.std.specs.List.{range_with_len}
+use Rattle.std.specs.Prelude.{◌≡◌, ℕ, cond, ◌+◌, ◌*◌, ◌/◌, ◌%◌, ◌^◌, ◌<◌, Bool, false, List, length, map, ◌==◌, slice_index, slice_index_or}
+use Rattle.std.specs.List.{range_with_len, sum_by}
 use Rattle.std.specs.Int.{bit_at}
 
 -- bit i of a chunk of n bytes: it stands in byte (i / 8) mod n, at place i mod 8
@@ -19,3 +19,19 @@ pub record IsBitWritten (n : ℕ) (old new : List ℕ) (i : ℕ) (value : Bool) 
 -- bit i of a run of bytes: it stands in byte i / 8, at place i mod 8; past the bytes it is zero
 abbrev pub bit_in : List ℕ → ℕ → Bool
 bit_in bytes i = bit_at (slice_index_or bytes (i / 8) 0) (i % 8) == 1
+-- a list of n bytes
+pub record IsChunk (n : ℕ) (chunk : List ℕ) : Type 0 where
+  pub len : length chunk ≡ n
+  pub bytes : (k : ℕ) → slice_index chunk k < 256
+
+-- a bit as a number
+abbrev pub bit_value : Bool → ℕ
+bit_value x = cond x 1 0
+
+-- a byte from its eight bits, the lowest first
+abbrev pub byte_of : (ℕ → Bool) → ℕ
+byte_of bit = sum_by (λ t. bit_value (bit t) * 2 ^ t) (range_with_len 0 8)
+
+-- the bytes of chunk i of the bits v; a bit past their end is zero
+abbrev pub chunk_of : ℕ → List Bool → ℕ → List ℕ
+chunk_of n v i = map (λ j. byte_of (λ t. slice_index_or v (8 * n * i + 8 * j + t) false)) (range_with_len 0 n)

@@ -11,6 +11,8 @@ mod extend;
 mod growth;
 mod iter;
 pub mod readable;
+mod every_chunk;
+mod ops;
 
 use crate::bitmap::chunks::{
     chunk_bits, chunk_count, clear_tail, drop_room, flip_bit, get_bit, make_room, set_bit,

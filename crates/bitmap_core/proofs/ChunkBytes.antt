@@ -1,0 +1,77 @@
+-- Chunks as bytes, and what a hash is fed.
+use Rattle.std.proofs.Common.{◌≡◌, ℕ, suc, zero, ◌+◌, ◌*◌, ◌/◌, ◌%◌, ◌^◌, ◌<◌, Bool, false, List, [], length, get_or, map, eqb, refl, sym, ap, ◌∙◌, inl, inr, arith}
+use Rattle.std.specs.Int.{bit_at, div_ceil}
+use Rattle.std.specs.List.{range_with_len}
+use Rattle.std.proofs.Math.Nat.{mod-one, mod-eq_of_lt}
+use Rattle.std.proofs.lemmas.Nat.{mod-pow-add, mod_below, div-mul-add, mod-mul-add}
+use Rattle.std.proofs.lemmas.List.{get_or_read, get_or_default, get_or_past}
+use Rattle.std.proofs.lemmas.List.FromFn.{fill_by_all}
+use Rattle.std.proofs.lemmas.Bool.{cases_lt}
+use Rattle.bitmap_core.specs.Chunk.{chunk_bit, bit_value, byte_of, chunk_of}
+use Rattle.bitmap_core.specs.Bits.{bit_of, bits, IsChunkCount, IsZeroFrom, AreChunks}
+use Rattle.bitmap_core.proofs.Places.{IsChunkCount-ceil, count_unique}
+use Rattle.bitmap_core.proofs.ChunkBits.{chunk_bit-mod}
+use Rattle.bitmap_core.proofs.BitLists.{get_or-bits, len_is}
+
+-- the number below 2 ^ k whose bit t is f t
+number_of : (ℕ → Bool) → ℕ → ℕ
+number_of f zero = 0
+number_of f (suc k) = number_of f k + bit_value (f k) * 2 ^ k
+
+digit_value : (m : ℕ) → m < 2 → m ≡ bit_value (eqb m 1)
+digit_value zero h = refl
+digit_value (suc zero) h = refl
+digit_value (suc (suc m)) h = absurd (omega arith)
+
+number_of_bits : (b k : ℕ) → b % 2 ^ k ≡ number_of (λ t. eqb (bit_at b t) 1) k
+unfolding number_of
+number_of_bits b zero = mod-one b
+number_of_bits b (suc k) =
+    let e : 1 + k ≡ suc k = omega arith in
+    let w : (b / 2 ^ k % 2) * 2 ^ k ≡ bit_value (eqb (bit_at b k) 1) * 2 ^ k = ap (λ x. x * 2 ^ k) (digit_value (b / 2 ^ k % 2) (mod_below (b / 2 ^ k) 2 (omega arith))) in
+    let i = number_of_bits b k in
+    let m = mod-pow-add b 1 k in
+    ap (λ x. b % 2 ^ x) (sym e) ∙ m ∙ omega arith
+
+number_of-same : (f g : ℕ → Bool) (k : ℕ) → ((t : ℕ) → t < k → f t ≡ g t) → number_of f k ≡ number_of g k
+unfolding number_of
+number_of-same f g zero h = refl
+number_of-same f g (suc k) h = ap (λ x. x + bit_value (f k) * 2 ^ k) (number_of-same f g k (λ t s. h t (omega arith))) ∙ ap (λ b. number_of g k + bit_value b * 2 ^ k) (h k (omega arith))
+
+number_of_byte : (f : ℕ → Bool) → number_of f 8 ≡ byte_of f
+unfolding number_of
+number_of_byte f = omega arith
+
+-- a byte is the number that its bits make
+pub byte_is : (b : ℕ) (f : ℕ → Bool) → b < 256 → ((t : ℕ) → t < 8 → eqb (bit_at b t) 1 ≡ f t) → b ≡ byte_of f
+byte_is b f h e = sym (mod-eq_of_lt {n = b} {m = 2 ^ 8} h) ∙ number_of_bits b 8 ∙ number_of-same _ f 8 e ∙ number_of_byte f
+
+-- a byte of a chunk by the chunk's bits
+pub chunk_byte : (n : ℕ) (chunk : List ℕ) (j : ℕ) (f : ℕ → Bool) → j < n → get_or chunk j 0 < 256 → ((t : ℕ) → t < 8 → chunk_bit n chunk (8 * j + t) ≡ f t) → get_or chunk j 0 ≡ byte_of f
+chunk_byte n chunk j f s h e = byte_is (get_or chunk j 0) f h (λ t w.
+    let q : (8 * j + t) / 8 ≡ j = omega arith in
+    let r : t ≡ (8 * j + t) % 8 = omega arith in
+    let m : j ≡ (8 * j + t) / 8 % n = sym (ap (λ x. x % n) q ∙ mod-eq_of_lt {n = j} {m = n} s) in
+    ap (λ x. eqb (bit_at (get_or chunk j 0) x) 1) r ∙ ap (λ x. eqb (bit_at (get_or chunk x 0) ((8 * j + t) % 8)) 1) m ∙ e t w)
+
+-- a chunk of a bitmap's value v
+pub chunk_is : (n : ℕ) (xs : List (List ℕ)) (len : ℕ) (v : List Bool) (i : ℕ) (c : List ℕ) → 0 < n → bits n xs len ≡ v → IsZeroFrom n xs len → i < length xs → c ≡ get_or xs i c → length c ≡ n → ((k : ℕ) → get_or c k 0 < 256) → c ≡ chunk_of n v i
+chunk_is n xs len v i c p e z s r l h =
+    fill_by_all (λ j. byte_of (λ t. get_or v (8 * n * i + 8 * j + t) false)) c n 0 l (λ j w. chunk_byte n c j (λ t. get_or v (8 * n * i + 8 * j + t) false) w (h j) (λ t u.
+    let at : 8 * j + t < 8 * n = omega arith in
+    let m : 8 * n * i + 8 * j + t ≡ i * (8 * n) + (8 * j + t) = grind arith in
+    let q : (8 * n * i + 8 * j + t) / (8 * n) ≡ i = ap (λ x. x / (8 * n)) m ∙ div-mul-add i (8 * n) (8 * j + t) at in
+    let y : (8 * j + t) % (8 * n) ≡ (8 * n * i + 8 * j + t) % (8 * n) = mod-eq_of_lt {n = 8 * j + t} {m = 8 * n} at ∙ sym (ap (λ x. x % (8 * n)) m ∙ mod-mul-add i (8 * n) (8 * j + t) at) in
+    let b : chunk_bit n c (8 * j + t) ≡ bit_of n xs (8 * n * i + 8 * j + t) = chunk_bit-mod n c (8 * j + t) (8 * n * i + 8 * j + t) p y ∙ ap (λ x. chunk_bit n x (8 * n * i + 8 * j + t)) (get_or_read xs i c s r [] ∙ ap (λ x. get_or xs x []) (sym q)) in
+    b ∙ elim (cases_lt (8 * n * i + 8 * j + t) len) [
+      | inl o ↦ sym (get_or-bits n xs len (8 * n * i + 8 * j + t) false o) ∙ ap (λ x. get_or x (8 * n * i + 8 * j + t) false) e
+      | inr o ↦ z (8 * n * i + 8 * j + t) o ∙ sym (get_or_past v (8 * n * i + 8 * j + t) false (omega (arith, len_is n xs len v e)))
+    ]))
+
+-- the chunks of a bitmap are those of its bits
+pub chunks_are : (n : ℕ) (xs : List (List ℕ)) (len : ℕ) (v : List Bool) → 0 < n → IsChunkCount n (length xs) len → IsZeroFrom n xs len → bits n xs len ≡ v → AreChunks n xs → xs ≡ map (chunk_of n v) (range_with_len 0 (div_ceil (length v) (8 * n)))
+chunks_are n xs len v p k z e h =
+    let q : length xs ≡ div_ceil (length v) (8 * n) = count_unique n (length xs) (div_ceil len (8 * n)) len k (IsChunkCount-ceil n len p) ∙ ap (λ x. div_ceil x (8 * n)) (sym (len_is n xs len v e)) in
+    fill_by_all (chunk_of n v) xs (div_ceil (length v) (8 * n)) [] q (λ i s.
+    let t : i < length xs = omega arith in
+    chunk_is n xs len v i (get_or xs i []) p e z t (get_or_default xs i [] (get_or xs i []) t) (h i t).len (h i t).bytes)

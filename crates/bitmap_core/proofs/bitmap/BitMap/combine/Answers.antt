@@ -1,0 +1,21 @@
+use Rattle.std.proofs.Common.{◌≡◌, ◌∙◌, sym, ap, length, arith}
+use Rattle.bitmap_core.specs.Bits.{bits}
+use Rattle.bitmap_core.proofs.BitLists.{len_is}
+use Rattle.bitmap_core.proofs.Places.{count_unique}
+use Rattle.bitmap_core.proofs.WholeBits.{bits-zip, IsZeroFrom-zip}
+use Rattle.bitmap_core.proofs.bitmap.BitMap.combine.Goals as goal
+
+pub combine-requires : goal.combine-requires
+combine-requires g c =
+    let e : c.other.inside.len ≡ c.self.inside.len = sym (len_is _ _ _ _ c.other.view_is) ∙ sym c.requires ∙ len_is _ _ _ _ c.self.view_is in
+    (omega (arith, c.self.invariant.1), (c.self.invariant.0, count_unique g.row.N (length c.self.inside.chunks.items) (length c.other.inside.chunks.items) c.self.inside.len c.self.invariant.2 (rw e at c.other.invariant.2)))
+
+pub invariant_of-self : goal.invariant_of-self
+invariant_of-self g c =
+    let e : c.other.inside.len ≡ c.self.inside.len = sym (len_is _ _ _ _ c.other.view_is) ∙ sym c.requires ∙ len_is _ _ _ _ c.self.view_is in
+    (c.self.invariant.0, c.self.invariant.1, rw c.combine.ensures.count c.self.invariant.2, IsZeroFrom-zip _ _ _ _ _ _ g.G.Gate.keeps_zeros c.combine.ensures c.self.invariant.3 (rw e at c.other.invariant.3))
+
+pub returns : goal.returns
+returns g c =
+    let e : c.other.inside.len ≡ c.self.inside.len = sym (len_is _ _ _ _ c.other.view_is) ∙ sym c.requires ∙ len_is _ _ _ _ c.self.view_is in
+    bits-zip g.row.N _ c.self.inside.chunks.items c.other.inside.chunks.items c.combine.new.chunks.items c.self.inside.len _ _ c.self.invariant.0 c.self.invariant.2 c.combine.ensures c.self.view_is (ap (λ k. bits g.row.N c.other.inside.chunks.items k) (sym e) ∙ c.other.view_is)

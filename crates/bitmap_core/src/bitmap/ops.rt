@@ -1,0 +1,215 @@
+//! Operations on whole bitmaps.
+
+ghost use Rattle.std.specs.Prelude.{◌≡◌, length, replicate, false, not, ◌&&◌, ◌||◌, map, IfOk};
+ghost use Rattle.std.specs.List.{zip};
+ghost use Rattle.std.specs.Cmp.Lexicographic.{pointwise};
+ghost use Rattle.std.specs.Cmp.Rules.{comparing};
+ghost use Rattle.std.proofs.Common.{rules};
+ghost use Rattle.std.proofs.Math.Bool.{beq, xor};
+
+use crate::bitmap::chunks::clear_tail;
+use crate::bitmap::{BitMap, every_chunk};
+use crate::chunk::whole::{And, Gate, Or, Xor};
+use std::alloc::AllocError;
+use std::hash::{Hash, Hasher};
+use std::ops::{BitAnd, BitOr, BitXor};
+
+impl<const N: usize> BitMap<N> {
+    /// Inverts every bit. No memory.
+    pub fn flip_all(&mut self)
+        ensures { self.new ≡ map not self.old }
+    {
+        let len = self.len;
+        every_chunk::flip(&mut self.chunks);
+        clear_tail(&mut self.chunks, len);
+    }
+
+    /// Writes one value to every bit. No memory.
+    pub fn set_all(&mut self, value: bool)
+        ensures { self.new ≡ replicate (length self.old) value }
+    {
+        let len = self.len;
+        every_chunk::fill(&mut self.chunks, value);
+        clear_tail(&mut self.chunks, len);
+    }
+
+    // Joins each bit with the other of its position.
+    fn combine<G: Gate>(&mut self, other: &BitMap<N>)
+        requires { length self.old ≡ length other.now }
+        ensures { self.new ≡ map (λ p. G.gives p.0 p.1) (zip self.old other.now) }
+    {
+        every_chunk::combine::<G, N>(&mut self.chunks, &other.chunks);
+    }
+
+    /// Leaves a bit set where it is set in both bitmaps, which have the same length. No memory.
+    pub fn and(&mut self, other: &BitMap<N>)
+        requires { length self.old ≡ length other.now }
+        ensures { self.new ≡ map (λ p. p.0 && p.1) (zip self.old other.now) }
+    {
+        self.combine::<And>(other);
+    }
+
+    /// Leaves a bit set where it is set in either bitmap; they have the same length. No memory.
+    pub fn or(&mut self, other: &BitMap<N>)
+        requires { length self.old ≡ length other.now }
+        ensures { self.new ≡ map (λ p. p.0 || p.1) (zip self.old other.now) }
+    {
+        self.combine::<Or>(other);
+    }
+
+    /// Leaves a bit set where the two bitmaps, which have the same length, differ. No memory.
+    pub fn xor(&mut self, other: &BitMap<N>)
+        requires { length self.old ≡ length other.now }
+        ensures { self.new ≡ map (λ p. xor p.0 p.1) (zip self.old other.now) }
+    {
+        self.combine::<Xor>(other);
+    }
+}
+
+impl<const N: usize> PartialEq for BitMap<N> {
+    ghost eq = { pointwise beq };
+
+    ghost laws = { Prim.search (comparing, rules) };
+
+    /// Whether the bits are the same. No memory.
+    fn eq(&self, other: &Self) -> bool {
+        self.len == other.len && every_chunk::are_equal(&self.chunks, &other.chunks)
+    }
+}
+
+impl<const N: usize> Eq for BitMap<N> {
+    ghost laws = { Prim.search (comparing, rules) };
+}
+
+impl<const N: usize> Hash for BitMap<N> {
+    ghost use Rattle.bitmap_core.specs.Fed.{fed_bits, fed_bits-alike};
+
+    ghost hash_input = { fed_bits N };
+
+    ghost respects_eq = { fed_bits-alike N };
+
+    /// Feeds the length, and then the bytes of each chunk.
+    fn hash<H: Hasher>(&self, state: &mut H) {
+        let len = self.len;
+        state.write_u64(len);
+        every_chunk::feed(&self.chunks, state);
+    }
+}
+
+impl<const N: usize> BitAnd<&BitMap<N>> for &BitMap<N> {
+    type Output = Result<BitMap<N>, AllocError>;
+
+    ghost can_bitand = { λ a b. length a.now ≡ length b.now };
+
+    ghost bitand_gives = { λ a b r. IfOk r (λ c. c ≡ map (λ p. p.0 && p.1) (zip a.now b.now)) };
+
+    /// A new bitmap of the bits that both have, or the refusal of its memory. The lengths are the same.
+    fn bitand(self, other: &BitMap<N>) -> Result<BitMap<N>, AllocError> {
+        let mut both = self.clone()?;
+        both.and(other);
+        Ok(both)
+    }
+}
+
+impl<const N: usize> BitOr<&BitMap<N>> for &BitMap<N> {
+    type Output = Result<BitMap<N>, AllocError>;
+
+    ghost can_bitor = { λ a b. length a.now ≡ length b.now };
+
+    ghost bitor_gives = { λ a b r. IfOk r (λ c. c ≡ map (λ p. p.0 || p.1) (zip a.now b.now)) };
+
+    /// A new bitmap of the bits that either has, or the refusal of its memory. The lengths are the same.
+    fn bitor(self, other: &BitMap<N>) -> Result<BitMap<N>, AllocError> {
+        let mut either = self.clone()?;
+        either.or(other);
+        Ok(either)
+    }
+}
+
+impl<const N: usize> BitXor<&BitMap<N>> for &BitMap<N> {
+    type Output = Result<BitMap<N>, AllocError>;
+
+    ghost can_bitxor = { λ a b. length a.now ≡ length b.now };
+
+    ghost bitxor_gives = { λ a b r. IfOk r (λ c. c ≡ map (λ p. xor p.0 p.1) (zip a.now b.now)) };
+
+    /// A new bitmap of the bits that differ, or the refusal of its memory. The lengths are the same.
+    fn bitxor(self, other: &BitMap<N>) -> Result<BitMap<N>, AllocError> {
+        let mut difference = self.clone()?;
+        difference.xor(other);
+        Ok(difference)
+    }
+}
+
+#[cfg(test)]
+mod tests {
+    use super::*;
+    use std::alloc::Global;
+    use std::hash::DefaultHasher;
+    use std::test::Fail;
+
+    // Nine bits, so that two chunks are begun: two of the test's own, then ones.
+    fn nine(alloc: Global, first: bool, second: bool) -> Result<BitMap<1>, AllocError> {
+        let mut map = BitMap::new(alloc);
+        map.push(first)?;
+        map.push(second)?;
+        map.push(true)?;
+        map.push(true)?;
+        map.push(true)?;
+        map.push(true)?;
+        map.push(true)?;
+        map.push(true)?;
+        map.push(true)?;
+        Ok(map)
+    }
+
+    fn hashed(map: &BitMap<1>) -> u64 {
+        let mut state = DefaultHasher::new();
+        map.hash(&mut state);
+        state.finish()
+    }
+
+    #[test]
+    fn whole_bitmaps(rt: HostRuntime) -> Result<(), Fail> {
+        let mut map = nine(rt.alloc(), true, false)?;
+        let same = nine(rt.alloc(), true, false)?;
+        let other = nine(rt.alloc(), false, true)?;
+        assert!(rt; map == same);
+        assert!(rt; map != other);
+        assert_eq!(rt; hashed(&map), hashed(&same));
+        map.flip_all();
+        assert!(rt; map != same);
+        map.flip_all();
+        assert!(rt; map == same);
+        map.set_all(true);
+        let ones = nine(rt.alloc(), true, true)?;
+        assert!(rt; map == ones);
+        map.set_all(false);
+        map.flip_all();
+        assert!(rt; map == ones);
+        Ok(())
+    }
+
+    #[test]
+    fn joined(rt: HostRuntime) -> Result<(), Fail> {
+        let mut left: BitMap<1> = BitMap::new(rt.alloc());
+        left.push(true)?;
+        left.push(true)?;
+        left.push(false)?;
+        let mut right = BitMap::new(rt.alloc());
+        right.push(true)?;
+        right.push(false)?;
+        right.push(false)?;
+        let mut middle = BitMap::new(rt.alloc());
+        middle.push(false)?;
+        middle.push(true)?;
+        middle.push(false)?;
+        let both = (&left & &right)?;
+        assert!(rt; both == right);
+        let either = (&right | &middle)?;
+        assert!(rt; either == left);
+        let difference = (&left ^ &right)?;
+        assert!(rt; difference == middle);
+        Ok(())
+    }
+}

@@ -1,0 +1,99 @@
+//! Every bit of a chunk at once.
+
+ghost use Rattle.std.specs.Prelude.{◌≡◌, ℕ, ◌<◌, Bool, false, not, ◌&&◌, ◌||◌, ◌==◌};
+ghost use Rattle.std.specs.Int.{bit_at};
+ghost use Rattle.std.proofs.Common.{refl};
+ghost use Rattle.std.proofs.Math.Bool.{xor};
+ghost use Rattle.bitmap_core.specs.Chunk.{chunk_bit, IsChunk};
+ghost use Rattle.bitmap_core.specs.Gates.{xor_zeros};
+
+use super::fit;
+
+/// What the type of a chunk says of it.
+pub fn known<const N: usize>(chunk: &[u8; N])
+    ensures { IsChunk N chunk.now }
+{
+    fit(chunk);
+}
+
+/// Inverts every bit of a chunk. No memory.
+pub fn flip<const N: usize>(chunk: &mut [u8; N])
+    requires { 0 < N }
+    ensures { (i : ℕ) → chunk_bit N chunk.new i ≡ not (chunk_bit N chunk.old i) }
+{
+    fit(chunk);
+    for byte in chunk.iter_mut() {
+        *byte = !*byte;
+    }
+}
+
+/// Writes one value to every bit of a chunk. No memory.
+pub fn fill<const N: usize>(chunk: &mut [u8; N], value: bool)
+    requires { 0 < N }
+    ensures { (i : ℕ) → chunk_bit N chunk.new i ≡ value }
+{
+    chunk.fill(if value { u8::MAX } else { 0 });
+}
+
+/// What two bits make of one another, for eight bits at a time. Two zeros make a zero.
+pub trait Gate {
+    ghost gives: { Bool → Bool → Bool };
+
+    ghost keeps_zeros: { gives false false ≡ false };
+
+    fn join(a: u8, b: u8) -> u8
+        ensures { (k : ℕ) → (bit_at result k == 1) ≡ gives (bit_at a k == 1) (bit_at b k == 1) };
+}
+
+/// Set where both are set.
+pub struct And;
+
+impl Gate for And {
+    ghost gives = { λ a b. a && b };
+
+    ghost keeps_zeros = { refl };
+
+    fn join(a: u8, b: u8) -> u8 {
+        a & b
+    }
+}
+
+/// Set where either is set.
+pub struct Or;
+
+impl Gate for Or {
+    ghost gives = { λ a b. a || b };
+
+    ghost keeps_zeros = { refl };
+
+    fn join(a: u8, b: u8) -> u8 {
+        a | b
+    }
+}
+
+/// Set where one is set and the other is not.
+pub struct Xor;
+
+impl Gate for Xor {
+    ghost gives = { xor };
+
+    ghost keeps_zeros = { xor_zeros };
+
+    fn join(a: u8, b: u8) -> u8 {
+        a ^ b
+    }
+}
+
+/// Joins every bit of a chunk with that of another. No memory.
+pub fn combine<G: Gate, const N: usize>(chunk: &mut [u8; N], other: &[u8; N])
+    requires { 0 < N }
+    ensures { (i : ℕ) → chunk_bit N chunk.new i ≡ G.gives (chunk_bit N chunk.old i) (chunk_bit N other.now i) }
+{
+    // Copies, so that no write can be taken for one to `other`: whole words are joined at once.
+    let other = *other;
+    let mut joined = *chunk;
+    for j in 0..N {
+        joined[j] = G::join(joined[j], other[j]);
+    }
+    *chunk = joined;
+}
