@@ -77,6 +77,7 @@ IsChunkCount-missing n k len longer p c h =
 -- where the chunks hold a length, none is missing
 pub none_missing : (n k longer : ℕ) → 0 < n → longer ≤ 8 * n * k → div_ceil longer (8 * n) - k ≡ 0
 none_missing n k longer p h = let f = fewer_chunks (8 * n) (div_ceil longer (8 * n)) k longer (IsChunkCount-ceil n longer p).1 h in omega arith
+
 -- each chunk begins below the length
 pub chunk_start : (n k len bound : ℕ) → IsChunkCount n k len → len < bound → (q : ℕ) → q < k → 8 * n * q < bound
 chunk_start n k len bound c s q h = let m = mul-add (8 * n) q 1 in let u : 8 * n * (q + 1) ≤ 8 * n * k = grind arith in omega arith

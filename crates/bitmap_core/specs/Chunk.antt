@@ -19,6 +19,7 @@ pub record IsBitWritten (n : ℕ) (old new : List ℕ) (i : ℕ) (value : Bool) 
 -- bit i of a run of bytes: it stands in byte i / 8, at place i mod 8; past the bytes it is zero
 abbrev pub bit_in : List ℕ → ℕ → Bool
 bit_in bytes i = bit_at (slice_index_or bytes (i / 8) 0) (i % 8) == 1
+
 -- a list of n bytes
 pub record IsChunk (n : ℕ) (chunk : List ℕ) : Type 0 where
   pub len : length chunk ≡ n

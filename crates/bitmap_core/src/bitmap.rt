@@ -7,19 +7,19 @@ ghost use Rattle.bitmap_core.specs.Chunk.{chunk_bit, chunk_bits};
 mod chunks;
 mod count;
 mod debug;
+mod every_chunk;
 mod extend;
 mod growth;
 mod iter;
-pub mod readable;
-mod every_chunk;
 mod ops;
+pub mod readable;
 
 use crate::bitmap::chunks::{
     chunk_bits, chunk_count, clear_tail, drop_room, flip_bit, get_bit, make_room, set_bit,
 };
 use crate::bitmap::growth::{append_bools, append_copies, extend_zeros, from_bools, shorten};
-use crate::chunk;
 pub use crate::bitmap::iter::Iterator;
+use crate::chunk;
 use std::alloc::{AllocError, Global};
 use std::collections::VecDeque;
 use std::marker::Model;

@@ -1,17 +1,14 @@
 //! The bits of one chunk. Masks and bytes are touched here and nowhere else.
 
-ghost use Rattle.std.specs.Prelude.{◌≡◌, ℕ, ◌+◌, ◌-◌, ◌*◌, ◌/◌, ◌%◌, ◌^◌, ◌<◌, ◌≤◌, ◌++◌, ◌==◌, Bool, false, not, length, map, slice_index_or, vec_len, vec_capacity};
+ghost use Rattle.std.specs.Prelude.{◌≡◌, ℕ, ◌+◌, ◌-◌, ◌*◌, ◌/◌, ◌%◌, ◌^◌, ◌<◌, ◌≤◌, ◌++◌, ◌==◌, Bool, false, not, length, map, slice_index, slice_index_or, vec_len, vec_capacity};
 ghost use Rattle.std.specs.List.{range_with_len};
 ghost use Rattle.std.specs.Int.{bit_at};
 ghost use Rattle.bitmap_core.specs.Chunk.{chunk_bit, IsBitWritten};
 
 pub mod join;
 pub mod load;
-pub mod words;
-ghost use Rattle.std.specs.Prelude.{◌≡◌, ℕ, ◌-◌, ◌*◌, ◌/◌, ◌%◌, ◌^◌, ◌<◌, ◌≤◌, Bool, false, slice_index};
-ghost use Rattle.bitmap_core.specs.Chunk.{chunk_bit, IsBitWritten};
-
 pub mod whole;
+pub mod words;
 
 // The byte of a chunk in which a bit stands.
 fn byte_index<const N: usize>(bit: u64) -> usize
@@ -35,13 +32,6 @@ fn low_mask(bit: u64) -> u8
     ensures { result ≡ 2 ^ (bit % 8) - 1 }
 {
     (1 << (bit % 8)) - 1
-}
-
-// The bits of a byte below bit `at mod 8`.
-fn low_mask(at: u64) -> u8
-    ensures { result ≡ 2 ^ (at % 8) - 1 }
-{
-    (1 << (at % 8)) - 1
 }
 
 // What the type of bytes says of them.
@@ -91,16 +81,6 @@ pub fn clear_from<const N: usize>(chunk: &mut [u8; N], from: u64)
 {
     let byte = (from / 8) as usize;
     chunk[byte] &= low_mask(from);
-/// Clears the bits of a chunk from `at` on. No memory.
-pub fn clear_from<const N: usize>(chunk: &mut [u8; N], at: u64)
-    requires positive { 0 < N }
-    requires fits { 8 * N < 2 ^ 64 }
-    requires within { at < 8 * N }
-    ensures below { (i : ℕ) → i % (8 * N) < at → chunk_bit N chunk.new i ≡ chunk_bit N chunk.old i }
-    ensures above { (i : ℕ) → at ≤ i % (8 * N) → chunk_bit N chunk.new i ≡ false }
-{
-    let byte = (at / 8) as usize;
-    chunk[byte] &= low_mask(at);
     for j in byte + 1..N {
         chunk[j] = 0;
     }

@@ -2,7 +2,6 @@
 
 ghost use Rattle.std.specs.Prelude.{◌≡◌, ℕ, ◌+◌, ◌*◌, ◌/◌, ◌%◌, ◌^◌, ◌<◌, length, not, OnOk, OnErr, IsOk};
 ghost use Rattle.std.specs.Int.{div_ceil};
-ghost use Rattle.std.specs.Prelude.{◌≡◌, ℕ, ◌+◌, ◌*◌, ◌/◌, ◌%◌, ◌^◌, ◌<◌, ◌≤◌, length, OnOk, OnErr, IsOk};
 ghost use Rattle.bitmap_core.specs.Bits.{bit_of, IsChunkCount, IsBitPut, IsZeroFrom};
 
 use crate::chunk;
@@ -94,7 +93,6 @@ pub fn drop_room<const N: usize>(chunks: &mut VecDeque<[u8; N]>, len: u64)
 }
 
 // Clears the bits from a length on.
-// Clears the bits of the chunks from `len` on.
 pub fn clear_tail<const N: usize>(chunks: &mut VecDeque<[u8; N]>, len: u64)
     requires positive { 0 < N }
     requires fits { 8 * N < 2 ^ 64 }
@@ -106,8 +104,5 @@ pub fn clear_tail<const N: usize>(chunks: &mut VecDeque<[u8; N]>, len: u64)
     let from = len % chunk_bits::<N>();
     if from != 0 {
         chunk::clear_from(&mut chunks[chunk_index::<N>(len)], from);
-    let at = len % chunk_bits::<N>();
-    if at != 0 {
-        chunk::clear_from(&mut chunks[chunk_index::<N>(len)], at);
     }
 }

@@ -7,7 +7,3 @@ returns-clause-below g c = λ i. (cleared g.row.N c.args.chunk.now c.loop-j.chun
 
 pub returns-clause-above : goal.returns-clause-above
 returns-clause-above g c = λ i. (cleared g.row.N c.args.chunk.now c.loop-j.chunk c.args.from c.requires.positive (λ k h s. c.loop-j.invariant.done k h (omega arith)) c.loop-j.invariant.here c.loop-j.invariant.kept i).1
-returns-clause-below g c = λ i. (cleared g.row.N c.args.chunk.now c.loop-j.chunk c.args.at c.requires.positive (λ k h s. c.loop-j.invariant.done k h (omega arith)) c.loop-j.invariant.here c.loop-j.invariant.kept i).0
-
-pub returns-clause-above : goal.returns-clause-above
-returns-clause-above g c = λ i. (cleared g.row.N c.args.chunk.now c.loop-j.chunk c.args.at c.requires.positive (λ k h s. c.loop-j.invariant.done k h (omega arith)) c.loop-j.invariant.here c.loop-j.invariant.kept i).1

@@ -6,8 +6,3 @@ returns-then-from-ne0-clause-zero g c = rw c.chunk_index.ensures (IsZeroFrom-cle
 
 pub returns-else-from-ne0-clause-zero : goal.returns-else-from-ne0-clause-zero
 returns-else-from-ne0-clause-zero g c = IsZeroFrom-full _ _ _ c.requires.positive c.requires.count (rw c.chunk_bits.ensures at c.if-from-ne0.false)
-pub returns-then-at-ne0-clause-zero : goal.returns-then-at-ne0-clause-zero
-returns-then-at-ne0-clause-zero g c = rw c.chunk_index.ensures (IsZeroFrom-cleared _ _ _ _ c.requires.positive c.requires.count (rw c.chunk_bits.ensures at c.if-at-ne0.true) (rw c.chunk_bits.ensures at c.clear_from.ensures.above))
-
-pub returns-else-at-ne0-clause-zero : goal.returns-else-at-ne0-clause-zero
-returns-else-at-ne0-clause-zero g c = IsZeroFrom-full _ _ _ c.requires.positive c.requires.count (rw c.chunk_bits.ensures at c.if-at-ne0.false)
