@@ -151,10 +151,8 @@ impl<const N: usize> BitMap<N> {
         requires fits { 8 * N < 2 ^ 64 }
         ensures { IfOk result (λ b. b ≡ []) }
     {
-        Ok(BitMap {
-            chunks: VecDeque::with_capacity(alloc, chunk_count::<N>(size))?,
-            len: 0,
-        })
+        let chunks = VecDeque::with_capacity(alloc, chunk_count::<N>(size))?;
+        Ok(BitMap { chunks, len: 0 })
     }
 
     /// `size` bits that are all false.
