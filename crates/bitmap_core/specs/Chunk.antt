@@ -1,6 +1,6 @@
 -- The bits of one chunk.
-use Rattle.std.specs.Prelude.{◌≡◌, ℕ, ◌*◌, ◌/◌, ◌%◌, Bool, List, map, ◌==◌, slice_index_or}
-use Rattle.std.specs.List.{range_with_len}
+use Rattle.std.specs.Prelude.{◌≡◌, ℕ, ◌*◌, ◌/◌, ◌%◌, ◌^◌, Bool, List, cond, map, ◌==◌, slice_index_or}
+use Rattle.std.specs.List.{range_with_len, sum_by}
 use Rattle.std.specs.Int.{bit_at}
 
 -- bit i of a chunk of n bytes: it stands in byte (i / 8) mod n, at place i mod 8
@@ -15,3 +15,20 @@ chunk_bits n chunk = map (chunk_bit n chunk) (range_with_len 0 (8 * n))
 pub record IsBitWritten (n : ℕ) (old new : List ℕ) (i : ℕ) (value : Bool) : Type 0 where
   pub here : chunk_bit n new i ≡ value
   pub others : (j : ℕ) → (j % (8 * n) ≡ i % (8 * n) → ⊥) → chunk_bit n new j ≡ chunk_bit n old j
+
+-- a bit as a digit
+abbrev pub bit_value : Bool → ℕ
+bit_value x = cond x 1 0
+
+-- a byte from its eight bits, the lowest first
+abbrev pub byte_of : (ℕ → Bool) → ℕ
+byte_of bit = sum_by (λ t. bit_value (bit t) * 2 ^ t) (range_with_len 0 8)
+
+-- the eight bits of a byte, the lowest first
+abbrev pub byte_bits : ℕ → List Bool
+byte_bits byte = map (λ t. bit_at byte t == 1) (range_with_len 0 8)
+
+-- the chunk has the bits of a byte from bit i on, and each bit of another byte as the old one has it
+pub record IsByteWritten (n : ℕ) (old new : List ℕ) (i byte : ℕ) : Type 0 where
+  pub here : (j : ℕ) → j / 8 % n ≡ i / 8 % n → chunk_bit n new j ≡ (bit_at byte (j % 8) == 1)
+  pub others : (j : ℕ) → (j / 8 % n ≡ i / 8 % n → ⊥) → chunk_bit n new j ≡ chunk_bit n old j
