@@ -6,3 +6,5 @@ pub mod ChunkLists
 pub mod BitEdits
 pub mod Equality
 pub mod Counts
+pub mod ChunkBytes
+pub mod FrontChunks

@@ -1,6 +1,7 @@
 -- A dense bitmap: a list of bits, packed into chunks of n bytes.
-use Rattle.std.specs.Prelude.{◌≡◌, ℕ, ◌+◌, ◌*◌, ◌/◌, ◌<◌, ◌≤◌, Bool, false, List, [], length, map, slice_index_or}
+use Rattle.std.specs.Prelude.{◌≡◌, ℕ, ◌+◌, ◌*◌, ◌/◌, ◌%◌, ◌<◌, ◌≤◌, Bool, false, List, [], length, map, ◌==◌, slice_index_or}
 use Rattle.std.specs.List.{range_with_len}
+use Rattle.std.specs.Int.{bit_at}
 use Rattle.bitmap_core.specs.Chunk.{chunk_bit}
 
 -- bit i of chunks of n bytes: bit i of chunk i / 8n
@@ -23,4 +24,10 @@ IsChunkCount n k len = (len ≤ 8 * n * k) × (8 * n * k < len + 8 * n)
 pub record IsBitPut (n : ℕ) (old new : List (List ℕ)) (i : ℕ) (value : Bool) : Type 0 where
   pub here : bit_of n new i ≡ value
   pub others : (j : ℕ) → (j ≡ i → ⊥) → bit_of n new j ≡ bit_of n old j
+  pub count : length new ≡ length old
+
+-- the new chunks have the bits of the old ones, but that the byte in which bit i stands is byte
+pub record IsBytePut (n : ℕ) (old new : List (List ℕ)) (i byte : ℕ) : Type 0 where
+  pub here : (j : ℕ) → j / 8 ≡ i / 8 → bit_of n new j ≡ (bit_at byte (j % 8) == 1)
+  pub others : (j : ℕ) → (j / 8 ≡ i / 8 → ⊥) → bit_of n new j ≡ bit_of n old j
   pub count : length new ≡ length old

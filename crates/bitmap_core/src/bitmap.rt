@@ -3,6 +3,7 @@
 ghost use Rattle.std.specs.Prelude.{◌≡◌, ℕ, ◌+◌, ◌-◌, ◌*◌, ◌/◌, ◌%◌, ◌^◌, ◌<◌, ◌≤◌, [], ◌∷◌, ◌++◌, length, false, slice_index_or, slice_set, OnOk, OnErr, IsOk, ◌==◌};
 
 mod chunks;
+mod front;
 pub mod prunable;
 
 use crate::bitmap::chunks::{drop_room, get_bit, make_room, set_bit};
