@@ -1,8 +1,9 @@
-use Rattle.std.proofs.Common.{◌≡◌, ℕ, ◌+◌, ◌-◌, ◌*◌, ◌/◌, ◌%◌, ◌<◌, ◌≤◌, Bool, false, List, [], ◌∷◌, ◌++◌, length, get_or, take, drop, refl, sym, ap, ◌∙◌, inl, inr, arith}
+use Rattle.std.proofs.Common.{◌≡◌, ℕ, suc, ◌+◌, ◌-◌, ◌*◌, ◌/◌, ◌%◌, ◌<◌, ◌≤◌, Bool, false, List, [], ◌∷◌, ◌++◌, length, get_or, take, drop, refl, sym, ap, ◌∙◌, inl, inr, arith}
 use Rattle.std.specs.List.{flat_map, All}
 use Rattle.std.proofs.Math.Nat.{div-add-mod, mul-add, mul-add-div, mul-add-mod_self_left, mod-mod}
 use Rattle.std.proofs.lemmas.Nat.{mod_below, div_below, mul-le}
 use Rattle.std.proofs.lemmas.List.{get_or-drop, length-drop, drop-append-le, length-append, get_or_append_left, get_or-append_right, length-take-le}
+use Rattle.std.proofs.Math.Seq.{drop-cons}
 use Rattle.std.proofs.lemmas.List.Concat.{get_or-flat_map}
 use Rattle.std.proofs.lemmas.List.FromFn.{length-map-range_with_len, get_or-map-range_with_len}
 use Rattle.std.proofs.lemmas.Bool.{cases_lt}
@@ -89,3 +90,9 @@ IsZeroFrom-front n cs xs len p z i s = bit_of-behind n cs xs i p (omega arith) �
 
 pub IsChunkCount-front : (n k m len : ℕ) → IsChunkCount n m len → IsChunkCount n (k + m) (8 * n * k + len)
 IsChunkCount-front n k m len c = let e = mul-add (8 * n) k m in (omega (arith, c.0), omega (arith, c.1))
+
+-- chunks go back in front one by one, the last first
+pub put_front_step : (cs xs : List (List ℕ)) (left : ℕ) (c : List ℕ) → 0 < left → left ≤ length cs → c ≡ get_or cs (left - 1) c → c ∷ (drop left cs ++ xs) ≡ drop (left - 1) cs ++ xs
+put_front_step cs xs left c p h e =
+    let s : suc (left - 1) ≡ left = omega arith in
+    ap (λ ys. ys ++ xs) (ap (λ x. x ∷ drop left cs) e ∙ sym (drop-cons cs (left - 1) c (omega arith) ∙ ap (λ m. get_or cs (left - 1) c ∷ drop m cs) s))

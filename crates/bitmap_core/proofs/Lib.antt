@@ -8,3 +8,5 @@ pub mod Equality
 pub mod Counts
 pub mod ChunkBytes
 pub mod FrontChunks
+pub mod WholeChunks
+pub mod ByteEdits

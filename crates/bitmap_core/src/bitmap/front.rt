@@ -53,8 +53,10 @@ fn put_front<const N: usize>(
     ensures none { length front.now ≡ 0 → IsOk result }
 {
     chunks.reserve(front.len())?;
-    for chunk in front.iter().rev() {
-        chunks.push_front_reserved(*chunk);
+    let mut left = front.len();
+    while left > 0 {
+        left -= 1;
+        chunks.push_front_reserved(front[left]);
     }
     Ok(())
 }
