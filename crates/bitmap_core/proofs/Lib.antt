@@ -10,3 +10,5 @@ pub mod ChunkBytes
 pub mod FrontChunks
 pub mod WholeChunks
 pub mod ByteEdits
+pub mod Pairs
+pub mod PairEdits

@@ -4,8 +4,8 @@ ghost use Rattle.std.specs.Prelude.{◌≡◌, ℕ, ◌+◌, ◌*◌, ◌/◌, �
 ghost use Rattle.std.specs.List.{range_with_len};
 ghost use Rattle.bitmap_core.specs.Chunk.{byte_of, chunk_bit, IsBitWritten, IsByteWritten};
 
-// The byte of a chunk in which a bit stands.
-fn byte_index<const N: usize>(bit: u64) -> usize
+/// The byte of a chunk in which bit `bit mod 8N` stands. No memory.
+pub fn byte_index<const N: usize>(bit: u64) -> usize
     requires { 0 < N }
     ensures value { result ≡ bit / 8 % N }
     ensures within { result < N }
@@ -13,8 +13,8 @@ fn byte_index<const N: usize>(bit: u64) -> usize
     ((bit / 8) % (N as u64)) as usize
 }
 
-// The mask of a bit in its byte.
-fn bit_mask(bit: u64) -> u8
+/// The mask of a bit in its byte. No memory.
+pub fn bit_mask(bit: u64) -> u8
     ensures value { result ≡ 2 ^ (bit % 8) }
     ensures fits { result < 256 }
 {
