@@ -1,16 +1,16 @@
-use Rattle.std.proofs.Common.{◌≡◌, ℕ, ◌+◌, ◌-◌, ◌*◌, ◌/◌, ◌%◌, ◌<◌, Bool, false, not, ◌&&◌, List, [], ◌∷◌, ◌++◌, length, get_or, set, map, sym, ap, ◌∙◌, inl, inr, arith}
+use Rattle.std.proofs.Common.{◌≡◌, ℕ, ◌+◌, ◌-◌, ◌*◌, ◌/◌, ◌%◌, ◌<◌, ◌≤◌, Bool, false, not, ◌&&◌, List, [], ◌∷◌, ◌++◌, length, get_or, set, take, replicate, map, sym, ap, ◌∙◌, inl, inr, arith}
 use Rattle.std.specs.List.{range_with_len, zip}
 use Rattle.std.proofs.lemmas.Slice.Zip.{get_or-zip, length-zip}
 use Rattle.std.proofs.Math.Nat.{mod-eq_of_lt}
 use Rattle.std.proofs.lemmas.Nat.{div-mul-add, mod-mul-add}
-use Rattle.std.proofs.lemmas.List.{get_or-set_same, get_or-set_other, length-set, get_or_append_left, get_or-append_right, length-append, length-map, get_or-map}
+use Rattle.std.proofs.lemmas.List.{get_or-set_same, get_or-set_other, length-set, get_or_append_left, get_or-append_right, length-append, length-map, get_or-map, length-replicate, get_or-replicate, append-nil}
 use Rattle.std.proofs.lemmas.List.FromFn.{length-map-range_with_len, get_or-map-range_with_len}
 use Rattle.std.proofs.lemmas.Bool.{cases_eq, cases_lt}
 use Rattle.bitmap_core.specs.Chunk.{chunk_bit}
-use Rattle.bitmap_core.specs.Bits.{bit_of, bits, IsChunkCount, IsBitPut}
+use Rattle.bitmap_core.specs.Bits.{bit_of, bits, IsChunkCount, IsBitPut, IsZeroFrom}
 use Rattle.bitmap_core.proofs.Places.{index_below, full_len}
 use Rattle.bitmap_core.proofs.ChunkBits.{chunk_bit-mod}
-use Rattle.bitmap_core.proofs.BitLists.{get_or-bits, bits-more, bits_are, bits-same, len_is}
+use Rattle.bitmap_core.proofs.BitLists.{get_or-bits, bits-more, bits_are, bits-same, len_is, take-bits}
 use Rattle.bitmap_core.proofs.ChunkLists.{bit_of-push_in, bit_of-push_here}
 
 pub bits-put : (n : ℕ) (xs ys : List (List ℕ)) (i : ℕ) (b : Bool) (len : ℕ) (v : List Bool) → IsBitPut n xs ys i b → bits n xs len ≡ v → i < len → bits n ys len ≡ set v i b
@@ -27,6 +27,21 @@ bits-push n xs ys len b v p e =
 pub bits-pop : (n : ℕ) (xs ys : List (List ℕ)) (last len : ℕ) (v : List Bool) → last + 1 ≡ len → ((i : ℕ) → i < last → bit_of n ys i ≡ bit_of n xs i) → bits n xs len ≡ v → v ≡ bits n ys last ++ bit_of n xs last ∷ []
 bits-pop n xs ys last len v e s h =
     sym h ∙ ap (λ k. bits n xs k) (sym e) ∙ bits-more n xs last ∙ ap (λ l. l ++ bit_of n xs last ∷ []) (sym (bits-same n xs ys last s))
+
+-- zero bits made part of the bits
+pub bits-extend : (n : ℕ) (xs ys : List (List ℕ)) (len longer : ℕ) (v : List Bool) → len ≤ longer → IsZeroFrom n xs len → ((i : ℕ) → bit_of n ys i ≡ bit_of n xs i) → bits n xs len ≡ v → bits n ys longer ≡ v ++ replicate (longer - length v) false
+bits-extend n xs ys len longer v p z h e =
+    let l = len_is n xs len v e in
+    bits_are n ys longer (v ++ replicate (longer - length v) false) (omega (arith, length-append v (replicate (longer - length v) false), length-replicate (longer - length v) false)) (λ i s. elim (cases_lt i len) [
+      | inl w ↦ h i ∙ sym (get_or-bits n xs len i false w) ∙ ap (λ x. get_or x i false) e ∙ sym (get_or_append_left v (replicate (longer - length v) false) false i (omega arith))
+      | inr w ↦ h i ∙ z i w ∙ sym (get_or-append_right v (replicate (longer - length v) false) len i false l w ∙ get_or-replicate (longer - length v) (i - len) false false (omega arith))
+    ])
+
+pub append_nothing : (v : List Bool) (m : ℕ) → m ≤ length v → v ≡ v ++ replicate (m - length v) false
+append_nothing v m h = let e : m - length v ≡ 0 = omega arith in sym (ap (λ k. v ++ replicate k false) e ∙ append-nil v)
+
+pub bits-take : (n : ℕ) (xs ys : List (List ℕ)) (len shorter : ℕ) (v : List Bool) → shorter ≤ len → ((i : ℕ) → i < shorter → bit_of n ys i ≡ bit_of n xs i) → bits n xs len ≡ v → bits n ys shorter ≡ take shorter v
+bits-take n xs ys len shorter v p h e = bits-same n xs ys shorter h ∙ sym (take-bits n xs len shorter p) ∙ ap (λ x. take shorter x) e
 
 pub bits-push_chunk : (n : ℕ) (xs : List (List ℕ)) (len : ℕ) (c : List ℕ) (v : List Bool) → 0 < n → len % (8 * n) ≡ 0 → IsChunkCount n (length xs) len → bits n xs len ≡ v → bits n (xs ++ c ∷ []) (len + 8 * n) ≡ v ++ map (chunk_bit n c) (range_with_len 0 (8 * n))
 bits-push_chunk n xs len c v p e k b =

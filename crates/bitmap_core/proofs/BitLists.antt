@@ -1,5 +1,5 @@
-use Rattle.std.proofs.Common.{◌≡◌, ℕ, ◌+◌, ◌*◌, ◌/◌, ◌<◌, ◌≤◌, Bool, false, List, [], ◌∷◌, ◌++◌, length, get_or, take, sym, ap, ◌∙◌, arith}
-use Rattle.std.proofs.lemmas.List.{ext_get_or, get_or_read}
+use Rattle.std.proofs.Common.{◌≡◌, ℕ, ◌+◌, ◌*◌, ◌/◌, ◌<◌, ◌≤◌, Bool, false, List, [], ◌∷◌, ◌++◌, length, get_or, take, replicate, refl, sym, ap, ◌∙◌, arith}
+use Rattle.std.proofs.lemmas.List.{ext_get_or, get_or_read, length-replicate, get_or-replicate}
 use Rattle.std.proofs.lemmas.List.FromFn.{length-map-range_with_len, get_or-map-range_with_len, take-map-range_with_len, map-range_with_len_more}
 use Rattle.bitmap_core.specs.Chunk.{chunk_bit}
 use Rattle.bitmap_core.specs.Bits.{bit_of, bits, IsChunkCount}
@@ -25,6 +25,14 @@ take-bits n chunks len k h = take-map-range_with_len (bit_of n chunks) 0 len k h
 pub bits_are : (n : ℕ) (chunks : List (List ℕ)) (len : ℕ) (v : List Bool) → length v ≡ len → ((i : ℕ) → i < len → bit_of n chunks i ≡ get_or v i false) → bits n chunks len ≡ v
 bits_are n chunks len v l h =
     ext_get_or false (bits n chunks len) v (length-bits n chunks len ∙ sym l) (λ i b. let s : i < len = omega (arith, length-bits n chunks len) in get_or-bits n chunks len i false s ∙ h i s)
+
+pub bits-none : (n : ℕ) (chunks : List (List ℕ)) → bits n chunks 0 ≡ []
+unfolding bits
+bits-none n chunks = refl
+
+-- bits that are all one value
+pub bits-replicate : (n : ℕ) (chunks : List (List ℕ)) (len : ℕ) (b : Bool) → ((i : ℕ) → i < len → bit_of n chunks i ≡ b) → bits n chunks len ≡ replicate len b
+bits-replicate n chunks len b h = bits_are n chunks len (replicate len b) (length-replicate len b) (λ i s. h i s ∙ sym (get_or-replicate len i b false s))
 
 -- the same bits
 pub bits-same : (n : ℕ) (xs ys : List (List ℕ)) (len : ℕ) → ((i : ℕ) → i < len → bit_of n ys i ≡ bit_of n xs i) → bits n ys len ≡ bits n xs len

@@ -1,6 +1,6 @@
-use Rattle.std.proofs.Common.{◌≡◌, ◌≢◌, ℕ, ◌-◌, ◌^◌, ◌<◌, ◌≤◌, false, not, ◌&&◌, eqb, bit_and, bit_or, w8, ap, ◌∙◌, arith}
+use Rattle.std.proofs.Common.{◌≡◌, ◌≢◌, ℕ, ◌-◌, ◌^◌, ◌<◌, ◌≤◌, true, false, not, ◌&&◌, eqb, bit_and, bit_or, bit_xor, w8, ap, ◌∙◌, arith}
 use Rattle.std.specs.Int.{bit_at}
-use Rattle.std.proofs.lemmas.Nat.Bits.{and_pow, bit_at-lt, bit_at_or, bit_at_and, bit_at_not, bit_at-pow_same, bit_at-pow_other, bit_at-zero, bit_at_ones, bit_at_ones_above}
+use Rattle.std.proofs.lemmas.Nat.Bits.{and_pow, bit_at-lt, bit_at_or, bit_at_and, bit_at_xor, bit_at_not, bit_at-pow_same, bit_at-pow_other, bit_at-zero, bit_at_ones, bit_at_ones_above}
 use Rattle.std.proofs.lemmas.Bool.Decides.{nat_tests}
 
 pub bit_test : (b k : ℕ) → not (eqb (bit_and b (2 ^ k)) 0) ≡ eqb (bit_at b k) 1
@@ -26,6 +26,15 @@ bit_clear_other b k i h s d =
     let q : bit_at (255 - 2 ^ k) i ≡ 1 - bit_at (2 ^ k) i = bit_at_not w8 (2 ^ k) i s h in
     let l = bit_at-lt b i in
     grind arith
+
+pub bit_flip_here : (b k : ℕ) → eqb (bit_at (bit_xor b (2 ^ k)) k) 1 ≡ not (eqb (bit_at b k) 1)
+bit_flip_here b k = let e = bit_at_xor b (2 ^ k) k in let p = bit_at-pow_same k in let l = bit_at-lt b k in grind (arith, nat_tests)
+
+pub bit_flip_other : (b k i : ℕ) → i ≢ k → bit_at (bit_xor b (2 ^ k)) i ≡ bit_at b i
+bit_flip_other b k i h = let e = bit_at_xor b (2 ^ k) i in let p = bit_at-pow_other k i h in let l = bit_at-lt b i in grind arith
+
+pub bit_of_full_byte : (b k : ℕ) → b ≡ 255 → k < 8 → eqb (bit_at b k) 1 ≡ true
+bit_of_full_byte b k h s = ap (λ x. eqb (bit_at x k) 1) h ∙ ap (λ x. eqb x 1) (bit_at_ones 8 k s)
 
 pub bit_of_zero_byte : (b k : ℕ) → b ≡ 0 → eqb (bit_at b k) 1 ≡ false
 bit_of_zero_byte b k h = ap (λ x. eqb (bit_at x k) 1) h ∙ ap (λ x. eqb x 1) (bit_at-zero k)

@@ -1,12 +1,13 @@
-use Rattle.std.proofs.Common.{◌≡◌, ◌≢◌, ℕ, ◌+◌, ◌-◌, ◌*◌, ◌/◌, ◌%◌, ◌<◌, ◌≤◌, Bool, false, List, [], ◌∷◌, ◌++◌, length, get_or, set, take, replicate, refl, sym, ap, ◌∙◌, inl, inr, arith}
+use Rattle.std.proofs.Common.{◌≡◌, ◌≢◌, ℕ, ◌+◌, ◌-◌, ◌*◌, ◌/◌, ◌%◌, ◌<◌, ◌≤◌, Bool, true, false, List, [], ◌∷◌, ◌++◌, length, get_or, set, take, replicate, not, subst, refl, sym, ap, ◌∙◌, inl, inr, arith}
+use Rattle.std.specs.Int.{div_ceil}
 use Rattle.std.proofs.Math.Nat.{div-add-mod, mul-add, le-div_iff_mul-le, div-mul-le_self}
 use Rattle.std.proofs.lemmas.Nat.{mod_below, div-mul-add, mod-mul-add}
-use Rattle.std.proofs.lemmas.List.{get_or-set_same, get_or-set_other, length-set, get_or_read, get_or-replicate, get_or_past, length-replicate, get_or_append_left, get_or_push, length_push, get_or-take, length-take}
+use Rattle.std.proofs.lemmas.List.{get_or-set_same, get_or-set_other, length-set, get_or_read, get_or-replicate, get_or_past, length-replicate, get_or_append_left, get_or-append_right, get_or_push, length_push, length-append, get_or-take, length-take}
 use Rattle.std.proofs.lemmas.Bool.{cases_eq, cases_lt}
 use Rattle.bitmap_core.specs.Chunk.{chunk_bit, IsBitWritten}
 use Rattle.bitmap_core.specs.Bits.{bit_of, IsZeroFrom, IsChunkCount, IsBitPut}
-use Rattle.bitmap_core.proofs.ByteBits.{bit_of_zero_byte}
-use Rattle.bitmap_core.proofs.Places.{same_place, below_div, IsChunkCount-same, last_within, full_len, fewer_chunks}
+use Rattle.bitmap_core.proofs.ByteBits.{bit_of_zero_byte, bit_of_full_byte}
+use Rattle.bitmap_core.proofs.Places.{same_place, below_div, IsChunkCount-same, last_within, full_len, fewer_chunks, IsChunkCount-missing}
 use Rattle.bitmap_core.proofs.ChunkBits.{chunk_bit-mod}
 
 pub bit_of-set_here : (n : ℕ) (chunks : List (List ℕ)) (at : ℕ) (chunk : List ℕ) (i : ℕ) → at < length chunks → i / (8 * n) ≡ at → bit_of n (set chunks at chunk) i ≡ chunk_bit n chunk i
@@ -24,6 +25,11 @@ IsBitPut-chunk n xs i b old new p w r h = record {
   ];
   count = length-set xs (i / (8 * n)) new;
 }
+
+pub IsBitPut-flip : (n : ℕ) (xs : List (List ℕ)) (i : ℕ) (old new : List ℕ) → 0 < n → i / (8 * n) < length xs → old ≡ get_or xs (i / (8 * n)) old → IsBitWritten n old new i (not (chunk_bit n old i)) → IsBitPut n xs (set xs (i / (8 * n)) new) i (not (bit_of n xs i))
+IsBitPut-flip n xs i old new p w r h =
+    let e : chunk_bit n old i ≡ bit_of n xs i = ap (λ c. chunk_bit n c i) (get_or_read xs (i / (8 * n)) old w r []) in
+    subst (λ b. IsBitPut n xs (set xs (i / (8 * n)) new) i (not b)) e (IsBitPut-chunk n xs i (not (chunk_bit n old i)) old new p w r h)
 
 pub IsZeroFrom-put : (n : ℕ) (xs ys : List (List ℕ)) (i : ℕ) (b : Bool) (len : ℕ) → IsBitPut n xs ys i b → i < len → IsZeroFrom n xs len → IsZeroFrom n ys len
 IsZeroFrom-put n xs ys i b len p h z j s = p.others j (λ q. absurd (omega arith)) ∙ z j s
@@ -53,6 +59,30 @@ bit_of-push_zero n xs i = elim (cases_lt (i / (8 * n)) (length xs)) [
     | inr d ↦ bit_of_past n (xs ++ replicate n 0 ∷ []) i (omega (arith, length_push xs (replicate n 0))) ∙ sym (bit_of_past n xs i h)
   ]
 ]
+
+-- a chunk of zeros, or none, has no bit
+pub chunk_bit_zeros : (n k j i : ℕ) → chunk_bit n (get_or (replicate k (replicate n 0)) j []) i ≡ false
+chunk_bit_zeros n k j i = elim (cases_lt j k) [
+  | inl h ↦ ap (λ c. chunk_bit n c i) (get_or-replicate {A = List ℕ} k j (replicate n 0) [] h) ∙ bit_of_zero_byte _ (i % 8) (get_or_zeros n (i / 8 % n))
+  | inr h ↦ ap (λ c. chunk_bit n c i) (get_or_past (replicate k (replicate n 0)) j [] (omega (arith, length-replicate {A = List ℕ} k (replicate n 0)))) ∙ bit_of_zero_byte 0 (i % 8) refl
+]
+
+-- chunks of zeros at the end change no bit
+pub bit_of-append_zeros : (n k : ℕ) (xs : List (List ℕ)) (i : ℕ) → bit_of n (xs ++ replicate k (replicate n 0)) i ≡ bit_of n xs i
+bit_of-append_zeros n k xs i = elim (cases_lt (i / (8 * n)) (length xs)) [
+  | inl h ↦ ap (λ c. chunk_bit n c i) (get_or_append_left xs (replicate k (replicate n 0)) [] (i / (8 * n)) h)
+  | inr h ↦ ap (λ c. chunk_bit n c i) (get_or-append_right xs (replicate k (replicate n 0)) (length xs) (i / (8 * n)) [] refl h) ∙ chunk_bit_zeros n k (i / (8 * n) - length xs) i ∙ sym (bit_of_past n xs i h)
+]
+
+-- the missing chunks appended
+pub IsChunkCount-appended : (n : ℕ) (xs ys : List (List ℕ)) (c : List ℕ) (m len longer : ℕ) → 0 < n → IsChunkCount n (length xs) len → len ≤ longer → m ≡ div_ceil longer (8 * n) - length xs → ys ≡ xs ++ replicate m c → IsChunkCount n (length ys) longer
+IsChunkCount-appended n xs ys c m len longer p k h q e = rw (e, length-append, length-replicate, q) (IsChunkCount-missing n (length xs) len longer p k h)
+
+-- in chunks of ones each bit is true
+pub bit_of-ones : (n k : ℕ) (i : ℕ) → 0 < n → i / (8 * n) < k → bit_of n (replicate k (replicate n 255)) i ≡ true
+bit_of-ones n k i p h =
+    ap (λ c. chunk_bit n c i) (get_or-replicate {A = List ℕ} k (i / (8 * n)) (replicate n 255) [] h)
+    ∙ bit_of_full_byte _ (i % 8) (get_or-replicate {A = ℕ} n (i / 8 % n) 255 0 (mod_below (i / 8) n p)) (mod_below i 8 (omega arith))
 
 -- a front of the chunks has the bits of the chunks that it keeps
 pub bit_of-take_in : (n : ℕ) (xs : List (List ℕ)) (k i : ℕ) → i / (8 * n) < k → bit_of n (take k xs) i ≡ bit_of n xs i

@@ -12,3 +12,4 @@ pub mod WholeChunks
 pub mod ByteEdits
 pub mod Pairs
 pub mod PairEdits
+pub mod Packing

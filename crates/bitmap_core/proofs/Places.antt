@@ -65,3 +65,15 @@ IsChunkCount-ceil n len p =
 
 pub fewer_ceil : (n k m len : ℕ) → 0 < n → IsChunkCount n k len → m ≤ len → div_ceil m (8 * n) ≤ k
 fewer_ceil n k m len p c h = fewer_chunks (8 * n) (div_ceil m (8 * n)) k m (IsChunkCount-ceil n m p).1 (omega (arith, c.0))
+
+-- the chunks of a length, with those that a greater length lacks
+pub IsChunkCount-missing : (n k len longer : ℕ) → 0 < n → IsChunkCount n k len → len ≤ longer → IsChunkCount n (k + (div_ceil longer (8 * n) - k)) longer
+IsChunkCount-missing n k len longer p c h =
+    let d = IsChunkCount-ceil n longer p in
+    let f : k ≤ div_ceil longer (8 * n) = fewer_chunks (8 * n) k (div_ceil longer (8 * n)) len c.1 (omega (arith, d.0)) in
+    let e : k + (div_ceil longer (8 * n) - k) ≡ div_ceil longer (8 * n) = omega arith in
+    rw e d
+
+-- where the chunks hold a length, none is missing
+pub none_missing : (n k longer : ℕ) → 0 < n → longer ≤ 8 * n * k → div_ceil longer (8 * n) - k ≡ 0
+none_missing n k longer p h = let f = fewer_chunks (8 * n) (div_ceil longer (8 * n)) k longer (IsChunkCount-ceil n longer p).1 h in omega arith

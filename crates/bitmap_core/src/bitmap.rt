@@ -1,12 +1,19 @@
 //! Dense bitmaps.
 
-ghost use Rattle.std.specs.Prelude.{◌≡◌, ℕ, ◌+◌, ◌-◌, ◌*◌, ◌/◌, ◌%◌, ◌^◌, ◌<◌, ◌≤◌, [], ◌∷◌, ◌++◌, length, false, slice_index_or, slice_set, OnOk, OnErr, IsOk, ◌==◌};
+ghost use Rattle.std.specs.Prelude.{◌≡◌, ℕ, ◌+◌, ◌-◌, ◌*◌, ◌/◌, ◌%◌, ◌^◌, ◌<◌, ◌≤◌, [], ◌∷◌, ◌++◌, length, false, slice_index_or, slice_set, replicate, take, true, not, IfOk, OnOk, OnErr, IsOk, ◌==◌};
+ghost use Rattle.std.specs.Int.{div_ceil};
+ghost use Rattle.bitmap_core.specs.Chunk.{chunk_bit, chunk_bits as bits_of_chunk};
 
 mod chunks;
 mod front;
+mod growth;
 pub mod prunable;
 
-use crate::bitmap::chunks::{drop_room, get_bit, make_room, set_bit};
+use crate::bitmap::chunks::{
+    chunk_bits, chunk_count, clear_tail, drop_room, flip_bit, get_bit, make_room, set_bit,
+};
+use crate::bitmap::growth::{append_bools, append_copies, extend_zeros, from_bools, shorten};
+use crate::chunk;
 use std::alloc::{AllocError, Global};
 use std::collections::VecDeque;
 use std::marker::Model;
@@ -128,6 +135,150 @@ impl<const N: usize> BitMap<N> {
         drop_room(&mut self.chunks, last);
         self.len = last;
         bit
+    }
+
+    /// An empty bitmap whose pushes up to `size` bits take no memory, as a test shows.
+    ///
+    /// Takes memory for the chunks of `size` bits, and errs where that is refused.
+    pub fn with_capacity(alloc: Global, size: u64) -> Result<Self, AllocError>
+        requires positive { 0 < N }
+        requires fits { 8 * N < 2 ^ 64 }
+        ensures { IfOk result (λ b. b ≡ []) }
+    {
+        Ok(BitMap {
+            chunks: VecDeque::with_capacity(alloc, chunk_count::<N>(size))?,
+            len: 0,
+        })
+    }
+
+    /// `size` bits that are all false.
+    ///
+    /// Takes memory once, for the chunks of `size` bits, and errs where that is refused.
+    pub fn zeroes(alloc: Global, size: u64) -> Result<Self, AllocError>
+        requires positive { 0 < N }
+        requires fits { 8 * N < 2 ^ 64 }
+        ensures { IfOk result (λ b. b ≡ replicate size false) }
+    {
+        let mut map = BitMap::new(alloc);
+        map.extend_to(size)?;
+        Ok(map)
+    }
+
+    /// `size` bits that are all true.
+    ///
+    /// Takes memory once, for the chunks of `size` bits, and errs where that is refused.
+    pub fn ones(alloc: Global, size: u64) -> Result<Self, AllocError>
+        requires positive { 0 < N }
+        requires fits { 8 * N < 2 ^ 64 }
+        ensures { IfOk result (λ b. b ≡ replicate size true) }
+    {
+        let mut chunks = VecDeque::new(alloc);
+        append_copies(&mut chunks, chunk_count::<N>(size), [u8::MAX; N])?;
+        clear_tail(&mut chunks, size);
+        Ok(BitMap { chunks, len: size })
+    }
+
+    /// The bits that are given, in order.
+    ///
+    /// Takes memory once, for their chunks, and errs where that is refused.
+    pub fn from_bools(alloc: Global, bools: &[bool]) -> Result<Self, AllocError>
+        requires positive { 0 < N }
+        requires fits { 8 * N < 2 ^ 64 }
+        ensures { IfOk result (λ b. b ≡ bools.now) }
+    {
+        Ok(BitMap {
+            chunks: from_bools(alloc, bools)?,
+            len: bools.len() as u64,
+        })
+    }
+
+    /// The bits in order, one boolean each.
+    ///
+    /// Takes memory once, for the booleans, and errs where that is refused.
+    pub fn to_bools(&self) -> Result<Vec<bool>, AllocError>
+        ensures { IfOk result (λ v. v.items ≡ self.now) }
+    {
+        let len = self.len;
+        let mut bools = Vec::with_capacity(*self.chunks.allocator(), len as usize)?;
+        append_bools(&self.chunks, len, &mut bools);
+        Ok(bools)
+    }
+
+    /// Whether the length is a multiple of `8N`. No memory.
+    pub fn is_chunk_aligned(&self) -> bool
+        ensures { result ≡ (length self.now % (8 * N) == 0) }
+    {
+        self.len % chunk_bits::<N>() == 0
+    }
+
+    /// The most bytes that the byte form of a bitmap of `bits` bits has: a length, and whole chunks.
+    ///
+    /// That number fits `usize`. No memory.
+    pub fn max_encode_size(bits: u64) -> usize
+        requires positive { 0 < N }
+        requires fits { 8 * N < 2 ^ 64 }
+        requires room { div_ceil bits (8 * N) * N + 8 < 2 ^ 64 }
+        ensures { result ≡ div_ceil bits (8 * N) * N + 8 }
+    {
+        chunk_count::<N>(bits) * N + 8
+    }
+
+    /// Bit `bit mod 8N` of a chunk. No memory.
+    pub fn get_bit_from_chunk(chunk: &[u8; N], bit: u64) -> bool
+        requires { 0 < N }
+        ensures { result ≡ chunk_bit N chunk.now bit }
+    {
+        chunk::get_bit(chunk, bit)
+    }
+
+    /// Appends false bits up to a length of `n` bits. A bitmap that is as long already stays as it is.
+    ///
+    /// Takes memory once, for the chunks that are missing, and none where none is: there it succeeds.
+    /// Refused, the bitmap is as it was.
+    pub fn extend_to(&mut self, n: u64) -> Result<(), AllocError>
+        ensures ok { OnOk result (self.new ≡ self.old ++ replicate (n - length self.old) false) }
+        ensures err { OnErr result (self.new ≡ self.old) }
+        ensures roomy { n ≤ 8 * N * div_ceil (length self.old) (8 * N) → IsOk result }
+    {
+        let len = self.len;
+        if len < n {
+            extend_zeros(&mut self.chunks, len, n)?;
+            self.len = n;
+        }
+        Ok(())
+    }
+
+    /// Appends the bits of a chunk to a bitmap whose length is a multiple of `8N`, with room for `8N` more in `u64`.
+    ///
+    /// Takes memory for that chunk. Refused, the bitmap is as it was.
+    pub fn push_chunk(&mut self, chunk: &[u8; N]) -> Result<(), AllocError>
+        requires aligned { length self.old % (8 * N) ≡ 0 }
+        requires room { length self.old + 8 * N < 2 ^ 64 }
+        ensures ok { OnOk result (self.new ≡ self.old ++ bits_of_chunk N chunk.now) }
+        ensures err { OnErr result (self.new ≡ self.old) }
+    {
+        let len = self.len;
+        self.chunks.push_back(*chunk)?;
+        self.len = len + chunk_bits::<N>();
+        Ok(())
+    }
+
+    /// Keeps the first `n` bits, of at least as many. No memory.
+    pub fn truncate(&mut self, n: u64)
+        requires { n ≤ length self.old }
+        ensures { self.new ≡ take n self.old }
+    {
+        let chunks = &mut self.chunks;
+        shorten(chunks, n);
+        self.len = n;
+    }
+
+    /// Inverts the bit at a position below the length. No memory.
+    pub fn flip(&mut self, bit: u64)
+        requires { bit < length self.old }
+        ensures { self.new ≡ slice_set self.old bit (not (slice_index_or self.old bit false)) }
+    {
+        flip_bit(&mut self.chunks, bit);
     }
 }
 

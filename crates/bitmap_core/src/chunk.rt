@@ -1,8 +1,9 @@
 //! The bits of one chunk. Masks and bytes are touched here and nowhere else.
 
-ghost use Rattle.std.specs.Prelude.{◌≡◌, ℕ, ◌+◌, ◌*◌, ◌/◌, ◌%◌, ◌^◌, ◌<◌, Bool, map, slice_index};
+ghost use Rattle.std.specs.Prelude.{◌≡◌, ℕ, ◌+◌, ◌-◌, ◌*◌, ◌/◌, ◌%◌, ◌^◌, ◌<◌, ◌≤◌, ◌++◌, ◌==◌, Bool, false, not, length, map, slice_index, slice_index_or, vec_len, vec_capacity};
 ghost use Rattle.std.specs.List.{range_with_len};
-ghost use Rattle.bitmap_core.specs.Chunk.{byte_of, chunk_bit, IsBitWritten, IsByteWritten};
+ghost use Rattle.std.specs.Int.{bit_at};
+ghost use Rattle.bitmap_core.specs.Chunk.{byte_of as byte_from_bits, chunk_bit, IsBitWritten, IsByteWritten};
 
 /// The byte of a chunk in which bit `bit mod 8N` stands. No memory.
 pub fn byte_index<const N: usize>(bit: u64) -> usize
@@ -19,6 +20,13 @@ pub fn bit_mask(bit: u64) -> u8
     ensures fits { result < 256 }
 {
     1 << (bit % 8)
+}
+
+// The mask of the bits below a bit in its byte.
+fn low_mask(bit: u64) -> u8
+    ensures { result ≡ 2 ^ (bit % 8) - 1 }
+{
+    (1 << (bit % 8)) - 1
 }
 
 /// Bit `bit mod 8N` of a chunk. No memory.
@@ -60,8 +68,74 @@ fn bytes_fit(bytes: &[u8])
 /// The chunk itself, whose bytes are those that its bits make. No memory.
 pub fn from_own_bits<const N: usize>(chunk: &[u8; N]) -> &[u8; N]
     ensures same { result.now ≡ chunk.now }
-    ensures bytes { chunk.now ≡ map (λ j. byte_of (λ t. chunk_bit N chunk.now (8 * j + t))) (range_with_len 0 N) }
+    ensures bytes { chunk.now ≡ map (λ j. byte_from_bits (λ t. chunk_bit N chunk.now (8 * j + t))) (range_with_len 0 N) }
 {
     bytes_fit(chunk);
     chunk
+}
+
+/// Inverts bit `bit mod 8N` of a chunk, and no other. No memory.
+pub fn flip_bit<const N: usize>(chunk: &mut [u8; N], bit: u64)
+    requires positive { 0 < N }
+    requires fits { 8 * N < 2 ^ 64 }
+    ensures { IsBitWritten N chunk.old chunk.new bit (not (chunk_bit N chunk.old bit)) }
+{
+    chunk[byte_index::<N>(bit)] ^= bit_mask(bit);
+}
+
+/// Clears the bits of a chunk from a position below `8N` on. No memory.
+pub fn clear_from<const N: usize>(chunk: &mut [u8; N], from: u64)
+    requires positive { 0 < N }
+    requires fits { 8 * N < 2 ^ 64 }
+    requires within { from < 8 * N }
+    ensures below { (i : ℕ) → i % (8 * N) < from → chunk_bit N chunk.new i ≡ chunk_bit N chunk.old i }
+    ensures above { (i : ℕ) → from ≤ i % (8 * N) → chunk_bit N chunk.new i ≡ false }
+{
+    let byte = (from / 8) as usize;
+    chunk[byte] &= low_mask(from);
+    for j in byte + 1..N {
+        chunk[j] = 0;
+    }
+}
+
+// The byte of up to eight booleans, the first one lowest, with zeros above them.
+fn byte_of(bools: &[bool]) -> u8
+    requires { length bools.now ≤ 8 }
+    ensures { (t : ℕ) → (bit_at result t == 1) ≡ slice_index_or bools.now t false }
+{
+    let mut byte = 0u8;
+    for (t, bit) in bools.iter().enumerate() {
+        byte |= u8::from(*bit) << t;
+    }
+    byte
+}
+
+/// The chunk of the first `8N` booleans, with zeros where there are fewer. No memory.
+pub fn from_bools<const N: usize>(bools: &[bool]) -> [u8; N]
+    requires positive { 0 < N }
+    requires fits { 8 * N < 2 ^ 64 }
+    ensures { (i : ℕ) → i < 8 * N → chunk_bit N result i ≡ slice_index_or bools.now i false }
+{
+    let mut chunk = [0; N];
+    for j in 0..N {
+        let from = (8 * j).min(bools.len());
+        let to = (8 * j + 8).min(bools.len());
+        chunk[j] = byte_of(&bools[from..to]);
+    }
+    chunk
+}
+
+/// Appends the first bits of a chunk to booleans that have room for them. No memory.
+pub fn append_bools<const N: usize>(chunk: &[u8; N], count: u64, bools: &mut Vec<bool>)
+    requires positive { 0 < N }
+    requires fits { 8 * N < 2 ^ 64 }
+    requires within { count ≤ 8 * N }
+    requires room { vec_len bools.old + count ≤ vec_capacity bools.old }
+    ensures items { bools.new.items ≡ bools.old.items ++ map (chunk_bit N chunk.now) (range_with_len 0 count) }
+    ensures len { vec_len bools.new ≡ vec_len bools.old + count }
+    ensures capacity { vec_capacity bools.new ≡ vec_capacity bools.old }
+{
+    for i in 0..count {
+        bools.push_reserved(chunk[(i / 8) as usize] & bit_mask(i) != 0);
+    }
 }

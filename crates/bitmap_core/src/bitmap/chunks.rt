@@ -1,6 +1,7 @@
 //! A bitmap's deque of chunks.
 
-ghost use Rattle.std.specs.Prelude.{◌≡◌, ℕ, ◌+◌, ◌*◌, ◌/◌, ◌%◌, ◌^◌, ◌<◌, length, OnOk, OnErr, IsOk};
+ghost use Rattle.std.specs.Prelude.{◌≡◌, ℕ, ◌+◌, ◌*◌, ◌/◌, ◌%◌, ◌^◌, ◌<◌, length, not, OnOk, OnErr, IsOk};
+ghost use Rattle.std.specs.Int.{div_ceil};
 ghost use Rattle.bitmap_core.specs.Bits.{bit_of, IsChunkCount, IsBitPut, IsZeroFrom};
 
 use crate::chunk;
@@ -24,6 +25,15 @@ pub fn chunk_index<const N: usize>(bit: u64) -> usize
     (bit / chunk_bits::<N>()) as usize
 }
 
+// The number of chunks that a number of bits fills, the last one perhaps in part.
+pub fn chunk_count<const N: usize>(len: u64) -> usize
+    requires positive { 0 < N }
+    requires fits { 8 * N < 2 ^ 64 }
+    ensures { result ≡ div_ceil len (8 * N) }
+{
+    len.div_ceil(chunk_bits::<N>()) as usize
+}
+
 pub fn get_bit<const N: usize>(chunks: &VecDeque<[u8; N]>, bit: u64) -> bool
     requires positive { 0 < N }
     requires fits { 8 * N < 2 ^ 64 }
@@ -40,6 +50,16 @@ pub fn set_bit<const N: usize>(chunks: &mut VecDeque<[u8; N]>, bit: u64, value: 
     ensures { IsBitPut N chunks.old.items chunks.new.items bit value }
 {
     chunk::set_bit(&mut chunks[chunk_index::<N>(bit)], bit, value);
+}
+
+// Inverts a bit.
+pub fn flip_bit<const N: usize>(chunks: &mut VecDeque<[u8; N]>, bit: u64)
+    requires positive { 0 < N }
+    requires fits { 8 * N < 2 ^ 64 }
+    requires within { bit / (8 * N) < length chunks.old.items }
+    ensures { IsBitPut N chunks.old.items chunks.new.items bit (not (bit_of N chunks.old.items bit)) }
+{
+    chunk::flip_bit(&mut chunks[chunk_index::<N>(bit)], bit);
 }
 
 // Adds a chunk of zeros where the chunks are full.
@@ -69,5 +89,20 @@ pub fn drop_room<const N: usize>(chunks: &mut VecDeque<[u8; N]>, len: u64)
 {
     if len % chunk_bits::<N>() == 0 {
         let _ = chunks.pop_back();
+    }
+}
+
+// Clears the bits from a length on.
+pub fn clear_tail<const N: usize>(chunks: &mut VecDeque<[u8; N]>, len: u64)
+    requires positive { 0 < N }
+    requires fits { 8 * N < 2 ^ 64 }
+    requires count { IsChunkCount N (length chunks.old.items) len }
+    ensures count { length chunks.new.items ≡ length chunks.old.items }
+    ensures below { (i : ℕ) → i < len → bit_of N chunks.new.items i ≡ bit_of N chunks.old.items i }
+    ensures zero { IsZeroFrom N chunks.new.items len }
+{
+    let from = len % chunk_bits::<N>();
+    if from != 0 {
+        chunk::clear_from(&mut chunks[chunk_index::<N>(len)], from);
     }
 }

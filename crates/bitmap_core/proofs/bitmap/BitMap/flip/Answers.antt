@@ -1,0 +1,18 @@
+use Rattle.std.proofs.Common.{◌≡◌, ◌∙◌, sym, ap, get_or, false, arith}
+use Rattle.bitmap_core.specs.Bits.{bit_of}
+use Rattle.bitmap_core.proofs.BitLists.{at_within, len_is, get_or-bits}
+use Rattle.bitmap_core.proofs.BitEdits.{bits-put}
+use Rattle.bitmap_core.proofs.ChunkLists.{IsZeroFrom-put}
+use Rattle.bitmap_core.proofs.bitmap.BitMap.flip.Goals as goal
+
+pub flip_bit-requires : goal.flip_bit-requires
+flip_bit-requires g c = (omega (arith, c.self.invariant.1), (c.self.invariant.0, (c.self.invariant.1, at_within _ _ _ _ _ c.self.invariant.0 c.self.view_is c.requires c.self.invariant.2)))
+
+pub invariant_of-self : goal.invariant_of-self
+invariant_of-self g c = rw c.flip_bit.ensures.count (c.self.invariant.0, c.self.invariant.1, c.self.invariant.2, IsZeroFrom-put _ _ _ _ _ _ c.flip_bit.ensures (omega (arith, len_is _ _ _ _ c.self.view_is)) c.self.invariant.3)
+
+pub returns : goal.returns
+returns g c =
+    let l = len_is _ _ _ _ c.self.view_is in
+    let old : bit_of g.row.N c.self.inside.chunks.items c.args.bit ≡ get_or c.args.self.now c.args.bit false = sym (get_or-bits _ _ _ _ false (omega arith)) ∙ ap (λ x. get_or x c.args.bit false) c.self.view_is in
+    rw old at (bits-put _ _ _ _ _ _ _ c.flip_bit.ensures c.self.view_is (omega arith))

@@ -1,0 +1,21 @@
+use Rattle.std.proofs.Common.{◌∙◌, true, arith}
+use Rattle.std.proofs.lemmas.List.{length-replicate}
+use Rattle.bitmap_core.proofs.Places.{IsChunkCount-ceil, index_below}
+use Rattle.bitmap_core.proofs.BitLists.{bits-replicate}
+use Rattle.bitmap_core.proofs.ChunkLists.{bit_of-ones}
+use Rattle.bitmap_core.proofs.bitmap.BitMap.ones.Goals as goal
+
+pub clear_tail-requires : goal.clear_tail-requires
+clear_tail-requires g c =
+    let k = IsChunkCount-ceil g.row.N c.args.size c.requires.positive in
+    (omega (arith, c.requires.fits), (c.requires.positive, (c.requires.fits, rw (c.in_ok-append_copies.ensures.ok, c.new-chunks.ensures.items, c.chunk_count.ensures, length-replicate) k)))
+
+pub invariant_of-result : goal.invariant_of-result
+invariant_of-result g c =
+    let k = IsChunkCount-ceil g.row.N c.args.size c.requires.positive in
+    (c.requires.positive, c.requires.fits, rw (c.clear_tail.ensures.count, c.in_ok-append_copies.ensures.ok, c.new-chunks.ensures.items, c.chunk_count.ensures, length-replicate) k, c.clear_tail.ensures.zero)
+
+pub returns : goal.returns
+returns g c =
+    let k = IsChunkCount-ceil g.row.N c.args.size c.requires.positive in
+    bits-replicate _ _ _ true (λ i s. c.clear_tail.ensures.below i s ∙ rw (c.in_ok-append_copies.ensures.ok, c.new-chunks.ensures.items, c.chunk_count.ensures) (bit_of-ones _ _ i c.requires.positive (index_below _ _ _ _ c.requires.positive s k)))

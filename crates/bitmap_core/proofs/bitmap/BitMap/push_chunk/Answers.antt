@@ -1,0 +1,23 @@
+use Rattle.std.proofs.Common.{◌∙◌, ◌*◌, ◌%◌, ◌+◌, ◌++◌, ◌∷◌, [], sym, ap, arith}
+use Rattle.std.proofs.lemmas.List.{length_push}
+use Rattle.std.proofs.Math.Nat.{mul-add}
+use Rattle.bitmap_core.proofs.Places.{IsChunkCount-chunk, full_len}
+use Rattle.bitmap_core.proofs.BitLists.{len_is}
+use Rattle.bitmap_core.proofs.ChunkLists.{IsZeroFrom-count}
+use Rattle.bitmap_core.proofs.BitEdits.{bits-push_chunk}
+use Rattle.bitmap_core.proofs.bitmap.BitMap.push_chunk.Goals as goal
+
+pub overflow_add-self : goal.overflow_add-self
+overflow_add-self g c = omega (arith, len_is _ _ _ _ c.self.view_is)
+
+pub invariant_of-self-2 : goal.invariant_of-self-2
+invariant_of-self-2 g c =
+    let a = ap (λ x. x % (8 * g.row.N)) (sym (len_is _ _ _ _ c.self.view_is)) ∙ c.requires.aligned in
+    let k = IsChunkCount-chunk _ _ _ c.self.invariant.0 c.self.invariant.2 a in
+    let f = full_len _ _ _ c.self.invariant.0 c.self.invariant.2 a in
+    rw (c.chunk_bits.ensures, c.in_ok-push_back.ensures.items, length_push) (c.self.invariant.0, c.self.invariant.1, k, IsZeroFrom-count g.row.N (c.self.inside.chunks.items ++ c.args.chunk.now ∷ []) (c.self.inside.len + 8 * g.row.N) c.self.invariant.0 (rw (length_push, mul-add) (omega arith)))
+
+pub returns-clause-ok : goal.returns-clause-ok
+returns-clause-ok g c =
+    let a = ap (λ x. x % (8 * g.row.N)) (sym (len_is _ _ _ _ c.self.view_is)) ∙ c.requires.aligned in
+    rw (c.chunk_bits.ensures, c.in_ok-push_back.ensures.items) (bits-push_chunk _ _ _ _ _ c.self.invariant.0 a c.self.invariant.2 c.self.view_is)

@@ -1,0 +1,12 @@
+use Rattle.std.proofs.Common.{arith}
+use Rattle.bitmap_core.proofs.BitLists.{len_is}
+use Rattle.bitmap_core.proofs.BitEdits.{bits-take}
+use Rattle.bitmap_core.proofs.bitmap.BitMap.truncate.Goals as goal
+
+pub shorten-requires : goal.shorten-requires
+shorten-requires g c =
+    let l = len_is _ _ _ _ c.self.view_is in
+    (omega (arith, c.self.invariant.1), (c.self.invariant.0, (c.self.invariant.1, omega (arith, c.self.invariant.2.0))))
+
+pub returns : goal.returns
+returns g c = bits-take _ _ _ c.self.inside.len _ _ (omega (arith, len_is _ _ _ _ c.self.view_is)) c.shorten.ensures.below c.self.view_is
