@@ -1,8 +1,9 @@
-use Rattle.std.proofs.Common.{◌≡◌, ℕ, ◌+◌, ◌-◌, ◌*◌, ◌/◌, ◌%◌, ◌<◌, ◌≤◌, Bool, false, cond, List, [], ◌∷◌, ◌++◌, length, get_or, take, drop, replicate, refl, sym, ap, ◌∙◌, inl, inr, eqb, ltb, arith}
+use Rattle.std.proofs.Common.{◌≡◌, ℕ, ◌+◌, ◌-◌, ◌*◌, ◌/◌, ◌%◌, ◌^◌, ◌<◌, ◌≤◌, Bool, false, cond, List, [], ◌∷◌, ◌++◌, length, get_or, take, drop, replicate, refl, sym, ap, ◌∙◌, inl, inr, eqb, ltb, Result, Ok, Err, OnOk, OnErr, arith}
 use Rattle.std.proofs.Math.Nat.{mul-add-div, mul-add, mul-add-mod_self_left}
 use Rattle.std.proofs.lemmas.List.{length-append, length-take, length-take-le, length-drop, length-set, length-replicate, get_or_append_left, get_or-append_right, get_or_push, get_or_past, get_or-take, get_or-drop, get_or-set_same, get_or-set_other, get_or-replicate}
 use Rattle.std.proofs.lemmas.Bool.{cases_lt, cases_eq, cases_order, eq-eqb, ne_eqb, lt-ltb, le-ltb}
 use Rattle.std.proofs.lemmas.Nat.{le-div}
+use Rattle.std.proofs.lemmas.List.FromFn.{length-map-range_with_len}
 use Rattle.std.specs.List.{flat_map}
 use Rattle.bitmap_core.specs.Chunk.{chunk_bit, chunk_bits}
 use Rattle.bitmap_core.specs.Bits.{bit_of}
@@ -123,3 +124,11 @@ module _ (n : ℕ) (b : PrunedBits) (i : ℕ) (bytes : List ℕ) (p : 0 < n) (lo
       let s : k < bit_len n b = omega (arith, r.1, len_with_chunk n b i bytes) in
       let e : pruned_bits n b + (k - pruned_bits n b) ≡ k = omega (arith, r.0) in
       h (k - pruned_bits n b) (omega (arith, r.0)) ∙ replaced_bit (k - pruned_bits n b) ∙ ap (λ j. cond (eqb (j / (8 * n)) i) (chunk_bit n bytes j) (bit_at n b j)) e ∙ sym (bit_with_chunk n b i bytes k (r.0, s)))
+
+-- a fact that holds after success and after a refusal
+pub either_way : {T E P : Type 0} (r : Result T E) → OnOk r P → OnErr r P → P
+either_way (Ok x) p q = p
+either_way (Err x) p q = q
+
+pub fits_with_chunk : (n pruned : ℕ) (v w : List Bool) (c : List ℕ) → 8 * n * pruned + length v + 8 * n < 2 ^ 64 → w ≡ v ++ chunk_bits n c → 8 * n * pruned + length w < 2 ^ 64
+fits_with_chunk n pruned v w c h e = omega (arith, ap length e ∙ length-append v (chunk_bits n c), length-map-range_with_len (chunk_bit n c) 0 (8 * n))

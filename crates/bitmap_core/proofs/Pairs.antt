@@ -6,7 +6,8 @@ use Rattle.std.proofs.lemmas.List.FromFn.{length-map-range_with_len, get_or-map-
 use Rattle.std.proofs.lemmas.Nat.{div-mul-add, le-div, mul-le}
 use Rattle.bitmap_core.specs.Chunk.{byte_of}
 use Rattle.bitmap_core.specs.PrunedBits.{PrunedBits, unpruned_bits, pruned_bits, bit_len, bit_at, IsRetained, HasChunk, from_bits, chunk}
-use Rattle.bitmap_core.proofs.Places.{IsChunkCount-ceil}
+use Rattle.bitmap_core.proofs.Places.{IsChunkCount-ceil, count_unique}
+use Rattle.bitmap_core.proofs.FrontChunks.{IsChunkCount-front}
 use Rattle.bitmap_core.proofs.ChunkBytes.{byte_same, map_range_same}
 
 pub same_pair : (a b : PrunedBits) → a.pruned ≡ b.pruned → a.bits ≡ b.bits → a ≡ b
@@ -36,6 +37,10 @@ index_below_ceil n len i p h =
 
 pub ceil_above_index : (n len i : ℕ) → 0 < n → 8 * n * i < len → i < div_ceil len (8 * n)
 ceil_above_index n len i p h = let c = IsChunkCount-ceil n len p in lt_of_mul-lt-mul_left (8 * n) (omega (arith, c.0))
+
+-- room for len bits in the retained chunks, from the room in all
+pub ceil_front : (n p l : ℕ) → 0 < n → 8 * n * div_ceil (8 * n * p + l) (8 * n) ≡ 8 * n * p + 8 * n * div_ceil l (8 * n)
+ceil_front n p l h = ap (λ k. 8 * n * k) (count_unique n (div_ceil (8 * n * p + l) (8 * n)) (p + div_ceil l (8 * n)) (8 * n * p + l) (IsChunkCount-ceil n (8 * n * p + l) h) (IsChunkCount-front n p (div_ceil l (8 * n)) l (IsChunkCount-ceil n l h))) ∙ mul-add (8 * n) p (div_ceil l (8 * n))
 
 -- a retained chunk, counted from the first retained one
 pub retained_chunk : (n : ℕ) (b : PrunedBits) (i : ℕ) → HasChunk n b i → 8 * n * (i - b.pruned) < length b.bits

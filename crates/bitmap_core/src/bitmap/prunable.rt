@@ -2,8 +2,8 @@
 
 ghost use Rattle.std.specs.Prelude.{◌≡◌, ℕ, ◌+◌, ◌-◌, ◌*◌, ◌/◌, ◌%◌, ◌^◌, ◌<◌, ◌≤◌, ◌↔◌, [], false, length, IfOk, OnOk, OnErr, IsOk, ◌==◌};
 ghost use Rattle.std.specs.Int.{div_ceil};
-ghost use Rattle.bitmap_core.specs.Chunk.{byte_bits, chunk_bit};
-ghost use Rattle.bitmap_core.specs.PrunedBits.{appended, bit_at, bit_len, chunk, HasChunk, IsRetained, last_bit, popped, pruned_bits, pruned_to, pushed, set_at, truncated, unpruned, with_chunk};
+ghost use Rattle.bitmap_core.specs.Chunk.{byte_bits, chunk_bit, chunk_bits as bits_of_chunk};
+ghost use Rattle.bitmap_core.specs.PrunedBits.{appended, bit_at, bit_len, chunk, extended, HasChunk, IsRetained, last_bit, popped, pruned_bits, pruned_to, pushed, set_at, truncated, unpruned, with_chunk};
 
 mod error;
 
@@ -192,6 +192,16 @@ impl<const N: usize> Prunable<N> {
         self.bitmap.pop()
     }
 
+    /// Keeps the positions below `n`, which is at least the first retained one and at most the length. No memory.
+    pub fn truncate(&mut self, n: u64)
+        requires from { pruned_bits N self.old ≤ n }
+        requires to { n ≤ bit_len N self.old }
+        ensures { self.new ≡ truncated N self.old n }
+    {
+        let pruned = self.pruned_bits();
+        self.bitmap.truncate(n - pruned);
+    }
+
     /// Removes and answers the last chunk, which is retained and full. No memory.
     pub fn pop_chunk(&mut self) -> [u8; N]
         requires aligned { bit_len N self.old % (8 * N) ≡ 0 }
@@ -254,6 +264,31 @@ impl<const N: usize> Prunable<N> {
         ensures partial { ¬ (bit_len N self.old % (8 * N) ≡ 0) → IsOk result }
     {
         self.bitmap.append_byte(byte)
+    }
+
+    /// Appends the bits of a chunk to a bitmap whose length is a multiple of `8N`, with room for `8N` more in `u64`.
+    ///
+    /// Takes memory for that chunk. Refused, the bitmap is as it was.
+    pub fn push_chunk(&mut self, chunk: &[u8; N]) -> Result<(), AllocError>
+        requires aligned { bit_len N self.old % (8 * N) ≡ 0 }
+        requires room { bit_len N self.old + 8 * N < 2 ^ 64 }
+        ensures ok { OnOk result (self.new ≡ appended self.old (bits_of_chunk N chunk.now)) }
+        ensures err { OnErr result (self.new ≡ self.old) }
+    {
+        self.bitmap.push_chunk(chunk)
+    }
+
+    /// Appends false bits up to a length of `n` bits. A bitmap that is as long already stays as it is.
+    ///
+    /// Takes memory once, for the chunks that are missing, and none where none is: there it succeeds.
+    /// Refused, the bitmap is as it was.
+    pub fn extend_to(&mut self, n: u64) -> Result<(), AllocError>
+        ensures ok { OnOk result (self.new ≡ extended N self.old n) }
+        ensures err { OnErr result (self.new ≡ self.old) }
+        ensures roomy { n ≤ 8 * N * div_ceil (bit_len N self.old) (8 * N) → IsOk result }
+    {
+        let pruned = self.pruned_bits();
+        self.bitmap.extend_to(n.saturating_sub(pruned))
     }
 
     /// Puts chunks back in front of the retained bits, in order: at most as many as are pruned.
