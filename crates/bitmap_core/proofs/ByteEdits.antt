@@ -1,11 +1,11 @@
-use Rattle.std.proofs.Common.{◌≡◌, ◌≢◌, ℕ, ◌+◌, ◌-◌, ◌*◌, ◌/◌, ◌%◌, ◌<◌, ◌≤◌, Bool, false, List, [], ◌++◌, length, get_or, set, eqb, refl, sym, ap, ◌∙◌, inl, inr, arith}
+use Rattle.std.proofs.Common.{◌≡◌, ℕ, ◌+◌, ◌-◌, ◌*◌, ◌/◌, ◌%◌, ◌<◌, Bool, false, List, [], ◌++◌, length, get_or, set, eqb, sym, ap, ◌∙◌, inl, inr, arith}
 use Rattle.std.specs.Int.{bit_at}
 use Rattle.std.proofs.Math.Nat.{div-add-mod, div-div-eq-div-mul}
 use Rattle.std.proofs.lemmas.List.{length-set, get_or_read, length-append, get_or_append_left, get_or-append_right}
 use Rattle.std.proofs.lemmas.List.FromFn.{length-map-range_with_len, get_or-map-range_with_len}
 use Rattle.std.proofs.lemmas.Bool.{cases_eq, cases_lt}
 use Rattle.bitmap_core.specs.Chunk.{chunk_bit, byte_bits, IsByteWritten}
-use Rattle.bitmap_core.specs.Bits.{bit_of, bits, IsBytePut, IsChunkCount, IsZeroFrom}
+use Rattle.bitmap_core.specs.Bits.{bits, IsBytePut, IsChunkCount, IsZeroFrom}
 use Rattle.bitmap_core.proofs.BitLists.{get_or-bits, bits_are, len_is}
 use Rattle.bitmap_core.proofs.ChunkLists.{bit_of-set_here, bit_of-set_other}
 use Rattle.bitmap_core.proofs.Places.{same_place}

@@ -1,9 +1,8 @@
-use Rattle.std.proofs.Common.{◌≡◌, ℕ, zero, suc, ◌+◌, ◌*◌, ◌/◌, ◌%◌, ◌<◌, ◌≤◌, Bool, List, ◌∷◌, length, get_or, map, refl, sym, ap, ◌∙◌, inl, inr, eqb, arith}
+use Rattle.std.proofs.Common.{◌≡◌, ℕ, zero, suc, ◌+◌, ◌*◌, ◌/◌, ◌%◌, ◌<◌, ◌≤◌, Bool, true, false, List, ◌∷◌, length, get_or, map, refl, sym, ap, ◌∙◌, inl, inr, eqb, arith}
 use Rattle.std.specs.Int.{bit_at}
 use Rattle.std.specs.List.{range_with_len}
 use Rattle.std.proofs.Math.Nat.{mod-eq_of_lt}
 use Rattle.std.proofs.lemmas.Nat.{div-mul-add, mod-mul-add}
-use Rattle.std.proofs.lemmas.Nat.Bits.{bit_at-lt}
 use Rattle.std.proofs.lemmas.List.{ext_get_or}
 use Rattle.std.proofs.lemmas.List.FromFn.{length-map-range_with_len, get_or-map-range_with_len}
 use Rattle.std.proofs.lemmas.Bool.{cases_eq, eq-eqb, ne_eqb}
@@ -45,6 +44,14 @@ bytes_are n c bit l r h =
     ∙ byte_same (λ t. eqb (bit_at (get_or c j 0) t) 1) (λ t. bit (8 * j + t)) (λ t w. sym (chunk_bit_in_byte n c j t s w) ∙ h (8 * j + t) (omega arith))
     ∙ sym (get_or-map-range_with_len (λ j. byte_of (λ t. bit (8 * j + t))) 0 n j j 0 s (omega arith)))
 
+digit_below : (x : Bool) → bit_value x < 2
+digit_below true = omega arith
+digit_below false = omega arith
+
+digit_is : (x : Bool) → eqb (bit_value x) 1 ≡ x
+digit_is true = refl
+digit_is false = refl
+
 module _ (a b c d e f g h : ℕ) (la : a < 2) (lb : b < 2) (lc : c < 2) (ld : d < 2) (le : e < 2) (lf : f < 2) (lg : g < 2) (lh : h < 2) where
   digit_0 : ((((((((0 + a * 1) + b * 2) + c * 4) + d * 8) + e * 16) + f * 32) + g * 64) + h * 128) / 1 % 2 ≡ a
   digit_0 = omega arith
@@ -69,3 +76,27 @@ module _ (a b c d e f g h : ℕ) (la : a < 2) (lb : b < 2) (lc : c < 2) (ld : d 
 
   digit_7 : ((((((((0 + a * 1) + b * 2) + c * 4) + d * 8) + e * 16) + f * 32) + g * 64) + h * 128) / 128 % 2 ≡ h
   digit_7 = omega arith
+
+-- the bits of a byte made of bits are those
+pub byte_bit : (bit : ℕ → Bool) (t : ℕ) → t < 8 → bit_at (byte_of bit) t ≡ bit_value (bit t)
+byte_bit bit zero h = digit_0 (bit_value (bit 0)) (bit_value (bit 1)) (bit_value (bit 2)) (bit_value (bit 3)) (bit_value (bit 4)) (bit_value (bit 5)) (bit_value (bit 6)) (bit_value (bit 7)) (digit_below (bit 0)) (digit_below (bit 1)) (digit_below (bit 2)) (digit_below (bit 3)) (digit_below (bit 4)) (digit_below (bit 5)) (digit_below (bit 6)) (digit_below (bit 7))
+byte_bit bit (suc zero) h = digit_1 (bit_value (bit 0)) (bit_value (bit 1)) (bit_value (bit 2)) (bit_value (bit 3)) (bit_value (bit 4)) (bit_value (bit 5)) (bit_value (bit 6)) (bit_value (bit 7)) (digit_below (bit 0)) (digit_below (bit 1)) (digit_below (bit 2)) (digit_below (bit 3)) (digit_below (bit 4)) (digit_below (bit 5)) (digit_below (bit 6)) (digit_below (bit 7))
+byte_bit bit (suc (suc zero)) h = digit_2 (bit_value (bit 0)) (bit_value (bit 1)) (bit_value (bit 2)) (bit_value (bit 3)) (bit_value (bit 4)) (bit_value (bit 5)) (bit_value (bit 6)) (bit_value (bit 7)) (digit_below (bit 0)) (digit_below (bit 1)) (digit_below (bit 2)) (digit_below (bit 3)) (digit_below (bit 4)) (digit_below (bit 5)) (digit_below (bit 6)) (digit_below (bit 7))
+byte_bit bit (suc (suc (suc zero))) h = digit_3 (bit_value (bit 0)) (bit_value (bit 1)) (bit_value (bit 2)) (bit_value (bit 3)) (bit_value (bit 4)) (bit_value (bit 5)) (bit_value (bit 6)) (bit_value (bit 7)) (digit_below (bit 0)) (digit_below (bit 1)) (digit_below (bit 2)) (digit_below (bit 3)) (digit_below (bit 4)) (digit_below (bit 5)) (digit_below (bit 6)) (digit_below (bit 7))
+byte_bit bit (suc (suc (suc (suc zero)))) h = digit_4 (bit_value (bit 0)) (bit_value (bit 1)) (bit_value (bit 2)) (bit_value (bit 3)) (bit_value (bit 4)) (bit_value (bit 5)) (bit_value (bit 6)) (bit_value (bit 7)) (digit_below (bit 0)) (digit_below (bit 1)) (digit_below (bit 2)) (digit_below (bit 3)) (digit_below (bit 4)) (digit_below (bit 5)) (digit_below (bit 6)) (digit_below (bit 7))
+byte_bit bit (suc (suc (suc (suc (suc zero))))) h = digit_5 (bit_value (bit 0)) (bit_value (bit 1)) (bit_value (bit 2)) (bit_value (bit 3)) (bit_value (bit 4)) (bit_value (bit 5)) (bit_value (bit 6)) (bit_value (bit 7)) (digit_below (bit 0)) (digit_below (bit 1)) (digit_below (bit 2)) (digit_below (bit 3)) (digit_below (bit 4)) (digit_below (bit 5)) (digit_below (bit 6)) (digit_below (bit 7))
+byte_bit bit (suc (suc (suc (suc (suc (suc zero)))))) h = digit_6 (bit_value (bit 0)) (bit_value (bit 1)) (bit_value (bit 2)) (bit_value (bit 3)) (bit_value (bit 4)) (bit_value (bit 5)) (bit_value (bit 6)) (bit_value (bit 7)) (digit_below (bit 0)) (digit_below (bit 1)) (digit_below (bit 2)) (digit_below (bit 3)) (digit_below (bit 4)) (digit_below (bit 5)) (digit_below (bit 6)) (digit_below (bit 7))
+byte_bit bit (suc (suc (suc (suc (suc (suc (suc zero))))))) h = digit_7 (bit_value (bit 0)) (bit_value (bit 1)) (bit_value (bit 2)) (bit_value (bit 3)) (bit_value (bit 4)) (bit_value (bit 5)) (bit_value (bit 6)) (bit_value (bit 7)) (digit_below (bit 0)) (digit_below (bit 1)) (digit_below (bit 2)) (digit_below (bit 3)) (digit_below (bit 4)) (digit_below (bit 5)) (digit_below (bit 6)) (digit_below (bit 7))
+byte_bit bit (suc (suc (suc (suc (suc (suc (suc (suc t)))))))) h = absurd (omega arith)
+
+-- the bits of the bytes that bits make are those
+pub chunk_bit_of_bytes : (n : ℕ) (bit : ℕ → Bool) (i : ℕ) → 0 < n → i < 8 * n → chunk_bit n (map (λ j. byte_of (λ t. bit (8 * j + t))) (range_with_len 0 n)) i ≡ bit i
+chunk_bit_of_bytes n bit i p h =
+    let s : i / 8 < n = omega arith in
+    let k : i / 8 % n ≡ i / 8 = mod-eq_of_lt s in
+    let byte : get_or (map (λ j. byte_of (λ t. bit (8 * j + t))) (range_with_len 0 n)) (i / 8) 0 ≡ byte_of (λ t. bit (8 * (i / 8) + t)) = get_or-map-range_with_len (λ j. byte_of (λ t. bit (8 * j + t))) 0 n (i / 8) (i / 8) 0 s (omega arith) in
+    ap (λ x. eqb (bit_at (get_or (map (λ j. byte_of (λ t. bit (8 * j + t))) (range_with_len 0 n)) x 0) (i % 8)) 1) k
+    ∙ ap (λ x. eqb (bit_at x (i % 8)) 1) byte
+    ∙ ap (λ x. eqb x 1) (byte_bit (λ t. bit (8 * (i / 8) + t)) (i % 8) (omega arith))
+    ∙ digit_is (bit (8 * (i / 8) + i % 8))
+    ∙ ap bit (omega arith)

@@ -1,8 +1,8 @@
 use Rattle.std.proofs.Common.{◌≡◌, ℕ, suc, ◌+◌, ◌-◌, ◌*◌, ◌/◌, ◌%◌, ◌<◌, ◌≤◌, Bool, false, List, [], ◌∷◌, ◌++◌, length, get_or, take, drop, refl, sym, ap, ◌∙◌, inl, inr, arith}
-use Rattle.std.specs.List.{flat_map, All}
+use Rattle.std.specs.List.{flat_map}
 use Rattle.std.proofs.Math.Nat.{div-add-mod, mul-add, mul-add-div, mul-add-mod_self_left, mod-mod}
-use Rattle.std.proofs.lemmas.Nat.{mod_below, div_below, mul-le}
-use Rattle.std.proofs.lemmas.List.{get_or-drop, length-drop, drop-append-le, length-append, get_or_append_left, get_or-append_right, length-take-le}
+use Rattle.std.proofs.lemmas.Nat.{mod_below, div_below}
+use Rattle.std.proofs.lemmas.List.{get_or-drop, length-drop, length-append, get_or_append_left, get_or-append_right, length-take-le}
 use Rattle.std.proofs.Math.Seq.{drop-cons}
 use Rattle.std.proofs.lemmas.List.Concat.{get_or-flat_map}
 use Rattle.std.proofs.lemmas.List.FromFn.{length-map-range_with_len, get_or-map-range_with_len}

@@ -1,16 +1,15 @@
-use Rattle.std.proofs.Common.{◌≡◌, ℕ, ◌+◌, ◌-◌, ◌*◌, ◌/◌, ◌%◌, ◌^◌, ◌<◌, ◌≤◌, Bool, false, cond, List, [], ◌∷◌, ◌++◌, length, get_or, take, drop, replicate, refl, sym, ap, ◌∙◌, inl, inr, eqb, ltb, Result, Ok, Err, OnOk, OnErr, arith}
-use Rattle.std.proofs.Math.Nat.{mul-add-div, mul-add, mul-add-mod_self_left}
+use Rattle.std.proofs.Common.{◌≡◌, ℕ, ◌+◌, ◌-◌, ◌*◌, ◌/◌, ◌^◌, ◌<◌, ◌≤◌, Bool, false, cond, List, [], ◌∷◌, ◌++◌, length, get_or, take, replicate, refl, sym, ap, ◌∙◌, inl, inr, eqb, ltb, Result, Ok, Err, OnOk, OnErr, arith}
+use Rattle.std.proofs.Math.Nat.{mul-add-div, mul-add-mod_self_left}
 use Rattle.std.proofs.lemmas.List.{length-append, length-take, length-take-le, length-drop, length-set, length-replicate, get_or_append_left, get_or-append_right, get_or_push, get_or_past, get_or-take, get_or-drop, get_or-set_same, get_or-set_other, get_or-replicate}
 use Rattle.std.proofs.lemmas.Bool.{cases_lt, cases_eq, cases_order, eq-eqb, ne_eqb, lt-ltb, le-ltb}
-use Rattle.std.proofs.lemmas.Nat.{le-div}
 use Rattle.std.proofs.lemmas.List.FromFn.{length-map-range_with_len}
 use Rattle.std.specs.List.{flat_map}
 use Rattle.bitmap_core.specs.Chunk.{chunk_bit, chunk_bits}
 use Rattle.bitmap_core.specs.Bits.{bit_of}
-use Rattle.bitmap_core.specs.PrunedBits.{PrunedBits, pruned_bits, bit_len, bit_at, IsRetained, HasChunk, from_bits, chunk, pushed, popped, set_at, appended, extended, truncated, pruned_to, unpruned, with_chunk}
+use Rattle.bitmap_core.specs.PrunedBits.{PrunedBits, pruned_bits, bit_len, bit_at, IsRetained, pushed, popped, set_at, appended, extended, truncated, pruned_to, unpruned, with_chunk}
 use Rattle.bitmap_core.proofs.ChunkBits.{chunk_bit-mod}
 use Rattle.bitmap_core.proofs.FrontChunks.{length-front_bits, get_or-front_bits}
-use Rattle.bitmap_core.proofs.Pairs.{same_pair, same_bitmap, chunk_same, bit_past, bit_from_bits, len_from_bits, front_of}
+use Rattle.bitmap_core.proofs.Pairs.{same_pair, same_bitmap, bit_past, bit_from_bits, len_from_bits, front_of}
 
 -- lengths
 pub len_pushed : (n : ℕ) (b : PrunedBits) (x : Bool) → bit_len n (pushed b x) ≡ bit_len n b + 1

@@ -1,14 +1,14 @@
-use Rattle.std.proofs.Common.{◌≡◌, ℕ, ◌+◌, ◌-◌, ◌*◌, ◌/◌, ◌%◌, ◌<◌, ◌≤◌, Bool, false, List, length, get_or, refl, sym, ap, ◌∙◌, arith}
+use Rattle.std.proofs.Common.{◌≡◌, ℕ, ◌+◌, ◌-◌, ◌*◌, ◌/◌, ◌%◌, ◌<◌, ◌≤◌, Bool, false, length, get_or, refl, sym, ap, ◌∙◌, arith}
 use Rattle.std.specs.Int.{div_ceil}
 use Rattle.std.proofs.Math.Nat.{div-add-mod, lt_of_mul-lt-mul_left, mul-add, mul-add-div, mul-add-mod_self_left}
 use Rattle.std.proofs.lemmas.List.{ext_get_or, get_or_past}
 use Rattle.std.proofs.lemmas.List.FromFn.{length-map-range_with_len, get_or-map-range_with_len}
 use Rattle.std.proofs.lemmas.Nat.{div-mul-add, le-div, mul-le}
-use Rattle.bitmap_core.specs.Chunk.{byte_of}
+use Rattle.bitmap_core.specs.Chunk.{byte_of, chunk_bit}
 use Rattle.bitmap_core.specs.PrunedBits.{PrunedBits, unpruned_bits, pruned_bits, bit_len, bit_at, IsRetained, HasChunk, from_bits, chunk}
 use Rattle.bitmap_core.proofs.Places.{IsChunkCount-ceil, count_unique}
 use Rattle.bitmap_core.proofs.FrontChunks.{IsChunkCount-front}
-use Rattle.bitmap_core.proofs.ChunkBytes.{byte_same, map_range_same}
+use Rattle.bitmap_core.proofs.ChunkBytes.{byte_same, chunk_bit_of_bytes, map_range_same}
 
 pub same_pair : (a b : PrunedBits) → a.pruned ≡ b.pruned → a.bits ≡ b.bits → a ≡ b
 same_pair a b p q i = record { pruned = p i; bits = q i }
@@ -100,3 +100,9 @@ last_chunk_of_bits n b p a f =
     let q : bit_len n b / (8 * n) ≡ b.pruned + length b.bits / (8 * n) = mul-add-div (omega arith) b.pruned (length b.bits) in
     let s : 0 < length b.bits / (8 * n) = lt_of_mul-lt-mul_left (8 * n) (omega (arith, place (8 * n) (length b.bits))) in
     ap (λ i. chunk n (unpruned_bits b.bits) i) (omega arith) ∙ chunk_of_bits n b (bit_len n b / (8 * n) - 1) (omega arith)
+
+-- the bits of a chunk's bytes are the chunk's bits
+pub chunk_bit_of_chunk : (n : ℕ) (b : PrunedBits) (i t : ℕ) → 0 < n → t < 8 * n → chunk_bit n (chunk n b i) t ≡ bit_at n b (8 * n * i + t)
+chunk_bit_of_chunk n b i t p h =
+    ap (λ c. chunk_bit n c t) (map_range_same (λ j. byte_of (λ s. bit_at n b (8 * n * i + 8 * j + s))) (λ j. byte_of (λ s. bit_at n b (8 * n * i + (8 * j + s)))) 0 n (λ j _ _. byte_same (λ s. bit_at n b (8 * n * i + 8 * j + s)) (λ s. bit_at n b (8 * n * i + (8 * j + s))) (λ s _. ap (λ k. bit_at n b k) (omega arith))))
+    ∙ chunk_bit_of_bytes n (λ s. bit_at n b (8 * n * i + s)) t p h

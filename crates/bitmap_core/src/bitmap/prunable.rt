@@ -148,7 +148,7 @@ impl<const N: usize> Prunable<N> {
         ensures { result.now ≡ chunk N self.now (bit / (8 * N)) }
     {
         let _pruned = self.pruned_chunks;
-        self.get_chunk(chunk_index::<N>(bit))
+        self.get_chunk(Self::to_chunk_index(bit))
     }
 
     /// The chunk at an index, which is at least the pruned count and below `chunks_len`.
@@ -220,7 +220,7 @@ impl<const N: usize> Prunable<N> {
         ensures { self.new ≡ pruned_to N self.old (bit / (8 * N)) }
     {
         let pruned = self.pruned_chunks;
-        let index = chunk_index::<N>(bit);
+        let index = Self::to_chunk_index(bit);
         if pruned < index {
             self.bitmap.drop_front_chunks(index - pruned);
             self.pruned_chunks = index;

@@ -1,4 +1,4 @@
-use Rattle.std.proofs.Common.{refl, arith}
+use Rattle.std.proofs.Common.{refl}
 use Rattle.bitmap_core.specs.Chunk.{chunk_bit}
 use Rattle.bitmap_core.proofs.ChunkBytes.{bytes_are}
 use Rattle.bitmap_core.proofs.chunk.from_own_bits.Goals as goal

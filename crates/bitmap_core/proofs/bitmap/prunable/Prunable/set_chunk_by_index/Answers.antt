@@ -1,4 +1,4 @@
-use Rattle.std.proofs.Common.{◌≡◌, ◌≤◌, ◌∙◌, ap, arith, subst, sym}
+use Rattle.std.proofs.Common.{◌∙◌, ap, arith, subst, sym}
 use Rattle.bitmap_core.specs.PrunedBits.{PrunedBits, HasChunk, with_chunk}
 use Rattle.bitmap_core.proofs.Pairs.{retained_chunk}
 use Rattle.bitmap_core.proofs.PairEdits.{chunk_replaced, zero_in_bits}

@@ -1,4 +1,4 @@
-use Rattle.std.proofs.Common.{◌≡◌, ◌≤◌, length, arith, subst, sym}
+use Rattle.std.proofs.Common.{◌≤◌, length, arith, subst, sym}
 use Rattle.bitmap_core.specs.PrunedBits.{PrunedBits}
 use Rattle.bitmap_core.proofs.PairEdits.{len_unpruned}
 use Rattle.bitmap_core.proofs.bitmap.prunable.Prunable.unprune.Goals as goal
