@@ -66,12 +66,10 @@ impl<const N: usize> Prunable<N> {
         requires positive { 0 < N }
         requires fits { 8 * N < 2 ^ 64 }
         ensures ok { IfOk result (λ b. b ≡ record { pruned = pruned_chunks; bits = [] }) }
-        ensures fits { IsOk result ↔ (8 * N * pruned_chunks < 2 ^ 64) }
+        ensures exact { IsOk result ↔ (8 * N * pruned_chunks < 2 ^ 64) }
     {
-        if chunk_bits::<N>()
-            .checked_mul(pruned_chunks as u64)
-            .is_none()
-        {
+        let pruned_bits = chunk_bits::<N>().checked_mul(pruned_chunks as u64);
+        if pruned_bits.is_none() {
             return Err(Error::PrunedChunksOverflow);
         }
         Ok(Prunable {
@@ -227,9 +225,7 @@ impl<const N: usize> Prunable<N> {
         }
     }
 
-    /// Replaces the bits of a retained chunk. No memory.
-    ///
-    /// In a partial last chunk the bits past the length are zero.
+    /// Replaces the bits of a retained chunk by those of `chunk`, which are zero past the length. No memory.
     pub fn set_chunk_by_index(&mut self, index: usize, chunk: &[u8; N])
         requires retained { HasChunk N self.old index }
         requires zero { (k : ℕ) → bit_len N self.old ≤ k → k / (8 * N) ≡ index → chunk_bit N chunk.now k ≡ false }
