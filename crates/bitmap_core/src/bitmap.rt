@@ -9,9 +9,11 @@ mod count;
 mod debug;
 mod every_chunk;
 mod extend;
+mod front;
 mod growth;
 mod iter;
 mod ops;
+pub mod prunable;
 pub mod readable;
 
 use crate::bitmap::chunks::{
