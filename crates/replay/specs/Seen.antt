@@ -1,7 +1,5 @@
 -- A session's state as a machine, and replies by what they say.
 use Rattle.std.specs.Prelude.{ℕ, [], Some, None, List, map}
-use Rattle.std.specs.Option.{option_map}
-use Rattle.bitmap_core.specs.PrunedBits.{unpruned_bits}
 use Rattle.replay.specs.declared.session.State.{State}
 use Rattle.replay.specs.declared.session.State.TheVariants as state
 use Rattle.replay.specs.declared.command.Reply.{Reply}
@@ -24,5 +22,5 @@ module _ {N : ℕ} where
   said reply.Done = Done
   said (reply.Bit bit) = Bit bit
   said (reply.Number number) = Number number
-  said (reply.Snapshot bits) = Snapshot (option_map unpruned_bits bits)
+  said (reply.Snapshot bitmap) = Snapshot bitmap
   said (reply.Refused refusal) = Refused refusal
