@@ -7,3 +7,4 @@ pub mod BitEdits
 pub mod Equality
 pub mod Counts
 pub mod Runs
+pub mod WordBits
