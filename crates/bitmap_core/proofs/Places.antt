@@ -66,10 +66,6 @@ IsChunkCount-ceil n len p =
 pub fewer_ceil : (n k m len : ℕ) → 0 < n → IsChunkCount n k len → m ≤ len → div_ceil m (8 * n) ≤ k
 fewer_ceil n k m len p c h = fewer_chunks (8 * n) (div_ceil m (8 * n)) k m (IsChunkCount-ceil n m p).1 (omega (arith, c.0))
 
--- each chunk begins below the length
-pub chunk_start : (n k len bound : ℕ) → IsChunkCount n k len → len < bound → (q : ℕ) → q < k → 8 * n * q < bound
-chunk_start n k len bound c s q h = let m = mul-add (8 * n) q 1 in let u : 8 * n * (q + 1) ≤ 8 * n * k = grind arith in omega arith
-
 -- a length that grows fills no fewer chunks
 pub more_ceil : (n k len total : ℕ) → 0 < n → IsChunkCount n k len → len ≤ total → k ≤ div_ceil total (8 * n)
 more_ceil n k len total p c h = fewer_chunks (8 * n) k (div_ceil total (8 * n)) total (omega (arith, c.1)) (IsChunkCount-ceil n total p).0
