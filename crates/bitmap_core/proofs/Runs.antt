@@ -5,7 +5,7 @@ use Rattle.std.proofs.Math.Nat.{div-add-mod, div-div-eq-div-mul, mod-eq_of_lt, m
 use Rattle.std.proofs.Math.Pow.{pow-lt}
 use Rattle.std.proofs.lemmas.Nat.{pow-add, pow_pos, mod_below}
 use Rattle.std.proofs.lemmas.Nat.Bits.{bit_at_or, bit_at-zero, bit_at_above, bit_at_cat_low, bit_at_cat_high}
-use Rattle.std.proofs.lemmas.List.{get_or_append_left, get_or-append_right, get_or-drop, length-drop, take_all, get_or_read, get_or-set_same, get_or-set_other, length-append}
+use Rattle.std.proofs.lemmas.List.{get_or_append_left, get_or-append_right, get_or-drop, length-drop, take_all, get_or-set_same, get_or-set_other, length-append}
 use Rattle.std.proofs.lemmas.Grind.{flat_map-append}
 use Rattle.std.proofs.lemmas.Bool.{cases_eq, cases_lt}
 use Rattle.bitmap_core.specs.Chunk.{chunk_bit, bit_in}
@@ -13,7 +13,7 @@ use Rattle.bitmap_core.specs.Bits.{bit_of, IsChunkCount}
 use Rattle.bitmap_core.proofs.ByteBits.{low_bit_below, low_bit_above}
 use Rattle.bitmap_core.proofs.Places.{full_len}
 use Rattle.bitmap_core.proofs.ChunkBits.{mod_parts}
-use Rattle.bitmap_core.proofs.ChunkLists.{bit_of-set_here, bit_of-set_other, bit_of-push_here}
+use Rattle.bitmap_core.proofs.ChunkLists.{bit_of-set_here, bit_of-push_here}
 
 -- ---- shifted bytes
 
@@ -149,17 +149,6 @@ opened_joined n len run old mid new b p l e high kept filled i h =
     ]
 
 -- ---- chunks of a deque, the first written in part
-
-pub joined_kept : (n : ℕ) (xs : List (List ℕ)) (len : ℕ) (old new : List ℕ) → len / (8 * n) < length xs → old ≡ get_or xs (len / (8 * n)) old → ((i : ℕ) → i % (8 * n) < len % (8 * n) → chunk_bit n new i ≡ chunk_bit n old i) → (i : ℕ) → i < len → bit_of n (set xs (len / (8 * n)) new) i ≡ bit_of n xs i
-joined_kept n xs len old new w r kept i h =
-    let d = div-add-mod len (8 * n) in
-    let f = div-add-mod i (8 * n) in
-    elim (cases_eq (i / (8 * n)) (len / (8 * n))) [
-      | inl q ↦
-          let m = ap (λ x. 8 * n * x) q in
-          bit_of-set_here n xs (len / (8 * n)) new i w q ∙ kept i (omega arith) ∙ ap (λ c. chunk_bit n c i) (get_or_read xs (len / (8 * n)) old w r [] ∙ ap (λ a. get_or xs a []) (sym q))
-      | inr q ↦ bit_of-set_other n xs (len / (8 * n)) new i q
-    ]
 
 pub joined_here : (n : ℕ) (xs : List (List ℕ)) (len : ℕ) (run new : List ℕ) → 0 < n → len / (8 * n) < length xs → ((i : ℕ) → len % (8 * n) ≤ i % (8 * n) → chunk_bit n new i ≡ bit_in run (i % (8 * n) - len % (8 * n))) → (i : ℕ) → len ≤ i → i / (8 * n) < len / (8 * n) + 1 → bit_of n (set xs (len / (8 * n)) new) i ≡ bit_in run (i - len)
 joined_here n xs len run new p w joined i h s =
