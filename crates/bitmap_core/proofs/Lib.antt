@@ -27,3 +27,4 @@ pub mod WordStarts
 pub mod LoadedWords
 pub mod WordScan
 pub mod Meanings
+pub mod JoinedWords
