@@ -28,7 +28,7 @@ byte_of bit = sum_by (λ t. bit_value (bit t) * 2 ^ t) (range_with_len 0 8)
 abbrev pub byte_bits : ℕ → List Bool
 byte_bits byte = map (λ t. bit_at byte t == 1) (range_with_len 0 8)
 
--- the chunk has the bits of a byte from bit i on, and each bit of another byte as the old one has it
+-- the chunk has byte where bit i stands, and each bit of another byte as the old one has it
 pub record IsByteWritten (n : ℕ) (old new : List ℕ) (i byte : ℕ) : Type 0 where
   pub here : (j : ℕ) → j / 8 % n ≡ i / 8 % n → chunk_bit n new j ≡ (bit_at byte (j % 8) == 1)
   pub others : (j : ℕ) → (j / 8 % n ≡ i / 8 % n → ⊥) → chunk_bit n new j ≡ chunk_bit n old j
