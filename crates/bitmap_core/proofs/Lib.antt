@@ -21,3 +21,5 @@ pub mod WordStarts
 pub mod LoadedWords
 pub mod WordScan
 pub mod Meanings
+pub mod BitByBit
+pub mod Members
