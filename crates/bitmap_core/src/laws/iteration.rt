@@ -1,7 +1,8 @@
 //! What the iterators over bits and over set positions give, in each way to ask them.
 
-ghost use Rattle.std.specs.Prelude.{◌≡◌, ◌<◌, ◌^◌, ◌+◌, ℕ, List, ◌∷◌, [], None, length, IfOk, MatchOption};
-ghost use Rattle.bitmap_core.specs.Meaning.{ones};
+ghost use Rattle.std.specs.Prelude.{◌≡◌, ◌≤◌, ℕ, Bool, List, ◌∷◌, [], None, length, IfOk, MatchOption};
+ghost use Rattle.std.specs.Iterator.{YieldsFirst};
+ghost use Rattle.bitmap_core.specs.Meaning.{Scan, ones};
 
 use crate::bitmap::readable::{OnesIter, Readable};
 use crate::bitmap::{BitMap, Iterator};
@@ -45,10 +46,10 @@ pub fn bits_counted<const N: usize>(bitmap: &BitMap<N>) -> u64
     count
 }
 
-/// Where `next` has answered `None`, it answers `None` again.
+/// Where `next` has answered `None`, no bit was left, and it answers `None` again.
 pub fn bits_stay_ended<const N: usize>(bits: &mut Iterator<'_, N>) -> (Option<bool>, Option<bool>)
-    ensures ends { result.0 ≡ None → result.1 ≡ None }
-    ensures left { result.0 ≡ None → bits.old ≡ [] }
+    ensures ends { result.0 ≡ None → (bits.old ≡ []) × (result.1 ≡ None) × (bits.new ≡ []) }
+    ensures steps { (between : List Bool) × YieldsFirst (λ left. left) bits.old result.0 between × YieldsFirst (λ left. left) between result.1 bits.new }
 {
     (bits.next(), bits.next())
 }
@@ -104,6 +105,19 @@ pub fn positions_by_next<B: Readable<N>, const N: usize>(
     Ok(positions)
 }
 
+/// Collected, the set positions from `from` on are those of the meaning up to its length.
+pub fn last_positions_collected<B: Readable<N>, const N: usize>(
+    alloc: Global,
+    readable: &B,
+    from: u64,
+) -> Result<Vec<u64>, AllocError>
+    ensures { IfOk result (λ v. v.items ≡ ones N (B.meaning readable.now) from (B.meaning readable.now).len) }
+{
+    // Tells the proof how large `N` may be.
+    let _ = readable.len();
+    readable.ones_iter_from(from).collect(alloc)
+}
+
 /// The first `next` answers the first set position from `from` up to `to`, and `None` where there is none.
 pub fn first_position<B: Readable<N>, const N: usize>(
     readable: &B,
@@ -121,8 +135,16 @@ pub fn first_position<B: Readable<N>, const N: usize>(
 pub fn positions_stay_ended<B: Readable<N>, const N: usize>(
     positions: &mut OnesIter<'_, B, N>,
 ) -> (Option<u64>, Option<u64>)
-    ensures ends { result.0 ≡ None → result.1 ≡ None }
-    ensures left { result.0 ≡ None → positions.old.left ≡ [] }
+    ensures ends { result.0 ≡ None → (positions.old.left ≡ []) × (result.1 ≡ None) × (positions.new.left ≡ []) }
+    ensures steps { (between : Scan) × YieldsFirst (λ s. s.left) positions.old result.0 between × YieldsFirst (λ s. s.left) between result.1 positions.new }
 {
     (positions.next(), positions.next())
+}
+
+/// Asked to the end, an iterator over set positions has loaded at most the words of its range.
+pub fn words_loaded_once<B: Readable<N>, const N: usize>(positions: &mut OnesIter<'_, B, N>)
+    ensures ended { positions.new.left ≡ [] }
+    ensures loads { positions.new.loads ≤ positions.old.words }
+{
+    while positions.next().is_some() {}
 }
