@@ -28,3 +28,5 @@ pub mod LoadedWords
 pub mod WordScan
 pub mod Meanings
 pub mod JoinedWords
+pub mod BitByBit
+pub mod Members
