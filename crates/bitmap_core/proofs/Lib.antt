@@ -30,3 +30,4 @@ pub mod Meanings
 pub mod JoinedWords
 pub mod BitByBit
 pub mod Members
+pub mod PairMeanings

@@ -7,6 +7,7 @@ ghost use Rattle.bitmap_core.specs.Chunk.{chunk_bit};
 ghost use Rattle.bitmap_core.specs.Meaning.{starts_word, next_word, left_from, IsScan, IsCut, ones_between, IsLawful, IsRetained, ShowsChunk};
 
 mod dense;
+mod pruned;
 
 use crate::chunk;
 use crate::chunk::load::{high_bits, low_bits, take_lowest, word_at};
