@@ -3,8 +3,9 @@ use Rattle.std.specs.Prelude.{◌≡◌, ℕ, ◌+◌, ◌-◌, ◌*◌, ◌/◌
 use Rattle.std.specs.Option.{option_or}
 use Rattle.std.specs.Set.{distinct_count}
 use Rattle.bitmap_core.specs.PrunedBits.{PrunedBits, pruned_bits, bit_len, bit_at, pushed, popped, last_bit, set_at}
+use Rattle.bitmap_core.specs.Meaning.{ones, pair_meaning}
 use Rattle.replay.specs.declared.command.Command.{Command}
-use Rattle.replay.specs.declared.command.Command.TheVariants.{Start, Begin, Push, Pop, Set, Commit, Abort, Len, PrunedChunks, Get, At}
+use Rattle.replay.specs.declared.command.Command.TheVariants.{Start, Begin, Push, Pop, Set, Commit, Abort, Len, PrunedChunks, Get, Ones, At}
 use Rattle.replay.specs.declared.command.Refusal.{Refusal}
 use Rattle.replay.specs.declared.command.Refusal.TheVariants.{WrongMode, OutOfBounds, Pruned, TooLong, NoRetainedBit, ReservedCommitNumber, NonMonotonicCommit, PrunedChunksOverflow, NoMemory}
 use Rattle.replay.specs.History.{History, kept_under, latest, IsWithin}
@@ -46,6 +47,7 @@ pub data Answer : Type 0 where
   Done : Answer
   Bit : (bit : Bool) → Answer
   Number : (number : ℕ) → Answer
+  Positions : (positions : Option (List ℕ)) → Answer
   Snapshot : (bitmap : Option PrunedBits) → Answer
   Refused : (refusal : Refusal) → Answer
 
@@ -68,7 +70,7 @@ module _ (N : ℕ) where
   abbrev pub shown_len : State → ℕ
   shown_len s = bit_len N (shown s)
 
-  -- edits and their end want dirty mode; a start, the begin of a batch and reads of commits want clean mode
+  -- edits and their end want dirty mode; a start, the begin of a batch, and reads of set positions and of commits want clean mode
   abbrev pub wrong_mode : State → Command N → Bool
   wrong_mode s (Push value) = not (is_dirty s)
   wrong_mode s Pop = not (is_dirty s)
@@ -136,6 +138,7 @@ module _ (N : ℕ) where
   takes_memory s (Push value) = true
   takes_memory s (Set position value) = true
   takes_memory s (Commit number) = true
+  takes_memory s (Ones from to) = true
   takes_memory s (At number) = is_some (kept_under s.history number)
   takes_memory s _ = false
 
@@ -145,6 +148,7 @@ module _ (N : ℕ) where
   answer_of s Len = Number (shown_len s)
   answer_of s PrunedChunks = Number (shown s).pruned
   answer_of s (Get position) = Bit (bit_at N (shown s) position)
+  answer_of s (Ones from to) = Positions (Some (ones N (pair_meaning N s.current) from to))
   answer_of s (At number) = Snapshot (kept_under s.history number)
   answer_of s _ = Done
 

@@ -21,6 +21,8 @@ pub enum Command<const N: usize> {
     Len,
     /// Replies the number of pruned chunks, as `Get` reads.
     PrunedChunks,
+    /// Replies the set positions of the current bitmap, ascending: those from the first number up to the second.
+    Ones(u64, u64),
     /// Ends the batch: the pending bitmap is current, and kept under the number.
     Commit(u64),
     /// Ends the batch and drops its edits.
@@ -58,6 +60,7 @@ pub enum Reply<const N: usize> {
     Done,
     Bit(bool),
     Number(u64),
+    Positions(Option<Vec<u64>>),
     /// A kept bitmap, or `None` where the number is not kept.
     Snapshot(Option<Prunable<N>>),
     Refused(Refusal),

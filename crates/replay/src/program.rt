@@ -125,6 +125,14 @@ fn write_bitmap<const N: usize, W: Write>(out: &mut W, bitmap: &Prunable<N>) -> 
     Ok(())
 }
 
+fn write_positions<W: Write>(out: &mut W, positions: &[u64]) -> io::Result<()> {
+    write!(out, "positions")?;
+    for position in positions {
+        write!(out, " {position}")?;
+    }
+    writeln!(out)
+}
+
 fn write_reply<const N: usize, W: Write>(out: &mut W, reply: &Reply<N>) -> io::Result<()> {
     match reply {
         Reply::Done => writeln!(out, "done"),
@@ -133,7 +141,8 @@ fn write_reply<const N: usize, W: Write>(out: &mut W, reply: &Reply<N>) -> io::R
             writeln!(out, "bit {digit}")
         }
         Reply::Number(number) => writeln!(out, "number {number}"),
-        Reply::Snapshot(None) => writeln!(out, "none"),
+        Reply::Positions(None) | Reply::Snapshot(None) => writeln!(out, "none"),
+        Reply::Positions(Some(positions)) => write_positions(out, positions.as_slice()),
         Reply::Snapshot(Some(bitmap)) => {
             write!(out, "bitmap ")?;
             write_bitmap(out, bitmap)?;

@@ -48,6 +48,7 @@ pub fn command<const N: usize>(line: &[u8]) -> Option<Command<N>> {
         b"get" => Command::Get(number(words.next()?)?),
         b"len" => Command::Len,
         b"pruned-chunks" => Command::PrunedChunks,
+        b"ones" => Command::Ones(number(words.next()?)?, number(words.next()?)?),
         b"commit" => Command::Commit(number(words.next()?)?),
         b"abort" => Command::Abort,
         b"at" => Command::At(number(words.next()?)?),

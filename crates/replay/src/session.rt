@@ -1,12 +1,14 @@
 //! A session: runs commands on a bitmap with its history.
 
-ghost use Rattle.std.specs.Prelude.{◌≡◌, ℕ, ◌+◌, ◌*◌, ◌^◌, ◌<◌, ◌≤◌, List, [], ◌∷◌, ◌++◌, length, map, OnErr, OnOk, vec_len, vec_capacity};
+ghost use Rattle.std.specs.Prelude.{◌≡◌, ℕ, ◌+◌, ◌*◌, ◌^◌, ◌<◌, ◌≤◌, List, [], ◌∷◌, ◌++◌, length, map, IfOk, OnErr, OnOk, vec_len, vec_capacity};
+ghost use Rattle.bitmap_core.specs.Meaning.{ones, pair_meaning};
 ghost use Rattle.replay.specs.Machine.{Agrees, StepTo, RunsOn, shown, start};
 ghost use Rattle.replay.specs.Seen.{seen, said};
 
 use crate::command::{Command, Refusal, Reply};
 use crate::store::{Clean, Dirty};
 use bitmap_core::bitmap::prunable::Prunable;
+use bitmap_core::bitmap::readable::Readable;
 use std::alloc::{AllocError, Global};
 use std::marker::Model;
 use std::mem;
@@ -175,6 +177,32 @@ fn pruned_chunks<const N: usize>(state: &State<N>) -> Reply<N>
     Reply::Number(shown_bitmap(state).pruned_chunks() as u64)
 }
 
+// The set positions of a bitmap in a range.
+fn set_positions<const N: usize>(
+    bitmap: &Prunable<N>,
+    alloc: Global,
+    from: u64,
+    to: u64,
+) -> Result<Vec<u64>, AllocError>
+    ensures { IfOk result (λ positions. positions.items ≡ ones N (pair_meaning N bitmap.now) from to) }
+{
+    // Tells the proof how large N may be.
+    let _ = bitmap.len();
+    bitmap.ones_iter_range(from..to).collect(alloc)
+}
+
+fn ones_of_current<const N: usize>(state: &State<N>, alloc: Global, from: u64, to: u64) -> Reply<N>
+    ensures { StepTo N Agrees (seen state.now) (Command.Ones from to) (said result) (seen state.now) }
+{
+    match state {
+        State::Clean(clean) => match set_positions(clean.current(), alloc, from, to) {
+            Ok(positions) => Reply::Positions(Some(positions)),
+            Err(_) => Reply::Refused(Refusal::NoMemory),
+        },
+        State::Dirty(_) => Reply::Refused(Refusal::WrongMode),
+    }
+}
+
 fn at<const N: usize>(state: &State<N>, number: u64) -> Reply<N>
     ensures { StepTo N Agrees (seen state.now) (Command.At number) (said result) (seen state.now) }
 {
@@ -215,6 +243,10 @@ fn step<const N: usize>(
         }
         Command::Get(position) => {
             let reply = get(&state, *position);
+            (state, reply)
+        }
+        Command::Ones(from, to) => {
+            let reply = ones_of_current(&state, alloc, *from, *to);
             (state, reply)
         }
         Command::At(number) => {

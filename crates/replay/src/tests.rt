@@ -37,12 +37,12 @@ impl Write for Full {
 #[test]
 fn an_older_state_comes_back(rt: HostRuntime) -> Result<(), Fail> {
     let script =
-        b"begin\npush 1\npush 0\ncommit 1\nbegin\nset 0 0\npush 1\ncommit 2\nat 1\nat 2\nlen\nget 0\n";
+        b"begin\npush 1\npush 0\ncommit 1\nbegin\nset 0 0\npush 1\ncommit 2\nat 1\nat 2\nlen\nget 0\nones 0 18446744073709551615\nones 2 2\nones 3 1\nbegin\nones 0 5\n";
     let Outcome { status, out, err } = run(rt.alloc(), Ok(script.as_slice()));
     assert_eq!(rt; status, 0);
     assert_eq!(rt;
         out.as_slice(),
-        b"done\ndone\ndone\ndone\ndone\ndone\ndone\ndone\nbitmap 0 10\nbitmap 0 001\nnumber 3\nbit 0\n".as_slice()
+        b"done\ndone\ndone\ndone\ndone\ndone\ndone\ndone\nbitmap 0 10\nbitmap 0 001\nnumber 3\nbit 0\npositions 2\npositions\npositions\ndone\nrefused wrong-mode\n".as_slice()
     );
     assert_eq!(rt; err.len(), 0);
     Ok(())
@@ -78,14 +78,26 @@ fn a_pruned_front_stays_pruned(rt: HostRuntime) -> Result<(), Fail> {
 
 #[test]
 fn empty_lines_and_comments_are_skipped_but_counted(rt: HostRuntime) -> Result<(), Fail> {
-    let Outcome { status, out, err } = run(rt.alloc(), Ok(b"# a batch\n\nbegin\nlen\nat 0\n".as_slice()));
+    let Outcome { status, out, err } = run(
+        rt.alloc(),
+        Ok(b"# a batch\n\nbegin\nlen\nat 0\n".as_slice()),
+    );
     assert_eq!(rt; status, 0);
-    assert_eq!(rt; out.as_slice(), b"done\nnumber 0\nrefused wrong-mode\n".as_slice());
+    assert_eq!(rt;
+        out.as_slice(),
+        b"done\nnumber 0\nrefused wrong-mode\n".as_slice()
+    );
     assert_eq!(rt; err.len(), 0);
-    let Outcome { status, out, err } = run(rt.alloc(), Ok(b"# a batch\n\nbegin\nopen\n".as_slice()));
+    let Outcome { status, out, err } = run(
+        rt.alloc(),
+        Ok(b"# a batch\n\nbegin\nopen\n".as_slice()),
+    );
     assert_eq!(rt; status, 2);
     assert_eq!(rt; out.len(), 0);
-    assert_eq!(rt; err.as_slice(), b"replay: line 4 is not a command\n".as_slice());
+    assert_eq!(rt;
+        err.as_slice(),
+        b"replay: line 4 is not a command\n".as_slice()
+    );
     Ok(())
 }
 
@@ -113,7 +125,10 @@ fn a_line_that_is_no_command_stops_all(rt: HostRuntime) -> Result<(), Fail> {
         let Outcome { status, out, err } = run(rt.alloc(), Ok(script.as_slice()));
         assert_eq!(rt; status, 2);
         assert_eq!(rt; out.len(), 0);
-        assert_eq!(rt; err.as_slice(), b"replay: line 3 is not a command\n".as_slice());
+        assert_eq!(rt;
+            err.as_slice(),
+            b"replay: line 3 is not a command\n".as_slice()
+        );
     }
     Ok(())
 }
@@ -123,7 +138,10 @@ fn a_script_that_cannot_be_read(rt: HostRuntime) -> Result<(), Fail> {
     let Outcome { status, out, err } = run(rt.alloc(), Err(io::Error::other("no file")));
     assert_eq!(rt; status, 3);
     assert_eq!(rt; out.len(), 0);
-    assert_eq!(rt; err.as_slice(), b"replay: cannot read the script\n".as_slice());
+    assert_eq!(rt;
+        err.as_slice(),
+        b"replay: cannot read the script\n".as_slice()
+    );
     let refused = Err(io::Error::from(io::ErrorKind::OutOfMemory));
     let Outcome { status, out, err } = run(rt.alloc(), refused);
     assert_eq!(rt; status, 3);
