@@ -21,6 +21,8 @@ use crate::bitmap::chunks::{
 };
 use crate::bitmap::growth::{append_bools, append_copies, extend_zeros, from_bools, shorten};
 pub use crate::bitmap::iter::Iterator;
+pub use crate::bitmap::prunable::Prunable;
+pub use crate::bitmap::readable::{OnesIter, Readable};
 use crate::chunk;
 use std::alloc::{AllocError, Global};
 use std::collections::VecDeque;

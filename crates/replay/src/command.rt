@@ -1,6 +1,6 @@
 //! Commands, and the replies to them.
 
-use bitmap_core::bitmap::prunable::Prunable;
+use bitmap_core::bitmap::Prunable;
 
 /// What a session is asked to do. Positions count bits from 0.
 #[derive(Drop, Debug)]

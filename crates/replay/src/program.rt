@@ -6,7 +6,7 @@ ghost use Rattle.replay.specs.Width.{IsWidth};
 use crate::command::{Command, Refusal, Reply};
 use crate::script;
 use crate::session::Session;
-use bitmap_core::bitmap::prunable::Prunable;
+use bitmap_core::bitmap::Prunable;
 use std::alloc::{AllocError, Global};
 use std::io;
 use std::io::{BufWriter, Read, Write};

@@ -7,8 +7,7 @@ ghost use Rattle.replay.specs.Seen.{seen, said};
 
 use crate::command::{Command, Refusal, Reply};
 use crate::store::{Clean, Dirty};
-use bitmap_core::bitmap::prunable::Prunable;
-use bitmap_core::bitmap::readable::Readable;
+use bitmap_core::bitmap::{Prunable, Readable};
 use std::alloc::{AllocError, Global};
 use std::marker::Model;
 use std::mem;

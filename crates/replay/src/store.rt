@@ -6,7 +6,7 @@ ghost use Rattle.std.specs.BTreeMap.{IsOrdered};
 ghost use Rattle.bitmap_core.specs.PrunedBits.{IsRetained, PrunedBits, bit_len, pushed, popped, last_bit, set_at};
 ghost use Rattle.replay.specs.History.{kept_under, latest};
 
-use bitmap_core::bitmap::prunable::Prunable;
+use bitmap_core::bitmap::Prunable;
 use std::alloc::{AllocError, Global};
 use std::collections::BTreeMap;
 use std::marker::Model;
