@@ -17,7 +17,7 @@ use std::marker::Model;
 /// A bitmap whose front may be pruned, by whole chunks of `N` bytes.
 ///
 /// Positions are absolute: pruned bits keep theirs. It takes one chunk of memory for every `8N` retained bits begun.
-#[derive(Drop)]
+#[derive(Debug, Drop)]
 pub struct Prunable<const N: usize> {
     bitmap: BitMap<N>,
     pruned_chunks: usize,
@@ -286,6 +286,20 @@ impl<const N: usize> Prunable<N> {
     {
         let pruned = self.pruned_bits();
         self.bitmap.extend_to(n.saturating_sub(pruned))
+    }
+
+    /// Appends the bits of a dense bitmap, whose chunks may have another width. The lengths add up to less than `2 ^ 64`.
+    ///
+    /// Takes memory for the chunks that the length comes to fill, all at once. Refused, the bitmap is as it was.
+    pub fn extend_from_bitmap<const M: usize>(
+        &mut self,
+        other: &BitMap<M>,
+    ) -> Result<(), AllocError>
+        requires room { bit_len N self.old + length other.now < 2 ^ 64 }
+        ensures ok { OnOk result (self.new ≡ appended self.old other.now) }
+        ensures err { OnErr result (self.new ≡ self.old) }
+    {
+        self.bitmap.extend_from_bitmap(other)
     }
 
     /// Puts chunks back in front of the retained bits, in order: at most as many as are pruned.
