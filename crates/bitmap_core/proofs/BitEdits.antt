@@ -1,7 +1,6 @@
-use Rattle.std.proofs.Common.{◌≡◌, ℕ, ◌+◌, ◌-◌, ◌*◌, ◌/◌, ◌%◌, ◌<◌, ◌≤◌, Bool, false, not, ◌&&◌, List, [], ◌∷◌, ◌++◌, length, get_or, set, take, replicate, map, sym, ap, ◌∙◌, inl, inr, arith}
-use Rattle.std.proofs.Common.{◌≡◌, ℕ, ◌+◌, ◌-◌, ◌*◌, ◌/◌, ◌%◌, ◌<◌, ◌≤◌, Bool, false, not, ◌&&◌, List, [], ◌∷◌, ◌++◌, length, get_or, set, map, sym, ap, ◌∙◌, inl, inr, arith}
-use Rattle.std.specs.List.{range_with_len, zip}
-use Rattle.std.proofs.lemmas.Slice.Zip.{get_or-zip, length-zip}
+use Rattle.std.proofs.Common.{◌≡◌, ℕ, ◌+◌, ◌-◌, ◌*◌, ◌/◌, ◌%◌, ◌<◌, ◌≤◌, Bool, false, not, List, [], ◌∷◌, ◌++◌, length, get_or, set, take, replicate, map, sym, ap, ◌∙◌, inl, inr, arith}
+use Rattle.std.proofs.Common.{◌≡◌, ℕ, ◌+◌, ◌-◌, ◌*◌, ◌/◌, ◌%◌, ◌<◌, ◌≤◌, Bool, false, not, List, [], ◌∷◌, ◌++◌, length, get_or, set, map, sym, ap, ◌∙◌, inl, inr, arith}
+use Rattle.std.specs.List.{range_with_len}
 use Rattle.std.proofs.Math.Nat.{mod-eq_of_lt}
 use Rattle.std.proofs.lemmas.Nat.{div-mul-add, mod-mul-add}
 use Rattle.std.proofs.lemmas.List.{get_or-set_same, get_or-set_other, length-set, get_or_append_left, get_or-append_right, length-append, length-map, get_or-map, length-replicate, get_or-replicate, append-nil}
@@ -66,16 +65,6 @@ bits-push_chunk n xs len c v p e k b =
 pub bits-flip : (n : ℕ) (xs ys zs : List (List ℕ)) (len : ℕ) (v : List Bool) → bits n xs len ≡ v → ((i : ℕ) → i < len → bit_of n ys i ≡ not (bit_of n xs i)) → ((i : ℕ) → i < len → bit_of n zs i ≡ bit_of n ys i) → bits n zs len ≡ map not v
 bits-flip n xs ys zs len v e f g =
     bits_are n zs len (map not v) (length-map v not ∙ len_is n xs len v e) (λ i s. g i s ∙ f i s ∙ ap not (sym (get_or-bits n xs len i false s) ∙ ap (λ x. get_or x i false) e) ∙ sym (get_or-map not v i false false (omega (arith, len_is n xs len v e))))
-
-pub bits-and : (n : ℕ) (xs os ys : List (List ℕ)) (len : ℕ) (v w : List Bool) → bits n xs len ≡ v → bits n os len ≡ w → ((i : ℕ) → bit_of n ys i ≡ bit_of n xs i && bit_of n os i) → bits n ys len ≡ map (λ (p : Bool × Bool). p.0 && p.1) (zip v w)
-bits-and n xs os ys len v w e f h =
-    let l = len_is n xs len v e in
-    let m = len_is n os len w f in
-    let z : length (zip v w) ≡ len = omega (arith, length-zip v w) in
-    bits_are n ys len (map (λ (p : Bool × Bool). p.0 && p.1) (zip v w)) (length-map (zip v w) (λ (p : Bool × Bool). p.0 && p.1) ∙ z) (λ i s.
-    let a = sym (get_or-bits n xs len i false s) ∙ ap (λ x. get_or x i false) e in
-    let b = sym (get_or-bits n os len i false s) ∙ ap (λ x. get_or x i false) f in
-    h i ∙ ap (λ x. x && bit_of n os i) a ∙ ap (λ x. get_or v i false && x) b ∙ sym (get_or-map (λ (p : Bool × Bool). p.0 && p.1) (zip v w) i (false, false) false (omega arith) ∙ ap (λ (p : Bool × Bool). p.0 && p.1) (get_or-zip v w i (false, false) (omega arith) (omega arith))))
 
 pub bits-append : (n m : ℕ) (xs ys os : List (List ℕ)) (len more : ℕ) (v w : List Bool) → 0 < n → IsChunkCount n (length ys) (len + more) → bits n xs len ≡ v → bits m os more ≡ w → ((i : ℕ) → i < len → bit_of n ys i ≡ bit_of n xs i) → ((i : ℕ) → len ≤ i → i / (8 * n) < length ys → bit_of n ys i ≡ bit_of m os (i - len)) → bits n ys (len + more) ≡ v ++ w
 bits-append n m xs ys os len more v w p k e f kept joined =

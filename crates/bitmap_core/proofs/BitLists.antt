@@ -1,7 +1,6 @@
 use Rattle.std.proofs.Common.{◌≡◌, ℕ, ◌+◌, ◌*◌, ◌/◌, ◌<◌, ◌≤◌, Bool, false, List, [], ◌∷◌, ◌++◌, length, get_or, take, replicate, refl, sym, ap, ◌∙◌, arith}
-use Rattle.std.proofs.lemmas.List.{ext_get_or, get_or_read, length-replicate, get_or-replicate}
+use Rattle.std.proofs.lemmas.List.{ext_get_or, length-replicate, get_or-replicate}
 use Rattle.std.proofs.lemmas.List.FromFn.{length-map-range_with_len, get_or-map-range_with_len, take-map-range_with_len, map-range_with_len_more}
-use Rattle.bitmap_core.specs.Chunk.{chunk_bit}
 use Rattle.bitmap_core.specs.Bits.{bit_of, bits, IsChunkCount}
 use Rattle.bitmap_core.proofs.Places.{index_below}
 
@@ -43,7 +42,3 @@ len_is n chunks len v e = ap length (sym e) ∙ length-bits n chunks len
 
 pub at_within : (n : ℕ) (chunks : List (List ℕ)) (len : ℕ) (v : List Bool) (bit : ℕ) → 0 < n → bits n chunks len ≡ v → bit < length v → IsChunkCount n (length chunks) len → bit / (8 * n) < length chunks
 at_within n chunks len v bit p e h c = index_below n (length chunks) len bit p (omega (arith, len_is n chunks len v e)) c
-
-pub bit_read : (n : ℕ) (chunks : List (List ℕ)) (len : ℕ) (v : List Bool) (bit : ℕ) (chunk : List ℕ) → bits n chunks len ≡ v → bit < length v → chunk ≡ get_or chunks (bit / (8 * n)) chunk → bit / (8 * n) < length chunks → chunk_bit n chunk bit ≡ get_or v bit false
-bit_read n chunks len v bit chunk e h r w =
-    ap (λ c. chunk_bit n c bit) (get_or_read chunks (bit / (8 * n)) chunk w r []) ∙ sym (get_or-bits n chunks len bit false (omega (arith, len_is n chunks len v e))) ∙ ap (λ x. get_or x bit false) e

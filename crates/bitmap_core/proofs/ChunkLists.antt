@@ -2,7 +2,7 @@ use Rattle.std.proofs.Common.{◌≡◌, ◌≢◌, ℕ, ◌+◌, ◌-◌, ◌*�
 use Rattle.std.specs.Int.{div_ceil}
 use Rattle.std.proofs.Math.Nat.{div-add-mod, mul-add, le-div_iff_mul-le, div-mul-le_self}
 use Rattle.std.proofs.lemmas.Nat.{mod_below, div-mul-add, mod-mul-add}
-use Rattle.std.proofs.lemmas.List.{get_or-set_same, get_or-set_other, length-set, get_or_read, get_or-replicate, get_or_past, length-replicate, get_or_append_left, get_or-append_right, get_or_push, length_push, length-append, get_or-take, length-take}
+use Rattle.std.proofs.lemmas.List.{get_or-set_same, get_or-set_other, length-set, get_or_read, get_or-replicate, get_or_past, length-replicate, get_or_append_left, get_or_push, length-append, get_or-take, length-take}
 use Rattle.std.proofs.lemmas.Bool.{cases_eq, cases_lt}
 use Rattle.bitmap_core.specs.Chunk.{chunk_bit, IsBitWritten}
 use Rattle.bitmap_core.specs.Bits.{bit_of, IsZeroFrom, IsChunkCount, IsBitPut}
@@ -37,42 +37,9 @@ IsZeroFrom-put n xs ys i b len p h z j s = p.others j (λ q. absurd (omega arith
 pub IsBitPut_same : (n : ℕ) (xs : List (List ℕ)) (i : ℕ) (b : Bool) → bit_of n xs i ≡ b → IsBitPut n xs xs i b
 IsBitPut_same n xs i b h = record { here = h; others = λ j d. refl; count = refl }
 
-pub IsZeroFrom-push : (n : ℕ) (xs ys : List (List ℕ)) (len : ℕ) (b : Bool) → IsBitPut n xs ys len b → IsZeroFrom n xs len → IsZeroFrom n ys (len + 1)
-IsZeroFrom-push n xs ys len b p z i h = p.others i (λ q. absurd (omega arith)) ∙ z i (omega arith)
-
-pub get_or_zeros : (n k : ℕ) → get_or {A = ℕ} (replicate {A = ℕ} n 0) k 0 ≡ 0
-get_or_zeros n k = elim (cases_lt k n) [
-  | inl h ↦ get_or-replicate {A = ℕ} n k 0 0 h
-  | inr h ↦ get_or_past {X = ℕ} (replicate {A = ℕ} n 0) k 0 (omega (arith, length-replicate {A = ℕ} n 0))
-]
-
 -- past the chunks there is no bit
 pub bit_of_past : (n : ℕ) (xs : List (List ℕ)) (i : ℕ) → length xs ≤ i / (8 * n) → bit_of n xs i ≡ false
 bit_of_past n xs i h = ap (λ c. chunk_bit n c i) (get_or_past xs (i / (8 * n)) [] h) ∙ bit_of_zero_byte 0 (i % 8) refl
-
--- a chunk of zeros at the end changes no bit
-pub bit_of-push_zero : (n : ℕ) (xs : List (List ℕ)) (i : ℕ) → bit_of n (xs ++ replicate n 0 ∷ []) i ≡ bit_of n xs i
-bit_of-push_zero n xs i = elim (cases_lt (i / (8 * n)) (length xs)) [
-  | inl h ↦ ap (λ c. chunk_bit n c i) (get_or_append_left xs (replicate n 0 ∷ []) [] (i / (8 * n)) h)
-  | inr h ↦ elim (cases_eq (i / (8 * n)) (length xs)) [
-    | inl e ↦ ap (λ c. chunk_bit n c i) (ap (λ a. get_or (xs ++ replicate n 0 ∷ []) a []) e ∙ get_or_push xs (replicate n 0) [] (length xs) refl) ∙ bit_of_zero_byte _ (i % 8) (get_or_zeros n (i / 8 % n)) ∙ sym (bit_of_past n xs i h)
-    | inr d ↦ bit_of_past n (xs ++ replicate n 0 ∷ []) i (omega (arith, length_push xs (replicate n 0))) ∙ sym (bit_of_past n xs i h)
-  ]
-]
-
--- a chunk of zeros, or none, has no bit
-pub chunk_bit_zeros : (n k j i : ℕ) → chunk_bit n (get_or (replicate k (replicate n 0)) j []) i ≡ false
-chunk_bit_zeros n k j i = elim (cases_lt j k) [
-  | inl h ↦ ap (λ c. chunk_bit n c i) (get_or-replicate {A = List ℕ} k j (replicate n 0) [] h) ∙ bit_of_zero_byte _ (i % 8) (get_or_zeros n (i / 8 % n))
-  | inr h ↦ ap (λ c. chunk_bit n c i) (get_or_past (replicate k (replicate n 0)) j [] (omega (arith, length-replicate {A = List ℕ} k (replicate n 0)))) ∙ bit_of_zero_byte 0 (i % 8) refl
-]
-
--- chunks of zeros at the end change no bit
-pub bit_of-append_zeros : (n k : ℕ) (xs : List (List ℕ)) (i : ℕ) → bit_of n (xs ++ replicate k (replicate n 0)) i ≡ bit_of n xs i
-bit_of-append_zeros n k xs i = elim (cases_lt (i / (8 * n)) (length xs)) [
-  | inl h ↦ ap (λ c. chunk_bit n c i) (get_or_append_left xs (replicate k (replicate n 0)) [] (i / (8 * n)) h)
-  | inr h ↦ ap (λ c. chunk_bit n c i) (get_or-append_right xs (replicate k (replicate n 0)) (length xs) (i / (8 * n)) [] refl h) ∙ chunk_bit_zeros n k (i / (8 * n) - length xs) i ∙ sym (bit_of_past n xs i h)
-]
 
 -- the missing chunks appended
 pub IsChunkCount-appended : (n : ℕ) (xs ys : List (List ℕ)) (c : List ℕ) (m len longer : ℕ) → 0 < n → IsChunkCount n (length xs) len → len ≤ longer → m ≡ div_ceil longer (8 * n) - length xs → ys ≡ xs ++ replicate m c → IsChunkCount n (length ys) longer

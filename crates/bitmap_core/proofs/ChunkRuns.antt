@@ -1,22 +1,14 @@
 -- Runs of chunks, and when two are the same.
-use Rattle.std.proofs.Common.{◌≡◌, ℕ, suc, ◌-◌, ◌<◌, Bool, List, [], ◌∷◌, ◌++◌, eqb, length, get_or, append_assoc, take, drop, refl, sym, ap, subst, ◌∙◌, inl, inr, arith}
+use Rattle.std.proofs.Common.{◌≡◌, ℕ, suc, ◌<◌, Bool, List, [], ◌∷◌, ◌++◌, eqb, length, get_or, append_assoc, take, drop, refl, sym, ap, ◌∙◌, arith}
 use Rattle.std.specs.Bool.{Decides}
 use Rattle.std.specs.List.{flat_map}
 use Rattle.std.specs.Cmp.Lexicographic.{pointwise, pointwise_decides}
 use Rattle.std.proofs.lemmas.Bool.Decides.{Decides-eqb}
-use Rattle.std.proofs.lemmas.List.{ext_get_or, get_or_default, take-append-drop, get_or_append_left, get_or-append_right, length-append}
+use Rattle.std.proofs.lemmas.List.{ext_get_or, get_or_default, take-append-drop}
 use Rattle.std.proofs.Math.Seq.{take-append_seam, drop-append_seam}
-use Rattle.std.proofs.lemmas.Bool.{cases_lt}
-use Rattle.bitmap_core.specs.Chunk.{IsChunk}
 use Rattle.bitmap_core.specs.Bits.{bit_of, AreChunks}
 use Rattle.bitmap_core.proofs.ChunkBits.{byte_from_bits}
 use Rattle.bitmap_core.proofs.ChunkLists.{chunk_from_bits}
-
-pub AreChunks-append : (n : ℕ) (xs ys : List (List ℕ)) → AreChunks n xs → AreChunks n ys → AreChunks n (xs ++ ys)
-AreChunks-append n xs ys f g i h = elim (cases_lt i (length xs)) [
-  | inl s ↦ subst (IsChunk n) (sym (get_or_append_left xs ys [] i s)) (f i s)
-  | inr s ↦ subst (IsChunk n) (sym (get_or-append_right xs ys (length xs) i [] refl s)) (g (i - length xs) (omega (arith, length-append xs ys)))
-]
 
 -- chunks with the same bits are the same
 pub chunks_from_bits : (n : ℕ) (xs ys : List (List ℕ)) → 0 < n → length xs ≡ length ys → AreChunks n xs → AreChunks n ys → ((k : ℕ) → bit_of n xs k ≡ bit_of n ys k) → xs ≡ ys

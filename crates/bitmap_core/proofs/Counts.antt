@@ -1,16 +1,13 @@
-use Rattle.std.proofs.Common.{◌≡◌, ℕ, zero, suc, count_ones, ◌+◌, ◌-◌, ◌*◌, ◌/◌, ◌%◌, ◌^◌, ◌<◌, ◌≤◌, Bool, true, false, cond, List, [], ◌∷◌, length, get_or, map, eqb, refl, sym, ap, ◌∙◌, inl, inr, arith}
+use Rattle.std.proofs.Common.{◌≡◌, ℕ, zero, suc, count_ones, ◌+◌, ◌-◌, ◌/◌, ◌%◌, ◌^◌, ◌<◌, ◌≤◌, Bool, true, false, cond, List, [], ◌∷◌, map, eqb, refl, sym, ap, ◌∙◌, inl, inr, arith}
 use Rattle.std.specs.List.{range_with_len, count_by}
 use Rattle.std.proofs.lemmas.List.Recursion.{is_count_by}
 use Rattle.std.specs.Int.{bit_at}
-use Rattle.std.proofs.Math.Nat.{div-lt_iff_lt-mul, mod-eq_of_lt, div-div-eq-div-mul, pow-suc, div-one}
-use Rattle.std.proofs.lemmas.Nat.{mod_below, div-mul-add, mod-mul-add}
+use Rattle.std.proofs.Math.Nat.{div-lt_iff_lt-mul, div-div-eq-div-mul, pow-suc}
+use Rattle.std.proofs.lemmas.Nat.{mod_below}
 use lib.Count.{ones_step, ones-le}
-use Rattle.std.proofs.lemmas.List.{get_or_read}
 use Rattle.std.proofs.lemmas.Bool.{cases_lt}
 use Rattle.std.proofs.lemmas.Bool.Decides.{nat_tests}
-use Rattle.bitmap_core.specs.Chunk.{chunk_bit}
 use Rattle.bitmap_core.specs.Bits.{bit_of, bits}
-use Rattle.bitmap_core.proofs.ChunkBits.{chunk_bit-mod}
 
 -- how many of the k places from a on pass f
 abbrev pub ones_from : (ℕ → Bool) → ℕ → ℕ → ℕ
@@ -78,39 +75,6 @@ ones_bits n a (suc k) h =
     let i = ones_bits n (a + 1) k l in
     let w : n / 2 ^ a % 2 ≡ cond (eqb (bit_at n a) 1) 1 0 = bit_worth (n / 2 ^ a % 2) (mod_below (n / 2 ^ a) 2 (omega arith)) in
     ones_step (n / 2 ^ a) ∙ ap (λ x. x + count_ones (n / 2 ^ a / 2)) w ∙ ap (λ x. cond (eqb (bit_at n a) 1) 1 0 + count_ones x) s ∙ ap (λ x. cond (eqb (bit_at n a) 1) 1 0 + x) i
-
--- the ones of one byte of a chunk
-pub ones-byte : (n : ℕ) (chunk : List ℕ) (j : ℕ) → j < n → get_or chunk j 0 < 256 → ones_from (chunk_bit n chunk) (8 * j) 8 ≡ count_ones (get_or chunk j 0)
-ones-byte n chunk j s h =
-    let b = get_or chunk j 0 in
-    let z : b / 2 ^ 0 ≡ b = div-one b in
-    ones_from_same (chunk_bit n chunk) (λ t. eqb (bit_at b t) 1) (8 * j) 0 8 (λ t w.
-    let q : (j * 8 + t) / 8 ≡ j = div-mul-add j 8 t w in
-    let r : (j * 8 + t) % 8 ≡ t = mod-mul-add j 8 t w in
-    let e : 8 * j + t ≡ j * 8 + t = omega arith in
-    let y : t ≡ 0 + t = omega arith in
-    ap (λ x. chunk_bit n chunk x) e ∙ ap (λ x. eqb (bit_at (get_or chunk (x % n) 0) ((j * 8 + t) % 8)) 1) q ∙ ap (λ x. eqb (bit_at (get_or chunk x 0) ((j * 8 + t) % 8)) 1) (mod-eq_of_lt s) ∙ ap (λ x. eqb (bit_at b x) 1) (r ∙ y))
-    ∙ sym (ap count_ones (sym z) ∙ ones_bits b 0 8 (rw z h))
-
-pub ones-more_bytes : (n : ℕ) (chunk : List ℕ) (j total : ℕ) → j < n → get_or chunk j 0 < 256 → total ≡ ones_from (chunk_bit n chunk) 0 (8 * j) → total + count_ones (get_or chunk j 0) ≡ ones_from (chunk_bit n chunk) 0 (8 * (j + 1))
-ones-more_bytes n chunk j total s h e =
-    let m : 8 * j + 8 ≡ 8 * (j + 1) = omega arith in
-    let z : 0 + 8 * j ≡ 8 * j = omega arith in
-    let a : ones_from (chunk_bit n chunk) 0 (8 * (j + 1)) ≡ ones_from (chunk_bit n chunk) 0 (8 * j) + ones_from (chunk_bit n chunk) (8 * j) 8 = ap (λ x. ones_from (chunk_bit n chunk) 0 x) (sym m) ∙ ones_from_add (chunk_bit n chunk) 0 (8 * j) 8 ∙ ap (λ x. ones_from (chunk_bit n chunk) 0 (8 * j) + ones_from (chunk_bit n chunk) x 8) z in
-    omega (arith, a, ones-byte n chunk j s h)
-
--- the ones of one chunk
-pub ones-more_chunks : (n : ℕ) (xs : List (List ℕ)) (i : ℕ) (c : List ℕ) (total : ℕ) → 0 < n → i < length xs → c ≡ get_or xs i c → total ≡ ones_from (bit_of n xs) 0 (8 * n * i) → total + ones_from (chunk_bit n c) 0 (8 * n) ≡ ones_from (bit_of n xs) 0 (8 * n * (i + 1))
-ones-more_chunks n xs i c total p s r e =
-    let m : 8 * n * i + 8 * n ≡ 8 * n * (i + 1) = grind arith in
-    let z : 0 + 8 * n * i ≡ 8 * n * i = omega arith in
-    let a : ones_from (bit_of n xs) 0 (8 * n * (i + 1)) ≡ ones_from (bit_of n xs) 0 (8 * n * i) + ones_from (bit_of n xs) (8 * n * i) (8 * n) = ap (λ x. ones_from (bit_of n xs) 0 x) (sym m) ∙ ones_from_add (bit_of n xs) 0 (8 * n * i) (8 * n) ∙ ap (λ x. ones_from (bit_of n xs) 0 (8 * n * i) + ones_from (bit_of n xs) x (8 * n)) z in
-    let b = ones_from_same (bit_of n xs) (chunk_bit n c) (8 * n * i) 0 (8 * n) (λ t w.
-    let g : 8 * n * i + t ≡ i * (8 * n) + t = grind arith in
-    let q : (8 * n * i + t) / (8 * n) ≡ i = ap (λ x. x / (8 * n)) g ∙ div-mul-add i (8 * n) t w in
-    let r' : (8 * n * i + t) % (8 * n) ≡ (0 + t) % (8 * n) = ap (λ x. x % (8 * n)) g ∙ mod-mul-add i (8 * n) t w ∙ sym (mod-eq_of_lt {n = t} {m = 8 * n} w) ∙ (let y : t ≡ 0 + t = omega arith in ap (λ x. x % (8 * n)) y) in
-    ap (λ x. chunk_bit n (get_or xs x []) (8 * n * i + t)) q ∙ ap (λ x. chunk_bit n x (8 * n * i + t)) (sym (get_or_read xs i c s r [])) ∙ chunk_bit-mod n c (8 * n * i + t) (0 + t) p r') in
-    omega (arith, a, b)
 
 pub trues : List Bool → ℕ
 trues [] = 0

@@ -1,11 +1,10 @@
 -- What a bitmap is to its readers, read by chunks and made of a list of bits.
-use Rattle.std.proofs.Common.{◌≡◌, ℕ, ◌+◌, ◌-◌, ◌*◌, ◌/◌, ◌%◌, ◌^◌, ◌<◌, min, max, Bool, false, List, [], length, get_or, sym, ap, ◌∙◌, arith}
-use Rattle.std.specs.List.{filter, range_with_len}
+use Rattle.std.proofs.Common.{◌≡◌, ℕ, ◌+◌, ◌-◌, ◌*◌, ◌/◌, ◌%◌, ◌^◌, ◌<◌, Bool, false, List, [], length, get_or, sym, ap, ◌∙◌, arith}
 use Rattle.std.proofs.Math.Nat.{div-add-mod, mod-eq_of_lt, div-le_self, lt_of_mul-lt-mul_left}
 use Rattle.std.proofs.lemmas.Nat.{mod_below, div-mul-add, mod-mul-add}
 use Rattle.bitmap_core.specs.Chunk.{chunk_bit}
 use Rattle.bitmap_core.specs.Bits.{bits, IsChunkCount}
-use Rattle.bitmap_core.specs.Meaning.{Meaning, plain_meaning, IsLawful, ShowsChunk, ones, ones_between}
+use Rattle.bitmap_core.specs.Meaning.{Meaning, plain_meaning, IsLawful, ShowsChunk}
 use Rattle.bitmap_core.proofs.ChunkBits.{chunk_bit-mod}
 use Rattle.bitmap_core.proofs.BitLists.{get_or-bits, len_is}
 
@@ -46,13 +45,3 @@ plain_has n chunks len v c e k h = lt_of_mul-lt-mul_left (8 * n) (omega (arith, 
 -- and so the last one
 pub plain_has_last : (n : ℕ) (chunks : List (List ℕ)) (len : ℕ) (v : List Bool) → bits n chunks len ≡ v → IsChunkCount n (length chunks) len → 0 < length v → (length v - 1) / (8 * n) < length chunks
 plain_has_last n chunks len v e k h = plain_has n chunks len v ((length v - 1) / (8 * n)) e k (omega (arith, div-add-mod (length v - 1) (8 * n)))
-
--- the set positions of a list
-pub plain_ones : (n : ℕ) (v : List Bool) → ones n (plain_meaning v) 0 (length v) ≡ filter (λ k. get_or v k false) (range_with_len 0 (length v))
-plain_ones n v =
-    let lo : max 0 (8 * n * 0) ≡ 0 = omega arith in
-    let hi : min (length v) (length v) ≡ length v = omega arith in
-    let z : length v - 0 ≡ length v = omega arith in
-    ap (λ a. ones_between (λ k. get_or v k false) a (min (length v) (length v))) lo
-    ∙ ap (λ b. ones_between (λ k. get_or v k false) 0 b) hi
-    ∙ ap (λ x. filter (λ k. get_or v k false) (range_with_len 0 x)) z

@@ -3,7 +3,7 @@ use Rattle.std.specs.Int.{div_ceil}
 use Rattle.std.proofs.Math.Nat.{div-add-mod, lt_of_mul-lt-mul_left, mul-add, mul-add-div, mul-add-mod_self_left}
 use Rattle.std.proofs.lemmas.List.{ext_get_or, get_or_past}
 use Rattle.std.proofs.lemmas.List.FromFn.{length-map-range_with_len, get_or-map-range_with_len}
-use Rattle.std.proofs.lemmas.Nat.{div-mul-add, le-div, mul-le}
+use Rattle.std.proofs.lemmas.Nat.{mul-le}
 use Rattle.bitmap_core.specs.Chunk.{byte_of, chunk_bit}
 use Rattle.bitmap_core.specs.PrunedBits.{PrunedBits, unpruned_bits, pruned_bits, bit_len, bit_at, IsRetained, HasChunk, from_bits, chunk}
 use Rattle.bitmap_core.proofs.Places.{IsChunkCount-ceil, count_unique}
@@ -16,14 +16,6 @@ same_pair a b p q i = record { pruned = p i; bits = q i }
 -- a position by its chunk and its place there
 pub place : (w k : ℕ) → w * (k / w) + k % w ≡ k
 place w k = div-add-mod k w
-
--- the chunk of a position inside chunk i
-pub chunk_index_is : (w i k : ℕ) → w * i ≤ k → k < w * i + w → k / w ≡ i
-chunk_index_is w i k l h = let e : i * w + (k - w * i) ≡ k = omega arith in ap (λ j. j / w) (sym e) ∙ div-mul-add i w (k - w * i) (omega arith)
-
--- the chunk of a retained position
-pub has_chunk : (n : ℕ) (b : PrunedBits) (k : ℕ) → 0 < n → IsRetained n b k → HasChunk n b (k / (8 * n))
-has_chunk n b k pos h = (le-div b.pruned k (8 * n) (omega arith) (omega (arith, h.0)), omega (arith, h.1, place (8 * n) k))
 
 -- the front of a later chunk, from that of an earlier one
 pub front_of : (w p i : ℕ) → p ≤ i → w * (i - p) + w * p ≡ w * i

@@ -63,9 +63,6 @@ IsChunkCount-ceil n len p =
       | inr e ↦ (let q : div_ceil len (8 * n) ≡ len / (8 * n) + 1 = omega arith in (rw (q, mul-add (8 * n) (len / (8 * n)) 1) (omega arith), rw (q, mul-add (8 * n) (len / (8 * n)) 1) (omega arith)))
     ]
 
-pub fewer_ceil : (n k m len : ℕ) → 0 < n → IsChunkCount n k len → m ≤ len → div_ceil m (8 * n) ≤ k
-fewer_ceil n k m len p c h = fewer_chunks (8 * n) (div_ceil m (8 * n)) k m (IsChunkCount-ceil n m p).1 (omega (arith, c.0))
-
 -- the chunks of a length, with those that a greater length lacks
 pub IsChunkCount-missing : (n k len longer : ℕ) → 0 < n → IsChunkCount n k len → len ≤ longer → IsChunkCount n (k + (div_ceil longer (8 * n) - k)) longer
 IsChunkCount-missing n k len longer p c h =
@@ -77,10 +74,6 @@ IsChunkCount-missing n k len longer p c h =
 -- where the chunks hold a length, none is missing
 pub none_missing : (n k longer : ℕ) → 0 < n → longer ≤ 8 * n * k → div_ceil longer (8 * n) - k ≡ 0
 none_missing n k longer p h = let f = fewer_chunks (8 * n) (div_ceil longer (8 * n)) k longer (IsChunkCount-ceil n longer p).1 h in omega arith
-
--- each chunk begins below the length
-pub chunk_start : (n k len bound : ℕ) → IsChunkCount n k len → len < bound → (q : ℕ) → q < k → 8 * n * q < bound
-chunk_start n k len bound c s q h = let m = mul-add (8 * n) q 1 in let u : 8 * n * (q + 1) ≤ 8 * n * k = grind arith in omega arith
 
 -- a length that grows fills no fewer chunks
 pub more_ceil : (n k len total : ℕ) → 0 < n → IsChunkCount n k len → len ≤ total → k ≤ div_ceil total (8 * n)

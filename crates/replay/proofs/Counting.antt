@@ -11,9 +11,6 @@ use Rattle.std.specs.Ordering.{nat_cmp}
 use Rattle.std.specs.Prelude.{true, false, nat_eq, ◌||◌}
 use Rattle.std.specs.Set.{is_member, unique_keys, distinct_count}
 
-distinct_from_sorted : (xs : List ℕ) → IsStrictlySortedBy nat_cmp xs → IsDistinct nat_eq xs
-distinct_from_sorted xs h = IsDistinct-from_apart nat_eq xs (λ i j d l m. ne_eqb _ _ (let k = below_from_sorted xs i j d h l m in omega arith))
-
 -- what stands in the list once more changes no membership
 again : (xs : List ℕ) (x q : ℕ) → is_member nat_eq xs x ≡ true → is_member nat_eq (x ∷ xs) q ≡ is_member nat_eq xs q
 again xs x q h = elim (cases_eq q x) [

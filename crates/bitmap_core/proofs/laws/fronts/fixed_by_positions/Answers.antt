@@ -1,0 +1,5 @@
+use Rattle.bitmap_core.proofs.Pairs.{same_from_bits}
+use Rattle.bitmap_core.proofs.laws.fronts.fixed_by_positions.Goals as goal
+
+pub returns : goal.returns
+returns c = same_from_bits
