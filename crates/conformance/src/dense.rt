@@ -134,7 +134,9 @@ fn check_chunks<const N: usize>(rt: &impl Abort, alloc: Global) -> Result<(), Al
     assert!(rt; empty == [0; N] && full == [0xff; N]);
     let mut map = BitMap::<N>::with_capacity(alloc, width)?;
     map.push_chunk(&full)?;
+    assert_eq!(rt; map.len(), width);
     map.push_chunk(&empty)?;
+    assert_eq!(rt; map.len(), 2 * width);
     assert!(rt; map.get_chunk(0) == full && map.get_chunk(1) == empty);
     assert!(rt; map.is_chunk_aligned());
     map.truncate(width);
@@ -158,7 +160,9 @@ fn check_pairs<const N: usize>(rt: &impl Abort, alloc: Global) -> Result<(), All
     assert!(rt; copy == map && hash_of(&copy) == hash_of(&map));
     copy.xor(&map);
     assert!(rt; copy != map && copy.count_ones() == 0);
+    assert_eq!(rt; copy.len(), map.len());
     copy.or(&map);
+    assert_eq!(rt; copy.len(), map.len());
     copy.and(&map);
     assert!(rt; copy == map);
     copy.extend_from_bitmap(&map)?;
@@ -449,7 +453,9 @@ fn check_counts<const N: usize>(
     assert!(rt; N <= 64);
     let mut map = BitMap::<N>::new(alloc);
     map.push_chunk(&[byte; N])?;
+    assert!(rt; map.len() < 1000);
     map.push(true)?;
+    assert!(rt; map.len() < 1000);
     map.push(false)?;
     assert_eq!(rt; map.count_ones(), ones, "chunks of {N}");
     assert_eq!(rt; map.count_zeros(), zeros, "chunks of {N}");
