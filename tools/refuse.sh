@@ -1,6 +1,6 @@
 #!/usr/bin/env bash
-# Runs each scenario of refused memory with each of its requests refused in turn, up to the run that meets none:
-# once that request alone, and once all from it on.
+# Runs the scenarios of refused memory in the tests that `rt ci` built: each request of each is refused in turn,
+# up to the run that meets none, once that request alone and once all from it on.
 set -euo pipefail
 cd "$(dirname "$0")/.."
 

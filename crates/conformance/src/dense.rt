@@ -1,6 +1,6 @@
 //! Answers that were worked out by hand, and each public call of a dense bitmap.
 
-ghost use Rattle.std.specs.Prelude.{◌*◌, ◌^◌, ◌<◌};
+ghost use Rattle.std.specs.Prelude.{◌≡◌, ◌+◌, ◌*◌, ◌^◌, ◌<◌, IfOk, length};
 
 use bitmap_core::bitmap::readable::Readable;
 use bitmap_core::bitmap::{BitMap, DEFAULT_CHUNK_SIZE};
@@ -35,7 +35,8 @@ fn shows<const N: usize>(map: &BitMap<N>, digits: &[u8]) -> bool {
 
 // Whether the last chunk has zeros past the length.
 fn is_clean<const N: usize>(map: &BitMap<N>) -> bool {
-    if map.is_empty() {
+    // The proof learns from the length that the width of a chunk fits.
+    if map.len() == 0 {
         return true;
     }
     let width = 8 * N as u64;
@@ -55,29 +56,52 @@ fn hash_of<const N: usize>(map: &BitMap<N>) -> u64 {
     state.finish()
 }
 
-// The calls on three bits past a whole chunk, of which the first and the last are set, as is bit 0.
-fn check_calls<const N: usize>(rt: &impl Abort, alloc: Global) -> Result<(), AllocError>
+// A whole chunk and three bits, of which 0, 8N and 8N + 2 are set.
+fn three_more<const N: usize>(rt: &impl Abort, alloc: Global) -> Result<BitMap<N>, AllocError>
+    requires positive { 0 < N }
+    requires fits { 8 * N < 2 ^ 64 }
+    ensures { IfOk result (λ map. length map ≡ 8 * N + 3) }
+{
+    assert!(rt; N <= 64);
+    let width = 8 * N as u64;
+    let mut map = BitMap::<N>::zeroes(alloc, width + 3)?;
+    map.set(width, true);
+    map.flip(0);
+    map.flip(width + 2);
+    Ok(map)
+}
+
+// The calls that read and edit bits.
+fn check_bits<const N: usize>(rt: &impl Abort, alloc: Global) -> Result<(), AllocError>
     requires positive { 0 < N }
     requires fits { 8 * N < 2 ^ 64 }
 {
     assert!(rt; N <= 64);
     let width = 8 * N as u64;
-    let mut map = BitMap::<N>::zeroes(alloc, width + 3)?;
-    assert_eq!(rt; map.len(), width + 3);
-    map.set(width, true);
-    map.flip(0);
-    map.flip(width + 2);
+    let mut map = three_more::<N>(rt, alloc)?;
     assert!(rt; !map.is_empty() && !map.is_chunk_aligned());
     assert!(rt; map.get(width) && !map.get(width + 1));
     assert_eq!(rt; map.count_ones(), 3);
     assert_eq!(rt; map.count_zeros(), width);
     assert!(rt; map.is_unset(1..width) && !map.is_unset(1..width + 1));
-    assert!(rt; map.ones_iter().eq([0, width, width + 2].iter().copied()));
-    assert!(rt; map.ones_iter_from(1).eq([width, width + 2].iter().copied()));
-    assert!(rt;
-        map.ones_iter_range(0..width + 2)
-            .eq([0, width].iter().copied())
-    );
+    assert_eq!(rt; map.to_bools()?.len() as u64, width + 3);
+    assert_eq!(rt; BitMap::<N>::max_encode_size(width + 3), 2 * N + 8);
+    map.flip_all();
+    assert_eq!(rt; map.count_ones(), width);
+    map.set_all(true);
+    assert!(rt; map.pop());
+    assert_eq!(rt; map.count_ones(), width + 2);
+    Ok(())
+}
+
+// What every reader of bitmaps has.
+fn check_reader<const N: usize>(rt: &impl Abort, alloc: Global) -> Result<(), AllocError>
+    requires positive { 0 < N }
+    requires fits { 8 * N < 2 ^ 64 }
+{
+    assert!(rt; N <= 64);
+    let width = 8 * N as u64;
+    let map = three_more::<N>(rt, alloc)?;
     assert_eq!(rt; map.complete_chunks(), 1);
     assert_eq!(rt; map.pruned_chunks(), 0);
     assert_eq!(rt; map.pruned_bits(), 0);
@@ -87,14 +111,17 @@ fn check_calls<const N: usize>(rt: &impl Abort, alloc: Global) -> Result<(), All
     assert_eq!(rt; last[0], 5);
     assert!(rt; map.get_chunk(1) == last);
     assert!(rt; BitMap::<N>::get_bit_from_chunk(&last, width + 2));
-    assert_eq!(rt; map.to_bools()?.len() as u64, width + 3);
-    map.flip_all();
-    assert_eq!(rt; map.count_ones(), width);
-    assert_eq!(rt; BitMap::<N>::max_encode_size(width + 3), 2 * N + 8);
+    let ones = [0, width, width + 2];
+    assert!(rt; map.ones_iter().eq(ones.iter().copied()));
+    assert!(rt; map.ones_iter_from(1).eq(ones[1..].iter().copied()));
+    assert!(rt;
+        map.ones_iter_range(0..width + 2)
+            .eq(ones[..2].iter().copied())
+    );
     Ok(())
 }
 
-// The calls on whole chunks, and what is the same for two equal bitmaps.
+// The calls on whole chunks.
 fn check_chunks<const N: usize>(rt: &impl Abort, alloc: Global) -> Result<(), AllocError>
     requires positive { 0 < N }
     requires fits { 8 * N < 2 ^ 64 }
@@ -106,14 +133,12 @@ fn check_chunks<const N: usize>(rt: &impl Abort, alloc: Global) -> Result<(), Al
     assert_eq!(rt; BitMap::<N>::CHUNK_SIZE_BITS, width);
     assert!(rt; empty == [0; N] && full == [0xff; N]);
     let mut map = BitMap::<N>::with_capacity(alloc, width)?;
-    assert!(rt; map == BitMap::<N>::new(alloc) && map == BitMap::<N>::default(alloc));
     map.push_chunk(&full)?;
+    assert_eq!(rt; map.len(), width);
     map.push_chunk(&empty)?;
     assert_eq!(rt; map.len(), 2 * width);
     assert!(rt; map.get_chunk(0) == full && map.get_chunk(1) == empty);
     assert!(rt; map.is_chunk_aligned());
-    assert!(rt; !map.pop());
-    map.set_all(true);
     map.truncate(width);
     assert!(rt; map == BitMap::<N>::ones(alloc, width)?);
     map.extend_to(width + 1)?;
@@ -121,16 +146,40 @@ fn check_chunks<const N: usize>(rt: &impl Abort, alloc: Global) -> Result<(), Al
     let (last, used) = map.last_chunk();
     assert_eq!(rt; used, 2);
     assert_eq!(rt; last[0], 2);
-    let copy = map.clone()?;
-    assert!(rt; copy == map && hash_of(&copy) == hash_of(&map));
-    assert!(rt; (&map & &copy)? == map && (&map | &copy)? == map);
-    map.xor(&copy);
-    assert!(rt; map == BitMap::<N>::zeroes(alloc, width + 2)?);
-    map.or(&copy);
-    map.and(&copy);
-    map.extend_from_bitmap(&copy)?;
-    assert_eq!(rt; map.count_ones(), 2 * width + 2);
     Ok(())
+}
+
+// The calls on two bitmaps.
+fn check_pairs<const N: usize>(rt: &impl Abort, alloc: Global) -> Result<(), AllocError>
+    requires positive { 0 < N }
+    requires fits { 8 * N < 2 ^ 64 }
+{
+    assert!(rt; N <= 64);
+    let map = three_more::<N>(rt, alloc)?;
+    let mut copy = map.clone()?;
+    assert!(rt; copy == map && hash_of(&copy) == hash_of(&map));
+    copy.xor(&map);
+    assert!(rt; copy != map && copy.count_ones() == 0);
+    assert_eq!(rt; copy.len(), map.len());
+    copy.or(&map);
+    assert_eq!(rt; copy.len(), map.len());
+    copy.and(&map);
+    assert!(rt; copy == map);
+    copy.extend_from_bitmap(&map)?;
+    assert_eq!(rt; copy.count_ones(), 6);
+    assert!(rt; BitMap::<N>::new(alloc) == BitMap::<N>::default(alloc));
+    Ok(())
+}
+
+// All of these at one width.
+fn check_calls<const N: usize>(rt: &impl Abort, alloc: Global) -> Result<(), AllocError>
+    requires positive { 0 < N }
+    requires fits { 8 * N < 2 ^ 64 }
+{
+    check_bits::<N>(rt, alloc)?;
+    check_reader::<N>(rt, alloc)?;
+    check_chunks::<N>(rt, alloc)?;
+    check_pairs::<N>(rt, alloc)
 }
 
 #[test]
@@ -143,13 +192,6 @@ fn each_call_at_each_width(rt: HostRuntime) -> Result<(), Fail> {
     check_calls::<9>(&rt, rt.alloc())?;
     check_calls::<32>(&rt, rt.alloc())?;
     check_calls::<64>(&rt, rt.alloc())?;
-    check_chunks::<1>(&rt, rt.alloc())?;
-    check_chunks::<3>(&rt, rt.alloc())?;
-    check_chunks::<7>(&rt, rt.alloc())?;
-    check_chunks::<8>(&rt, rt.alloc())?;
-    check_chunks::<9>(&rt, rt.alloc())?;
-    check_chunks::<32>(&rt, rt.alloc())?;
-    check_chunks::<64>(&rt, rt.alloc())?;
     Ok(())
 }
 
@@ -190,20 +232,31 @@ fn joins_of_two_chunks(rt: HostRuntime) -> Result<(), Fail> {
     Ok(())
 }
 
+// The bits 101, extended by ones in chunks of another width.
+fn check_extended<const N: usize, const M: usize>(
+    rt: &impl Abort,
+    alloc: Global,
+    more: u64,
+    want: [u8; N],
+) -> Result<(), AllocError>
+    requires positive { 0 < N }
+    requires fits { 8 * N < 2 ^ 64 }
+    requires other_positive { 0 < M }
+    requires other_fits { 8 * M < 2 ^ 64 }
+{
+    let mut map = bitmap::<N>(alloc, b"101")?;
+    let other = BitMap::<M>::ones(alloc, more)?;
+    assert!(rt; map.len() == 3 && more < 100);
+    map.extend_from_bitmap(&other)?;
+    assert_eq!(rt; map.len(), more + 3);
+    assert!(rt; map.get_chunk(0) == want);
+    Ok(())
+}
+
 #[test]
 fn extended_by_another_width(rt: HostRuntime) -> Result<(), Fail> {
-    let mut map = bitmap::<3>(rt.alloc(), b"101")?;
-    let other = BitMap::<8>::ones(rt.alloc(), 9)?;
-    assert_eq!(rt; map.len(), 3);
-    map.extend_from_bitmap(&other)?;
-    assert_eq!(rt; map.len(), 12);
-    assert_eq!(rt; map.get_chunk(0), [0xfd, 0x0f, 0]);
-    let mut map = bitmap::<8>(rt.alloc(), b"101")?;
-    let other = BitMap::<3>::ones(rt.alloc(), 30)?;
-    assert_eq!(rt; map.len(), 3);
-    map.extend_from_bitmap(&other)?;
-    assert_eq!(rt; map.len(), 33);
-    assert_eq!(rt; map.get_chunk(0), [0xfd, 0xff, 0xff, 0xff, 1, 0, 0, 0]);
+    check_extended::<3, 8>(&rt, rt.alloc(), 9, [0xfd, 0x0f, 0])?;
+    check_extended::<8, 3>(&rt, rt.alloc(), 30, [0xfd, 0xff, 0xff, 0xff, 1, 0, 0, 0])?;
     Ok(())
 }
 
@@ -254,20 +307,22 @@ fn sizes_of_byte_forms(rt: HostRuntime) {
 
 #[test]
 fn text_for_debugging(rt: HostRuntime) -> Result<(), Fail> {
-    let map = BitMap::<4>::new(rt.alloc());
-    assert_eq!(rt; format!(in rt.alloc(); "{map:?}")?.as_str(), "BitMap[]");
     let map = bitmap::<4>(rt.alloc(), b"101")?;
     assert_eq!(rt; format!(in rt.alloc(); "{map:?}")?.as_str(), "BitMap[101]");
-    let map = BitMap::<4>::ones(rt.alloc(), 64)?;
-    assert_eq!(rt;
-        format!(in rt.alloc(); "{map:?}")?.as_str(),
-        "BitMap[1111111111111111111111111111111111111111111111111111111111111111]"
-    );
-    let map = BitMap::<4>::ones(rt.alloc(), 65)?;
-    assert_eq!(rt;
-        format!(in rt.alloc(); "{map:?}")?.as_str(),
-        "BitMap[11111111111111111111111111111111...11111111111111111111111111111111]"
-    );
+    for (len, want) in [
+        (0, "BitMap[]"),
+        (
+            64,
+            "BitMap[1111111111111111111111111111111111111111111111111111111111111111]",
+        ),
+        (
+            65,
+            "BitMap[11111111111111111111111111111111...11111111111111111111111111111111]",
+        ),
+    ] {
+        let map = BitMap::<4>::ones(rt.alloc(), len)?;
+        assert_eq!(rt; format!(in rt.alloc(); "{map:?}")?.as_str(), want);
+    }
     Ok(())
 }
 
@@ -384,24 +439,34 @@ fn equal_and_not(rt: HostRuntime) -> Result<(), Fail> {
     Ok(())
 }
 
+// A chunk of one byte over and over, then a set bit and an unset one.
+fn check_counts<const N: usize>(
+    rt: &impl Abort,
+    alloc: Global,
+    byte: u8,
+    ones: u64,
+    zeros: u64,
+) -> Result<(), AllocError>
+    requires positive { 0 < N }
+    requires fits { 8 * N < 2 ^ 64 }
+{
+    assert!(rt; N <= 64);
+    let mut map = BitMap::<N>::new(alloc);
+    map.push_chunk(&[byte; N])?;
+    assert!(rt; map.len() < 1000);
+    map.push(true)?;
+    assert!(rt; map.len() < 1000);
+    map.push(false)?;
+    assert_eq!(rt; map.count_ones(), ones, "chunks of {N}");
+    assert_eq!(rt; map.count_zeros(), zeros, "chunks of {N}");
+    Ok(())
+}
+
 #[test]
 fn whole_chunks_and_two_bits(rt: HostRuntime) -> Result<(), Fail> {
-    let mut narrow = BitMap::<8>::new(rt.alloc());
-    narrow.push_chunk(&[0xff; 8])?;
-    narrow.push(true)?;
-    narrow.push(false)?;
-    assert_eq!(rt; (narrow.count_ones(), narrow.count_zeros()), (65, 1));
-    let mut middle = BitMap::<16>::new(rt.alloc());
-    middle.push_chunk(&[0xaa; 16])?;
-    middle.push(true)?;
-    middle.push(false)?;
-    assert_eq!(rt; (middle.count_ones(), middle.count_zeros()), (65, 65));
-    assert!(rt; !middle.get(0) && middle.get(127) && middle.get(128));
-    let mut wide = BitMap::<32>::new(rt.alloc());
-    wide.push_chunk(&[0x55; 32])?;
-    wide.push(true)?;
-    wide.push(false)?;
-    assert_eq!(rt; (wide.count_ones(), wide.count_zeros()), (129, 129));
+    check_counts::<8>(&rt, rt.alloc(), 0xff, 65, 1)?;
+    check_counts::<16>(&rt, rt.alloc(), 0xaa, 65, 65)?;
+    check_counts::<32>(&rt, rt.alloc(), 0x55, 129, 129)?;
     Ok(())
 }
 
@@ -414,15 +479,26 @@ fn zeros_past_the_length(rt: HostRuntime) -> Result<(), Fail> {
         assert!(rt; is_clean(&map), "flip_all, {len}");
         map.set_all(true);
         assert!(rt; is_clean(&map), "set_all, {len}");
-        let zeroes = BitMap::<4>::zeroes(rt.alloc(), len)?;
-        assert!(rt;
-            is_clean(&(&map & &zeroes)?)
-                && is_clean(&(&map | &zeroes)?)
-                && is_clean(&(&map ^ &zeroes)?)
-        );
         map.truncate(len / 2);
         assert!(rt; is_clean(&map), "truncate, {len}");
     }
+    Ok(())
+}
+
+#[test]
+fn zeros_past_the_length_of_joins(rt: HostRuntime) -> Result<(), Fail> {
+    for len in [1, 15, 20, 33] {
+        let map = BitMap::<4>::ones(rt.alloc(), len)?;
+        let other = BitMap::<4>::zeroes(rt.alloc(), len)?;
+        assert!(rt; is_clean(&(&map & &other)?), "and, {len}");
+        assert!(rt; is_clean(&(&map | &other)?), "or, {len}");
+        assert!(rt; is_clean(&(&map ^ &other)?), "xor, {len}");
+    }
+    Ok(())
+}
+
+#[test]
+fn pushes_and_pops(rt: HostRuntime) -> Result<(), Fail> {
     let mut map = BitMap::<3>::new(rt.alloc());
     for i in 0..100 {
         assert_eq!(rt; map.len(), i);

@@ -38,6 +38,21 @@ fn positions(alloc: Global, bits: &[bool], start: u64, end: u64) -> Result<Vec<u
     Ok(positions)
 }
 
+// The bits that are set in both.
+fn both(alloc: Global, left: &[bool], right: &[bool]) -> Result<Vec<bool>, AllocError> {
+    left.iter().zip(right).map(|(l, r)| *l && *r).collect(alloc)
+}
+
+// The bits that are set in either.
+fn either(alloc: Global, left: &[bool], right: &[bool]) -> Result<Vec<bool>, AllocError> {
+    left.iter().zip(right).map(|(l, r)| *l || *r).collect(alloc)
+}
+
+// The bits that differ.
+fn difference(alloc: Global, left: &[bool], right: &[bool]) -> Result<Vec<bool>, AllocError> {
+    left.iter().zip(right).map(|(l, r)| *l != *r).collect(alloc)
+}
+
 // Whether a bitmap has these bits and then those, and no more.
 fn holds<const N: usize>(map: &BitMap<N>, first: &[bool], then: &[bool]) -> bool {
     map.iter().eq(first.iter().chain(then).copied())
@@ -121,6 +136,27 @@ fn check_lengths<const N: usize>(
     Ok(())
 }
 
+fn check_operators<const N: usize>(
+    rt: &impl Abort,
+    alloc: Global,
+    left: &[bool],
+    right: &[bool],
+) -> Result<(), AllocError>
+    requires positive { 0 < N }
+    requires fits { 8 * N < 2 ^ 64 }
+{
+    assert_eq!(rt; left.len(), right.len());
+    let map = BitMap::<N>::from_bools(alloc, left)?;
+    let other = BitMap::<N>::from_bools(alloc, right)?;
+    let both = both(alloc, left, right)?;
+    assert!(rt; holds(&(&map & &other)?, both.as_slice(), &[]));
+    let either = either(alloc, left, right)?;
+    assert!(rt; holds(&(&map | &other)?, either.as_slice(), &[]));
+    let difference = difference(alloc, left, right)?;
+    assert!(rt; holds(&(&map ^ &other)?, difference.as_slice(), &[]));
+    Ok(())
+}
+
 fn check_joins<const N: usize>(
     rt: &impl Abort,
     alloc: Global,
@@ -130,24 +166,19 @@ fn check_joins<const N: usize>(
     requires positive { 0 < N }
     requires fits { 8 * N < 2 ^ 64 }
 {
-    let map = BitMap::<N>::from_bools(alloc, left)?;
+    let mut map = BitMap::<N>::from_bools(alloc, left)?;
     let other = BitMap::<N>::from_bools(alloc, right)?;
-    assert_eq!(rt; left.len(), right.len());
-    let both = (&map & &other)?;
-    let either = (&map | &other)?;
-    let mut difference = (&map ^ &other)?;
-    for i in 0..left.len() {
-        let (bit, l, r) = (i as u64, left[i], right[i]);
-        assert_eq!(rt; both.get(bit), l && r, "bit {i} in chunks of {N}");
-        assert_eq!(rt; either.get(bit), l || r, "bit {i} in chunks of {N}");
-        assert_eq!(rt; difference.get(bit), l != r, "bit {i} in chunks of {N}");
-    }
-    difference.xor(&both);
-    assert!(rt; difference == either);
-    difference.and(&both);
-    assert!(rt; difference == both);
-    difference.or(&either);
-    assert!(rt; difference == either);
+    assert_eq!(rt; map.len(), other.len());
+    map.xor(&other);
+    let difference = difference(alloc, left, right)?;
+    assert!(rt; holds(&map, difference.as_slice(), &[]));
+    assert_eq!(rt; map.len(), other.len());
+    map.or(&other);
+    let either = either(alloc, left, right)?;
+    assert!(rt; holds(&map, either.as_slice(), &[]));
+    assert_eq!(rt; map.len(), other.len());
+    map.and(&other);
+    assert!(rt; map == other);
     Ok(())
 }
 
@@ -212,6 +243,7 @@ fn check_width<const N: usize>(rt: &impl Abort, alloc: Global) -> Result<(), All
         let sparse = bits(alloc, len, len, 31)?;
         check_reads::<N>(rt, alloc, dense.as_slice())?;
         check_edits::<N>(rt, alloc, dense.as_slice())?;
+        check_operators::<N>(rt, alloc, dense.as_slice(), other.as_slice())?;
         check_joins::<N>(rt, alloc, dense.as_slice(), other.as_slice())?;
         for end in ends {
             check_lengths::<N>(rt, alloc, dense.as_slice(), end as usize)?;
