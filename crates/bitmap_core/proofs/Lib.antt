@@ -21,3 +21,6 @@ pub mod WordStarts
 pub mod LoadedWords
 pub mod WordScan
 pub mod Meanings
+pub mod PlaceTests
+pub mod ByteChunks
+pub mod Texts
