@@ -9,6 +9,12 @@ pub mod ChunkRuns
 pub mod ChunkBytes
 pub mod Equality
 pub mod Counts
+pub mod MadeBytes
+pub mod FrontChunks
+pub mod WholeChunks
+pub mod ByteEdits
+pub mod Pairs
+pub mod PairEdits
 pub mod Packing
 pub mod PlaceCounts
 pub mod WordBits

@@ -1,6 +1,7 @@
 -- A dense bitmap: a list of bits, packed into chunks of n bytes.
-use Rattle.std.specs.Prelude.{◌≡◌, ℕ, ◌+◌, ◌*◌, ◌/◌, ◌<◌, ◌≤◌, Bool, false, List, [], length, map, slice_index_or}
+use Rattle.std.specs.Prelude.{◌≡◌, ℕ, ◌+◌, ◌*◌, ◌/◌, ◌%◌, ◌<◌, ◌≤◌, Bool, false, List, [], length, map, ◌==◌, slice_index_or}
 use Rattle.std.specs.List.{range_with_len}
+use Rattle.std.specs.Int.{bit_at}
 use Rattle.bitmap_core.specs.Chunk.{chunk_bit, IsChunk}
 
 -- bit i of chunks of n bytes: bit i of chunk i / 8n
@@ -28,3 +29,9 @@ pub record IsBitPut (n : ℕ) (old new : List (List ℕ)) (i : ℕ) (value : Boo
 -- each is a chunk of n bytes
 abbrev pub AreChunks : ℕ → List (List ℕ) → Type 0
 AreChunks n chunks = (i : ℕ) → i < length chunks → IsChunk n (slice_index_or chunks i [])
+
+-- the new chunks have the bits of the old ones, but that the byte in which bit i stands is byte
+pub record IsBytePut (n : ℕ) (old new : List (List ℕ)) (i byte : ℕ) : Type 0 where
+  pub here : (j : ℕ) → j / 8 ≡ i / 8 → bit_of n new j ≡ (bit_at byte (j % 8) == 1)
+  pub others : (j : ℕ) → (j / 8 ≡ i / 8 → ⊥) → bit_of n new j ≡ bit_of n old j
+  pub count : length new ≡ length old

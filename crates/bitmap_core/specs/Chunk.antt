@@ -33,6 +33,19 @@ bit_value x = cond x 1 0
 abbrev pub byte_of : (ℕ → Bool) → ℕ
 byte_of bit = sum_by (λ t. bit_value (bit t) * 2 ^ t) (range_with_len 0 8)
 
+-- the eight bits of a byte, the lowest first
+abbrev pub byte_bits : ℕ → List Bool
+byte_bits byte = map (λ t. bit_at byte t == 1) (range_with_len 0 8)
+
+-- the bytes of chunk i, where bit gives the bit at each position
+abbrev pub chunk_from : ℕ → (ℕ → Bool) → ℕ → List ℕ
+chunk_from n bit i = map (λ j. byte_of (λ t. bit (8 * n * i + 8 * j + t))) (range_with_len 0 n)
+
 -- the bytes of chunk i of the bits v; a bit past their end is zero
 abbrev pub chunk_of : ℕ → List Bool → ℕ → List ℕ
-chunk_of n v i = map (λ j. byte_of (λ t. slice_index_or v (8 * n * i + 8 * j + t) false)) (range_with_len 0 n)
+chunk_of n v i = chunk_from n (λ k. slice_index_or v k false) i
+
+-- the chunk has the bits of a byte in the byte of bit i, and each bit of another byte as the old one has it
+pub record IsByteWritten (n : ℕ) (old new : List ℕ) (i byte : ℕ) : Type 0 where
+  pub here : (j : ℕ) → j / 8 % n ≡ i / 8 % n → chunk_bit n new j ≡ (bit_at byte (j % 8) == 1)
+  pub others : (j : ℕ) → (j / 8 % n ≡ i / 8 % n → ⊥) → chunk_bit n new j ≡ chunk_bit n old j

@@ -10,9 +10,11 @@ mod count;
 mod debug;
 mod every_chunk;
 mod extend;
+mod front;
 mod growth;
 mod iter;
 mod ops;
+pub mod prunable;
 pub mod readable;
 
 use crate::bitmap::chunks::{
@@ -152,10 +154,8 @@ impl<const N: usize> BitMap<N> {
         requires fits { 8 * N < 2 ^ 64 }
         ensures { IfOk result (λ b. b ≡ []) }
     {
-        Ok(BitMap {
-            chunks: VecDeque::with_capacity(alloc, chunk_count::<N>(size))?,
-            len: 0,
-        })
+        let chunks = VecDeque::with_capacity(alloc, chunk_count::<N>(size))?;
+        Ok(BitMap { chunks, len: 0 })
     }
 
     /// `size` bits that are all false.

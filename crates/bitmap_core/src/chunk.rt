@@ -3,15 +3,15 @@
 ghost use Rattle.std.specs.Prelude.{◌≡◌, ℕ, ◌+◌, ◌-◌, ◌*◌, ◌/◌, ◌%◌, ◌^◌, ◌<◌, ◌≤◌, ◌++◌, ◌==◌, Bool, false, not, length, map, slice_index, slice_index_or, vec_len, vec_capacity};
 ghost use Rattle.std.specs.List.{list_any, range_with_len};
 ghost use Rattle.std.specs.Int.{bit_at};
-ghost use Rattle.bitmap_core.specs.Chunk.{chunk_bit, IsBitWritten};
+ghost use Rattle.bitmap_core.specs.Chunk.{byte_of as byte_from_bits, chunk_bit, IsBitWritten, IsByteWritten};
 
 pub mod join;
 pub mod load;
 pub mod whole;
 pub mod words;
 
-// The byte of a chunk in which a bit stands.
-fn byte_index<const N: usize>(bit: u64) -> usize
+/// The byte of a chunk in which bit `bit mod 8N` stands. No memory.
+pub fn byte_index<const N: usize>(bit: u64) -> usize
     requires { 0 < N }
     ensures value { result ≡ bit / 8 % N }
     ensures within { result < N }
@@ -19,8 +19,8 @@ fn byte_index<const N: usize>(bit: u64) -> usize
     ((bit / 8) % (N as u64)) as usize
 }
 
-// The mask of a bit in its byte.
-fn bit_mask(bit: u64) -> u8
+/// The mask of a bit in its byte. No memory.
+pub fn bit_mask(bit: u64) -> u8
     ensures value { result ≡ 2 ^ (bit % 8) }
     ensures fits { result < 256 }
 {
@@ -60,6 +60,23 @@ pub fn set_bit<const N: usize>(chunk: &mut [u8; N], bit: u64, value: bool)
     } else {
         chunk[byte] &= !mask;
     }
+}
+
+/// Writes the byte in which bit `bit mod 8N` of a chunk stands, and no other. No memory.
+pub fn set_byte<const N: usize>(chunk: &mut [u8; N], bit: u64, byte: u8)
+    requires { 0 < N }
+    ensures { IsByteWritten N chunk.old chunk.new bit byte }
+{
+    chunk[byte_index::<N>(bit)] = byte;
+}
+
+/// The chunk itself, whose bytes are those that its bits make. No memory.
+pub fn from_own_bits<const N: usize>(chunk: &[u8; N]) -> &[u8; N]
+    ensures same { result.now ≡ chunk.now }
+    ensures bytes { chunk.now ≡ map (λ j. byte_from_bits (λ t. chunk_bit N chunk.now (8 * j + t))) (range_with_len 0 N) }
+{
+    fit(chunk);
+    chunk
 }
 
 /// Inverts bit `bit mod 8N` of a chunk, and no other. No memory.

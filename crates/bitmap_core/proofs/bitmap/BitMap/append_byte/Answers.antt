@@ -1,0 +1,22 @@
+use Rattle.std.proofs.Common.{◌%◌, ◌*◌, ◌∙◌, ap, arith, sym}
+use Rattle.std.proofs.lemmas.Bool.{false≢true}
+use Rattle.bitmap_core.proofs.BitLists.{bits-same, len_is}
+use Rattle.bitmap_core.proofs.ByteEdits.{bits-byte, IsChunkCount-byte, IsZeroFrom-byte}
+use Rattle.bitmap_core.proofs.bitmap.BitMap.append_byte.Goals as goal
+
+pub returns-in_err-make_room-clause-partial : goal.returns-in_err-make_room-clause-partial
+returns-in_err-make_room-clause-partial g c =
+    λ h. absurd (false≢true (c.in_err-make_room.ensures.partial (λ q. h (ap (λ x. x % (8 * g.row.N)) (len_is _ _ _ _ c.self.view_is) ∙ q))))
+
+pub overflow_add-self : goal.overflow_add-self
+overflow_add-self g c = omega (arith, len_is _ _ _ _ c.self.view_is)
+
+pub invariant_of-self-2 : goal.invariant_of-self-2
+invariant_of-self-2 g c =
+    let a = ap (λ x. x % 8) (sym (len_is _ _ _ _ c.self.view_is)) ∙ c.requires.aligned in
+    rw c.set_byte.ensures.count (c.self.invariant.0, c.self.invariant.1, IsChunkCount-byte _ _ _ a c.in_ok-make_room.ensures.room, IsZeroFrom-byte _ _ _ _ _ a c.set_byte.ensures (λ i h. c.in_ok-make_room.ensures.same i ∙ c.self.invariant.3 i h))
+
+pub returns-clause-ok : goal.returns-clause-ok
+returns-clause-ok g c =
+    let a = ap (λ x. x % 8) (sym (len_is _ _ _ _ c.self.view_is)) ∙ c.requires.aligned in
+    bits-byte _ _ _ _ _ _ a c.set_byte.ensures (bits-same _ _ _ _ (λ i _. c.in_ok-make_room.ensures.same i) ∙ c.self.view_is)

@@ -1,0 +1,14 @@
+use Rattle.std.proofs.Common.{arith}
+use Rattle.std.proofs.lemmas.List.{length-append}
+use Rattle.bitmap_core.proofs.BitLists.{len_is}
+use Rattle.bitmap_core.proofs.FrontChunks.{bits-front, IsChunkCount-front, IsZeroFrom-front}
+use Rattle.bitmap_core.proofs.bitmap.BitMap.put_front_chunks.Goals as goal
+
+pub overflow_add-self : goal.overflow_add-self
+overflow_add-self g c = rw c.chunk_bits.ensures (omega (arith, len_is _ _ _ _ c.self.view_is))
+
+pub invariant_of-self-2 : goal.invariant_of-self-2
+invariant_of-self-2 g c = rw (c.chunk_bits.ensures, c.in_ok-put_front.ensures.ok, length-append) (c.self.invariant.0, c.self.invariant.1, IsChunkCount-front _ _ _ _ c.self.invariant.2, IsZeroFrom-front _ _ _ _ c.self.invariant.0 c.self.invariant.3)
+
+pub returns-clause-ok : goal.returns-clause-ok
+returns-clause-ok g c = rw (c.chunk_bits.ensures, c.in_ok-put_front.ensures.ok) (bits-front _ _ _ _ _ c.self.invariant.0 c.self.view_is)

@@ -1,0 +1,349 @@
+//! Bitmaps with a pruned front.
+
+ghost use Rattle.std.specs.Prelude.{◌≡◌, ℕ, ◌+◌, ◌-◌, ◌*◌, ◌/◌, ◌%◌, ◌^◌, ◌<◌, ◌≤◌, ◌↔◌, [], false, length, IfOk, OnOk, OnErr, IsOk, ◌==◌};
+ghost use Rattle.std.specs.Int.{div_ceil};
+ghost use Rattle.bitmap_core.specs.Chunk.{byte_bits, chunk_bit, chunk_bits as bits_of_chunk};
+ghost use Rattle.bitmap_core.specs.PrunedBits.{appended, bit_at, bit_len, chunk, extended, HasChunk, IsRetained, last_bit, popped, pruned_bits, pruned_to, pushed, set_at, truncated, unpruned, with_chunk};
+
+mod error;
+
+use crate::bitmap::BitMap;
+use crate::bitmap::chunks::{chunk_bits, chunk_index};
+pub use crate::bitmap::prunable::error::Error;
+use crate::chunk;
+use std::alloc::{AllocError, Global};
+use std::marker::Model;
+
+/// A bitmap whose front may be pruned, by whole chunks of `N` bytes.
+///
+/// Positions are absolute: pruned bits keep theirs. It takes one chunk of memory for every `8N` retained bits begun.
+#[derive(Drop)]
+pub struct Prunable<const N: usize> {
+    bitmap: BitMap<N>,
+    pruned_chunks: usize,
+}
+
+impl<const N: usize> Model for Prunable<N> {
+    ghost use Rattle.std.specs.Prelude.{ℕ, ◌+◌, ◌*◌, ◌^◌, ◌<◌, length};
+    ghost use Rattle.bitmap_core.specs.PrunedBits.{PrunedBits};
+
+    ghost Value = { PrunedBits };
+
+    ghost view = { λ b. record { pruned = b.pruned_chunks; bits = b.bitmap } };
+
+    ghost invariant = { λ b. (0 < N) × (8 * N < 2 ^ 64) × (8 * N * b.pruned_chunks + length b.bitmap < 2 ^ 64) };
+}
+
+impl<const N: usize> Prunable<N> {
+    /// The width of a chunk in bits. Nothing is promised of it where that passes `u64`.
+    pub const CHUNK_SIZE_BITS: u64 = (N as u64).wrapping_mul(8);
+
+    /// A bitmap without bits, nothing pruned. `N` is at least 1, and `8N` fits `u64`. No memory.
+    pub fn new(alloc: Global) -> Self
+        requires positive { 0 < N }
+        requires fits { 8 * N < 2 ^ 64 }
+        ensures { result ≡ record { pruned = 0; bits = [] } }
+    {
+        Prunable {
+            bitmap: BitMap::new(alloc),
+            pruned_chunks: 0,
+        }
+    }
+
+    /// The same as `new`.
+    pub fn default(alloc: Global) -> Self
+        requires positive { 0 < N }
+        requires fits { 8 * N < 2 ^ 64 }
+        ensures { result ≡ record { pruned = 0; bits = [] } }
+    {
+        Prunable::new(alloc)
+    }
+
+    /// A bitmap without bits, of which the first `pruned_chunks` chunks are pruned. No memory.
+    ///
+    /// It errs exactly where the pruned bits pass `u64`.
+    pub fn new_with_pruned_chunks(alloc: Global, pruned_chunks: usize) -> Result<Self, Error>
+        requires positive { 0 < N }
+        requires fits { 8 * N < 2 ^ 64 }
+        ensures ok { IfOk result (λ b. b ≡ record { pruned = pruned_chunks; bits = [] }) }
+        ensures exact { IsOk result ↔ (8 * N * pruned_chunks < 2 ^ 64) }
+    {
+        let pruned_bits = chunk_bits::<N>().checked_mul(pruned_chunks as u64);
+        if pruned_bits.is_none() {
+            return Err(Error::PrunedChunksOverflow);
+        }
+        Ok(Prunable {
+            bitmap: BitMap::new(alloc),
+            pruned_chunks,
+        })
+    }
+
+    /// The number of bits, pruned ones counted. No memory.
+    pub fn len(&self) -> u64
+        ensures value { result ≡ bit_len N self.now }
+        ensures positive { 0 < N }
+        ensures fits { 8 * N < 2 ^ 64 }
+        ensures bound { bit_len N self.now < 2 ^ 64 }
+    {
+        self.pruned_bits() + self.bitmap.len()
+    }
+
+    /// Whether the length is 0. A bitmap with pruned bits is not empty. No memory.
+    pub fn is_empty(&self) -> bool
+        ensures { result ≡ (bit_len N self.now == 0) }
+    {
+        self.len() == 0
+    }
+
+    /// Whether the length is a multiple of `8N`. No memory.
+    pub fn is_chunk_aligned(&self) -> bool
+        ensures { result ≡ (bit_len N self.now % (8 * N) == 0) }
+    {
+        self.len() % chunk_bits::<N>() == 0
+    }
+
+    /// The number of pruned chunks. No memory.
+    pub fn pruned_chunks(&self) -> usize
+        ensures { result ≡ self.now.pruned }
+    {
+        self.pruned_chunks
+    }
+
+    /// The number of pruned bits, which is the first retained position. No memory.
+    pub fn pruned_bits(&self) -> u64
+        ensures { result ≡ pruned_bits N self.now }
+    {
+        let pruned = self.pruned_chunks as u64;
+        chunk_bits::<N>() * pruned
+    }
+
+    /// The number of chunks, pruned ones and a partial last one counted. No memory.
+    pub fn chunks_len(&self) -> usize
+        ensures value { result ≡ div_ceil (bit_len N self.now) (8 * N) }
+        ensures holds { (i : ℕ) → (i < result) ↔ (8 * N * i < bit_len N self.now) }
+    {
+        self.len().div_ceil(chunk_bits::<N>()) as usize
+    }
+
+    /// The number of full chunks, pruned ones counted. No memory.
+    pub fn complete_chunks(&self) -> usize
+        ensures { result ≡ bit_len N self.now / (8 * N) }
+    {
+        chunk_index::<N>(self.len())
+    }
+
+    /// The bit at a retained position. No memory.
+    pub fn get_bit(&self, bit: u64) -> bool
+        requires { IsRetained N self.now bit }
+        ensures { result ≡ bit_at N self.now bit }
+    {
+        self.bitmap.get(bit - self.pruned_bits())
+    }
+
+    /// The chunk of a retained position. Its bits past the length are zero. No memory.
+    pub fn get_chunk_containing(&self, bit: u64) -> &[u8; N]
+        requires { IsRetained N self.now bit }
+        ensures { result.now ≡ chunk N self.now (bit / (8 * N)) }
+    {
+        let _pruned = self.pruned_chunks;
+        self.get_chunk(Self::to_chunk_index(bit))
+    }
+
+    /// The chunk at an index, which is at least the pruned count and below `chunks_len`.
+    ///
+    /// Its bits past the length are zero. No memory.
+    pub fn get_chunk(&self, index: usize) -> &[u8; N]
+        requires { HasChunk N self.now index }
+        ensures { result.now ≡ chunk N self.now index }
+    {
+        self.bitmap.chunk_at(index - self.pruned_chunks)
+    }
+
+    /// The last chunk of a bitmap that has a retained bit, and how many of its bits are in use: `8N` where it is full.
+    ///
+    /// Its bits past the length are zero. No memory.
+    pub fn last_chunk(&self) -> (&[u8; N], u64)
+        requires { 0 < length self.now.bits }
+        ensures chunk { result.0.now ≡ chunk N self.now ((bit_len N self.now - 1) / (8 * N)) }
+        ensures used { result.1 ≡ (bit_len N self.now - 1) % (8 * N) + 1 }
+    {
+        let last = self.len() - 1;
+        let used = last % chunk_bits::<N>() + 1;
+        (self.get_chunk_containing(last), used)
+    }
+
+    /// Replaces the bit at a retained position. No memory.
+    pub fn set_bit(&mut self, bit: u64, value: bool)
+        requires { IsRetained N self.old bit }
+        ensures { self.new ≡ set_at N self.old bit value }
+    {
+        let pruned = self.pruned_bits();
+        self.bitmap.set(bit - pruned, value);
+    }
+
+    /// Removes and answers the last bit, which is retained. No memory.
+    pub fn pop(&mut self) -> bool
+        requires { 0 < length self.old.bits }
+        ensures value { result ≡ last_bit self.old }
+        ensures rest { self.new ≡ popped self.old }
+    {
+        self.bitmap.pop()
+    }
+
+    /// Keeps the positions below `n`, which is at least the first retained one and at most the length. No memory.
+    pub fn truncate(&mut self, n: u64)
+        requires from { pruned_bits N self.old ≤ n }
+        requires to { n ≤ bit_len N self.old }
+        ensures { self.new ≡ truncated N self.old n }
+    {
+        let pruned = self.pruned_bits();
+        self.bitmap.truncate(n - pruned);
+    }
+
+    /// Removes and answers the last chunk, which is retained and full. No memory.
+    pub fn pop_chunk(&mut self) -> [u8; N]
+        requires aligned { bit_len N self.old % (8 * N) ≡ 0 }
+        requires filled { 0 < length self.old.bits }
+        ensures value { result ≡ chunk N self.old (bit_len N self.old / (8 * N) - 1) }
+        ensures rest { self.new ≡ truncated N self.old (bit_len N self.old - 8 * N) }
+    {
+        self.bitmap.remove_last_chunk()
+    }
+
+    /// Prunes every chunk before that of position `bit`, which is at most the length. No memory.
+    ///
+    /// The bits that stay are not moved. Where those chunks are pruned already nothing changes.
+    pub fn prune_to_bit(&mut self, bit: u64)
+        requires { bit ≤ bit_len N self.old }
+        ensures { self.new ≡ pruned_to N self.old (bit / (8 * N)) }
+    {
+        let pruned = self.pruned_chunks;
+        let index = Self::to_chunk_index(bit);
+        if pruned < index {
+            self.bitmap.drop_front_chunks(index - pruned);
+            self.pruned_chunks = index;
+        }
+    }
+
+    /// Replaces the bits of a retained chunk by those of `chunk`, which are zero past the length. No memory.
+    pub fn set_chunk_by_index(&mut self, index: usize, chunk: &[u8; N])
+        requires retained { HasChunk N self.old index }
+        requires zero { (k : ℕ) → bit_len N self.old ≤ k → k / (8 * N) ≡ index → chunk_bit N chunk.now k ≡ false }
+        ensures { self.new ≡ with_chunk N self.old index chunk.now }
+    {
+        let pruned = self.pruned_chunks;
+        self.bitmap.replace_chunk(index - pruned, chunk);
+    }
+
+    /// Appends a bit. The length is below `u64::MAX`.
+    ///
+    /// Takes memory for a chunk where the length is a multiple of `8N`, and none elsewhere: there it succeeds.
+    /// Refused, the bitmap is as it was.
+    pub fn push(&mut self, bit: bool) -> Result<(), AllocError>
+        requires { bit_len N self.old + 1 < 2 ^ 64 }
+        ensures ok { OnOk result (self.new ≡ pushed self.old bit) }
+        ensures err { OnErr result (self.new ≡ self.old) }
+        ensures partial { ¬ (bit_len N self.old % (8 * N) ≡ 0) → IsOk result }
+    {
+        self.bitmap.push(bit)
+    }
+
+    /// Appends the eight bits of a byte, the lowest first. The length is a multiple of 8, and 8 more fit `u64`.
+    ///
+    /// Takes memory for a chunk where the length is a multiple of `8N`, and none elsewhere: there it succeeds.
+    /// Refused, the bitmap is as it was.
+    pub fn push_byte(&mut self, byte: u8) -> Result<(), AllocError>
+        requires aligned { bit_len N self.old % 8 ≡ 0 }
+        requires room { bit_len N self.old + 8 < 2 ^ 64 }
+        ensures ok { OnOk result (self.new ≡ appended self.old (byte_bits byte)) }
+        ensures err { OnErr result (self.new ≡ self.old) }
+        ensures partial { ¬ (bit_len N self.old % (8 * N) ≡ 0) → IsOk result }
+    {
+        self.bitmap.append_byte(byte)
+    }
+
+    /// Appends the bits of a chunk to a bitmap whose length is a multiple of `8N`, with room for `8N` more in `u64`.
+    ///
+    /// Takes memory for that chunk. Refused, the bitmap is as it was.
+    pub fn push_chunk(&mut self, chunk: &[u8; N]) -> Result<(), AllocError>
+        requires aligned { bit_len N self.old % (8 * N) ≡ 0 }
+        requires room { bit_len N self.old + 8 * N < 2 ^ 64 }
+        ensures ok { OnOk result (self.new ≡ appended self.old (bits_of_chunk N chunk.now)) }
+        ensures err { OnErr result (self.new ≡ self.old) }
+    {
+        self.bitmap.push_chunk(chunk)
+    }
+
+    /// Appends false bits up to a length of `n` bits. A bitmap that is as long already stays as it is.
+    ///
+    /// Takes memory once, for the chunks that are missing, and none where none is: there it succeeds.
+    /// Refused, the bitmap is as it was.
+    pub fn extend_to(&mut self, n: u64) -> Result<(), AllocError>
+        ensures ok { OnOk result (self.new ≡ extended N self.old n) }
+        ensures err { OnErr result (self.new ≡ self.old) }
+        ensures roomy { n ≤ 8 * N * div_ceil (bit_len N self.old) (8 * N) → IsOk result }
+    {
+        let pruned = self.pruned_bits();
+        self.bitmap.extend_to(n.saturating_sub(pruned))
+    }
+
+    /// Puts chunks back in front of the retained bits, in order: at most as many as are pruned.
+    ///
+    /// Takes memory for them at once, and none for no chunks: there it succeeds. The bits that stand there are not
+    /// copied, except where memory is taken. Refused, the bitmap is as it was.
+    pub fn unprune(&mut self, chunks: &[[u8; N]]) -> Result<(), AllocError>
+        requires { length chunks.now ≤ self.old.pruned }
+        ensures ok { OnOk result (self.new ≡ unpruned N self.old chunks.now) }
+        ensures err { OnErr result (self.new ≡ self.old) }
+        ensures none { length chunks.now ≡ 0 → IsOk result }
+    {
+        let pruned = self.pruned_chunks;
+        self.bitmap.put_front_chunks(chunks)?;
+        self.pruned_chunks = pruned - chunks.len();
+        Ok(())
+    }
+
+    /// The mask of a bit in its byte. No memory.
+    pub fn chunk_byte_bitmask(bit: u64) -> u8
+        ensures { result ≡ 2 ^ (bit % 8) }
+    {
+        chunk::bit_mask(bit)
+    }
+
+    /// The byte of its chunk in which a bit stands. No memory.
+    pub fn chunk_byte_offset(bit: u64) -> usize
+        requires { 0 < N }
+        ensures { result ≡ bit / 8 % N }
+    {
+        chunk::byte_index::<N>(bit)
+    }
+
+    /// The index of the chunk in which a bit stands. No memory.
+    pub fn to_chunk_index(bit: u64) -> usize
+        requires positive { 0 < N }
+        requires fits { 8 * N < 2 ^ 64 }
+        ensures { result ≡ bit / (8 * N) }
+    {
+        chunk_index::<N>(bit)
+    }
+
+    /// Bit `bit mod 8N` of a chunk. No memory.
+    pub fn get_bit_from_chunk(chunk: &[u8; N], bit: u64) -> bool
+        requires { 0 < N }
+        ensures { result ≡ chunk_bit N chunk.now bit }
+    {
+        chunk::get_bit(chunk, bit)
+    }
+}
+
+impl<const N: usize> Clone for Prunable<N> {
+    ghost is_clone = { λ a b. b ≡ a };
+
+    /// An equal bitmap, or the refusal of its memory.
+    fn clone(&self) -> Result<Self, AllocError> {
+        Ok(Prunable {
+            bitmap: self.bitmap.clone()?,
+            pruned_chunks: self.pruned_chunks,
+        })
+    }
+}
