@@ -3,7 +3,7 @@ use Rattle.std.proofs.Common.{◌≡◌, ℕ, zero, suc, ◌+◌, ◌-◌, ◌*�
 use Rattle.std.specs.List.{range_with_len, flat_map, list_any}
 use Rattle.std.specs.Int.{bit_at}
 use Rattle.std.specs.Simd.{first_chunks}
-use Rattle.std.proofs.Math.Nat.{div-add-mod, div-lt_iff_lt-mul, mul-add, div-div-eq-div-mul}
+use Rattle.std.proofs.Math.Nat.{mod-eq_of_lt, div-add-mod, div-lt_iff_lt-mul, mul-add, div-div-eq-div-mul}
 use Rattle.std.proofs.lemmas.Nat.{mod_below, div-mul-add, mod-mul-add}
 use Rattle.std.proofs.lemmas.List.{get_or-take, get_or-drop, get_or_read, length-drop, length-append, take-append-drop}
 use Rattle.std.proofs.lemmas.List.FromFn.{length-map-range_with_len, get_or-map-range_with_len}
@@ -77,12 +77,9 @@ past_chunk n len xs c p k d r =
       let w : len % (8 * n) + j < 8 * n = omega arith in
       let e : len + j ≡ len / (8 * n) * (8 * n) + (len % (8 * n) + j) = grind arith in
       let q : (len + j) / (8 * n) ≡ len / (8 * n) = ap (λ x. x / (8 * n)) e ∙ div-mul-add (len / (8 * n)) (8 * n) (len % (8 * n) + j) w in
-      let u : (len % (8 * n) + j) % (8 * n) ≡ (len + j) % (8 * n) = small (8 * n) (len % (8 * n) + j) w ∙ sym (ap (λ x. x % (8 * n)) e ∙ mod-mul-add (len / (8 * n)) (8 * n) (len % (8 * n) + j) w) in
+      let u : (len % (8 * n) + j) % (8 * n) ≡ (len + j) % (8 * n) = mod-eq_of_lt {n = len % (8 * n) + j} {m = 8 * n} w ∙ sym (ap (λ x. x % (8 * n)) e ∙ mod-mul-add (len / (8 * n)) (8 * n) (len % (8 * n) + j) w) in
       chunk_bit-mod n c (len % (8 * n) + j) (len + j) p u ∙ ap (λ x. chunk_bit n x (len + j)) (get_or_read xs (len / (8 * n)) c (omega arith) r [] ∙ ap (λ x. get_or xs x []) (sym q)))
     ∙ ap (λ x. list_any (bit_of n xs) (range_with_len len x)) (sym m)
-  where
-    small : (w x : ℕ) → x < w → x % w ≡ x
-    small w x h = let m = mod-mul-add 0 w x h in m
 
 -- none, where it ends with a chunk
 pub past_full : (n len : ℕ) (xs : List (List ℕ)) → 0 < n → IsChunkCount n (length xs) len → len % (8 * n) ≡ 0 → false ≡ list_any (bit_of n xs) (range_with_len len (8 * n * length xs - len))

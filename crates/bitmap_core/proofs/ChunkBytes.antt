@@ -1,10 +1,9 @@
 -- Chunks as bytes, and what a hash is fed.
-use Rattle.std.proofs.Common.{◌≡◌, ℕ, suc, zero, ◌+◌, ◌-◌, ◌*◌, ◌/◌, ◌%◌, ◌^◌, ◌<◌, ◌≤◌, Bool, true, false, List, [], length, get_or, map, eqb, refl, sym, ap, ◌∙◌, inl, inr, arith}
+use Rattle.std.proofs.Common.{◌≡◌, ℕ, suc, zero, ◌+◌, ◌*◌, ◌/◌, ◌%◌, ◌^◌, ◌<◌, Bool, false, List, [], length, get_or, map, eqb, refl, sym, ap, ◌∙◌, inl, inr, arith}
 use Rattle.std.specs.Int.{bit_at, div_ceil}
 use Rattle.std.specs.List.{range_with_len}
-use Rattle.std.proofs.Math.Nat.{mod-one, mod-eq_of_lt, pow-suc}
+use Rattle.std.proofs.Math.Nat.{mod-one, mod-eq_of_lt}
 use Rattle.std.proofs.lemmas.Nat.{mod-pow-add, mod_below, div-mul-add, mod-mul-add}
-use Rattle.std.proofs.lemmas.Nat.Bits.{bit_at_cat_low, bit_at_cat_high}
 use Rattle.std.proofs.lemmas.List.{get_or_read, get_or_default, get_or_past}
 use Rattle.std.proofs.lemmas.List.FromFn.{fill_by_all, length-map-range_with_len, get_or-map-range_with_len}
 use Rattle.std.proofs.lemmas.Bool.{cases_lt}
@@ -13,6 +12,7 @@ use Rattle.bitmap_core.specs.Bits.{bit_of, bits, IsChunkCount, IsZeroFrom, AreCh
 use Rattle.bitmap_core.proofs.Places.{IsChunkCount-ceil, count_unique}
 use Rattle.bitmap_core.proofs.ChunkBits.{chunk_bit-mod, mod_parts}
 use Rattle.bitmap_core.proofs.BitLists.{get_or-bits, len_is}
+use Rattle.bitmap_core.proofs.MadeBytes.{byte_bit, digit_is}
 
 -- the number below 2 ^ k whose bit t is f t
 number_of : (ℕ → Bool) → ℕ → ℕ
@@ -43,35 +43,9 @@ number_of_byte : (f : ℕ → Bool) → number_of f 8 ≡ byte_of f
 unfolding number_of
 number_of_byte f = omega arith
 
-number_of-lt : (f : ℕ → Bool) (k : ℕ) → number_of f k < 2 ^ k
-unfolding number_of
-number_of-lt f zero = omega arith
-number_of-lt f (suc k) = let i = number_of-lt f k in let e = pow-suc 2 k in let w = top (f k) (2 ^ k) in omega arith
-  where
-    top : (b : Bool) (p : ℕ) → bit_value b * p ≤ p
-    top true p = omega arith
-    top false p = omega arith
-
-number_of-bit : (f : ℕ → Bool) (k t : ℕ) → t < k → eqb (bit_at (number_of f k) t) 1 ≡ f t
-unfolding number_of
-number_of-bit f zero t h = absurd (omega arith)
-number_of-bit f (suc k) t h =
-    let e : number_of f k + bit_value (f k) * 2 ^ k ≡ bit_value (f k) * 2 ^ k + number_of f k = omega arith in
-    elim (cases_lt t k) [
-      | inl s ↦ ap (λ x. eqb (bit_at x t) 1) e ∙ ap (λ x. eqb x 1) (bit_at_cat_low (bit_value (f k)) k (number_of f k) t s) ∙ number_of-bit f k t s
-      | inr s ↦
-          let q : t ≡ k = omega arith in
-          let z : t - k ≡ 0 = omega arith in
-          ap (λ x. eqb (bit_at x t) 1) e ∙ ap (λ x. eqb x 1) (bit_at_cat_high (bit_value (f k)) k (number_of f k) t (number_of-lt f k) s ∙ ap (bit_at (bit_value (f k))) z) ∙ one (f k) ∙ ap f (sym q)
-    ]
-  where
-    one : (b : Bool) → eqb (bit_at (bit_value b) 0) 1 ≡ b
-    one true = refl
-    one false = refl
-
 -- a bit of a byte made from its bits
 pub byte_of-bit : (f : ℕ → Bool) (t : ℕ) → t < 8 → eqb (bit_at (byte_of f) t) 1 ≡ f t
-byte_of-bit f t h = ap (λ x. eqb (bit_at x t) 1) (sym (number_of_byte f)) ∙ number_of-bit f 8 t h
+byte_of-bit f t h = ap (λ x. eqb x 1) (byte_bit f t h) ∙ digit_is (f t)
 
 -- a bit of chunk q of the bits v
 pub chunk_of-bit : (n : ℕ) (v : List Bool) (q i : ℕ) → 0 < n → chunk_bit n (chunk_of n v q) i ≡ get_or v (8 * n * q + i % (8 * n)) false

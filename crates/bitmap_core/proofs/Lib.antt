@@ -30,3 +30,6 @@ pub mod Meanings
 pub mod PlaceTests
 pub mod ByteChunks
 pub mod Texts
+pub mod Faults
+pub mod PairTexts
+pub mod TextParts

@@ -5,6 +5,7 @@ ghost use Rattle.bitmap_core.specs.Reading.{Fault, fault, admits};
 
 mod dense;
 mod error;
+mod prunable;
 mod range;
 
 pub use crate::bitmap::codec::error::CodecError;
