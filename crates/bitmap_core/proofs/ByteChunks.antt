@@ -74,11 +74,11 @@ past_chunk n len xs c p k d r =
     let z = mod_below len (8 * n) (omega arith) in
     let m : 8 * n * length xs - len ≡ 8 * n - len % (8 * n) = omega (arith, ap (λ x. 8 * n * x) l, mul-add (8 * n) (len / (8 * n)) 1) in
     any_range-moved (chunk_bit n c) (bit_of n xs) (len % (8 * n)) len (8 * n - len % (8 * n)) (λ j s.
-      let w : len % (8 * n) + j < 8 * n = omega arith in
-      let e : len + j ≡ len / (8 * n) * (8 * n) + (len % (8 * n) + j) = grind arith in
-      let q : (len + j) / (8 * n) ≡ len / (8 * n) = ap (λ x. x / (8 * n)) e ∙ div-mul-add (len / (8 * n)) (8 * n) (len % (8 * n) + j) w in
-      let u : (len % (8 * n) + j) % (8 * n) ≡ (len + j) % (8 * n) = mod-eq_of_lt {n = len % (8 * n) + j} {m = 8 * n} w ∙ sym (ap (λ x. x % (8 * n)) e ∙ mod-mul-add (len / (8 * n)) (8 * n) (len % (8 * n) + j) w) in
-      chunk_bit-mod n c (len % (8 * n) + j) (len + j) p u ∙ ap (λ x. chunk_bit n x (len + j)) (get_or_read xs (len / (8 * n)) c (omega arith) r [] ∙ ap (λ x. get_or xs x []) (sym q)))
+    let w : len % (8 * n) + j < 8 * n = omega arith in
+    let e : len + j ≡ len / (8 * n) * (8 * n) + (len % (8 * n) + j) = grind arith in
+    let q : (len + j) / (8 * n) ≡ len / (8 * n) = ap (λ x. x / (8 * n)) e ∙ div-mul-add (len / (8 * n)) (8 * n) (len % (8 * n) + j) w in
+    let u : (len % (8 * n) + j) % (8 * n) ≡ (len + j) % (8 * n) = mod-eq_of_lt {n = len % (8 * n) + j} {m = 8 * n} w ∙ sym (ap (λ x. x % (8 * n)) e ∙ mod-mul-add (len / (8 * n)) (8 * n) (len % (8 * n) + j) w) in
+    chunk_bit-mod n c (len % (8 * n) + j) (len + j) p u ∙ ap (λ x. chunk_bit n x (len + j)) (get_or_read xs (len / (8 * n)) c (omega arith) r [] ∙ ap (λ x. get_or xs x []) (sym q)))
     ∙ ap (λ x. list_any (bit_of n xs) (range_with_len len x)) (sym m)
 
 -- none, where it ends with a chunk

@@ -33,3 +33,4 @@ pub mod Texts
 pub mod Faults
 pub mod PairTexts
 pub mod TextParts
+pub mod ReadAgain

@@ -18,6 +18,7 @@ any_range_at f a (suc m) i e l h =
     or_first : (b c : Bool) → (b || c) ≡ false → b ≡ false
     or_first true c e = e
     or_first false c e = refl
+
     or_second : (b c : Bool) → (b || c) ≡ false → c ≡ false
     or_second true c e = absurd cc
     or_second false c e = e

@@ -84,9 +84,9 @@ zeros n len body p e i s =
 pub same_past : (n len : ℕ) (body : List ℕ) → 0 < n → list_any (bit_of n (chunks_in n len body)) (range_with_len len (8 * n * length (chunks_in n len body) - len)) ≡ list_any (bit_in body) (range_with_len len (8 * (n * chunk_count n len) - len))
 same_past n len body p =
     let g : 8 * n * length (chunks_in n len body) - len ≡ 8 * (n * chunk_count n len) - len =
-      let b = ap (λ x. 8 * n * x) (length-chunks_in n len body) in
-      let c : 8 * n * chunk_count n len ≡ 8 * (n * chunk_count n len) = grind arith in
-      omega arith in
+    let b = ap (λ x. 8 * n * x) (length-chunks_in n len body) in
+    let c : 8 * n * chunk_count n len ≡ 8 * (n * chunk_count n len) = grind arith in
+    omega arith in
     ap (λ m. list_any (bit_of n (chunks_in n len body)) (range_with_len len m)) g
     ∙ any_range-same (bit_of n (chunks_in n len body)) (bit_in body) len (8 * (n * chunk_count n len) - len) (λ i a b. bit_of-chunks_in n len body i p (omega arith))
 
@@ -100,11 +100,11 @@ chunks-spell n len body p h l e =
     let lb : length bytes ≡ n * k = omega (arith, length-take (n * k) body) in
     let fits = AreBytes-take (n * k) body h in
     fill_by_all (chunk_of n (bits n xs len)) xs k [] (length-chunks_in n len body) (λ i s.
-      let inside : i < length xs = rw (length-chunks_in n len body) s in
-      let is : get_or xs i [] ≡ take n (drop (n * i) bytes) = get_or-first_chunks n k bytes i s in
-      let m = mul-le n (i + 1) k (omega arith) in
-      let wide : length (take n (drop (n * i) bytes)) ≡ n = omega (arith, length-take n (drop (n * i) bytes), length-drop (n * i) bytes, mul-add n i 1) in
-      chunk_is n xs len (bits n xs len) i (get_or xs i []) p refl (zeros n len body p e) inside (get_or_default xs i [] (get_or xs i []) inside) (ap length is ∙ wide) (λ q. rw is (AreBytes-take n (drop (n * i) bytes) (AreBytes-drop (n * i) bytes fits) q)))
+    let inside : i < length xs = rw (length-chunks_in n len body) s in
+    let is : get_or xs i [] ≡ take n (drop (n * i) bytes) = get_or-first_chunks n k bytes i s in
+    let m = mul-le n (i + 1) k (omega arith) in
+    let wide : length (take n (drop (n * i) bytes)) ≡ n = omega (arith, length-take n (drop (n * i) bytes), length-drop (n * i) bytes, mul-add n i 1) in
+    chunk_is n xs len (bits n xs len) i (get_or xs i []) p refl (zeros n len body p e) inside (get_or_default xs i [] (get_or xs i []) inside) (ap length is ∙ wide) (λ q. rw is (AreBytes-take n (drop (n * i) bytes) (AreBytes-drop (n * i) bytes fits) q)))
   where
     mul-le : (c a b : ℕ) → a ≤ b → c * a ≤ c * b
     mul-le c a b q = let e : a + (b - a) ≡ b = omega arith in omega (arith, mul-add c a (b - a), ap (λ x. c * x) e)
@@ -124,9 +124,9 @@ pub text-spells : (n : ℕ) (text : List ℕ) → 0 < n → AreBytes text → 8 
 unfolding value
 text-spells n text p h l e =
     joined n (number text) (chunk_bytes n text) text (drop 8 text) (chunks_in n (number text) (drop 8 text)) _ (number_of_text text h (omega arith))
-      (first_chunks-all n (chunk_count n (number text)) (take (chunk_bytes n text) (drop 8 text)) (omega (arith, length-take (chunk_bytes n text) (drop 8 text), length-drop 8 text)))
-      (chunks-spell n (number text) (drop 8 text) p (AreBytes-drop 8 text h) (omega (arith, length-drop 8 text)) e)
-      (length-bits n _ (number text))
+    (first_chunks-all n (chunk_count n (number text)) (take (chunk_bytes n text) (drop 8 text)) (omega (arith, length-take (chunk_bytes n text) (drop 8 text), length-drop 8 text)))
+    (chunks-spell n (number text) (drop 8 text) p (AreBytes-drop 8 text h) (omega (arith, length-drop 8 text)) e)
+    (length-bits n _ (number text))
     ∙ ap (λ x. spelling n (bits n (chunks_in n (number text) (drop 8 text)) (number text)) ++ x) (drop-drop (chunk_bytes n text) 8 text)
 
 -- ---- what is spelled

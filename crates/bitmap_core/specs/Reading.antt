@@ -82,22 +82,22 @@ first_fault (test ∷ tests) = if test.0 then Some test.1 else first_fault tests
 -- the tests of a text that is read as a list of bits, in order
 abbrev pub bits_tests : ℕ → (ℕ → Bool) → List ℕ → List (Bool × Fault)
 bits_tests n range text =
-  (is_short text, EndOfBuffer)
-  ∷ (is_out_of_range range text, InvalidLength (number text))
-  ∷ (has_too_many_chunks n text, EndOfBuffer)
-  ∷ (lacks_chunks n text, EndOfBuffer)
-  ∷ (has_trailing_bit n text, Invalid (codes "BitMap") (codes "Invalid trailing bits in encoded data"))
-  ∷ []
+    (is_short text, EndOfBuffer)
+    ∷ (is_out_of_range range text, InvalidLength (number text))
+    ∷ (has_too_many_chunks n text, EndOfBuffer)
+    ∷ (lacks_chunks n text, EndOfBuffer)
+    ∷ (has_trailing_bit n text, Invalid (codes "BitMap") (codes "Invalid trailing bits in encoded data"))
+    ∷ []
 
 -- the tests of a text that is read as a pair, in order
 abbrev pub pair_tests : ℕ → (ℕ → Bool) → List ℕ → List (Bool × Fault)
 pair_tests n range text =
-  (is_short text, EndOfBuffer)
-  ∷ (has_too_many_pruned_bits n text, Invalid (codes "Prunable") (codes "pruned_chunks would overflow when computing pruned_bits"))
-  ∷ (has_too_many_pruned_chunks text, Invalid (codes "Prunable") (codes "pruned_chunks doesn't fit in usize"))
-  ∷ bits_tests n range (drop 8 text)
-  ++ (has_too_many_bits n text, Invalid (codes "Prunable") (codes "total bitmap length (pruned + unpruned) would overflow u64"))
-  ∷ []
+    (is_short text, EndOfBuffer)
+    ∷ (has_too_many_pruned_bits n text, Invalid (codes "Prunable") (codes "pruned_chunks would overflow when computing pruned_bits"))
+    ∷ (has_too_many_pruned_chunks text, Invalid (codes "Prunable") (codes "pruned_chunks doesn't fit in usize"))
+    ∷ bits_tests n range (drop 8 text)
+    ++ (has_too_many_bits n text, Invalid (codes "Prunable") (codes "total bitmap length (pruned + unpruned) would overflow u64"))
+    ∷ []
 
 -- the first fault of a text that is read as a list of bits
 unfoldable pub bits_fault : ℕ → (ℕ → Bool) → List ℕ → Option Fault

@@ -5,6 +5,7 @@ ghost use Rattle.bitmap_core.specs.Reading.{Fault, fault, admits};
 
 mod dense;
 mod error;
+pub mod laws;
 mod prunable;
 mod range;
 

@@ -93,7 +93,10 @@ impl<const N: usize> Prunable<N> {
 
     // The bits after the pruned ones.
     pub(crate) fn retained(&self) -> &BitMap<N>
-        ensures { result.now ≡ self.now.bits }
+        ensures value { result.now ≡ self.now.bits }
+        ensures positive { 0 < N }
+        ensures fits { 8 * N < 2 ^ 64 }
+        ensures bound { bit_len N self.now < 2 ^ 64 }
     {
         &self.bitmap
     }

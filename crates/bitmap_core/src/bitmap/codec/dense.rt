@@ -67,10 +67,7 @@ pub fn parts<'a, const N: usize>(
         .ok_or(CodecError::EndOfBuffer)?;
     let chunks = chunks_of::<N>(bytes, count);
     if is_set_past(chunks, len) {
-        return Err(CodecError::Invalid(
-            "BitMap",
-            "Invalid trailing bits in encoded data",
-        ));
+        return Err(CodecError::Invalid("BitMap", "Invalid trailing bits in encoded data"));
     }
     Ok((len, chunks, rest))
 }

@@ -1,6 +1,6 @@
 //! The byte form of a bitmap with a pruned front: its pruned chunk count in eight bytes, most significant first, and its retained bits.
 
-ghost use Rattle.std.specs.Prelude.{◌≡◌, ℕ, ◌+◌, ◌*◌, ◌^◌, ◌<◌, ◌≤◌, None, drop, length, slice_index, take, IfErr, IfOk, OnOk};
+ghost use Rattle.std.specs.Prelude.{◌≡◌, ℕ, ◌+◌, ◌*◌, ◌^◌, ◌<◌, ◌≤◌, Bool, None, drop, length, slice_index, take, IfErr, IfOk, OnOk};
 ghost use Rattle.std.specs.Simd.{first_chunks};
 ghost use Rattle.bitmap_core.specs.PrunedBits.{bit_len};
 ghost use Rattle.bitmap_core.specs.Spelling.{chunk_count, pair_spelling};
@@ -13,8 +13,36 @@ use crate::bitmap::codec::{CodecError, EncodeSize, RangeCfg, Read, Write};
 use crate::bitmap::prunable::Prunable;
 use std::alloc::{AllocError, Global};
 
-// The pruned chunk count of a text, the length of its retained bits, their chunks, and what follows them.
+// The pruned chunk count of a text, the number of pruned bits, and what follows the count.
 #[tactic(auto, unfolding(crate::specs::Reading::pair_fault))]
+fn pruned_part<const N: usize>(text: &[u8]) -> Result<(usize, u64, &[u8]), CodecError>
+    requires { 8 * N < 2 ^ 64 }
+    ensures long { OnOk result (8 ≤ length text.now) }
+    ensures count { IfOk result (λ p. p.0 ≡ number text.now) }
+    ensures pruned { IfOk result (λ p. p.1 ≡ 8 * N * number text.now) }
+    ensures fits { OnOk result (8 * N * number text.now < 2 ^ 64) }
+    ensures body { IfOk result (λ p. p.2.now ≡ drop 8 text.now) }
+    ensures refused { IfErr result (λ e. (range : ℕ → Bool) → pair_fault N range text.now ≡ fault e) }
+    ensures bytes { (k : ℕ) → slice_index text.now k < 256 }
+{
+    let (front, body) = text
+        .split_first_chunk::<8>()
+        .ok_or(CodecError::EndOfBuffer)?;
+    let count = u64::from_be_bytes(*front);
+    let pruned_bits = chunk_bits::<N>()
+        .checked_mul(count)
+        .ok_or(CodecError::Invalid(
+            "Prunable",
+            "pruned_chunks would overflow when computing pruned_bits",
+        ))?;
+    let pruned_chunks = usize::try_from(count).map_err(|_| CodecError::Invalid(
+        "Prunable",
+        "pruned_chunks doesn't fit in usize",
+    ))?;
+    Ok((pruned_chunks, pruned_bits, body))
+}
+
+// The pruned chunk count of a text, the length of its retained bits, their chunks, and what follows them.
 fn pair_parts<'a, const N: usize>(
     text: &'a [u8],
     range: &RangeCfg,
@@ -32,19 +60,7 @@ fn pair_parts<'a, const N: usize>(
     ensures refused { IfErr result (λ e. pair_fault N (admits range.now) text.now ≡ fault e) }
     ensures bytes { (k : ℕ) → slice_index text.now k < 256 }
 {
-    let (front, body) = text
-        .split_first_chunk::<8>()
-        .ok_or(CodecError::EndOfBuffer)?;
-    let count = u64::from_be_bytes(*front);
-    let pruned_bits = chunk_bits::<N>()
-        .checked_mul(count)
-        .ok_or(CodecError::Invalid(
-            "Prunable",
-            "pruned_chunks would overflow when computing pruned_bits",
-        ))?;
-    let pruned_chunks = usize::try_from(count).map_err(|_| {
-        CodecError::Invalid("Prunable", "pruned_chunks doesn't fit in usize")
-    })?;
+    let (pruned_chunks, pruned_bits, body) = pruned_part::<N>(text)?;
     let (len, chunks, rest) = parts::<N>(body, range)?;
     if pruned_bits.checked_add(len).is_none() {
         return Err(CodecError::Invalid(
