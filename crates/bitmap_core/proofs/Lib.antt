@@ -34,3 +34,7 @@ pub mod Faults
 pub mod PairTexts
 pub mod TextParts
 pub mod ReadAgain
+pub mod JoinedWords
+pub mod BitByBit
+pub mod Members
+pub mod PairMeanings

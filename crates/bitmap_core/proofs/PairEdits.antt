@@ -1,15 +1,16 @@
-use Rattle.std.proofs.Common.{◌≡◌, ℕ, ◌+◌, ◌-◌, ◌*◌, ◌/◌, ◌^◌, ◌<◌, ◌≤◌, Bool, false, cond, List, [], ◌∷◌, ◌++◌, length, get_or, take, replicate, refl, sym, ap, ◌∙◌, inl, inr, eqb, ltb, Result, Ok, Err, OnOk, OnErr, arith}
-use Rattle.std.proofs.Math.Nat.{mul-add-div, mul-add-mod_self_left}
+use Rattle.std.proofs.Common.{◌≡◌, ℕ, ◌+◌, ◌-◌, ◌*◌, ◌/◌, ◌%◌, ◌^◌, ◌<◌, ◌≤◌, Bool, false, cond, List, [], ◌∷◌, ◌++◌, length, get_or, map, take, replicate, refl, sym, ap, ◌∙◌, inl, inr, eqb, ltb, Result, Ok, Err, OnOk, OnErr, arith}
+use Rattle.std.proofs.Math.Nat.{mod-mod, mul-add, mul-add-div, mul-add-mod_self_left}
+use Rattle.std.proofs.lemmas.Nat.{div_below, mod_below}
 use Rattle.std.proofs.lemmas.List.{length-append, length-take, length-take-le, length-drop, length-set, length-replicate, get_or_append_left, get_or-append_right, get_or_push, get_or_past, get_or-take, get_or-drop, get_or-set_same, get_or-set_other, get_or-replicate}
 use Rattle.std.proofs.lemmas.Bool.{cases_lt, cases_eq, cases_order, eq-eqb, ne_eqb, lt-ltb, le-ltb}
-use Rattle.std.proofs.lemmas.List.FromFn.{length-map-range_with_len}
-use Rattle.std.specs.List.{flat_map}
+use Rattle.std.proofs.lemmas.List.FromFn.{length-map-range_with_len, get_or-map-range_with_len}
+use Rattle.std.specs.List.{flat_map, range_with_len}
 use Rattle.bitmap_core.specs.Chunk.{chunk_bit, chunk_bits}
 use Rattle.bitmap_core.specs.Bits.{bit_of}
-use Rattle.bitmap_core.specs.PrunedBits.{PrunedBits, pruned_bits, bit_len, bit_at, IsRetained, pushed, popped, set_at, appended, extended, truncated, pruned_to, unpruned, with_chunk}
+use Rattle.bitmap_core.specs.PrunedBits.{PrunedBits, pruned_bits, bit_len, bit_at, IsRetained, chunk, pushed, popped, set_at, appended, extended, truncated, pruned_to, unpruned, with_chunk}
 use Rattle.bitmap_core.proofs.ChunkBits.{chunk_bit-mod}
 use Rattle.bitmap_core.proofs.FrontChunks.{length-front_bits, get_or-front_bits}
-use Rattle.bitmap_core.proofs.Pairs.{same_pair, same_bitmap, bit_past, bit_from_bits, len_from_bits, front_of}
+use Rattle.bitmap_core.proofs.Pairs.{same_pair, same_bitmap, bit_past, bit_from_bits, len_from_bits, front_of, place, chunk_bit_of_chunk}
 
 -- lengths
 pub len_pushed : (n : ℕ) (b : PrunedBits) (x : Bool) → bit_len n (pushed b x) ≡ bit_len n b + 1
@@ -131,3 +132,38 @@ either_way (Err x) p q = q
 
 pub fits_with_chunk : (n pruned : ℕ) (v w : List Bool) (c : List ℕ) → 8 * n * pruned + length v + 8 * n < 2 ^ 64 → w ≡ v ++ chunk_bits n c → 8 * n * pruned + length w < 2 ^ 64
 fits_with_chunk n pruned v w c h e = omega (arith, ap length e ∙ length-append v (chunk_bits n c), length-map-range_with_len (chunk_bit n c) 0 (8 * n))
+
+pruned_count : (n : ℕ) (b : PrunedBits) (i : ℕ) → b.pruned ≤ i → (pruned_to n b i).pruned ≡ i
+pruned_count n b i low = elim (cases_lt b.pruned i) [
+  | inl m ↦ rw (lt-ltb b.pruned i m) refl
+  | inr m ↦ rw (le-ltb b.pruned i m) (omega arith)
+]
+
+-- bit d of the chunks from the first retained one on
+bit_of_dropped : (n : ℕ) (b : PrunedBits) (m d : ℕ) → 0 < n → d < 8 * n * m → bit_of n (map (chunk n b) (range_with_len b.pruned m)) d ≡ bit_at n b (pruned_bits n b + d)
+bit_of_dropped n b m d p h =
+    let q : d / (8 * n) < m = div_below d (8 * n) m (omega arith) (omega arith) in
+    let r = mod_below d (8 * n) (omega arith) in
+    let e : 8 * n * (b.pruned + d / (8 * n)) + d % (8 * n) ≡ pruned_bits n b + d = omega (arith, mul-add (8 * n) b.pruned (d / (8 * n)), place (8 * n) d) in
+    ap (λ c. chunk_bit n c d) (get_or-map-range_with_len (chunk n b) b.pruned m (d / (8 * n)) (b.pruned + d / (8 * n)) [] q refl)
+    ∙ chunk_bit-mod n (chunk n b (b.pruned + d / (8 * n))) d (d % (8 * n)) p (sym (mod-mod d (8 * n)))
+    ∙ chunk_bit_of_chunk n b (b.pruned + d / (8 * n)) (d % (8 * n)) p r
+    ∙ ap (λ k. bit_at n b k) e
+
+-- the chunks that a prune drops, put back, give the bitmap as it was
+pub unpruned_pruned : (n : ℕ) (b : PrunedBits) (i : ℕ) → 0 < n → b.pruned ≤ i → 8 * n * i ≤ bit_len n b → unpruned n (pruned_to n b i) (map (chunk n b) (range_with_len b.pruned (i - b.pruned))) ≡ b
+unpruned_pruned n b i p low high =
+    let c = pruned_count n b i low in
+    let l = length-map-range_with_len (chunk n b) b.pruned (i - b.pruned) in
+    let fits : length (map (chunk n b) (range_with_len b.pruned (i - b.pruned))) ≤ (pruned_to n b i).pruned = omega (arith, c, l) in
+    let e : (pruned_to n b i).pruned - length (map (chunk n b) (range_with_len b.pruned (i - b.pruned))) ≡ b.pruned = omega (arith, c, l) in
+    let front : 8 * n * (pruned_to n b i).pruned ≡ 8 * n * i = ap (λ m. 8 * n * m) c in
+    let before : 8 * n * ((pruned_to n b i).pruned - length (map (chunk n b) (range_with_len b.pruned (i - b.pruned)))) ≡ 8 * n * b.pruned = ap (λ m. 8 * n * m) e in
+    same_bitmap n (unpruned n (pruned_to n b i) (map (chunk n b) (range_with_len b.pruned (i - b.pruned)))) b e (len_unpruned n (pruned_to n b i) _ p fits ∙ len_pruned_to n b i high) (λ k r. elim (cases_lt k (8 * n * i)) [
+      | inl h ↦
+          bit_unpruned_low n (pruned_to n b i) _ p fits k (omega (arith, r.0, before)) (omega (arith, front))
+          ∙ ap (λ d. bit_of n (map (chunk n b) (range_with_len b.pruned (i - b.pruned))) d) (ap (λ m. k - m) before)
+          ∙ bit_of_dropped n b (i - b.pruned) (k - pruned_bits n b) p (omega (arith, front_of (8 * n) b.pruned i low, r.0))
+          ∙ ap (λ j. bit_at n b j) (omega (arith, r.0))
+      | inr h ↦ bit_unpruned_high n (pruned_to n b i) _ p fits k (omega (arith, front)) ∙ bit_pruned n b i k low h
+    ])

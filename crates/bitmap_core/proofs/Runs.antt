@@ -1,11 +1,11 @@
-use Rattle.std.proofs.Common.{◌≡◌, ℕ, suc, zero, ◌+◌, ◌-◌, ◌*◌, ◌/◌, ◌%◌, ◌^◌, ◌<◌, ◌≤◌, List, [], ◌∷◌, ◌++◌, length, get_or, set, take, drop, eqb, bit_or, bit_and, refl, sym, ap, ◌∙◌, inl, inr, arith}
+use Rattle.std.proofs.Common.{◌≡◌, ℕ, suc, zero, ◌+◌, ◌-◌, ◌*◌, ◌/◌, ◌%◌, ◌^◌, ◌<◌, ◌≤◌, List, [], ◌∷◌, ◌++◌, length, get_or, set, take, drop, eqb, max, bit_or, bit_and, refl, sym, ap, ◌∙◌, inl, inr, arith}
 use Rattle.std.specs.Int.{bit_at}
 use Rattle.std.specs.List.{flat_map}
-use Rattle.std.proofs.Math.Nat.{div-add-mod, div-div-eq-div-mul, mod-eq_of_lt, mul-add, le-div_iff_mul-le, div-mul-le_self}
+use Rattle.std.proofs.Math.Nat.{div-add-mod, div-div-eq-div-mul, mod-eq_of_lt, mul-add, mul_comm, le-div_iff_mul-le, div-mul-le_self}
 use Rattle.std.proofs.Math.Pow.{pow-lt}
 use Rattle.std.proofs.lemmas.Nat.{pow-add, pow_pos, mod_below}
 use Rattle.std.proofs.lemmas.Nat.Bits.{bit_at_or, bit_at-zero, bit_at_above, bit_at_cat_low, bit_at_cat_high}
-use Rattle.std.proofs.lemmas.List.{get_or_append_left, get_or-append_right, get_or-drop, length-drop, take_all, get_or_read, get_or-set_same, get_or-set_other, length-append}
+use Rattle.std.proofs.lemmas.List.{get_or_append_left, get_or-append_right, get_or-drop, length-drop, take_all, get_or-set_same, get_or-set_other, length-append}
 use Rattle.std.proofs.lemmas.Grind.{flat_map-append}
 use Rattle.std.proofs.lemmas.Bool.{cases_eq, cases_lt}
 use Rattle.bitmap_core.specs.Chunk.{chunk_bit, bit_in}
@@ -13,7 +13,7 @@ use Rattle.bitmap_core.specs.Bits.{bit_of, IsChunkCount}
 use Rattle.bitmap_core.proofs.ByteBits.{low_bit_below, low_bit_above}
 use Rattle.bitmap_core.proofs.Places.{full_len}
 use Rattle.bitmap_core.proofs.ChunkBits.{mod_parts}
-use Rattle.bitmap_core.proofs.ChunkLists.{bit_of-set_here, bit_of-set_other, bit_of-push_here}
+use Rattle.bitmap_core.proofs.ChunkLists.{bit_of-set_here, bit_of-push_here}
 
 -- ---- shifted bytes
 
@@ -22,58 +22,58 @@ bit_at_shr x k i =
     let e : k + i ≡ i + k = omega arith in
     ap (λ y. y % 2) (div-div-eq-div-mul x (2 ^ k) (2 ^ i) ∙ ap (λ w. x / w) (sym (pow-add 2 k i)) ∙ ap (λ m. x / 2 ^ m) e)
 
-pub bit_at_byte : (x i : ℕ) → i < 8 → bit_at (x % 256) i ≡ bit_at x i
-bit_at_byte x i h =
-    let e : x / 256 * 2 ^ 8 + x % 256 ≡ x = omega (arith, div-add-mod x 256) in
-    sym (ap (λ y. bit_at y i) (sym e) ∙ bit_at_cat_low (x / 256) 8 (x % 256) i h)
+pub bit_at_mod : (w x i : ℕ) → i < w → bit_at (x % 2 ^ w) i ≡ bit_at x i
+bit_at_mod w x i h =
+    let e : x / 2 ^ w * 2 ^ w + x % 2 ^ w ≡ x = ap (λ y. y + x % 2 ^ w) (mul_comm (x / 2 ^ w) (2 ^ w)) ∙ div-add-mod x (2 ^ w) in
+    sym (ap (λ y. bit_at y i) (sym e) ∙ bit_at_cat_low (x / 2 ^ w) w (x % 2 ^ w) i h)
 
-pub bit_at_shl_low : (x m i : ℕ) → i < 8 → i < m → bit_at (x * 2 ^ m % 256) i ≡ 0
-bit_at_shl_low x m i s h =
+pub bit_at_shl_low : (w x m i : ℕ) → i < w → i < m → bit_at (x * 2 ^ m % 2 ^ w) i ≡ 0
+bit_at_shl_low w x m i s h =
     let e : x * 2 ^ m ≡ x * 2 ^ m + 0 = omega arith in
-    bit_at_byte (x * 2 ^ m) i s ∙ ap (λ y. bit_at y i) e ∙ bit_at_cat_low x m 0 i h ∙ bit_at-zero i
+    bit_at_mod w (x * 2 ^ m) i s ∙ ap (λ y. bit_at y i) e ∙ bit_at_cat_low x m 0 i h ∙ bit_at-zero i
 
-pub bit_at_shl_high : (x m i : ℕ) → i < 8 → m ≤ i → 0 < 2 ^ m → bit_at (x * 2 ^ m % 256) i ≡ bit_at x (i - m)
-bit_at_shl_high x m i s h p =
+pub bit_at_shl_high : (w x m i : ℕ) → i < w → m ≤ i → bit_at (x * 2 ^ m % 2 ^ w) i ≡ bit_at x (i - m)
+bit_at_shl_high w x m i s h =
     let e : x * 2 ^ m ≡ x * 2 ^ m + 0 = omega arith in
-    bit_at_byte (x * 2 ^ m) i s ∙ ap (λ y. bit_at y i) e ∙ bit_at_cat_high x m 0 i p h
+    bit_at_mod w (x * 2 ^ m) i s ∙ ap (λ y. bit_at y i) e ∙ bit_at_cat_high x m 0 i (pow_pos m) h
 
 one_shl : (s : ℕ) → s < 8 → 1 * 2 ^ s % 256 ≡ 2 ^ s
 one_shl s h =
     let e : 1 * 2 ^ s ≡ 2 ^ s = omega arith in
     ap (λ x. x % 256) e ∙ mod-eq_of_lt {n = 2 ^ s} {m = 256} (pow-lt {i = s} {j = 8} h)
 
--- a byte joined from two: where the low one ends, the high one goes on
-pub joined_low : (low high s t : ℕ) → s < 8 → t + s < 8 → bit_at (bit_or (low / 2 ^ s) (high * 2 ^ (7 - s) % 256 * 2 % 256)) t ≡ bit_at low (t + s)
-joined_low low high s t h w =
-    let o = bit_at_or (low / 2 ^ s) (high * 2 ^ (7 - s) % 256 * 2 % 256) t in
+-- a number of w bits joined from two: where the low one ends, the high one goes on
+pub joined_low : (w low high s t : ℕ) → s < w → t + s < w → bit_at (bit_or (low / 2 ^ s) (high * 2 ^ (w - 1 - s) % 2 ^ w * 2 ^ 1 % 2 ^ w)) t ≡ bit_at low (t + s)
+joined_low w low high s t h u =
+    let o = bit_at_or (low / 2 ^ s) (high * 2 ^ (w - 1 - s) % 2 ^ w * 2 ^ 1 % 2 ^ w) t in
     let l = bit_at_shr low s t in
-    let z : bit_at (high * 2 ^ (7 - s) % 256 * 2 % 256) t ≡ 0 = elim (cases_lt t 1) [
-      | inl u ↦ bit_at_shl_low (high * 2 ^ (7 - s) % 256) 1 t (omega arith) u
-      | inr u ↦ bit_at_shl_high (high * 2 ^ (7 - s) % 256) 1 t (omega arith) u (omega arith) ∙ bit_at_shl_low high (7 - s) (t - 1) (omega arith) (omega arith)
+    let z : bit_at (high * 2 ^ (w - 1 - s) % 2 ^ w * 2 ^ 1 % 2 ^ w) t ≡ 0 = elim (cases_lt t 1) [
+      | inl v ↦ bit_at_shl_low w (high * 2 ^ (w - 1 - s) % 2 ^ w) 1 t (omega arith) v
+      | inr v ↦ bit_at_shl_high w (high * 2 ^ (w - 1 - s) % 2 ^ w) 1 t (omega arith) v ∙ bit_at_shl_low w high (w - 1 - s) (t - 1) (omega arith) (omega arith)
     ] in
-    omega arith
+    o ∙ ap (λ x. max (bit_at (low / 2 ^ s) t) x) z ∙ omega arith
 
-pub joined_high : (low high s t : ℕ) → low < 256 → s < 8 → t < 8 → 8 ≤ t + s → bit_at (bit_or (low / 2 ^ s) (high * 2 ^ (7 - s) % 256 * 2 % 256)) t ≡ bit_at high (t + s - 8)
-joined_high low high s t b h u w =
-    let o = bit_at_or (low / 2 ^ s) (high * 2 ^ (7 - s) % 256 * 2 % 256) t in
-    let l : bit_at (low / 2 ^ s) t ≡ 0 = bit_at_shr low s t ∙ bit_at_above low 8 (t + s) b w in
-    let e : t - 1 - (7 - s) ≡ t + s - 8 = omega arith in
-    let z : bit_at (high * 2 ^ (7 - s) % 256 * 2 % 256) t ≡ bit_at high (t + s - 8) = bit_at_shl_high (high * 2 ^ (7 - s) % 256) 1 t u (omega arith) (omega arith) ∙ bit_at_shl_high high (7 - s) (t - 1) (omega arith) (omega arith) (pow_pos (7 - s)) ∙ ap (λ i. bit_at high i) e in
-    omega arith
+pub joined_high : (w low high s t : ℕ) → low < 2 ^ w → s < w → t < w → w ≤ t + s → bit_at (bit_or (low / 2 ^ s) (high * 2 ^ (w - 1 - s) % 2 ^ w * 2 ^ 1 % 2 ^ w)) t ≡ bit_at high (t + s - w)
+joined_high w low high s t b h u v =
+    let o = bit_at_or (low / 2 ^ s) (high * 2 ^ (w - 1 - s) % 2 ^ w * 2 ^ 1 % 2 ^ w) t in
+    let l : bit_at (low / 2 ^ s) t ≡ 0 = bit_at_shr low s t ∙ bit_at_above low w (t + s) b v in
+    let e : t - 1 - (w - 1 - s) ≡ t + s - w = omega arith in
+    let z : bit_at (high * 2 ^ (w - 1 - s) % 2 ^ w * 2 ^ 1 % 2 ^ w) t ≡ bit_at high (t + s - w) = bit_at_shl_high w (high * 2 ^ (w - 1 - s) % 2 ^ w) 1 t u (omega arith) ∙ bit_at_shl_high w high (w - 1 - s) (t - 1) (omega arith) (omega arith) ∙ ap (λ i. bit_at high i) e in
+    o ∙ ap (λ x. max (bit_at (low / 2 ^ s) t) x) z ∙ ap (λ x. max x (bit_at high (t + s - w))) l ∙ omega arith
 
 -- a byte of which the low bits are kept and the others are those of the next one
 pub opened_low : (kept next s t : ℕ) → s < 8 → t < s → bit_at (bit_or (bit_and kept (1 * 2 ^ s % 256 - 1)) (next * 2 ^ s % 256)) t ≡ bit_at kept t
 opened_low kept next s t h w =
     let o = bit_at_or (bit_and kept (2 ^ s - 1)) (next * 2 ^ s % 256) t in
     let l = low_bit_below kept s t w in
-    let z = bit_at_shl_low next s t (omega arith) w in
+    let z = bit_at_shl_low 8 next s t (omega arith) w in
     ap (λ m. bit_at (bit_or (bit_and kept (m - 1)) (next * 2 ^ s % 256)) t) (one_shl s h) ∙ omega arith
 
 pub opened_high : (kept next s t : ℕ) → s < 8 → t < 8 → s ≤ t → bit_at (bit_or (bit_and kept (1 * 2 ^ s % 256 - 1)) (next * 2 ^ s % 256)) t ≡ bit_at next (t - s)
 opened_high kept next s t u h w =
     let o = bit_at_or (bit_and kept (2 ^ s - 1)) (next * 2 ^ s % 256) t in
     let l = low_bit_above kept s t w in
-    let z = bit_at_shl_high next s t h w (pow_pos s) in
+    let z = bit_at_shl_high 8 next s t h w in
     ap (λ m. bit_at (bit_or (bit_and kept (m - 1)) (next * 2 ^ s % 256)) t) (one_shl s u) ∙ omega arith
 
 -- ---- bits of a run of bytes
@@ -149,17 +149,6 @@ opened_joined n len run old mid new b p l e high kept filled i h =
     ]
 
 -- ---- chunks of a deque, the first written in part
-
-pub joined_kept : (n : ℕ) (xs : List (List ℕ)) (len : ℕ) (old new : List ℕ) → len / (8 * n) < length xs → old ≡ get_or xs (len / (8 * n)) old → ((i : ℕ) → i % (8 * n) < len % (8 * n) → chunk_bit n new i ≡ chunk_bit n old i) → (i : ℕ) → i < len → bit_of n (set xs (len / (8 * n)) new) i ≡ bit_of n xs i
-joined_kept n xs len old new w r kept i h =
-    let d = div-add-mod len (8 * n) in
-    let f = div-add-mod i (8 * n) in
-    elim (cases_eq (i / (8 * n)) (len / (8 * n))) [
-      | inl q ↦
-          let m = ap (λ x. 8 * n * x) q in
-          bit_of-set_here n xs (len / (8 * n)) new i w q ∙ kept i (omega arith) ∙ ap (λ c. chunk_bit n c i) (get_or_read xs (len / (8 * n)) old w r [] ∙ ap (λ a. get_or xs a []) (sym q))
-      | inr q ↦ bit_of-set_other n xs (len / (8 * n)) new i q
-    ]
 
 pub joined_here : (n : ℕ) (xs : List (List ℕ)) (len : ℕ) (run new : List ℕ) → 0 < n → len / (8 * n) < length xs → ((i : ℕ) → len % (8 * n) ≤ i % (8 * n) → chunk_bit n new i ≡ bit_in run (i % (8 * n) - len % (8 * n))) → (i : ℕ) → len ≤ i → i / (8 * n) < len / (8 * n) + 1 → bit_of n (set xs (len / (8 * n)) new) i ≡ bit_in run (i - len)
 joined_here n xs len run new p w joined i h s =

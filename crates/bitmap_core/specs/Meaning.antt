@@ -1,8 +1,9 @@
 -- What a bitmap is to its readers. A chunk has n bytes.
 use Rattle.std.specs.Prelude.{◌≡◌, ℕ, ◌+◌, ◌-◌, ◌*◌, ◌/◌, ◌%◌, ◌^◌, ◌<◌, ◌≤◌, min, max, Bool, true, false, List, ◌++◌, length, slice_index_or, ◌==◌, nat_lt, if◌then◌else◌}
-use Rattle.std.specs.Int.{bit_at}
+use Rattle.std.specs.Int.{bit_at as digit_at}
 use Rattle.std.specs.List.{filter, range_with_len}
 use Rattle.bitmap_core.specs.Chunk.{chunk_bit}
+use Rattle.bitmap_core.specs.PrunedBits.{PrunedBits, bit_len, bit_at}
 
 -- how many chunks are pruned at the front, how many bits there are (the pruned ones counted), and the bit at each position
 pub record Meaning : Type 0 where
@@ -13,6 +14,10 @@ pub record Meaning : Type 0 where
 -- a list of bits, as a bitmap with nothing pruned
 abbrev pub plain_meaning : List Bool → Meaning
 plain_meaning v = record { pruned = 0; len = length v; bit = λ k. slice_index_or v k false }
+
+-- a bitmap that may have a pruned front
+abbrev pub pair_meaning : ℕ → PrunedBits → Meaning
+pair_meaning n b = record { pruned = b.pruned; len = bit_len n b; bit = bit_at n b }
 
 -- what holds of every bitmap
 pub record IsLawful (n : ℕ) (m : Meaning) : Type 0 where
@@ -70,7 +75,7 @@ pub record Scan : Type 0 where
 
 -- the bits of a word that begins at base, by position
 abbrev pub word_bit : ℕ → ℕ → ℕ → Bool
-word_bit base word k = bit_at word (k - base) == 1
+word_bit base word k = digit_at word (k - base) == 1
 
 -- the set positions in a word at base, and then those in the bitmap from the next word on
 abbrev pub left_from : ℕ → Meaning → ℕ → ℕ → ℕ → List ℕ
@@ -87,4 +92,4 @@ pub record IsScan (n : ℕ) (m : Meaning) (base : ℕ) (end : ℕ) (chunk : List
 
 -- a word at base has no bit at or past the end
 abbrev pub IsCut : ℕ → ℕ → ℕ → Type 0
-IsCut base word end = (i : ℕ) → i < 64 → end ≤ base + i → (bit_at word i == 1) ≡ false
+IsCut base word end = (i : ℕ) → i < 64 → end ≤ base + i → (digit_at word i == 1) ≡ false

@@ -68,7 +68,7 @@ extended n b len = appended b (replicate (len - bit_len n b) false)
 abbrev pub truncated : ℕ → PrunedBits → ℕ → PrunedBits
 truncated n b len = record { pruned = b.pruned; bits = take (len - pruned_bits n b) b.bits }
 
--- without the chunks before chunk i, those that are pruned already left aside
+-- without the chunks before chunk i; where those are pruned already, the bitmap itself
 abbrev pub pruned_to : ℕ → PrunedBits → ℕ → PrunedBits
 pruned_to n b i = if nat_lt b.pruned i then record { pruned = i; bits = drop (8 * n * (i - b.pruned)) b.bits } else b
 

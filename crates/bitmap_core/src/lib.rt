@@ -3,3 +3,4 @@
 
 pub mod bitmap;
 pub mod chunk;
+pub mod laws;

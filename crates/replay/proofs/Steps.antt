@@ -1,15 +1,11 @@
 -- A command that no refusal holds of is accepted.
-use Rattle.std.proofs.Common.{◌≡◌, ◌≢◌, ℕ, ◌+◌, ◌<◌, ◌≤◌, ◌^◌, List, [], ◌∷◌, ◌++◌, Bool, Some, None, Option, refl, ap, inl, arith, leb, false, length, eqb}
+use Rattle.std.proofs.Common.{◌≡◌, ◌≢◌, ℕ, ◌+◌, ◌*◌, ◌<◌, ◌≤◌, ◌^◌, List, [], ◌∷◌, ◌++◌, Bool, Some, None, Option, refl, ap, inl, arith, leb, ltb, false, length, eqb}
 use Rattle.std.specs.Prelude.{MatchOption, nat_eq}
-use Rattle.std.specs.Option.{option_map}
-use Rattle.std.specs.Map.{lookup}
 use Rattle.std.proofs.lemmas.Bool.{false≢true, ne_eqb}
 use Rattle.std.proofs.lemmas.Bool.Decides.{nat_tests}
-use Rattle.std.proofs.lemmas.Map.Made.{lookup-map_values}
-use Rattle.bitmap_core.specs.PrunedBits.{PrunedBits, unpruned_bits, bit_len, pushed, popped, last_bit, set_at}
-use Rattle.replay.specs.declared.command.Command.TheVariants.{Push, Pop, Set, Commit, Abort}
+use Rattle.bitmap_core.specs.PrunedBits.{PrunedBits, pruned_bits, bit_len, pushed, popped, last_bit, set_at}
+use Rattle.replay.specs.declared.command.Command.TheVariants.{Start, Push, Pop, Set, Commit, Abort}
 use Rattle.replay.specs.History.{History, kept_under, latest}
-use Rattle.replay.specs.Copies.{whole}
 use Rattle.replay.specs.Machine.{Machine, Done, Bit, Agrees, StepTo}
 use Rattle.replay.specs.Seen.{no_costs}
 
@@ -26,6 +22,12 @@ not_too_long n h = grind (arith, nat_tests)
 not_past : (len k : ℕ) → k < len → leb len k ≡ false
 not_past len k h = grind (arith, nat_tests)
 
+fits_u64 : (n : ℕ) → n < 2 ^ 64 → leb (2 ^ 64) n ≡ false
+fits_u64 n h = grind (arith, nat_tests)
+
+pub start_accepted : (N chunks : ℕ) (current : PrunedBits) (history : History) → 8 * N * chunks < 2 ^ 64 → StepTo N Agrees (clean current history) (Start chunks) Done (clean (record { pruned = chunks; bits = [] }) [])
+start_accepted N chunks current history h = rw (fits_u64 (8 * N * chunks) h) (inl (refl, (0, omega arith, record { same = refl; within = λ q h. absurd (false≢true h) })))
+
 pub push_accepted : (N : ℕ) (current pending : PrunedBits) (history : History) (value : Bool) → bit_len N pending + 1 < 2 ^ 64 → StepTo N Agrees (dirty current history pending) (Push value) Done (dirty current history (pushed pending value))
 push_accepted N current pending history value bound = rw (not_too_long _ bound) (inl (refl, (0, omega arith, record { same = refl; within = λ q h. absurd (false≢true h) })))
 
@@ -34,8 +36,11 @@ pop_accepted N current pending history some =
     let e : eqb (length pending.bits) 0 ≡ false = grind (arith, nat_tests) in
     rw e (inl (refl, (0, omega arith, record { same = refl; within = λ q h. absurd (false≢true h) })))
 
-pub set_accepted : (N : ℕ) (current pending : PrunedBits) (history : History) (position : ℕ) (value : Bool) → position < bit_len N pending → StepTo N Agrees (dirty current history pending) (Set position value) Done (dirty current history (set_at N pending position value))
-set_accepted N current pending history position value bound = rw (not_past _ _ bound) (inl (refl, (0, omega arith, record { same = refl; within = λ q h. absurd (false≢true h) })))
+not_below : (first k : ℕ) → first ≤ k → ltb k first ≡ false
+not_below first k h = grind (arith, nat_tests)
+
+pub set_accepted : (N : ℕ) (current pending : PrunedBits) (history : History) (position : ℕ) (value : Bool) → pruned_bits N pending ≤ position → position < bit_len N pending → StepTo N Agrees (dirty current history pending) (Set position value) Done (dirty current history (set_at N pending position value))
+set_accepted N current pending history position value retained bound = rw (not_past (bit_len N pending) position bound, not_below (pruned_bits N pending) position retained) (inl (refl, (0, omega arith, record { same = refl; within = λ q h. absurd (false≢true h) })))
 
 pub abort_accepted : (N : ℕ) (current pending : PrunedBits) (history : History) → StepTo N Agrees (dirty current history pending) Abort Done (clean current history)
 abort_accepted N current pending history = inl (refl, (0, omega arith, record { same = refl; within = λ q h. absurd (false≢true h) }))
@@ -60,7 +65,3 @@ commit_at N current pending history number (Some previous) e m a =
 
 pub commit_accepted : (N : ℕ) (current pending : PrunedBits) (history : History) (number : ℕ) → number ≢ 18446744073709551615 → IsAbove (latest history) number → StepTo N Agrees (dirty current history pending) (Commit number) Done (clean pending (history ++ (number, pending) ∷ []))
 commit_accepted N current pending history number m h = commit_at N current pending history number (latest history) refl m h
-
--- a look-up among whole copies
-pub kept_whole : (copies : List (ℕ × List Bool)) (number : ℕ) → kept_under (whole copies) number ≡ option_map unpruned_bits (lookup (nat_eq number) copies)
-kept_whole copies number = lookup-map_values unpruned_bits (nat_eq number) copies

@@ -1,4 +1,3 @@
-pub mod Copies
 pub mod History
 pub mod Machine
 pub mod Seen

@@ -2,11 +2,12 @@
 use Rattle.std.specs.Prelude.{◌≡◌, ℕ, ◌+◌, ◌-◌, ◌*◌, ◌/◌, ◌%◌, ◌^◌, ◌≤◌, Bool, true, false, not, ◌==◌, ◌&&◌, ◌⊎◌, List, [], ◌∷◌, ◌++◌, length, Option, Some, None, nat_lt, nat_le, nat_eq, IsTrue, MatchOption, if◌then◌else◌, unwrap_or, is_some, option_and_then}
 use Rattle.std.specs.Option.{option_or}
 use Rattle.std.specs.Set.{distinct_count}
-use Rattle.bitmap_core.specs.PrunedBits.{PrunedBits, bit_len, bit_at, pushed, popped, last_bit, set_at}
+use Rattle.bitmap_core.specs.PrunedBits.{PrunedBits, pruned_bits, bit_len, bit_at, pushed, popped, last_bit, set_at}
+use Rattle.bitmap_core.specs.Meaning.{ones, pair_meaning}
 use Rattle.replay.specs.declared.command.Command.{Command}
-use Rattle.replay.specs.declared.command.Command.TheVariants.{Begin, Push, Pop, Set, Commit, Abort, Len, Get, At}
+use Rattle.replay.specs.declared.command.Command.TheVariants.{Start, Begin, Push, Pop, Set, Commit, Abort, Len, PrunedChunks, Get, Ones, At}
 use Rattle.replay.specs.declared.command.Refusal.{Refusal}
-use Rattle.replay.specs.declared.command.Refusal.TheVariants.{WrongMode, OutOfBounds, TooLong, NoRetainedBit, ReservedCommitNumber, NonMonotonicCommit, NoMemory}
+use Rattle.replay.specs.declared.command.Refusal.TheVariants.{WrongMode, OutOfBounds, Pruned, TooLong, NoRetainedBit, ReservedCommitNumber, NonMonotonicCommit, PrunedChunksOverflow, NoMemory}
 use Rattle.replay.specs.History.{History, kept_under, latest, IsWithin}
 
 -- the current bitmap, in dirty mode the pending one, the history, and what each kept number costs
@@ -46,6 +47,7 @@ pub data Answer : Type 0 where
   Done : Answer
   Bit : (bit : Bool) → Answer
   Number : (number : ℕ) → Answer
+  Positions : (positions : Option (List ℕ)) → Answer
   Snapshot : (bitmap : Option PrunedBits) → Answer
   Refused : (refusal : Refusal) → Answer
 
@@ -68,7 +70,7 @@ module _ (N : ℕ) where
   abbrev pub shown_len : State → ℕ
   shown_len s = bit_len N (shown s)
 
-  -- edits and their end want dirty mode; a batch begins, and commits are read, in clean mode
+  -- edits and their end want dirty mode; a start, the begin of a batch, and reads of set positions and of commits want clean mode
   abbrev pub wrong_mode : State → Command N → Bool
   wrong_mode s (Push value) = not (is_dirty s)
   wrong_mode s Pop = not (is_dirty s)
@@ -76,6 +78,7 @@ module _ (N : ℕ) where
   wrong_mode s (Commit number) = not (is_dirty s)
   wrong_mode s Abort = not (is_dirty s)
   wrong_mode s Len = false
+  wrong_mode s PrunedChunks = false
   wrong_mode s (Get position) = false
   wrong_mode s _ = is_dirty s
 
@@ -85,12 +88,18 @@ module _ (N : ℕ) where
   out_of_bounds s (Get position) = nat_le (shown_len s) position
   out_of_bounds s _ = false
 
+  -- the position is before the first retained one
+  abbrev pub is_pruned : State → Command N → Bool
+  is_pruned s (Set position value) = nat_lt position (pruned_bits N (shown s))
+  is_pruned s (Get position) = nat_lt position (pruned_bits N (shown s))
+  is_pruned s _ = false
+
   -- the new length would pass u64
   abbrev pub too_long : State → Command N → Bool
   too_long s (Push value) = nat_le (2 ^ 64) (shown_len s + 1)
   too_long s _ = false
 
-  -- no bit is left to pop
+  -- no retained bit is left to pop
   abbrev pub none_retained : State → Command N → Bool
   none_retained s Pop = length (shown s).bits == 0
   none_retained s _ = false
@@ -105,15 +114,22 @@ module _ (N : ℕ) where
   not_above s (Commit number) = option_and_then (λ previous. when (nat_le number previous) (NonMonotonicCommit previous number)) (latest s.history)
   not_above s _ = None
 
+  -- the pruned bits would pass u64
+  abbrev pub overflows : State → Command N → Bool
+  overflows s (Start chunks) = nat_le (2 ^ 64) (8 * N * chunks)
+  overflows s _ = false
+
   -- the first refusal that holds, in their order
   abbrev pub refusal_of : State → Command N → Option Refusal
   refusal_of s command = first
       (when (wrong_mode s command) WrongMode
       ∷ when (out_of_bounds s command) OutOfBounds
+      ∷ when (is_pruned s command) Pruned
       ∷ when (too_long s command) TooLong
       ∷ when (none_retained s command) NoRetainedBit
       ∷ when (reserved s command) ReservedCommitNumber
       ∷ not_above s command
+      ∷ when (overflows s command) PrunedChunksOverflow
       ∷ [])
 
   -- the commands that may find no memory
@@ -122,6 +138,7 @@ module _ (N : ℕ) where
   takes_memory s (Push value) = true
   takes_memory s (Set position value) = true
   takes_memory s (Commit number) = true
+  takes_memory s (Ones from to) = true
   takes_memory s (At number) = is_some (kept_under s.history number)
   takes_memory s _ = false
 
@@ -129,12 +146,15 @@ module _ (N : ℕ) where
   abbrev pub answer_of : State → Command N → Answer
   answer_of s Pop = Bit (last_bit (shown s))
   answer_of s Len = Number (shown_len s)
+  answer_of s PrunedChunks = Number (shown s).pruned
   answer_of s (Get position) = Bit (bit_at N (shown s) position)
+  answer_of s (Ones from to) = Positions (Some (ones N (pair_meaning N s.current) from to))
   answer_of s (At number) = Snapshot (kept_under s.history number)
   answer_of s _ = Done
 
   -- the state that an accepted command leaves; a commit is kept at the cost
   abbrev pub state_after : State → Command N → ℕ → State
+  state_after s (Start chunks) cost = record { current = record { pruned = chunks; bits = [] }; pending = None; history = []; costs = [] }
   state_after s Begin cost = edited s s.current
   state_after s (Push value) cost = edited s (pushed (shown s) value)
   state_after s Pop cost = edited s (popped (shown s))

@@ -1,13 +1,12 @@
 -- A session's state as a machine, and replies by what they say.
 use Rattle.std.specs.Prelude.{ℕ, [], Some, None, List, map}
 use Rattle.std.specs.Option.{option_map}
-use Rattle.bitmap_core.specs.PrunedBits.{unpruned_bits}
 use Rattle.replay.specs.declared.session.State.{State}
 use Rattle.replay.specs.declared.session.State.TheVariants as state
 use Rattle.replay.specs.declared.command.Reply.{Reply}
 use Rattle.replay.specs.declared.command.Reply.TheVariants as reply
 use Rattle.replay.specs.History.{History}
-use Rattle.replay.specs.Machine.{Machine, Answer, Done, Bit, Number, Snapshot, Refused}
+use Rattle.replay.specs.Machine.{Machine, Answer, Done, Bit, Number, Positions, Snapshot, Refused}
 
 -- whole copies hold no reverse entry, so each commit costs nothing
 abbrev pub no_costs : History → List (ℕ × ℕ)
@@ -24,5 +23,6 @@ module _ {N : ℕ} where
   said reply.Done = Done
   said (reply.Bit bit) = Bit bit
   said (reply.Number number) = Number number
-  said (reply.Snapshot bits) = Snapshot (option_map unpruned_bits bits)
+  said (reply.Positions positions) = Positions (option_map (λ v. v.items) positions)
+  said (reply.Snapshot bitmap) = Snapshot bitmap
   said (reply.Refused refusal) = Refused refusal

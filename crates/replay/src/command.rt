@@ -1,10 +1,12 @@
 //! Commands, and the replies to them.
 
-use bitmap_core::bitmap::BitMap;
+use bitmap_core::bitmap::prunable::Prunable;
 
 /// What a session is asked to do. Positions count bits from 0.
 #[derive(Drop, Debug)]
 pub enum Command<const N: usize> {
+    /// Starts anew: no bits behind so many pruned chunks, and no commits.
+    Start(usize),
     /// Begins a batch on a copy of the current bitmap.
     Begin,
     /// Appends a bit to the pending bitmap.
@@ -17,6 +19,10 @@ pub enum Command<const N: usize> {
     Get(u64),
     /// Replies the length, as `Get` reads.
     Len,
+    /// Replies the number of pruned chunks, as `Get` reads.
+    PrunedChunks,
+    /// Replies the set positions of the current bitmap, ascending: those from the first number up to the second.
+    Ones(u64, u64),
     /// Ends the batch: the pending bitmap is current, and kept under the number.
     Commit(u64),
     /// Ends the batch and drops its edits.
@@ -32,14 +38,18 @@ pub enum Refusal {
     WrongMode,
     /// The position is at or past the length.
     OutOfBounds,
+    /// The position is pruned.
+    Pruned,
     /// The length would pass `u64`.
     TooLong,
-    /// There is no bit to pop.
+    /// No bit is retained that could be popped.
     NoRetainedBit,
     /// The number is `u64::MAX`, which is never kept.
     ReservedCommitNumber,
     /// The number is not above the latest kept one, `previous`.
     NonMonotonicCommit { previous: u64, attempted: u64 },
+    /// The pruned bits would pass `u64`.
+    PrunedChunksOverflow,
     /// There was not enough memory.
     NoMemory,
 }
@@ -50,7 +60,8 @@ pub enum Reply<const N: usize> {
     Done,
     Bit(bool),
     Number(u64),
+    Positions(Option<Vec<u64>>),
     /// A kept bitmap, or `None` where the number is not kept.
-    Snapshot(Option<BitMap<N>>),
+    Snapshot(Option<Prunable<N>>),
     Refused(Refusal),
 }

@@ -6,7 +6,7 @@ ghost use Rattle.replay.specs.Width.{IsWidth};
 use crate::command::{Command, Refusal, Reply};
 use crate::script;
 use crate::session::Session;
-use bitmap_core::bitmap::BitMap;
+use bitmap_core::bitmap::prunable::Prunable;
 use std::alloc::{AllocError, Global};
 use std::io;
 use std::io::{BufWriter, Read, Write};
@@ -97,6 +97,7 @@ fn write_refusal<W: Write>(out: &mut W, refusal: Refusal) -> io::Result<()> {
     match refusal {
         Refusal::WrongMode => writeln!(out, "refused wrong-mode"),
         Refusal::OutOfBounds => writeln!(out, "refused out-of-bounds"),
+        Refusal::Pruned => writeln!(out, "refused pruned"),
         Refusal::TooLong => writeln!(out, "refused too-long"),
         Refusal::NoRetainedBit => writeln!(out, "refused no-retained-bit"),
         Refusal::ReservedCommitNumber => writeln!(out, "refused reserved-commit-number"),
@@ -104,20 +105,32 @@ fn write_refusal<W: Write>(out: &mut W, refusal: Refusal) -> io::Result<()> {
             previous,
             attempted,
         } => writeln!(out, "refused non-monotonic-commit {previous} {attempted}"),
+        Refusal::PrunedChunksOverflow => writeln!(out, "refused pruned-chunks-overflow"),
         Refusal::NoMemory => writeln!(out, "refused no-memory"),
     }
 }
 
-// The bits in order, `-` where there are none.
-fn write_bits<const N: usize, W: Write>(out: &mut W, bits: &BitMap<N>) -> io::Result<()> {
-    if bits.is_empty() {
+// The number of pruned chunks, and the retained bits in order, `-` where there are none.
+fn write_bitmap<const N: usize, W: Write>(out: &mut W, bitmap: &Prunable<N>) -> io::Result<()> {
+    let chunks = bitmap.pruned_chunks();
+    write!(out, "{chunks} ")?;
+    let first = bitmap.pruned_bits();
+    if bitmap.len() == first {
         return out.write_all(b"-");
     }
-    for position in 0..bits.len() {
-        let digit = if bits.get(position) { b"1" } else { b"0" };
+    for position in first..bitmap.len() {
+        let digit = if bitmap.get_bit(position) { b"1" } else { b"0" };
         out.write_all(digit)?;
     }
     Ok(())
+}
+
+fn write_positions<W: Write>(out: &mut W, positions: &[u64]) -> io::Result<()> {
+    write!(out, "positions")?;
+    for position in positions {
+        write!(out, " {position}")?;
+    }
+    writeln!(out)
 }
 
 fn write_reply<const N: usize, W: Write>(out: &mut W, reply: &Reply<N>) -> io::Result<()> {
@@ -128,10 +141,11 @@ fn write_reply<const N: usize, W: Write>(out: &mut W, reply: &Reply<N>) -> io::R
             writeln!(out, "bit {digit}")
         }
         Reply::Number(number) => writeln!(out, "number {number}"),
-        Reply::Snapshot(None) => writeln!(out, "none"),
-        Reply::Snapshot(Some(bits)) => {
-            write!(out, "bitmap 0 ")?;
-            write_bits(out, bits)?;
+        Reply::Positions(None) | Reply::Snapshot(None) => writeln!(out, "none"),
+        Reply::Positions(Some(positions)) => write_positions(out, positions.as_slice()),
+        Reply::Snapshot(Some(bitmap)) => {
+            write!(out, "bitmap ")?;
+            write_bitmap(out, bitmap)?;
             writeln!(out)
         }
         Reply::Refused(refusal) => write_refusal(out, *refusal),

@@ -40,12 +40,15 @@ fn bit(word: &[u8]) -> Option<bool> {
 pub fn command<const N: usize>(line: &[u8]) -> Option<Command<N>> {
     let mut words = line.split(|byte| *byte == b' ');
     let command = match words.next()? {
+        b"start" => Command::Start(usize::try_from(number(words.next()?)?).ok()?),
         b"begin" => Command::Begin,
         b"push" => Command::Push(bit(words.next()?)?),
         b"pop" => Command::Pop,
         b"set" => Command::Set(number(words.next()?)?, bit(words.next()?)?),
         b"get" => Command::Get(number(words.next()?)?),
         b"len" => Command::Len,
+        b"pruned-chunks" => Command::PrunedChunks,
+        b"ones" => Command::Ones(number(words.next()?)?, number(words.next()?)?),
         b"commit" => Command::Commit(number(words.next()?)?),
         b"abort" => Command::Abort,
         b"at" => Command::At(number(words.next()?)?),

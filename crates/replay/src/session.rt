@@ -1,13 +1,14 @@
 //! A session: runs commands on a bitmap with its history.
 
-ghost use Rattle.std.specs.Prelude.{◌≡◌, ℕ, ◌+◌, ◌*◌, ◌^◌, ◌<◌, ◌≤◌, List, [], ◌∷◌, ◌++◌, length, map, OnErr, OnOk, vec_len, vec_capacity};
-ghost use Rattle.bitmap_core.specs.PrunedBits.{unpruned_bits};
+ghost use Rattle.std.specs.Prelude.{◌≡◌, ℕ, ◌+◌, ◌*◌, ◌^◌, ◌<◌, ◌≤◌, List, [], ◌∷◌, ◌++◌, length, map, IfOk, OnErr, OnOk, vec_len, vec_capacity};
+ghost use Rattle.bitmap_core.specs.Meaning.{ones, pair_meaning};
 ghost use Rattle.replay.specs.Machine.{Agrees, StepTo, RunsOn, shown, start};
 ghost use Rattle.replay.specs.Seen.{seen, said};
 
 use crate::command::{Command, Refusal, Reply};
 use crate::store::{Clean, Dirty};
-use bitmap_core::bitmap::BitMap;
+use bitmap_core::bitmap::prunable::Prunable;
+use bitmap_core::bitmap::readable::Readable;
 use std::alloc::{AllocError, Global};
 use std::marker::Model;
 use std::mem;
@@ -17,6 +18,23 @@ use std::mem;
 enum State<const N: usize> {
     Clean(Clean<N>),
     Dirty(Dirty<N>),
+}
+
+fn start<const N: usize>(state: State<N>, alloc: Global, chunks: usize) -> (State<N>, Reply<N>)
+    requires positive { 0 < N }
+    requires fits { 8 * N < 2 ^ 64 }
+    ensures { StepTo N Agrees (seen state.entry) (Command.Start chunks) (said result.1) (seen result.0) }
+{
+    match state {
+        State::Clean(clean) => match Prunable::new_with_pruned_chunks(alloc, chunks) {
+            Ok(bitmap) => (State::Clean(Clean::new(alloc, bitmap)), Reply::Done),
+            Err(_) => (
+                State::Clean(clean),
+                Reply::Refused(Refusal::PrunedChunksOverflow),
+            ),
+        },
+        State::Dirty(dirty) => (State::Dirty(dirty), Reply::Refused(Refusal::WrongMode)),
+    }
 }
 
 fn begin<const N: usize>(state: State<N>) -> (State<N>, Reply<N>)
@@ -56,7 +74,7 @@ fn pop<const N: usize>(state: State<N>) -> (State<N>, Reply<N>)
     match state {
         State::Clean(clean) => (State::Clean(clean), Reply::Refused(Refusal::WrongMode)),
         State::Dirty(mut dirty) => {
-            if dirty.pending().is_empty() {
+            if dirty.pending().len() == dirty.pending().pruned_bits() {
                 return (State::Dirty(dirty), Reply::Refused(Refusal::NoRetainedBit));
             }
             let bit = dirty.pop();
@@ -74,6 +92,9 @@ fn set<const N: usize>(state: State<N>, position: u64, value: bool) -> (State<N>
         State::Dirty(mut dirty) => {
             if position >= dirty.pending().len() {
                 return (State::Dirty(dirty), Reply::Refused(Refusal::OutOfBounds));
+            }
+            if position < dirty.pending().pruned_bits() {
+                return (State::Dirty(dirty), Reply::Refused(Refusal::Pruned));
             }
             dirty.set(position, value);
             (State::Dirty(dirty), Reply::Done)
@@ -122,8 +143,8 @@ fn abort<const N: usize>(state: State<N>) -> (State<N>, Reply<N>)
 }
 
 // What reads show: the pending bitmap in a batch, else the current one.
-fn shown_bits<'a, const N: usize>(state: &'a State<N>) -> &'a BitMap<N>
-    ensures { unpruned_bits result.now ≡ shown (seen state.now).state }
+fn shown_bitmap<'a, const N: usize>(state: &'a State<N>) -> &'a Prunable<N>
+    ensures { result.now ≡ shown (seen state.now).state }
 {
     match state {
         State::Clean(clean) => clean.current(),
@@ -134,18 +155,52 @@ fn shown_bits<'a, const N: usize>(state: &'a State<N>) -> &'a BitMap<N>
 fn get<const N: usize>(state: &State<N>, position: u64) -> Reply<N>
     ensures { StepTo N Agrees (seen state.now) (Command.Get position) (said result) (seen state.now) }
 {
-    let bits = shown_bits(state);
-    if position >= bits.len() {
-        Reply::Refused(Refusal::OutOfBounds)
-    } else {
-        Reply::Bit(bits.get(position))
+    let bitmap = shown_bitmap(state);
+    if position >= bitmap.len() {
+        return Reply::Refused(Refusal::OutOfBounds);
     }
+    if position < bitmap.pruned_bits() {
+        return Reply::Refused(Refusal::Pruned);
+    }
+    Reply::Bit(bitmap.get_bit(position))
 }
 
 fn len<const N: usize>(state: &State<N>) -> Reply<N>
     ensures { StepTo N Agrees (seen state.now) Command.Len (said result) (seen state.now) }
 {
-    Reply::Number(shown_bits(state).len())
+    Reply::Number(shown_bitmap(state).len())
+}
+
+fn pruned_chunks<const N: usize>(state: &State<N>) -> Reply<N>
+    ensures { StepTo N Agrees (seen state.now) Command.PrunedChunks (said result) (seen state.now) }
+{
+    Reply::Number(shown_bitmap(state).pruned_chunks() as u64)
+}
+
+// The set positions of a bitmap in a range.
+fn set_positions<const N: usize>(
+    bitmap: &Prunable<N>,
+    alloc: Global,
+    from: u64,
+    to: u64,
+) -> Result<Vec<u64>, AllocError>
+    ensures { IfOk result (λ positions. positions.items ≡ ones N (pair_meaning N bitmap.now) from to) }
+{
+    // Tells the proof how large N may be.
+    let _ = bitmap.len();
+    bitmap.ones_iter_range(from..to).collect(alloc)
+}
+
+fn ones_of_current<const N: usize>(state: &State<N>, alloc: Global, from: u64, to: u64) -> Reply<N>
+    ensures { StepTo N Agrees (seen state.now) (Command.Ones from to) (said result) (seen state.now) }
+{
+    match state {
+        State::Clean(clean) => match set_positions(clean.current(), alloc, from, to) {
+            Ok(positions) => Reply::Positions(Some(positions)),
+            Err(_) => Reply::Refused(Refusal::NoMemory),
+        },
+        State::Dirty(_) => Reply::Refused(Refusal::WrongMode),
+    }
 }
 
 fn at<const N: usize>(state: &State<N>, number: u64) -> Reply<N>
@@ -153,7 +208,7 @@ fn at<const N: usize>(state: &State<N>, number: u64) -> Reply<N>
 {
     match state {
         State::Clean(clean) => match clean.at(number) {
-            Ok(bits) => Reply::Snapshot(bits),
+            Ok(bitmap) => Reply::Snapshot(bitmap),
             Err(_) => Reply::Refused(Refusal::NoMemory),
         },
         State::Dirty(_) => Reply::Refused(Refusal::WrongMode),
@@ -161,10 +216,17 @@ fn at<const N: usize>(state: &State<N>, number: u64) -> Reply<N>
 }
 
 // One command: the state after it, and the reply.
-fn step<const N: usize>(state: State<N>, command: &Command<N>) -> (State<N>, Reply<N>)
+fn step<const N: usize>(
+    state: State<N>,
+    alloc: Global,
+    command: &Command<N>,
+) -> (State<N>, Reply<N>)
+    requires positive { 0 < N }
+    requires fits { 8 * N < 2 ^ 64 }
     ensures { StepTo N Agrees (seen state.entry) command.now (said result.1) (seen result.0) }
 {
     match command {
+        Command::Start(chunks) => start(state, alloc, *chunks),
         Command::Begin => begin(state),
         Command::Push(bit) => push(state, *bit),
         Command::Pop => pop(state),
@@ -175,8 +237,16 @@ fn step<const N: usize>(state: State<N>, command: &Command<N>) -> (State<N>, Rep
             let reply = len(&state);
             (state, reply)
         }
+        Command::PrunedChunks => {
+            let reply = pruned_chunks(&state);
+            (state, reply)
+        }
         Command::Get(position) => {
             let reply = get(&state, *position);
+            (state, reply)
+        }
+        Command::Ones(from, to) => {
+            let reply = ones_of_current(&state, alloc, *from, *to);
             (state, reply)
         }
         Command::At(number) => {
@@ -224,7 +294,7 @@ impl<const N: usize> Session<N> {
         ensures { result ≡ start }
     {
         Session {
-            state: State::Clean(Clean::new(alloc)),
+            state: State::Clean(Clean::new(alloc, Prunable::new(alloc))),
             alloc,
         }
     }
@@ -233,9 +303,10 @@ impl<const N: usize> Session<N> {
     fn serve(&mut self, command: &Command<N>) -> Reply<N>
         ensures { StepTo N Agrees self.old command.now (said result) self.new }
     {
-        let empty = State::Clean(Clean::new(self.alloc));
+        let alloc = self.alloc;
+        let empty = State::Clean(Clean::new(alloc, Prunable::new(alloc)));
         let state = mem::replace(&mut self.state, empty);
-        let (state, reply) = step(state, command);
+        let (state, reply) = step(state, alloc, command);
         self.state = state;
         reply
     }

@@ -3,13 +3,10 @@
 ghost use Rattle.std.specs.Prelude.{◌≡◌, ℕ, ◌+◌, ◌*◌, ◌^◌, ◌<◌, ◌≤◌, [], ◌∷◌, ◌++◌, length, Some, None, Ok, IfOk, OnOk, OnErr, MatchResult, MatchOption, map};
 ghost use Rattle.std.specs.Ordering.{nat_cmp};
 ghost use Rattle.std.specs.BTreeMap.{IsOrdered};
-ghost use Rattle.std.specs.Option.{option_map};
-ghost use Rattle.bitmap_core.specs.PrunedBits.{unpruned_bits, bit_len, pushed, popped, last_bit, set_at};
+ghost use Rattle.bitmap_core.specs.PrunedBits.{IsRetained, PrunedBits, bit_len, pushed, popped, last_bit, set_at};
 ghost use Rattle.replay.specs.History.{kept_under, latest};
-ghost use Rattle.replay.specs.Machine.{no_bits};
-ghost use Rattle.replay.specs.Copies.{whole, latest_copy};
 
-use bitmap_core::bitmap::BitMap;
+use bitmap_core::bitmap::prunable::Prunable;
 use std::alloc::{AllocError, Global};
 use std::collections::BTreeMap;
 use std::marker::Model;
@@ -17,51 +14,46 @@ use std::marker::Model;
 /// A bitmap, and what was committed before, kept whole.
 #[derive(Drop)]
 pub struct Clean<const N: usize> {
-    current: BitMap<N>,
-    history: BTreeMap<u64, BitMap<N>>,
+    current: Prunable<N>,
+    history: BTreeMap<u64, Prunable<N>>,
 }
 
 impl<const N: usize> Model for Clean<N> {
-    ghost use Rattle.bitmap_core.specs.PrunedBits.{unpruned_bits};
     ghost use Rattle.replay.specs.History.{Kept};
-    ghost use Rattle.replay.specs.Copies.{whole};
 
     ghost Value = { Kept };
 
-    ghost view = { λ c. record { current = unpruned_bits c.current; history = whole c.history.entries } };
+    ghost view = { λ c. record { current = c.current; history = c.history.entries } };
 }
 
 /// The same with pending edits.
 #[derive(Drop)]
 pub struct Dirty<const N: usize> {
     kept: Clean<N>,
-    pending: BitMap<N>,
+    pending: Prunable<N>,
 }
 
 impl<const N: usize> Model for Dirty<N> {
-    ghost use Rattle.bitmap_core.specs.PrunedBits.{unpruned_bits};
     ghost use Rattle.replay.specs.History.{Editing};
 
     ghost Value = { Editing };
 
-    ghost view = { λ d. record { current = d.kept.current; history = d.kept.history; pending = unpruned_bits d.pending } };
+    ghost view = { λ d. record { current = d.kept.current; history = d.kept.history; pending = d.pending } };
 }
 
 impl<const N: usize> Clean<N> {
-    /// Empty and without commits.
-    pub fn new(alloc: Global) -> Self
-        requires positive { 0 < N }
-        requires fits { 8 * N < 2 ^ 64 }
-        ensures { result ≡ record { current = no_bits; history = [] } }
+    /// A bitmap without commits.
+    pub fn new(alloc: Global, current: Prunable<N>) -> Self
+        ensures { result ≡ record { current = current.entry; history = [] } }
     {
         Clean {
-            current: BitMap::new(alloc),
+            current,
             history: BTreeMap::new(alloc),
         }
     }
 
-    pub fn current(&self) -> &BitMap<N>
-        ensures { unpruned_bits result.now ≡ self.now.current }
+    pub fn current(&self) -> &Prunable<N>
+        ensures { result.now ≡ self.now.current }
     {
         &self.current
     }
@@ -92,21 +84,20 @@ impl<const N: usize> Clean<N> {
     }
 
     /// A copy of the bitmap that was committed under the number, where it is kept.
-    #[tactic(auto, using(crate::proofs::Steps::kept_whole))]
-    pub fn at(&self, number: u64) -> Result<Option<BitMap<N>>, AllocError>
-        ensures value { IfOk result (λ bits. option_map unpruned_bits bits ≡ kept_under self.now.history number) }
+    pub fn at(&self, number: u64) -> Result<Option<Prunable<N>>, AllocError>
+        ensures value { IfOk result (λ bitmap. bitmap ≡ kept_under self.now.history number) }
         ensures absent { kept_under self.now.history number ≡ None → result ≡ Ok None }
     {
         match self.history.get(&number) {
             None => Ok(None),
-            Some(bits) => Ok(Some(bits.clone()?)),
+            Some(bitmap) => Ok(Some(bitmap.clone()?)),
         }
     }
 }
 
 impl<const N: usize> Dirty<N> {
-    pub fn pending(&self) -> &BitMap<N>
-        ensures { unpruned_bits result.now ≡ self.now.pending }
+    pub fn pending(&self) -> &Prunable<N>
+        ensures { result.now ≡ self.now.pending }
     {
         &self.pending
     }
@@ -135,10 +126,10 @@ impl<const N: usize> Dirty<N> {
     }
 
     pub fn set(&mut self, bit: u64, value: bool)
-        requires { bit < bit_len N self.old.pending }
+        requires { IsRetained N self.old.pending bit }
         ensures { self.new ≡ record self.old { pending = set_at N self.old.pending bit value } }
     {
-        self.pending.set(bit, value)
+        self.pending.set_bit(bit, value)
     }
 
     /// Ends the batch under a number above the latest. Refused, the value comes back.
@@ -181,14 +172,14 @@ impl<const N: usize> Dirty<N> {
 // Adds a commit above the latest.
 #[tactic(auto, using(crate::proofs::Ends::appends_above))]
 fn keep<const N: usize>(
-    history: &mut BTreeMap<u64, BitMap<N>>,
+    history: &mut BTreeMap<u64, Prunable<N>>,
     number: u64,
-    bits: BitMap<N>,
+    bitmap: Prunable<N>,
 ) -> Result<(), AllocError>
-    requires { MatchOption (latest_copy history.old.entries) (0 ≤ number) (λ previous. previous < number) }
-    ensures ok { OnOk result (history.new.entries ≡ history.old.entries ++ (number, bits.entry) ∷ []) }
+    requires { MatchOption (latest history.old.entries) (0 ≤ number) (λ previous. previous < number) }
+    ensures ok { OnOk result (history.new.entries ≡ history.old.entries ++ (number, bitmap.entry) ∷ []) }
     ensures err { OnErr result (history.new.entries ≡ history.old.entries) }
 {
-    history.insert(number, bits)?;
+    history.insert(number, bitmap)?;
     Ok(())
 }

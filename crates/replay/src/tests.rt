@@ -37,12 +37,12 @@ impl Write for Full {
 #[test]
 fn an_older_state_comes_back(rt: HostRuntime) -> Result<(), Fail> {
     let script =
-        b"begin\npush 1\npush 0\ncommit 1\nbegin\nset 0 0\npush 1\ncommit 2\nat 1\nat 2\nlen\nget 0\n";
+        b"begin\npush 1\npush 0\ncommit 1\nbegin\nset 0 0\npush 1\ncommit 2\nat 1\nat 2\nlen\nget 0\nones 0 18446744073709551615\nones 2 2\nones 3 1\nbegin\nones 0 5\n";
     let Outcome { status, out, err } = run(rt.alloc(), Ok(script.as_slice()));
     assert_eq!(rt; status, 0);
     assert_eq!(rt;
         out.as_slice(),
-        b"done\ndone\ndone\ndone\ndone\ndone\ndone\ndone\nbitmap 0 10\nbitmap 0 001\nnumber 3\nbit 0\n".as_slice()
+        b"done\ndone\ndone\ndone\ndone\ndone\ndone\ndone\nbitmap 0 10\nbitmap 0 001\nnumber 3\nbit 0\npositions 2\npositions\npositions\ndone\nrefused wrong-mode\n".as_slice()
     );
     assert_eq!(rt; err.len(), 0);
     Ok(())
@@ -63,15 +63,41 @@ fn refusals_come_in_order(rt: HostRuntime) -> Result<(), Fail> {
 }
 
 #[test]
-fn empty_lines_and_comments_are_skipped_but_counted(rt: HostRuntime) -> Result<(), Fail> {
-    let Outcome { status, out, err } = run(rt.alloc(), Ok(b"# a batch\n\nbegin\nlen\nat 0\n".as_slice()));
+fn a_pruned_front_stays_pruned(rt: HostRuntime) -> Result<(), Fail> {
+    let script =
+        b"start 2\nbegin\npush 1\nget 64\nget 63\nset 63 0\nset 65 0\npop\npop\npush 0\ncommit 7\nat 7\npruned-chunks\nlen\nstart 576460752303423488\nlen\nstart 1\nat 7\n";
+    let Outcome { status, out, err } = run(rt.alloc(), Ok(script.as_slice()));
     assert_eq!(rt; status, 0);
-    assert_eq!(rt; out.as_slice(), b"done\nnumber 0\nrefused wrong-mode\n".as_slice());
+    assert_eq!(rt;
+        out.as_slice(),
+        b"done\ndone\ndone\nbit 1\nrefused pruned\nrefused pruned\nrefused out-of-bounds\nbit 1\nrefused no-retained-bit\ndone\ndone\nbitmap 2 0\nnumber 2\nnumber 65\nrefused pruned-chunks-overflow\nnumber 65\ndone\nnone\n".as_slice()
+    );
     assert_eq!(rt; err.len(), 0);
-    let Outcome { status, out, err } = run(rt.alloc(), Ok(b"# a batch\n\nbegin\nopen\n".as_slice()));
+    Ok(())
+}
+
+#[test]
+fn empty_lines_and_comments_are_skipped_but_counted(rt: HostRuntime) -> Result<(), Fail> {
+    let Outcome { status, out, err } = run(
+        rt.alloc(),
+        Ok(b"# a batch\n\nbegin\nlen\nat 0\n".as_slice()),
+    );
+    assert_eq!(rt; status, 0);
+    assert_eq!(rt;
+        out.as_slice(),
+        b"done\nnumber 0\nrefused wrong-mode\n".as_slice()
+    );
+    assert_eq!(rt; err.len(), 0);
+    let Outcome { status, out, err } = run(
+        rt.alloc(),
+        Ok(b"# a batch\n\nbegin\nopen\n".as_slice()),
+    );
     assert_eq!(rt; status, 2);
     assert_eq!(rt; out.len(), 0);
-    assert_eq!(rt; err.as_slice(), b"replay: line 4 is not a command\n".as_slice());
+    assert_eq!(rt;
+        err.as_slice(),
+        b"replay: line 4 is not a command\n".as_slice()
+    );
     Ok(())
 }
 
@@ -91,7 +117,7 @@ fn a_line_that_is_no_command_stops_all(rt: HostRuntime) -> Result<(), Fail> {
         b"get 18446744073709551616",
         b"get \xff",
         b"set 1",
-        b"start 2",
+        b"start -",
     ];
     for line in lines {
         let mut script = b"begin\npush 1\n".to_vec(rt.alloc())?;
@@ -99,7 +125,10 @@ fn a_line_that_is_no_command_stops_all(rt: HostRuntime) -> Result<(), Fail> {
         let Outcome { status, out, err } = run(rt.alloc(), Ok(script.as_slice()));
         assert_eq!(rt; status, 2);
         assert_eq!(rt; out.len(), 0);
-        assert_eq!(rt; err.as_slice(), b"replay: line 3 is not a command\n".as_slice());
+        assert_eq!(rt;
+            err.as_slice(),
+            b"replay: line 3 is not a command\n".as_slice()
+        );
     }
     Ok(())
 }
@@ -109,7 +138,10 @@ fn a_script_that_cannot_be_read(rt: HostRuntime) -> Result<(), Fail> {
     let Outcome { status, out, err } = run(rt.alloc(), Err(io::Error::other("no file")));
     assert_eq!(rt; status, 3);
     assert_eq!(rt; out.len(), 0);
-    assert_eq!(rt; err.as_slice(), b"replay: cannot read the script\n".as_slice());
+    assert_eq!(rt;
+        err.as_slice(),
+        b"replay: cannot read the script\n".as_slice()
+    );
     let refused = Err(io::Error::from(io::ErrorKind::OutOfMemory));
     let Outcome { status, out, err } = run(rt.alloc(), refused);
     assert_eq!(rt; status, 3);
@@ -162,10 +194,11 @@ fn lists_that_are_run_one_after_the_other_are_one_run(rt: HostRuntime) -> Result
     session.run(&[Command::Commit(7), Command::At(7)], &mut replies)?;
     assert_eq!(rt; replies.len(), 4);
     assert!(rt; matches!(&replies[2], Reply::Done));
-    let Reply::Snapshot(Some(bits)) = &replies[3] else {
+    let Reply::Snapshot(Some(bitmap)) = &replies[3] else {
         return Err(Fail::from("the commit is not kept"));
     };
-    assert_eq!(rt; bits.len(), 1);
-    assert!(rt; bits.get(0));
+    assert_eq!(rt; bitmap.pruned_chunks(), 0);
+    assert_eq!(rt; bitmap.len(), 1);
+    assert!(rt; bitmap.get_bit(0));
     Ok(())
 }

@@ -12,7 +12,7 @@ use crate::chunk::join::{chunk_from, join};
 use std::alloc::AllocError;
 use std::collections::VecDeque;
 
-// Writes a run of bytes, in two pieces, from bit `len` on, as far as the chunk goes in which that bit stands.
+// Writes a run of bytes, in two pieces, from bit `len` on, up to the end of the chunk where that bit stands.
 fn fill_open<const N: usize>(chunks: &mut VecDeque<[u8; N]>, len: u64, front: &[u8], back: &[u8])
     requires positive { 0 < N }
     requires fits { 8 * N < 2 ^ 64 }
@@ -90,7 +90,7 @@ fn wide<const N: usize>(chunk: &[u8; N])
 {}
 
 // The bytes of chunks, in two pieces.
-fn run<const N: usize>(chunks: &VecDeque<[u8; N]>) -> (&[u8], &[u8])
+fn byte_run<const N: usize>(chunks: &VecDeque<[u8; N]>) -> (&[u8], &[u8])
     requires { 0 < N }
     ensures { (i : ℕ) → bit_in (result.0.now ++ result.1.now) i ≡ bit_of N chunks.now.items i }
 {
@@ -114,7 +114,7 @@ impl<const N: usize> BitMap<N> {
     {
         let len = self.len;
         let total = len + other.len();
-        let (front, back) = run(&other.chunks);
+        let (front, back) = byte_run(&other.chunks);
         append(&mut self.chunks, len, total, front, back)?;
         self.len = total;
         Ok(())

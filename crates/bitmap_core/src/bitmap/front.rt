@@ -2,7 +2,7 @@
 
 ghost use Rattle.std.specs.Prelude.{◌≡◌, ℕ, ◌+◌, ◌-◌, ◌*◌, ◌/◌, ◌%◌, ◌^◌, ◌<◌, ◌≤◌, [], ◌++◌, cond, drop, false, length, map, slice_index_or, slice_set, take, OnOk, OnErr, IsOk, ◌==◌};
 ghost use Rattle.std.specs.List.{flat_map, range_with_len};
-ghost use Rattle.bitmap_core.specs.Bits.{bit_of, IsBytePut};
+ghost use Rattle.bitmap_core.specs.Bits.{IsBytePut};
 ghost use Rattle.bitmap_core.specs.Chunk.{byte_bits, byte_of, chunk_bit, chunk_bits};
 ghost use Rattle.bitmap_core.specs.PrunedBits.{chunk, unpruned_bits};
 
@@ -67,7 +67,6 @@ impl<const N: usize> BitMap<N> {
         requires { 8 * N * index < length self.now }
         ensures { result.now ≡ chunk N (unpruned_bits self.now) index }
     {
-        let _len = self.len;
         chunk_at(&self.chunks, index)
     }
 

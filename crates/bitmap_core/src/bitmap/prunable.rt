@@ -168,6 +168,7 @@ impl<const N: usize> Prunable<N> {
         requires { IsRetained N self.now bit }
         ensures { result.now ≡ chunk N self.now (bit / (8 * N)) }
     {
+        // Read for what the invariant says of N.
         let _pruned = self.pruned_chunks;
         self.get_chunk(Self::to_chunk_index(bit))
     }

@@ -7,6 +7,7 @@ ghost use Rattle.bitmap_core.specs.Chunk.{chunk_bit};
 ghost use Rattle.bitmap_core.specs.Meaning.{starts_word, next_word, left_from, IsScan, IsCut, ones_between, IsLawful, IsRetained, ShowsChunk};
 
 mod dense;
+mod pruned;
 
 use crate::chunk;
 use crate::chunk::load::{high_bits, low_bits, take_lowest, word_at};
@@ -20,8 +21,11 @@ use std::ops::Range;
 ///
 /// An implementor says what bitmap a value holds, its `meaning`, and answers five questions about it.
 /// It promises that `N` is at least 1, that `8N` and the length fit `u64`, and that no more is pruned than the length.
+/// The answers are of the same bitmap as long as the value is borrowed.
 /// The bits of a chunk at or past the length may be any: no reader looks at them.
 /// The other five functions follow, and cannot be replaced.
+///
+/// A caller for any `N` asks for `len()` before it goes over set positions: that tells its proof how large `N` may be.
 ///
 /// Eight bits in one chunk of one byte:
 ///

@@ -1,6 +1,6 @@
 //! Chunks filled from a run of bytes that begins at any bit. The run stands in two pieces, `front` and then `back`; past it every bit is zero.
 
-ghost use Rattle.std.specs.Prelude.{◌≡◌, ℕ, ◌+◌, ◌-◌, ◌*◌, ◌%◌, ◌^◌, ◌<◌, ◌≤◌, ◌++◌, length, ◌==◌, slice_index_or};
+ghost use Rattle.std.specs.Prelude.{◌≡◌, ℕ, ◌+◌, ◌-◌, ◌*◌, ◌/◌, ◌%◌, ◌^◌, ◌<◌, ◌≤◌, ◌++◌, length, ◌==◌, slice_index_or};
 ghost use Rattle.std.specs.Int.{bit_at};
 ghost use Rattle.bitmap_core.specs.Chunk.{chunk_bit, bit_in};
 
@@ -57,6 +57,50 @@ fn fill_from<const N: usize>(chunk: &mut [u8; N], from: usize, front: &[u8], bac
     }
 }
 
+// The 64 bits that begin `skip` bits into `low` and go on in `high`.
+fn joined_word(low: u64, high: u8, skip: u64) -> u64
+    requires { skip < 8 }
+    ensures low { (t : ℕ) → t + skip < 64 → bit_at result t ≡ bit_at low (t + skip) }
+    ensures high { (t : ℕ) → t < 64 → 64 ≤ t + skip → bit_at result t ≡ bit_at high (t + skip - 64) }
+{
+    (low >> skip) | (((high as u64) << (63 - skip)) << 1)
+}
+
+// The 64 bits that begin `skip` bits into byte `at`.
+fn word_from(bytes: &[u8], at: usize, skip: u64) -> u64
+    requires place { skip < 8 }
+    requires within { at + 8 < length bytes.now }
+    ensures { (t : ℕ) → t < 64 → (bit_at result t == 1) ≡ bit_in bytes.now (8 * at + skip + t) }
+{
+    let word: [u8; 8] = bytes[at..at + 8].try_into().unwrap();
+    joined_word(u64::from_le_bytes(word), bytes[at + 8], skip)
+}
+
+// Writes a word at byte `at` of a chunk.
+fn put_word<const N: usize>(chunk: &mut [u8; N], at: usize, word: u64)
+    requires { at + 8 ≤ N }
+    ensures size { length chunk.new ≡ N }
+    ensures here { (j t : ℕ) → j < 8 → t < 8 → bit_at (slice_index_or chunk.new (at + j) 0) t ≡ bit_at word (8 * j + t) }
+    ensures kept { (k : ℕ) → k < at → slice_index_or chunk.new k 0 ≡ slice_index_or chunk.old k 0 }
+{
+    let bytes = word.to_le_bytes();
+    for j in 0..8 {
+        chunk[at + j] = bytes[j];
+    }
+}
+
+// Fills the whole words of a chunk with the bits that begin `skip` bits into bytes more than its own.
+fn fill_words<const N: usize>(chunk: &mut [u8; N], bytes: &[u8], skip: u64)
+    requires place { skip < 8 }
+    requires more { N < length bytes.now }
+    ensures size { length chunk.new ≡ N }
+    ensures bits { (k t : ℕ) → k < 8 * (N / 8) → t < 8 → (bit_at (slice_index_or chunk.new k 0) t == 1) ≡ bit_in bytes.now (skip + (8 * k + t)) }
+{
+    for word in 0..N / 8 {
+        put_word(chunk, 8 * word, word_from(bytes, 8 * word, skip));
+    }
+}
+
 // The chunk of the bits that begin `skip` bits into bytes more than its own.
 fn chunk_within<const N: usize>(bytes: &[u8], skip: u64) -> [u8; N]
     requires positive { 0 < N }
@@ -65,7 +109,8 @@ fn chunk_within<const N: usize>(bytes: &[u8], skip: u64) -> [u8; N]
     ensures { (i : ℕ) → chunk_bit N result i ≡ bit_in bytes.now (skip + i % (8 * N)) }
 {
     let mut chunk = [0; N];
-    for j in 0..N {
+    fill_words(&mut chunk, bytes, skip);
+    for j in 8 * (N / 8)..N {
         chunk[j] = joined_byte(bytes[j], bytes[j + 1], skip);
     }
     chunk

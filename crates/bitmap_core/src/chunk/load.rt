@@ -67,7 +67,6 @@ pub fn take_lowest(word: &mut u64) -> u64
     ensures others { (t : ℕ) → t < 64 → t ≢ result → (bit_at word.new t == 1) ≡ (bit_at word.old t == 1) }
 {
     let old = *word;
-    let place = old.trailing_zeros();
-    *word = old & !(1 << place);
-    place as u64
+    *word = old & (old - 1);
+    old.trailing_zeros() as u64
 }

@@ -10,9 +10,9 @@ overflow_add-total g c = omega (arith, len_is _ _ _ _ c.self.view_is, c.len.ensu
 pub invariant_of-self-2 : goal.invariant_of-self-2
 invariant_of-self-2 g c =
     let o : c.len.result ≡ c.other.inside.len = c.len.ensures.value ∙ len_is _ _ _ _ c.other.view_is in
-    (c.self.invariant.0, c.self.invariant.1, c.in_ok-append.ensures.count, IsZeroFrom-append g.row.N g.row.M _ c.other.inside.chunks.items c.self.inside.len c.len.result (λ i h. c.other.invariant.3 i (omega arith)) (λ i h s. c.in_ok-append.ensures.joined i h s ∙ c.run.ensures (i - c.self.inside.len)))
+    (c.self.invariant.0, c.self.invariant.1, c.in_ok-append.ensures.count, IsZeroFrom-append g.row.N g.row.M _ c.other.inside.chunks.items c.self.inside.len c.len.result (λ i h. c.other.invariant.3 i (omega arith)) (λ i h s. c.in_ok-append.ensures.joined i h s ∙ c.byte_run.ensures (i - c.self.inside.len)))
 
 pub returns-clause-ok : goal.returns-clause-ok
 returns-clause-ok g c =
     let o : c.other.inside.len ≡ c.len.result = sym (c.len.ensures.value ∙ len_is _ _ _ _ c.other.view_is) in
-    bits-append g.row.N g.row.M c.self.inside.chunks.items _ c.other.inside.chunks.items c.self.inside.len c.len.result _ _ c.self.invariant.0 c.in_ok-append.ensures.count c.self.view_is (rw o at c.other.view_is) c.in_ok-append.ensures.kept (λ i h s. c.in_ok-append.ensures.joined i h s ∙ c.run.ensures (i - c.self.inside.len))
+    bits-append g.row.N g.row.M c.self.inside.chunks.items _ c.other.inside.chunks.items c.self.inside.len c.len.result _ _ c.self.invariant.0 c.in_ok-append.ensures.count c.self.view_is (rw o at c.other.view_is) c.in_ok-append.ensures.kept (λ i h s. c.in_ok-append.ensures.joined i h s ∙ c.byte_run.ensures (i - c.self.inside.len))

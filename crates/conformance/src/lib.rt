@@ -1,0 +1,9 @@
+//! Tests of the bitmaps from outside, through their public calls alone.
+#![tactic(auto)]
+
+#[cfg(test)]
+mod dense;
+#[cfg(test)]
+mod plain;
+#[cfg(test)]
+mod refused;

@@ -1,0 +1,277 @@
+//! Every call against the same on a list of booleans, around each end of a word and a chunk.
+
+ghost use Rattle.std.specs.Prelude.{◌*◌, ◌^◌, ◌<◌};
+
+use bitmap_core::bitmap::BitMap;
+use bitmap_core::bitmap::readable::Readable;
+use std::alloc::{AllocError, Global};
+use std::process::Abort;
+use std::test::Fail;
+
+// Bits without a pattern: a bit is set where those of a random number under the mask are zero.
+fn bits(alloc: Global, len: u64, seed: u64, mask: u64) -> Result<Vec<bool>, AllocError> {
+    let mut state = seed;
+    let mut bits = Vec::new(alloc);
+    for _ in 0..len {
+        state = state
+            .wrapping_mul(6364136223846793005)
+            .wrapping_add(1442695040888963407);
+        bits.push((state >> 40) & mask == 0)
+            .map_err(AllocError::from)?;
+    }
+    Ok(bits)
+}
+
+// How many bits are as given.
+fn count(bits: &[bool], value: bool) -> u64 {
+    bits.iter().filter(|bit| **bit == value).count() as u64
+}
+
+// The positions of the bits that are set, from one position up to another.
+fn positions(alloc: Global, bits: &[bool], start: u64, end: u64) -> Result<Vec<u64>, AllocError> {
+    let mut positions = Vec::new(alloc);
+    for (i, bit) in bits.iter().enumerate() {
+        if *bit && start <= i as u64 && (i as u64) < end {
+            positions.push(i as u64).map_err(AllocError::from)?;
+        }
+    }
+    Ok(positions)
+}
+
+// Whether a bitmap has these bits and then those, and no more.
+fn holds<const N: usize>(map: &BitMap<N>, first: &[bool], then: &[bool]) -> bool {
+    map.iter().eq(first.iter().chain(then).copied())
+}
+
+fn check_reads<const N: usize>(
+    rt: &impl Abort,
+    alloc: Global,
+    bits: &[bool],
+) -> Result<(), AllocError>
+    requires positive { 0 < N }
+    requires fits { 8 * N < 2 ^ 64 }
+{
+    let map = BitMap::<N>::from_bools(alloc, bits)?;
+    assert_eq!(rt; map.len(), bits.len() as u64);
+    for i in 0..bits.len() {
+        assert_eq!(rt; map.get(i as u64), bits[i], "bit {i} in chunks of {N}");
+        assert_eq!(rt; map.get_bit(i as u64), bits[i], "bit {i} in chunks of {N}");
+    }
+    assert!(rt; holds(&map, bits, &[]));
+    assert!(rt; map.to_bools()?.as_slice() == bits);
+    assert_eq!(rt; map.count_ones(), count(bits, true));
+    assert_eq!(rt; map.count_zeros(), count(bits, false));
+    let positions = positions(alloc, bits, 0, map.len())?;
+    assert!(rt; map.ones_iter().eq(positions.iter().copied()));
+    assert!(rt; map == map.clone()?);
+    Ok(())
+}
+
+fn check_edits<const N: usize>(
+    rt: &impl Abort,
+    alloc: Global,
+    bits: &[bool],
+) -> Result<(), AllocError>
+    requires positive { 0 < N }
+    requires fits { 8 * N < 2 ^ 64 }
+{
+    let whole = BitMap::<N>::from_bools(alloc, bits)?;
+    let mut map = BitMap::<N>::new(alloc);
+    let mut other = BitMap::<N>::zeroes(alloc, bits.len() as u64)?;
+    for i in 0..bits.len() {
+        assert_eq!(rt; map.len(), i as u64);
+        map.push(bits[i])?;
+        assert_eq!(rt; other.len(), bits.len() as u64);
+        other.set(i as u64, !bits[i]);
+    }
+    assert!(rt; map == whole, "{} bits in chunks of {N}", bits.len());
+    assert_eq!(rt; map == other, bits.is_empty());
+    other.flip_all();
+    assert!(rt; map == other);
+    for i in (0..bits.len()).rev() {
+        assert_eq!(rt; map.len(), i as u64 + 1);
+        map.flip(i as u64);
+        assert_eq!(rt; map.pop(), !bits[i]);
+    }
+    assert!(rt; map.is_empty());
+    Ok(())
+}
+
+fn check_lengths<const N: usize>(
+    rt: &impl Abort,
+    alloc: Global,
+    bits: &[bool],
+    keep: usize,
+) -> Result<(), AllocError>
+    requires positive { 0 < N }
+    requires fits { 8 * N < 2 ^ 64 }
+{
+    let mut map = BitMap::<N>::from_bools(alloc, bits)?;
+    if keep <= bits.len() {
+        map.truncate(keep as u64);
+        assert!(rt;
+            holds(&map, &bits[..keep], &[]),
+            "{keep} bits in chunks of {N}"
+        );
+        map.extend_to(bits.len() as u64)?;
+        assert_eq!(rt; map.len(), bits.len() as u64);
+        assert!(rt; map.is_unset(keep as u64..bits.len() as u64));
+        assert_eq!(rt; map.count_ones(), count(&bits[..keep], true));
+    }
+    Ok(())
+}
+
+fn check_joins<const N: usize>(
+    rt: &impl Abort,
+    alloc: Global,
+    left: &[bool],
+    right: &[bool],
+) -> Result<(), AllocError>
+    requires positive { 0 < N }
+    requires fits { 8 * N < 2 ^ 64 }
+{
+    let map = BitMap::<N>::from_bools(alloc, left)?;
+    let other = BitMap::<N>::from_bools(alloc, right)?;
+    assert_eq!(rt; left.len(), right.len());
+    let both = (&map & &other)?;
+    let either = (&map | &other)?;
+    let mut difference = (&map ^ &other)?;
+    for i in 0..left.len() {
+        let (bit, l, r) = (i as u64, left[i], right[i]);
+        assert_eq!(rt; both.get(bit), l && r, "bit {i} in chunks of {N}");
+        assert_eq!(rt; either.get(bit), l || r, "bit {i} in chunks of {N}");
+        assert_eq!(rt; difference.get(bit), l != r, "bit {i} in chunks of {N}");
+    }
+    difference.xor(&both);
+    assert!(rt; difference == either);
+    difference.and(&both);
+    assert!(rt; difference == both);
+    difference.or(&either);
+    assert!(rt; difference == either);
+    Ok(())
+}
+
+fn check_ranges<const N: usize>(
+    rt: &impl Abort,
+    alloc: Global,
+    bits: &[bool],
+    start: u64,
+    end: u64,
+) -> Result<(), AllocError>
+    requires positive { 0 < N }
+    requires fits { 8 * N < 2 ^ 64 }
+{
+    let map = BitMap::<N>::from_bools(alloc, bits)?;
+    let positions = positions(alloc, bits, start, end)?;
+    let mut ones = map.ones_iter_range(start..end);
+    for position in &positions {
+        assert_eq!(rt;
+            ones.next(),
+            Some(*position),
+            "{start}..{end} in chunks of {N}"
+        );
+    }
+    assert_eq!(rt; ones.next(), None, "{start}..{end} in chunks of {N}");
+    assert_eq!(rt; ones.next(), None);
+    if end <= map.len() {
+        assert_eq!(rt;
+            map.is_unset(start..end),
+            positions.is_empty(),
+            "{start}..{end} in chunks of {N}"
+        );
+    }
+    Ok(())
+}
+
+fn check_width<const N: usize>(rt: &impl Abort, alloc: Global) -> Result<(), AllocError>
+    requires positive { 0 < N }
+    requires fits { 8 * N < 2 ^ 64 }
+{
+    assert!(rt; N <= 64);
+    let width = 8 * N as u64;
+    let ends = [
+        0,
+        1,
+        7,
+        8,
+        9,
+        63,
+        64,
+        65,
+        127,
+        128,
+        129,
+        width - 1,
+        width,
+        width + 1,
+        2 * width + 70,
+    ];
+    for len in ends {
+        let dense = bits(alloc, len, len, 1)?;
+        let other = bits(alloc, len, 3 * N as u64, 1)?;
+        let sparse = bits(alloc, len, len, 31)?;
+        check_reads::<N>(rt, alloc, dense.as_slice())?;
+        check_edits::<N>(rt, alloc, dense.as_slice())?;
+        check_joins::<N>(rt, alloc, dense.as_slice(), other.as_slice())?;
+        for end in ends {
+            check_lengths::<N>(rt, alloc, dense.as_slice(), end as usize)?;
+            for start in ends {
+                check_ranges::<N>(rt, alloc, sparse.as_slice(), start, end)?;
+            }
+        }
+    }
+    Ok(())
+}
+
+fn check_extending<const N: usize, const M: usize>(
+    rt: &impl Abort,
+    alloc: Global,
+) -> Result<(), AllocError>
+    requires positive { 0 < N }
+    requires fits { 8 * N < 2 ^ 64 }
+    requires other_positive { 0 < M }
+    requires other_fits { 8 * M < 2 ^ 64 }
+{
+    assert!(rt; N <= 64);
+    let width = 8 * N as u64;
+    for len in 0..width + 2 {
+        let first = bits(alloc, len, len, 1)?;
+        for more in [0, 1, 7, 8, 9, width - 1, width, 3 * width + 11] {
+            let then = bits(alloc, more, len, 1)?;
+            let mut map = BitMap::<N>::from_bools(alloc, first.as_slice())?;
+            let other = BitMap::<M>::from_bools(alloc, then.as_slice())?;
+            assert!(rt; map.len() < 1000 && other.len() < 3000);
+            map.extend_from_bitmap(&other)?;
+            assert!(rt;
+                holds(&map, first.as_slice(), then.as_slice()),
+                "{len} bits in chunks of {N}, {more} more from chunks of {M}"
+            );
+        }
+    }
+    Ok(())
+}
+
+#[test]
+fn one_bitmap(rt: HostRuntime) -> Result<(), Fail> {
+    check_width::<1>(&rt, rt.alloc())?;
+    check_width::<3>(&rt, rt.alloc())?;
+    check_width::<7>(&rt, rt.alloc())?;
+    check_width::<8>(&rt, rt.alloc())?;
+    check_width::<9>(&rt, rt.alloc())?;
+    check_width::<32>(&rt, rt.alloc())?;
+    check_width::<64>(&rt, rt.alloc())?;
+    Ok(())
+}
+
+#[test]
+fn one_bitmap_after_another(rt: HostRuntime) -> Result<(), Fail> {
+    check_extending::<1, 1>(&rt, rt.alloc())?;
+    check_extending::<1, 3>(&rt, rt.alloc())?;
+    check_extending::<3, 8>(&rt, rt.alloc())?;
+    check_extending::<8, 3>(&rt, rt.alloc())?;
+    check_extending::<8, 8>(&rt, rt.alloc())?;
+    check_extending::<9, 7>(&rt, rt.alloc())?;
+    check_extending::<7, 32>(&rt, rt.alloc())?;
+    check_extending::<32, 1>(&rt, rt.alloc())?;
+    Ok(())
+}
