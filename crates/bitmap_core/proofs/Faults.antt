@@ -1,20 +1,16 @@
 -- Texts without a fault, and what they spell.
-use Rattle.std.proofs.Common.{◌≡◌, ℕ, ◌+◌, ◌-◌, ◌*◌, ◌^◌, ◌<◌, ◌≤◌, Bool, true, false, not, cond, List, [], ◌∷◌, ◌++◌, length, drop, ltb, refl, sym, ap, subst, ◌∙◌, append_assoc, arith, Option, Some, None, ◌↔◌}
-use Rattle.std.specs.List.{range_with_len, list_any}
-use Rattle.std.specs.Int.{w64, to_be_bytes}
-use Rattle.std.specs.Simd.{first_chunks}
+use Rattle.std.proofs.Common.{◌≡◌, ℕ, ◌+◌, ◌*◌, ◌^◌, ◌<◌, ◌≤◌, Bool, true, false, not, cond, List, [], ◌∷◌, ◌++◌, length, drop, ltb, refl, sym, ap, subst, ◌∙◌, arith, Option, Some, None, ◌↔◌}
+use Rattle.std.specs.List.{list_any}
 use Rattle.std.specs.Prelude.{codes, IsSome}
 use Rattle.std.proofs.Math.Nat.{mul-add, le-mul_of_pos_right, lt_of_mul-lt-mul_left}
 use Rattle.std.proofs.lemmas.Bool.{ltb-false, ltb-true, le-ltb, lt-ltb}
-use Rattle.std.proofs.lemmas.List.{length-append, length-drop, drop_at, drop-drop}
+use Rattle.std.proofs.lemmas.List.{length-append}
 use Rattle.bitmap_core.specs.Chunk.{bit_in}
-use Rattle.bitmap_core.specs.Bits.{bit_of, bits, IsChunkCount, IsZeroFrom}
-use Rattle.bitmap_core.specs.PrunedBits.{PrunedBits, bit_len}
-use Rattle.bitmap_core.specs.Spelling.{chunk_count, spelling, pair_spelling}
+use Rattle.bitmap_core.specs.Spelling.{chunk_count, spelling}
 use Rattle.bitmap_core.specs.Reading.{Fault, number, chunk_bytes, trailing, bits_tests, bits_fault, pair_fault, first_fault, has_too_many_bits, SpellsBits}
 use Rattle.bitmap_core.specs.Reading.Fault.{Invalid}
 use Rattle.bitmap_core.proofs.Places.{IsChunkCount-ceil}
-use Rattle.bitmap_core.proofs.Texts.{AreBytes, AreBytes-drop, number_of_text, number-lt, number-again, chunks_in, value, length-value, length-chunks_in, zeros, same_past, text-spells, length-spelling, spelling-number, spelling-trailing, same_spelling}
+use Rattle.bitmap_core.proofs.Texts.{AreBytes, number-lt, value, length-value, text-spells, length-spelling, spelling-number, spelling-trailing}
 
 -- a test that found no fault
 no_fault : (b : Bool) (f : Fault) (rest : Option Fault) → cond b (Some f) rest ≡ None → (b ≡ false) × (rest ≡ None)

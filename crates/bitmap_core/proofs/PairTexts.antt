@@ -1,5 +1,5 @@
 -- Texts that are read as a pair.
-use Rattle.std.proofs.Common.{◌≡◌, ℕ, ◌+◌, ◌-◌, ◌*◌, ◌^◌, ◌<◌, ◌≤◌, Bool, true, List, ◌++◌, length, drop, refl, sym, ap, subst, ◌∙◌, append_assoc, arith, None, ◌↔◌}
+use Rattle.std.proofs.Common.{◌≡◌, ℕ, ◌+◌, ◌*◌, ◌^◌, ◌<◌, ◌≤◌, Bool, true, List, ◌++◌, length, drop, refl, sym, ap, subst, ◌∙◌, append_assoc, arith, None, ◌↔◌}
 use Rattle.std.specs.Int.{w64, to_be_bytes}
 use Rattle.std.proofs.lemmas.List.{length-append, drop_at}
 use Rattle.bitmap_core.specs.PrunedBits.{PrunedBits, bit_len}

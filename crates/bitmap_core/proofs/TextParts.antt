@@ -1,5 +1,5 @@
 -- The parts that the code of a read finds in a text, and what a write appends.
-use Rattle.std.proofs.Common.{◌≡◌, ℕ, ◌+◌, ◌-◌, ◌*◌, ◌^◌, ◌<◌, ◌≤◌, Bool, true, List, ◌++◌, length, take, drop, map, refl, sym, ap, ◌∙◌, append_assoc, arith, Option, Some, None}
+use Rattle.std.proofs.Common.{◌≡◌, ℕ, ◌+◌, ◌-◌, ◌*◌, ◌^◌, ◌<◌, ◌≤◌, Bool, true, List, ◌++◌, length, take, drop, map, refl, sym, ap, ◌∙◌, append_assoc, arith, Some, None}
 use Rattle.std.specs.List.{range_with_len, flat_map, list_any}
 use Rattle.std.specs.Int.{w64, to_be_bytes}
 use Rattle.std.specs.Simd.{first_chunks}

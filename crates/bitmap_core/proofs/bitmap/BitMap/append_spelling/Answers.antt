@@ -1,4 +1,4 @@
-use Rattle.std.proofs.Common.{◌≡◌, ◌++◌, ◌*◌, ◌∙◌, sym, arith, length, map}
+use Rattle.std.proofs.Common.{◌≡◌, ◌++◌, ◌∙◌, sym, arith, length, map}
 use Rattle.std.specs.List.{range_with_len}
 use Rattle.bitmap_core.specs.Chunk.{chunk_of}
 use Rattle.bitmap_core.specs.Spelling.{chunk_count}

@@ -1,5 +1,4 @@
-use Rattle.std.proofs.Common.{◌∙◌, arith}
-use Rattle.bitmap_core.proofs.Places.{open_last}
+use Rattle.std.proofs.Common.{◌∙◌}
 use Rattle.bitmap_core.proofs.ByteChunks.{past_chunk, past_full}
 use Rattle.bitmap_core.proofs.bitmap.codec.dense.is_set_past.Goals as goal
 

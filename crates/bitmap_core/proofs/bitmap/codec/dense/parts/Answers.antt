@@ -1,6 +1,6 @@
-use Rattle.std.proofs.Common.{◌≡◌, ◌≤◌, ◌*◌, ◌+◌, ◌∙◌, ◌^◌, ◌<◌, length, drop, take, true, false, arith, rules, refl, sym}
+use Rattle.std.proofs.Common.{◌≡◌, ◌≤◌, ◌*◌, ◌∙◌, ◌^◌, ◌<◌, length, drop, take, true, false, arith, rules, sym}
 use Rattle.bitmap_core.specs.Spelling.{chunk_count}
-use Rattle.bitmap_core.specs.Reading.{number, admits, chunk_bytes}
+use Rattle.bitmap_core.specs.Reading.{number, admits}
 use Rattle.bitmap_core.proofs.Places.{IsChunkCount-ceil}
 use Rattle.bitmap_core.proofs.ByteChunks.{length-first_chunks}
 use Rattle.bitmap_core.proofs.Faults.{sound-none, count-le}

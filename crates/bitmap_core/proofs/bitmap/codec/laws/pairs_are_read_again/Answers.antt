@@ -1,4 +1,4 @@
-use Rattle.std.proofs.Common.{sym, arith, rules, ◌<◌, ◌^◌}
+use Rattle.std.proofs.Common.{arith}
 use Rattle.bitmap_core.specs.Reading.{admits}
 use Rattle.bitmap_core.proofs.ReadAgain.{pair_read_again, err_is_memory, pair_spelled_none}
 use Rattle.bitmap_core.proofs.bitmap.codec.laws.pairs_are_read_again.Goals as goal

@@ -1,4 +1,4 @@
-use Rattle.std.proofs.Common.{◌≡◌, ◌≤◌, ◌*◌, ◌+◌, ◌∙◌, ◌^◌, ◌<◌, length, drop, not, true, Option, None, Some, arith, rules, refl, sym, ap}
+use Rattle.std.proofs.Common.{◌≡◌, ◌≤◌, ◌+◌, ◌∙◌, ◌^◌, drop, not, true, Option, None, Some, arith, rules, sym, ap}
 use Rattle.std.specs.Prelude.{SomeIff, is_some}
 use Rattle.bitmap_core.specs.Reading.{number, admits, bits_fault, pair_fault, fault}
 use Rattle.bitmap_core.proofs.Texts.{number-lt}

@@ -1,7 +1,7 @@
-use Rattle.std.proofs.Common.{arith, rules, ◌≡◌, ◌∙◌, ◌++◌, ◌*◌, sym, ap, length, drop}
+use Rattle.std.proofs.Common.{arith, rules, ◌≡◌, ◌∙◌, ap, length, drop}
 use Rattle.bitmap_core.specs.Bits.{bits}
 use Rattle.bitmap_core.proofs.BitLists.{length-bits}
-use Rattle.bitmap_core.proofs.Texts.{AreBytes-drop, number-lt}
+use Rattle.bitmap_core.proofs.Texts.{AreBytes-drop}
 use Rattle.bitmap_core.proofs.TextParts.{read_is}
 use Rattle.bitmap_core.proofs.PairTexts.{pair_read}
 use Rattle.bitmap_core.proofs.bitmap.codec.prunable.PrunableRead.read_cfg.Goals as goal

@@ -1,4 +1,4 @@
-use Rattle.std.proofs.Common.{arith, ◌≡◌, ◌∙◌, sym, ap, length}
+use Rattle.std.proofs.Common.{arith, ap, length}
 use Rattle.bitmap_core.specs.Spelling.{spelling}
 use Rattle.bitmap_core.proofs.PairTexts.{length-pair, pair_written}
 use Rattle.bitmap_core.proofs.bitmap.codec.prunable.PrunableWrite.write.Goals as goal
