@@ -1,8 +1,8 @@
 -- What a bitmap with a pruned front is to its readers.
-use Rattle.std.proofs.Common.{◌≡◌, ℕ, ◌+◌, ◌-◌, ◌*◌, ◌/◌, ◌%◌, ◌^◌, ◌<◌, List, ap, ◌∙◌, arith}
+use Rattle.std.proofs.Common.{◌≡◌, ℕ, ◌+◌, ◌-◌, ◌*◌, ◌/◌, ◌%◌, ◌^◌, ◌<◌, ◌≤◌, List, length, ap, ◌∙◌, arith}
 use Rattle.std.proofs.Math.Nat.{div-le_self, div-add-mod}
 use Rattle.bitmap_core.specs.Chunk.{chunk_bit}
-use Rattle.bitmap_core.specs.PrunedBits.{PrunedBits, bit_len, chunk}
+use Rattle.bitmap_core.specs.PrunedBits.{PrunedBits, pruned_bits, bit_len, chunk}
 use Rattle.bitmap_core.specs.Meaning.{pair_meaning, IsLawful, ShowsChunk}
 use Rattle.bitmap_core.proofs.Pairs.{chunk_bit_of_chunk}
 
