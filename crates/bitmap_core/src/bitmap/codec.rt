@@ -1,11 +1,10 @@
 //! Byte forms.
 
-ghost use Rattle.std.specs.Prelude.{◌≡◌, ℕ, ◌^◌, ◌<◌, ◌++◌, Bool, List, Option, None, length, is_ok, IfOk, IfErr, OnOk, OnErr, if◌then◌else◌};
+ghost use Rattle.std.specs.Prelude.{◌≡◌, ℕ, ◌+◌, ◌^◌, ◌<◌, ◌≤◌, ◌++◌, Bool, List, Option, None, length, is_ok, vec_capacity, vec_len, IfOk, IfErr, IsOk, OnOk, OnErr, if◌then◌else◌};
 ghost use Rattle.bitmap_core.specs.Reading.{Fault, fault, admits};
 
 mod dense;
 mod error;
-pub mod laws;
 mod prunable;
 mod range;
 
@@ -31,9 +30,11 @@ pub trait EncodeSize {
 pub trait Write: EncodeSize {
     /// Appends the bytes that spell the value.
     ///
-    /// Takes memory at most once, for these bytes. Refused, the bytes are as they were.
+    /// Takes memory once, for these bytes, and none where there is room for them: there it succeeds.
+    /// Refused, the vector is as it was.
     fn write(&self, out: &mut Vec<u8>) -> Result<(), AllocError>
-        ensures { out.new.items ≡ (if is_ok result then out.old.items ++ Self.spelled self.now else out.old.items) };
+        ensures items { out.new.items ≡ (if is_ok result then out.old.items ++ Self.spelled self.now else out.old.items) }
+        ensures roomy { vec_len out.old + length (Self.spelled self.now) ≤ vec_capacity out.old → IsOk result };
 }
 
 /// A value that can be read from bytes.

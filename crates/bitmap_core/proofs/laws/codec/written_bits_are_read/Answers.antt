@@ -2,7 +2,7 @@ use Rattle.std.proofs.Common.{rules, [], ◌++◌, ◌≡◌, length}
 use Rattle.bitmap_core.specs.Spelling.{spelling}
 use Rattle.bitmap_core.specs.Reading.{admits}
 use Rattle.bitmap_core.proofs.ReadAgain.{read_again, err_is_memory, spelled_none}
-use Rattle.bitmap_core.proofs.bitmap.codec.laws.written_bits_are_read.Goals as goal
+use Rattle.bitmap_core.proofs.laws.codec.written_bits_are_read.Goals as goal
 
 pub returns-clause-found : goal.returns-clause-found
 returns-clause-found g c =
