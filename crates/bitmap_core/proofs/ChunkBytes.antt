@@ -5,13 +5,14 @@ use Rattle.std.specs.List.{range_with_len}
 use Rattle.std.proofs.Math.Nat.{mod-one, mod-eq_of_lt}
 use Rattle.std.proofs.lemmas.Nat.{mod-pow-add, mod_below, div-mul-add, mod-mul-add}
 use Rattle.std.proofs.lemmas.List.{get_or_read, get_or_default, get_or_past}
-use Rattle.std.proofs.lemmas.List.FromFn.{fill_by_all}
+use Rattle.std.proofs.lemmas.List.FromFn.{fill_by_all, length-map-range_with_len, get_or-map-range_with_len}
 use Rattle.std.proofs.lemmas.Bool.{cases_lt}
 use Rattle.bitmap_core.specs.Chunk.{chunk_bit, bit_value, byte_of, chunk_of}
 use Rattle.bitmap_core.specs.Bits.{bit_of, bits, IsChunkCount, IsZeroFrom, AreChunks}
 use Rattle.bitmap_core.proofs.Places.{IsChunkCount-ceil, count_unique}
-use Rattle.bitmap_core.proofs.ChunkBits.{chunk_bit-mod}
+use Rattle.bitmap_core.proofs.ChunkBits.{chunk_bit-mod, mod_parts}
 use Rattle.bitmap_core.proofs.BitLists.{get_or-bits, len_is}
+use Rattle.bitmap_core.proofs.MadeBytes.{byte_bit, digit_is}
 
 -- the number below 2 ^ k whose bit t is f t
 number_of : (ℕ → Bool) → ℕ → ℕ
@@ -41,6 +42,22 @@ number_of-same f g (suc k) h = ap (λ x. x + bit_value (f k) * 2 ^ k) (number_of
 number_of_byte : (f : ℕ → Bool) → number_of f 8 ≡ byte_of f
 unfolding number_of
 number_of_byte f = omega arith
+
+-- a bit of a byte made from its bits
+pub byte_of-bit : (f : ℕ → Bool) (t : ℕ) → t < 8 → eqb (bit_at (byte_of f) t) 1 ≡ f t
+byte_of-bit f t h = ap (λ x. eqb x 1) (byte_bit f t h) ∙ digit_is (f t)
+
+-- a bit of chunk q of the bits v
+pub chunk_of-bit : (n : ℕ) (v : List Bool) (q i : ℕ) → 0 < n → chunk_bit n (chunk_of n v q) i ≡ get_or v (8 * n * q + i % (8 * n)) false
+chunk_of-bit n v q i p =
+    let j : i / 8 % n < n = mod_below (i / 8) n p in
+    let m : 8 * n * q + 8 * (i / 8 % n) + i % 8 ≡ 8 * n * q + i % (8 * n) = omega (arith, mod_parts n i p) in
+    ap (λ x. eqb (bit_at x (i % 8)) 1) (get_or-map-range_with_len (λ y. byte_of (λ t. get_or v (8 * n * q + 8 * y + t) false)) 0 n (i / 8 % n) (i / 8 % n) 0 j (omega arith))
+    ∙ byte_of-bit (λ t. get_or v (8 * n * q + 8 * (i / 8 % n) + t) false) (i % 8) (omega arith)
+    ∙ ap (λ x. get_or v x false) m
+
+pub length-chunk_of : (n : ℕ) (v : List Bool) (i : ℕ) → length (chunk_of n v i) ≡ n
+length-chunk_of n v i = length-map-range_with_len (λ j. byte_of (λ t. get_or v (8 * n * i + 8 * j + t) false)) 0 n
 
 -- a byte is the number that its bits make
 pub byte_is : (b : ℕ) (f : ℕ → Bool) → b < 256 → ((t : ℕ) → t < 8 → eqb (bit_at b t) 1 ≡ f t) → b ≡ byte_of f

@@ -27,6 +27,13 @@ pub mod WordStarts
 pub mod LoadedWords
 pub mod WordScan
 pub mod Meanings
+pub mod PlaceTests
+pub mod ByteChunks
+pub mod Texts
+pub mod Faults
+pub mod PairTexts
+pub mod TextParts
+pub mod ReadAgain
 pub mod JoinedWords
 pub mod BitByBit
 pub mod Members

@@ -48,7 +48,7 @@ digit_below : (x : Bool) → bit_value x < 2
 digit_below true = omega arith
 digit_below false = omega arith
 
-digit_is : (x : Bool) → eqb (bit_value x) 1 ≡ x
+pub digit_is : (x : Bool) → eqb (bit_value x) 1 ≡ x
 digit_is true = refl
 digit_is false = refl
 

@@ -131,7 +131,7 @@ word_bit bs t h s =
 
 -- ---- bytes as words and a rest
 
-get_or-first_chunks : (n k : ℕ) (xs : List ℕ) (i : ℕ) → i < k → get_or (first_chunks n k xs) i [] ≡ take n (drop (n * i) xs)
+pub get_or-first_chunks : (n k : ℕ) (xs : List ℕ) (i : ℕ) → i < k → get_or (first_chunks n k xs) i [] ≡ take n (drop (n * i) xs)
 get_or-first_chunks n zero xs i s = absurd (omega arith)
 get_or-first_chunks n (suc k) xs zero s = ap (λ a. take n (drop a xs)) (let e : 0 ≡ n * 0 = omega arith in e)
 get_or-first_chunks n (suc k) xs (suc i) s = let e : n + n * i ≡ n * suc i = omega (arith, mul-add n i 1) in get_or-first_chunks n k (drop n xs) i (omega arith) ∙ ap (take n) (drop-drop (n * i) n xs ∙ ap (λ a. drop a xs) e)

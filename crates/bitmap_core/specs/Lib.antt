@@ -5,3 +5,5 @@ pub mod Fed
 pub mod PrunedBits
 pub mod Text
 pub mod Meaning
+pub mod Spelling
+pub mod Reading

@@ -5,6 +5,7 @@ ghost use Rattle.std.specs.Int.{div_ceil};
 ghost use Rattle.bitmap_core.specs.Chunk.{chunk_bit, chunk_bits};
 
 mod chunks;
+pub mod codec;
 mod count;
 mod debug;
 mod every_chunk;

@@ -1,7 +1,7 @@
 //! The bits of one chunk. Masks and bytes are touched here and nowhere else.
 
 ghost use Rattle.std.specs.Prelude.{◌≡◌, ℕ, ◌+◌, ◌-◌, ◌*◌, ◌/◌, ◌%◌, ◌^◌, ◌<◌, ◌≤◌, ◌++◌, ◌==◌, Bool, false, not, length, map, slice_index, slice_index_or, vec_len, vec_capacity};
-ghost use Rattle.std.specs.List.{range_with_len};
+ghost use Rattle.std.specs.List.{list_any, range_with_len};
 ghost use Rattle.std.specs.Int.{bit_at};
 ghost use Rattle.bitmap_core.specs.Chunk.{byte_of as byte_from_bits, chunk_bit, IsBitWritten, IsByteWritten};
 
@@ -101,6 +101,14 @@ pub fn clear_from<const N: usize>(chunk: &mut [u8; N], from: u64)
     for j in byte + 1..N {
         chunk[j] = 0;
     }
+}
+
+/// Whether a bit of a chunk from a position on is set. No memory.
+pub fn is_set_from<const N: usize>(chunk: &[u8; N], from: u64) -> bool
+    requires { 8 * N < 2 ^ 64 }
+    ensures { result ≡ list_any (chunk_bit N chunk.now) (range_with_len from (8 * N - from)) }
+{
+    !words::is_unset(chunk, from, 8 * (N as u64))
 }
 
 // The byte of up to eight booleans, the first one lowest, with zeros above them.

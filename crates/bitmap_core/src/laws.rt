@@ -3,6 +3,7 @@
 //! The body of a law makes the calls that it is about. Where it has none, the law is about the words of their contracts.
 
 pub mod fronts;
+pub mod codec;
 pub mod gates;
 pub mod iteration;
 pub mod positions;

@@ -114,7 +114,7 @@ fn feed_slice<const N: usize, H: Hasher>(chunks: &[[u8; N]], state: &mut H)
 }
 
 // The chunks of a deque, in two runs.
-fn slices<const N: usize>(chunks: &VecDeque<[u8; N]>) -> (&[[u8; N]], &[[u8; N]])
+pub fn slices<const N: usize>(chunks: &VecDeque<[u8; N]>) -> (&[[u8; N]], &[[u8; N]])
     ensures items { result.0.now ++ result.1.now ≡ chunks.now.items }
     ensures known { AreChunks N chunks.now.items }
 {

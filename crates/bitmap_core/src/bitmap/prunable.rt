@@ -78,6 +78,29 @@ impl<const N: usize> Prunable<N> {
         })
     }
 
+    // The bits after the pruned ones, and the number of pruned chunks, as a bitmap.
+    pub(crate) fn from_parts(bitmap: BitMap<N>, pruned_chunks: usize) -> Self
+        requires positive { 0 < N }
+        requires fits { 8 * N < 2 ^ 64 }
+        requires total { 8 * N * pruned_chunks + length bitmap < 2 ^ 64 }
+        ensures { result ≡ record { pruned = pruned_chunks; bits = bitmap.entry } }
+    {
+        Prunable {
+            bitmap,
+            pruned_chunks,
+        }
+    }
+
+    // The bits after the pruned ones.
+    pub(crate) fn retained(&self) -> &BitMap<N>
+        ensures value { result.now ≡ self.now.bits }
+        ensures positive { 0 < N }
+        ensures fits { 8 * N < 2 ^ 64 }
+        ensures bound { bit_len N self.now < 2 ^ 64 }
+    {
+        &self.bitmap
+    }
+
     /// The number of bits, pruned ones counted. No memory.
     pub fn len(&self) -> u64
         ensures value { result ≡ bit_len N self.now }

@@ -1,0 +1,25 @@
+use Rattle.std.proofs.Common.{arith, rules, ◌≡◌, ◌∙◌, ◌++◌, sym, ap, length}
+use Rattle.bitmap_core.specs.Bits.{bits}
+use Rattle.bitmap_core.specs.Spelling.{spelling}
+use Rattle.bitmap_core.proofs.BitLists.{length-bits}
+use Rattle.bitmap_core.proofs.Texts.{number-lt}
+use Rattle.bitmap_core.proofs.TextParts.{read_is}
+use Rattle.bitmap_core.proofs.bitmap.codec.dense.BitMapRead.read_cfg.Goals as goal
+
+pub from_chunks-requires : goal.from_chunks-requires
+from_chunks-requires g c =
+    let e = c.in_ok-len.ensures in
+    let r = read_is g.row.N _ c.args.from.now.now c.in_ok-len.len c.in_ok-len.chunks.now c.in_ok-len.rest.now c.requires.0 c.parts.ensures.bytes e.accepted e.len e.chunks e.rest in
+    (omega (arith, c.requires.1), (omega arith, (c.requires.0, (c.requires.1, (r.count, r.zero)))))
+
+pub returns-clause-found : goal.returns-clause-found
+returns-clause-found g c =
+    let e = c.in_ok-len.ensures in
+    let r = read_is g.row.N _ c.args.from.now.now c.in_ok-len.len c.in_ok-len.chunks.now c.in_ok-len.rest.now c.requires.0 c.parts.ensures.bytes e.accepted e.len e.chunks e.rest in
+    let v : c.in_ok-map.map ≡ bits g.row.N c.in_ok-len.chunks.now c.in_ok-len.len = search rules in
+    r.spelled ∙ ap (λ x. spelling g.row.N x ++ c.in_ok-len.rest.now) (sym v)
+
+pub returns-clause-sized : goal.returns-clause-sized
+returns-clause-sized g c =
+    let v : c.in_ok-map.map ≡ bits g.row.N c.in_ok-len.chunks.now c.in_ok-len.len = search rules in
+    omega (arith, ap length v, length-bits g.row.N c.in_ok-len.chunks.now c.in_ok-len.len, c.in_ok-len.ensures.len, number-lt c.args.from.now.now c.parts.ensures.bytes)

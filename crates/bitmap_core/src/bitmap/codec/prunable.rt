@@ -1,0 +1,107 @@
+//! The byte form of a bitmap with a pruned front: its pruned chunk count in eight bytes, most significant first, and its retained bits.
+
+ghost use Rattle.std.specs.Prelude.{◌≡◌, ℕ, ◌+◌, ◌*◌, ◌^◌, ◌<◌, ◌≤◌, Bool, None, drop, length, slice_index, take, IfErr, IfOk, OnOk};
+ghost use Rattle.std.specs.Simd.{first_chunks};
+ghost use Rattle.bitmap_core.specs.PrunedBits.{bit_len};
+ghost use Rattle.bitmap_core.specs.Spelling.{chunk_count, pair_spelling};
+ghost use Rattle.bitmap_core.specs.Reading.{admits, bits_fault, chunk_bytes, fault, number, pair_fault};
+
+use crate::bitmap::BitMap;
+use crate::bitmap::chunks::chunk_bits;
+use crate::bitmap::codec::dense::parts;
+use crate::bitmap::codec::{CodecError, EncodeSize, RangeCfg, Read, Write};
+use crate::bitmap::prunable::Prunable;
+use std::alloc::{AllocError, Global};
+
+// The pruned chunk count of a text, the number of pruned bits, and what follows the count.
+#[tactic(auto, unfolding(crate::specs::Reading::pair_fault))]
+fn pruned_part<const N: usize>(text: &[u8]) -> Result<(usize, u64, &[u8]), CodecError>
+    requires { 8 * N < 2 ^ 64 }
+    ensures long { OnOk result (8 ≤ length text.now) }
+    ensures count { IfOk result (λ p. p.0 ≡ number text.now) }
+    ensures pruned { IfOk result (λ p. p.1 ≡ 8 * N * number text.now) }
+    ensures fits { OnOk result (8 * N * number text.now < 2 ^ 64) }
+    ensures body { IfOk result (λ p. p.2.now ≡ drop 8 text.now) }
+    ensures refused { IfErr result (λ e. (range : ℕ → Bool) → pair_fault N range text.now ≡ fault e) }
+    ensures bytes { (k : ℕ) → slice_index text.now k < 256 }
+{
+    let (front, body) = text
+        .split_first_chunk::<8>()
+        .ok_or(CodecError::EndOfBuffer)?;
+    let count = u64::from_be_bytes(*front);
+    let pruned_bits = chunk_bits::<N>()
+        .checked_mul(count)
+        .ok_or(CodecError::Invalid(
+            "Prunable",
+            "pruned_chunks would overflow when computing pruned_bits",
+        ))?;
+    let pruned_chunks = usize::try_from(count).map_err(|_| CodecError::Invalid(
+        "Prunable",
+        "pruned_chunks doesn't fit in usize",
+    ))?;
+    Ok((pruned_chunks, pruned_bits, body))
+}
+
+// The pruned chunk count of a text, the length of its retained bits, their chunks, and what follows them.
+fn pair_parts<'a, const N: usize>(
+    text: &'a [u8],
+    range: &RangeCfg,
+) -> Result<(usize, u64, &'a [[u8; N]], &'a [u8]), CodecError>
+    requires positive { 0 < N }
+    requires fits { 8 * N < 2 ^ 64 }
+    ensures accepted { OnOk result (pair_fault N (admits range.now) text.now ≡ None) }
+    ensures bits_accepted { OnOk result (bits_fault N (admits range.now) (drop 8 text.now) ≡ None) }
+    ensures long { OnOk result (8 ≤ length text.now) }
+    ensures pruned { IfOk result (λ p. p.0 ≡ number text.now) }
+    ensures len { IfOk result (λ p. p.1 ≡ number (drop 8 text.now)) }
+    ensures chunks { IfOk result (λ p. p.2.now ≡ first_chunks N (chunk_count N (number (drop 8 text.now))) (take (chunk_bytes N (drop 8 text.now)) (drop 8 (drop 8 text.now)))) }
+    ensures rest { IfOk result (λ p. p.3.now ≡ drop (8 + chunk_bytes N (drop 8 text.now)) (drop 8 text.now)) }
+    ensures total { IfOk result (λ p. 8 * N * p.0 + p.1 < 2 ^ 64) }
+    ensures refused { IfErr result (λ e. pair_fault N (admits range.now) text.now ≡ fault e) }
+    ensures bytes { (k : ℕ) → slice_index text.now k < 256 }
+{
+    let (pruned_chunks, pruned_bits, body) = pruned_part::<N>(text)?;
+    let (len, chunks, rest) = parts::<N>(body, range)?;
+    if pruned_bits.checked_add(len).is_none() {
+        return Err(CodecError::Invalid(
+            "Prunable",
+            "total bitmap length (pruned + unpruned) would overflow u64",
+        ));
+    }
+    Ok((pruned_chunks, len, chunks, rest))
+}
+
+impl<const N: usize> EncodeSize for Prunable<N> {
+    ghost spelled = { pair_spelling N };
+
+    ghost IsSized = { λ b. (bit_len N b < 2 ^ 64) × (b.pruned < 2 ^ 64) };
+
+    fn encode_size(&self) -> usize
+        ensures { result ≡ length (pair_spelling N self.now) }
+    {
+        8 + self.retained().encode_size()
+    }
+}
+
+impl<const N: usize> Write for Prunable<N> {
+    fn write(&self, out: &mut Vec<u8>) -> Result<(), AllocError> {
+        out.reserve(self.encode_size())?;
+        let count = self.pruned_chunks() as u64;
+        out.extend_from_slice(&count.to_be_bytes()).unwrap();
+        self.retained().append_spelling(out);
+        Ok(())
+    }
+}
+
+impl<const N: usize> Read for Prunable<N> {
+    ghost can_read = { (0 < N) × (8 * N < 2 ^ 64) };
+
+    ghost fault_of = { pair_fault N };
+
+    fn read_cfg(alloc: Global, from: &mut &[u8], range: &RangeCfg) -> Result<Self, CodecError> {
+        let (pruned_chunks, len, chunks, rest) = pair_parts::<N>(*from, range)?;
+        let bits = BitMap::from_chunks(alloc, chunks, len).map_err(|_| CodecError::OutOfMemory)?;
+        *from = rest;
+        Ok(Prunable::from_parts(bits, pruned_chunks))
+    }
+}

@@ -1,0 +1,125 @@
+//! Laws of the byte forms.
+
+ghost use Rattle.std.specs.Prelude.{◌≡◌, ℕ, ◌+◌, ◌*◌, ◌^◌, ◌<◌, ◌≤◌, ◌↔◌, ◌++◌, Bool, true, List, None, length, slice_index, IfErr, IfOk, IsTrue, OnErr, OnOk};
+ghost use Rattle.std.specs.Int.{div_ceil};
+ghost use Rattle.bitmap_core.specs.PrunedBits.{PrunedBits, bit_len};
+ghost use Rattle.bitmap_core.specs.Reading.{admits, bits_fault, pair_fault, SpellsBits, SpellsPair};
+ghost use Rattle.bitmap_core.specs.Spelling.{pair_spelling, spelling};
+
+use crate::bitmap::BitMap;
+use crate::bitmap::codec::{CodecError, EncodeSize, RangeCfg, Read, Write};
+use crate::bitmap::prunable::Prunable;
+use std::alloc::{AllocError, Global};
+
+/// A text has no fault exactly where some front of it spells bits that the range admits.
+pub fn bits_are_accepted_where_spelled()
+    ensures { (n : ℕ) (range : ℕ → Bool) (text : List ℕ) → 0 < n → ((k : ℕ) → slice_index text k < 256) → (bits_fault n range text ≡ None) ↔ SpellsBits n range text }
+{}
+
+/// A text has no fault exactly where some front of it spells a pair whose bits the range admits.
+pub fn pairs_are_accepted_where_spelled()
+    ensures { (n : ℕ) (range : ℕ → Bool) (text : List ℕ) → 0 < n → ((k : ℕ) → slice_index text k < 256) → (pair_fault n range text ≡ None) ↔ SpellsPair n range text }
+{}
+
+/// A text begins with at most one spelling of bits.
+pub fn one_spelling_of_bits()
+    ensures { (n : ℕ) (v w : List Bool) (xs ys : List ℕ) → 0 < n → length v < 2 ^ 64 → length w < 2 ^ 64 → spelling n v ++ xs ≡ spelling n w ++ ys → (v ≡ w) × (xs ≡ ys) }
+{}
+
+/// A text begins with at most one spelling of a pair.
+pub fn one_spelling_of_pairs()
+    ensures { (n : ℕ) (b c : PrunedBits) (xs ys : List ℕ) → 0 < n → bit_len n b < 2 ^ 64 → bit_len n c < 2 ^ 64 → b.pruned < 2 ^ 64 → c.pruned < 2 ^ 64 → pair_spelling n b ++ xs ≡ pair_spelling n c ++ ys → (b ≡ c) × (xs ≡ ys) }
+{}
+
+/// Bitmaps are equal exactly where their lists are, and exactly where their spellings are.
+pub fn equal_where_spelled_alike<const N: usize>(a: &BitMap<N>, b: &BitMap<N>) -> bool
+    ensures lists { IsTrue result ↔ (a.now ≡ b.now) }
+    ensures bytes { IsTrue result ↔ (spelling N a.now ≡ spelling N b.now) }
+{
+    let _ = a.len();
+    let _ = b.len();
+    a == b
+}
+
+/// What spells the bits of a bitmap is read as these bits, and what follows stays.
+pub fn bits_are_read_again<const N: usize>(
+    alloc: Global,
+    map: &BitMap<N>,
+    from: &mut &[u8],
+    range: &RangeCfg,
+) -> Result<BitMap<N>, CodecError>
+    ensures found { (rest : List ℕ) → from.old.now ≡ spelling N map.now ++ rest → IfOk result (λ v. (v ≡ map.now) × (from.new.now ≡ rest)) }
+    ensures refused { (rest : List ℕ) → from.old.now ≡ spelling N map.now ++ rest → admits range.now (length map.now) ≡ true → IfErr result (λ e. e ≡ CodecError.OutOfMemory) }
+    ensures unmoved { OnErr result (from.new ≡ from.old) }
+{
+    let _ = map.len();
+    BitMap::read_cfg(alloc, from, range)
+}
+
+/// What spells a bitmap with a pruned front is read as it, and what follows stays.
+pub fn pairs_are_read_again<const N: usize>(
+    alloc: Global,
+    map: &Prunable<N>,
+    from: &mut &[u8],
+    range: &RangeCfg,
+) -> Result<Prunable<N>, CodecError>
+    ensures found { (rest : List ℕ) → from.old.now ≡ pair_spelling N map.now ++ rest → IfOk result (λ b. (b ≡ map.now) × (from.new.now ≡ rest)) }
+    ensures refused { (rest : List ℕ) → from.old.now ≡ pair_spelling N map.now ++ rest → admits range.now (length map.now.bits) ≡ true → IfErr result (λ e. e ≡ CodecError.OutOfMemory) }
+    ensures unmoved { OnErr result (from.new ≡ from.old) }
+{
+    let _ = map.len();
+    let _ = map.pruned_chunks();
+    Prunable::read_cfg(alloc, from, range)
+}
+
+/// What is written is read again, whole.
+pub fn written_bits_are_read<const N: usize>(
+    alloc: Global,
+    map: &BitMap<N>,
+) -> Result<BitMap<N>, CodecError>
+    ensures found { IfOk result (λ v. v ≡ map.now) }
+    ensures refused { IfErr result (λ e. e ≡ CodecError.OutOfMemory) }
+{
+    let _ = map.len();
+    let mut out = Vec::new(alloc);
+    map.write(&mut out).map_err(|_| CodecError::OutOfMemory)?;
+    let mut from = out.as_slice();
+    BitMap::read_cfg(alloc, &mut from, &RangeCfg::any())
+}
+
+/// What is read from the front of a text is written as it stood there.
+pub fn read_bits_are_written<const N: usize>(
+    alloc: Global,
+    from: &mut &[u8],
+    range: &RangeCfg,
+) -> Result<Vec<u8>, CodecError>
+    requires positive { 0 < N }
+    requires fits { 8 * N < 2 ^ 64 }
+    ensures { IfOk result (λ out. from.old.now ≡ out.items ++ from.new.now) }
+{
+    let map = BitMap::<N>::read_cfg(alloc, from, range)?;
+    let mut out = Vec::new(alloc);
+    map.write(&mut out).map_err(|_| CodecError::OutOfMemory)?;
+    Ok(out)
+}
+
+/// The size of a bitmap is the number of bytes by which a write grows the vector.
+pub fn size_is_written<const N: usize>(
+    map: &BitMap<N>,
+    out: &mut Vec<u8>,
+) -> Result<usize, AllocError>
+    ensures { IfOk result (λ size. length out.new.items ≡ length out.old.items + size) }
+{
+    map.write(out)?;
+    Ok(map.encode_size())
+}
+
+/// No bitmap of at most so many bits takes more bytes than `max_encode_size`, and one of as many takes as many.
+pub fn longest_form<const N: usize>(map: &BitMap<N>, bits: u64) -> usize
+    requires { div_ceil bits (8 * N) * N + 8 < 2 ^ 64 }
+    ensures most { length map.now ≤ bits → length (spelling N map.now) ≤ result }
+    ensures reached { length map.now ≡ bits → length (spelling N map.now) ≡ result }
+{
+    let _ = map.len();
+    BitMap::<N>::max_encode_size(bits)
+}
