@@ -88,3 +88,6 @@ open_last n k len p c d =
 
 pub within_more : (n j k len : ℕ) → len ≤ 8 * n * j → j ≤ k → len ≤ 8 * n * k
 within_more n j k len h s = grind arith
+
+pub fewer_ceil : (n k m len : ℕ) → 0 < n → IsChunkCount n k len → m ≤ len → div_ceil m (8 * n) ≤ k
+fewer_ceil n k m len p c h = fewer_chunks (8 * n) (div_ceil m (8 * n)) k m (IsChunkCount-ceil n m p).1 (omega (arith, c.0))

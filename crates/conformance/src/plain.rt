@@ -58,6 +58,7 @@ fn holds<const N: usize>(map: &BitMap<N>, first: &[bool], then: &[bool]) -> bool
     map.iter().eq(first.iter().chain(then).copied())
 }
 
+// What a bitmap of these bits answers.
 fn check_reads<const N: usize>(
     rt: &impl Abort,
     alloc: Global,
@@ -82,6 +83,7 @@ fn check_reads<const N: usize>(
     Ok(())
 }
 
+// A bitmap that is filled, changed and emptied bit by bit.
 fn check_edits<const N: usize>(
     rt: &impl Abort,
     alloc: Global,
@@ -112,6 +114,7 @@ fn check_edits<const N: usize>(
     Ok(())
 }
 
+// The first bits kept, and zeros appended in place of the others.
 fn check_lengths<const N: usize>(
     rt: &impl Abort,
     alloc: Global,
@@ -136,6 +139,7 @@ fn check_lengths<const N: usize>(
     Ok(())
 }
 
+// The operators, which make a new bitmap.
 fn check_operators<const N: usize>(
     rt: &impl Abort,
     alloc: Global,
@@ -157,6 +161,7 @@ fn check_operators<const N: usize>(
     Ok(())
 }
 
+// The joins in place.
 fn check_joins<const N: usize>(
     rt: &impl Abort,
     alloc: Global,
@@ -182,6 +187,7 @@ fn check_joins<const N: usize>(
     Ok(())
 }
 
+// The set positions of a range, and whether it has none.
 fn check_ranges<const N: usize>(
     rt: &impl Abort,
     alloc: Global,
@@ -214,6 +220,7 @@ fn check_ranges<const N: usize>(
     Ok(())
 }
 
+// All of these at one width.
 fn check_width<const N: usize>(rt: &impl Abort, alloc: Global) -> Result<(), AllocError>
     requires positive { 0 < N }
     requires fits { 8 * N < 2 ^ 64 }
@@ -239,7 +246,7 @@ fn check_width<const N: usize>(rt: &impl Abort, alloc: Global) -> Result<(), All
     ];
     for len in ends {
         let dense = bits(alloc, len, len, 1)?;
-        let other = bits(alloc, len, 3 * N as u64, 1)?;
+        let other = bits(alloc, len, !len, 1)?;
         let sparse = bits(alloc, len, len, 31)?;
         check_reads::<N>(rt, alloc, dense.as_slice())?;
         check_edits::<N>(rt, alloc, dense.as_slice())?;
@@ -255,6 +262,7 @@ fn check_width<const N: usize>(rt: &impl Abort, alloc: Global) -> Result<(), All
     Ok(())
 }
 
+// Bitmaps of each length up to past a chunk, extended by others.
 fn check_extending<const N: usize, const M: usize>(
     rt: &impl Abort,
     alloc: Global,
@@ -269,7 +277,7 @@ fn check_extending<const N: usize, const M: usize>(
     for len in 0..width + 2 {
         let first = bits(alloc, len, len, 1)?;
         for more in [0, 1, 7, 8, 9, width - 1, width, 3 * width + 11] {
-            let then = bits(alloc, more, len, 1)?;
+            let then = bits(alloc, more, !len, 1)?;
             let mut map = BitMap::<N>::from_bools(alloc, first.as_slice())?;
             let other = BitMap::<M>::from_bools(alloc, then.as_slice())?;
             assert!(rt; map.len() < 1000 && other.len() < 3000);

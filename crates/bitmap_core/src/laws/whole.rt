@@ -1,6 +1,6 @@
 //! Counting, inverting, appending, and which bitmaps are the same.
 
-ghost use Rattle.std.specs.Prelude.{◌≡◌, ◌+◌, ◌^◌, ◌<◌, List, Bool, length, map, not, IfOk, IsTrue, ◌↔◌};
+ghost use Rattle.std.specs.Prelude.{◌≡◌, ◌+◌, ◌^◌, ◌<◌, List, Bool, [], ◌∷◌, ◌++◌, length, map, not, IfOk, IsTrue, ◌↔◌};
 ghost use Rattle.std.specs.List.{count_by, fold};
 ghost use Rattle.bitmap_core.specs.Fed.{fed_bits};
 
@@ -31,6 +31,7 @@ pub fn push_then_pop<const N: usize>(bitmap: &mut BitMap<N>, bit: bool) -> Resul
     requires room { length bitmap.old + 1 < 2 ^ 64 }
     ensures ok { IfOk result (λ b. b ≡ bit) }
     ensures same { bitmap.new ≡ bitmap.old }
+    ensures inverse { (v w : List Bool) (x y : Bool) → v ++ x ∷ [] ≡ w ++ y ∷ [] → (w ≡ v) × (y ≡ x) }
 {
     bitmap.push(bit)?;
     Ok(bitmap.pop())
