@@ -38,7 +38,7 @@ chunk_bytes n text = n * chunk_count n (number text)
 abbrev pub trailing : ℕ → List ℕ → List ℕ
 trailing n text = range_with_len (number text) (8 * chunk_bytes n text - number text)
 
--- a number passes 64 bits, those of a `u64` and of a `usize`
+-- a number passes the 64 bits of a `u64` and of a `usize`
 abbrev pub is_past_64 : ℕ → Bool
 is_past_64 k = not (nat_lt k (2 ^ 64))
 
