@@ -2,8 +2,14 @@
 #![tactic(auto)]
 
 #[cfg(test)]
+mod asked;
+#[cfg(test)]
 mod dense;
 #[cfg(test)]
 mod plain;
+#[cfg(test)]
+mod pruned;
+#[cfg(test)]
+mod readers;
 #[cfg(test)]
 mod refused;
