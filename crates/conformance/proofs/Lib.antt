@@ -1,1 +1,1 @@
-pub mod FullChunks
+pub mod ShownBits

@@ -290,12 +290,18 @@ fn places_of_positions(rt: HostRuntime) {
     }
 }
 
+// Replaces the last chunk of 35 bits by one with all three of its bits.
+#[tactic(auto, using(crate::proofs::ShownBits::zero_past_three))]
+fn set_three_bits(rt: &impl Abort, map: &mut Prunable<4>) {
+    assert!(rt; map.pruned_chunks() <= 1 && map.len() == 35);
+    map.set_chunk_by_index(1, &[7, 0, 0, 0]);
+}
+
 #[test]
 fn chunks_replaced(rt: HostRuntime) -> Result<(), Fail> {
     let mut map = Prunable::<4>::new(rt.alloc());
     map.extend_to(35)?;
-    assert_eq!(rt; map.len(), 35);
-    map.set_chunk_by_index(1, &[7, 0, 0, 0]);
+    set_three_bits(&rt, &mut map);
     assert_eq!(rt; get_chunk(&rt, &map, 1), [7, 0, 0, 0]);
     assert_eq!(rt; last_chunk(&rt, &map), ([7, 0, 0, 0], 3));
     set_full_chunk(&rt, &mut map, 0, &[0xff; 4]);
