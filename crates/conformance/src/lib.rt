@@ -2,8 +2,9 @@
 #![tactic(auto)]
 
 #[cfg(test)]
-mod codec;
 mod asked;
+#[cfg(test)]
+mod codec;
 #[cfg(test)]
 mod dense;
 #[cfg(test)]
