@@ -3,9 +3,14 @@
 
 #[cfg(test)]
 mod codec;
+mod asked;
 #[cfg(test)]
 mod dense;
 #[cfg(test)]
 mod plain;
+#[cfg(test)]
+mod pruned;
+#[cfg(test)]
+mod readers;
 #[cfg(test)]
 mod refused;

@@ -1,0 +1,378 @@
+//! Bitmaps with a pruned front: answers that were worked out by hand, and each public call.
+
+ghost use Rattle.std.specs.Prelude.{◌*◌, ◌^◌, ◌<◌};
+
+use crate::asked::{
+    chunk_at, extend_from_bitmap, get_bit, get_chunk, last_chunk, of_chunks, pop, pop_chunk,
+    prune_to_bit, push, push_byte, push_chunk, push_digits, set_bit, set_full_chunk, shows,
+    truncate, unprune,
+};
+use bitmap_core::bitmap::BitMap;
+use bitmap_core::bitmap::prunable::{Error, Prunable};
+use bitmap_core::bitmap::readable::Readable;
+use std::alloc::{AllocError, Global};
+use std::process::Abort;
+use std::test::Fail;
+
+// The counts of a bitmap: of bits and pruned bits, and of chunks, pruned chunks and full chunks.
+fn counts<const N: usize>(map: &Prunable<N>) -> (u64, u64, usize, usize, usize) {
+    (
+        map.len(),
+        map.pruned_bits(),
+        map.chunks_len(),
+        map.pruned_chunks(),
+        map.complete_chunks(),
+    )
+}
+
+// Whether two bitmaps have as many pruned bits, and the same bits after them.
+fn same<const N: usize>(rt: &impl Abort, map: &Prunable<N>, other: &Prunable<N>) -> bool {
+    if map.len() != other.len() || map.pruned_bits() != other.pruned_bits() {
+        return false;
+    }
+    for position in map.pruned_bits()..map.len() {
+        if get_bit(rt, map, position) != get_bit(rt, other, position) {
+            return false;
+        }
+    }
+    true
+}
+
+// Appends and edits behind a pruned chunk.
+fn check_edits<const N: usize>(rt: &impl Abort, alloc: Global) -> Result<(), AllocError>
+    requires positive { 0 < N }
+    requires fits { 8 * N < 2 ^ 64 }
+{
+    assert!(rt; N <= 64);
+    let width = 8 * N as u64;
+    assert_eq!(rt; Prunable::<N>::CHUNK_SIZE_BITS, width);
+    let mut map = of_chunks(rt, alloc, &[[0xff; N], [0; N]])?;
+    prune_to_bit(rt, &mut map, width);
+    push(rt, &mut map, true)?;
+    push(rt, &mut map, false)?;
+    set_bit(rt, &mut map, width, true);
+    set_bit(rt, &mut map, 2 * width + 1, true);
+    assert!(rt; counts(&map) == (2 * width + 2, width, 3, 1, 2));
+    assert!(rt; get_bit(rt, &map, width) && !get_bit(rt, &map, width + 1));
+    let (last, used) = last_chunk(rt, &map);
+    assert!(rt; last[0] == 3 && used == 2);
+    assert!(rt; get_chunk(rt, &map, 2) == last && chunk_at(rt, &map, 2 * width + 1) == last);
+    assert!(rt; Prunable::<N>::get_bit_from_chunk(&last, 2 * width + 1));
+    assert!(rt; same(rt, &map.clone()?, &map));
+    assert!(rt; pop(rt, &mut map) && pop(rt, &mut map));
+    push_byte(rt, &mut map, 0xa5)?;
+    map.extend_to(3 * width)?;
+    map.extend_to(width)?;
+    let (last, used) = last_chunk(rt, &map);
+    assert!(rt; last[0] == 0xa5 && used == width && map.is_chunk_aligned());
+    set_full_chunk(rt, &mut map, 1, &[0x5a; N]);
+    assert!(rt; pop_chunk(rt, &mut map) == last);
+    truncate(rt, &mut map, width + 2);
+    assert!(rt; shows(rt, &map, 1, b"01"));
+    Ok(())
+}
+
+// What moves the front: pruned chunks put back, and bits appended when all are pruned.
+fn check_fronts<const N: usize>(rt: &impl Abort, alloc: Global) -> Result<(), AllocError>
+    requires positive { 0 < N }
+    requires fits { 8 * N < 2 ^ 64 }
+{
+    assert!(rt; N <= 64);
+    let width = 8 * N as u64;
+    assert!(rt; Prunable::<N>::new(alloc).is_empty() && Prunable::<N>::default(alloc).is_empty());
+    let chunks = [[1; N], [2; N], [3; N]];
+    let whole = of_chunks(rt, alloc, &chunks)?;
+    let mut map = whole.clone()?;
+    prune_to_bit(rt, &mut map, 3 * width);
+    assert!(rt; counts(&map) == (3 * width, 3 * width, 3, 3, 3) && !map.is_empty());
+    unprune(rt, &mut map, &[])?;
+    assert!(rt; map.pruned_chunks() == 3);
+    unprune(rt, &mut map, &[[2; N], [3; N]])?;
+    assert!(rt; map.pruned_chunks() == 1 && get_chunk(rt, &map, 1) == [2; N]);
+    unprune(rt, &mut map, &[[1; N]])?;
+    assert!(rt; same(rt, &map, &whole));
+    prune_to_bit(rt, &mut map, 3 * width - 1);
+    assert!(rt; map.pruned_chunks() == 2 && get_chunk(rt, &map, 2) == [3; N]);
+    extend_from_bitmap(rt, &mut map, &BitMap::<3>::ones(alloc, 11)?)?;
+    prune_to_bit(rt, &mut map, 3 * width);
+    assert!(rt; map.pruned_bits() == 3 * width && map.len() == 3 * width + 11);
+    assert!(rt; map.ones_iter_from(0).eq(3 * width..3 * width + 11));
+    assert_eq!(rt; Prunable::<N>::to_chunk_index(2 * width - 1), 1);
+    assert_eq!(rt; Prunable::<N>::chunk_byte_offset(2 * width - 1), N - 1);
+    Ok(())
+}
+
+#[test]
+fn edits_at_each_width(rt: HostRuntime) -> Result<(), Fail> {
+    check_edits::<1>(&rt, rt.alloc())?;
+    check_edits::<3>(&rt, rt.alloc())?;
+    check_edits::<7>(&rt, rt.alloc())?;
+    check_edits::<8>(&rt, rt.alloc())?;
+    check_edits::<9>(&rt, rt.alloc())?;
+    check_edits::<32>(&rt, rt.alloc())?;
+    check_edits::<64>(&rt, rt.alloc())?;
+    Ok(())
+}
+
+#[test]
+fn fronts_at_each_width(rt: HostRuntime) -> Result<(), Fail> {
+    check_fronts::<1>(&rt, rt.alloc())?;
+    check_fronts::<3>(&rt, rt.alloc())?;
+    check_fronts::<7>(&rt, rt.alloc())?;
+    check_fronts::<8>(&rt, rt.alloc())?;
+    check_fronts::<9>(&rt, rt.alloc())?;
+    check_fronts::<32>(&rt, rt.alloc())?;
+    check_fronts::<64>(&rt, rt.alloc())?;
+    Ok(())
+}
+
+#[test]
+fn chunks_pruned_from_the_start(rt: HostRuntime) -> Result<(), Fail> {
+    let map = Prunable::<2>::new_with_pruned_chunks(rt.alloc(), 1)?;
+    assert_eq!(rt; counts(&map), (16, 16, 1, 1, 1));
+    assert!(rt; map.is_chunk_aligned() && !map.is_empty());
+    let refused = Prunable::<4>::new_with_pruned_chunks(rt.alloc(), 576460752303423488);
+    assert!(rt; refused.is_err_and(|why| why == Error::PrunedChunksOverflow));
+    assert_eq!(rt;
+        format!(in rt.alloc(); "{}", Error::PrunedChunksOverflow)?.as_str(),
+        "pruned_chunks * CHUNK_SIZE_BITS overflows u64"
+    );
+    Ok(())
+}
+
+// The most chunks that can be pruned, and the bits that have room behind them.
+fn check_end<const N: usize>(
+    rt: &impl Abort,
+    alloc: Global,
+    most: usize,
+    room: u64,
+) -> Result<(), AllocError>
+    requires positive { 0 < N }
+    requires fits { 8 * N < 2 ^ 64 }
+{
+    assert!(rt; most < usize::MAX);
+    assert!(rt; Prunable::<N>::new_with_pruned_chunks(alloc, most + 1).is_err());
+    let made = Prunable::<N>::new_with_pruned_chunks(alloc, most);
+    assert!(rt; made.is_ok(), "chunks of {N}");
+    if let Ok(mut map) = made {
+        for i in 0..room {
+            push(rt, &mut map, i % 3 == 0)?;
+        }
+        assert_eq!(rt; map.len(), u64::MAX, "chunks of {N}");
+        let (last, used) = last_chunk(rt, &map);
+        assert!(rt; used == room && last[0] & 0x7f == 0x49, "chunks of {N}");
+    }
+    Ok(())
+}
+
+#[test]
+fn ends_of_the_positions(rt: HostRuntime) -> Result<(), Fail> {
+    check_end::<1>(&rt, rt.alloc(), 2305843009213693951, 7)?;
+    check_end::<7>(&rt, rt.alloc(), 329406144173384850, 15)?;
+    check_end::<8>(&rt, rt.alloc(), 288230376151711743, 63)?;
+    check_end::<9>(&rt, rt.alloc(), 256204778801521550, 15)?;
+    let mut map = Prunable::<8>::new_with_pruned_chunks(rt.alloc(), 288230376151711743)?;
+    assert_eq!(rt; map.pruned_bits(), 18446744073709551552);
+    map.extend_to(u64::MAX)?;
+    set_bit(&rt, &mut map, u64::MAX - 1, true);
+    let first = map.pruned_bits();
+    assert_eq!(rt; map.ones_iter_range(first..u64::MAX - 1).next(), None);
+    assert_eq!(rt;
+        map.ones_iter_range(first..u64::MAX).next(),
+        Some(18446744073709551614)
+    );
+    Ok(())
+}
+
+#[test]
+fn three_chunks(rt: HostRuntime) -> Result<(), Fail> {
+    let chunks = [[1, 2, 3, 4], [5, 6, 7, 8], [9, 10, 11, 12]];
+    let mut map = of_chunks(&rt, rt.alloc(), &chunks)?;
+    assert_eq!(rt; get_chunk(&rt, &map, 0), [1, 2, 3, 4]);
+    prune_to_bit(&rt, &mut map, 32);
+    assert_eq!(rt; counts(&map), (96, 32, 3, 1, 3));
+    assert_eq!(rt; chunk_at(&rt, &map, 32), [5, 6, 7, 8]);
+    assert_eq!(rt; chunk_at(&rt, &map, 64), [9, 10, 11, 12]);
+    assert_eq!(rt; get_chunk(&rt, &map, 1), [5, 6, 7, 8]);
+    assert_eq!(rt; get_chunk(&rt, &map, 2), [9, 10, 11, 12]);
+    prune_to_bit(&rt, &mut map, 64);
+    assert_eq!(rt; counts(&map), (96, 64, 3, 2, 3));
+    assert_eq!(rt; chunk_at(&rt, &map, 95), [9, 10, 11, 12]);
+    push_chunk(&rt, &mut map, &[13, 14, 15, 16])?;
+    assert_eq!(rt; counts(&map), (128, 64, 4, 2, 4));
+    assert_eq!(rt; pop_chunk(&rt, &mut map), [13, 14, 15, 16]);
+    assert_eq!(rt; pop_chunk(&rt, &mut map), [9, 10, 11, 12]);
+    assert_eq!(rt; counts(&map), (64, 64, 2, 2, 2));
+    Ok(())
+}
+
+#[test]
+fn chunks_popped(rt: HostRuntime) -> Result<(), Fail> {
+    let chunks = [
+        [0x11, 0x22, 0x33, 0x44],
+        [0x55, 0x66, 0x77, 0x88],
+        [0x99, 0xaa, 0xbb, 0xcc],
+    ];
+    let mut map = of_chunks(&rt, rt.alloc(), &chunks)?;
+    assert_eq!(rt; pop_chunk(&rt, &mut map), [0x99, 0xaa, 0xbb, 0xcc]);
+    assert_eq!(rt; pop_chunk(&rt, &mut map), [0x55, 0x66, 0x77, 0x88]);
+    assert!(rt; shows(&rt, &map, 0, b"10001000010001001100110000100010"));
+    assert_eq!(rt; pop_chunk(&rt, &mut map), [0x11, 0x22, 0x33, 0x44]);
+    assert!(rt; map.is_empty());
+    Ok(())
+}
+
+#[test]
+fn pruned_again(rt: HostRuntime) -> Result<(), Fail> {
+    let mut map = of_chunks(&rt, rt.alloc(), &[[1, 2, 3, 4], [5, 6, 7, 8]])?;
+    for (bit, want) in [(31, 0), (32, 1), (32, 1), (16, 1), (0, 1), (63, 1), (64, 2)] {
+        prune_to_bit(&rt, &mut map, bit);
+        assert_eq!(rt; map.pruned_chunks(), want, "pruned to {bit}");
+    }
+    assert_eq!(rt; counts(&map), (64, 64, 2, 2, 2));
+    assert!(rt; !map.is_empty() && map.is_chunk_aligned());
+    Ok(())
+}
+
+#[test]
+fn partial_last_chunks(rt: HostRuntime) -> Result<(), Fail> {
+    let mut map = of_chunks(&rt, rt.alloc(), &[[0xff; 4], [0xaa; 4]])?;
+    push_digits(&rt, &mut map, b"101")?;
+    assert_eq!(rt; last_chunk(&rt, &map), ([5, 0, 0, 0], 3));
+    prune_to_bit(&rt, &mut map, 32);
+    assert_eq!(rt; counts(&map), (67, 32, 3, 1, 2));
+    assert_eq!(rt; last_chunk(&rt, &map), ([5, 0, 0, 0], 3));
+    assert!(rt; shows(&rt, &map, 1, b"01010101010101010101010101010101101"));
+    assert!(rt; !map.is_chunk_aligned());
+    truncate(&rt, &mut map, 64);
+    assert_eq!(rt; last_chunk(&rt, &map), ([0xaa; 4], 32));
+    assert!(rt; map.is_chunk_aligned());
+    truncate(&rt, &mut map, 35);
+    assert!(rt; shows(&rt, &map, 1, b"010"));
+    truncate(&rt, &mut map, 32);
+    assert!(rt; shows(&rt, &map, 1, b""));
+    Ok(())
+}
+
+#[test]
+fn places_of_positions(rt: HostRuntime) {
+    for (bit, chunk, byte, mask) in [
+        (0, 0, 0, 1),
+        (1, 0, 0, 2),
+        (7, 0, 0, 128),
+        (8, 0, 1, 1),
+        (16, 0, 2, 1),
+        (24, 0, 3, 1),
+        (31, 0, 3, 128),
+        (32, 1, 0, 1),
+        (63, 1, 3, 128),
+        (64, 2, 0, 1),
+        (u64::MAX, 576460752303423487, 3, 128),
+    ] {
+        assert_eq!(rt; Prunable::<4>::to_chunk_index(bit), chunk, "at {bit}");
+        assert_eq!(rt; Prunable::<4>::chunk_byte_offset(bit), byte, "at {bit}");
+        assert_eq!(rt; Prunable::<4>::chunk_byte_bitmask(bit), mask, "at {bit}");
+    }
+    let chunk = [0b10101010, 0b11001100, 0b11110000, 0b00001111];
+    for (bit, want) in [
+        (0, false),
+        (1, true),
+        (3, true),
+        (8, false),
+        (10, true),
+        (43, true),
+    ] {
+        assert_eq!(rt;
+            Prunable::<4>::get_bit_from_chunk(&chunk, bit),
+            want,
+            "at {bit}"
+        );
+    }
+}
+
+// Replaces the last chunk of 35 bits by one with all three of its bits.
+#[tactic(auto, using(crate::proofs::ShownBits::zero_past_three))]
+fn set_three_bits(rt: &impl Abort, map: &mut Prunable<4>) {
+    assert!(rt; map.pruned_chunks() <= 1 && map.len() == 35);
+    map.set_chunk_by_index(1, &[7, 0, 0, 0]);
+}
+
+#[test]
+fn chunks_replaced(rt: HostRuntime) -> Result<(), Fail> {
+    let mut map = Prunable::<4>::new(rt.alloc());
+    map.extend_to(35)?;
+    set_three_bits(&rt, &mut map);
+    assert_eq!(rt; get_chunk(&rt, &map, 1), [7, 0, 0, 0]);
+    assert_eq!(rt; last_chunk(&rt, &map), ([7, 0, 0, 0], 3));
+    set_full_chunk(&rt, &mut map, 0, &[0xff; 4]);
+    assert!(rt; map.ones_iter_from(0).eq(0..35));
+    prune_to_bit(&rt, &mut map, 34);
+    assert!(rt; shows(&rt, &map, 1, b"111"));
+    map.extend_to(64)?;
+    set_full_chunk(&rt, &mut map, 1, &[0, 0xff, 0, 0]);
+    assert!(rt; shows(&rt, &map, 1, b"00000000111111110000000000000000"));
+    Ok(())
+}
+
+#[test]
+fn bits_pushed_and_popped(rt: HostRuntime) -> Result<(), Fail> {
+    let mut map = Prunable::<4>::new(rt.alloc());
+    push_digits(&rt, &mut map, b"101")?;
+    assert!(rt; shows(&rt, &map, 0, b"101"));
+    set_bit(&rt, &mut map, 1, true);
+    assert!(rt; shows(&rt, &map, 0, b"111"));
+    set_bit(&rt, &mut map, 1, false);
+    assert!(rt; pop(&rt, &mut map) && !pop(&rt, &mut map) && pop(&rt, &mut map));
+    assert!(rt; map.is_empty());
+    for i in 0..100 {
+        push(&rt, &mut map, i % 3 == 0)?;
+        assert_eq!(rt; map.is_chunk_aligned(), i % 32 == 31, "at {i}");
+    }
+    prune_to_bit(&rt, &mut map, 40);
+    for i in (32..100).rev() {
+        assert_eq!(rt; pop(&rt, &mut map), i % 3 == 0, "at {i}");
+        assert_eq!(rt; map.len(), i);
+    }
+    push_byte(&rt, &mut map, 0xff)?;
+    push_byte(&rt, &mut map, 0x01)?;
+    assert!(rt; shows(&rt, &map, 1, b"1111111110000000"));
+    Ok(())
+}
+
+#[test]
+fn zeros_appended(rt: HostRuntime) -> Result<(), Fail> {
+    let mut map = Prunable::<4>::new(rt.alloc());
+    push_digits(&rt, &mut map, b"101010101010101010101010101010")?;
+    for (len, want) in [(5, 30), (30, 30), (65, 65)] {
+        map.extend_to(len)?;
+        assert_eq!(rt; map.len(), want, "extended to {len}");
+    }
+    assert!(rt; map.ones_iter_from(0).eq((0..30).step_by(2)));
+    prune_to_bit(&rt, &mut map, 32);
+    map.extend_to(31)?;
+    map.extend_to(100)?;
+    assert_eq!(rt; counts(&map), (100, 32, 4, 1, 3));
+    assert_eq!(rt; map.ones_iter_from(0).next(), None);
+    Ok(())
+}
+
+#[test]
+fn a_bitmap_appended_or_pushed(rt: HostRuntime) -> Result<(), Fail> {
+    let mut source = BitMap::<8>::zeroes(rt.alloc(), 1000)?;
+    assert_eq!(rt; source.len(), 1000);
+    for i in 0..1000 {
+        source.set(i, i % 3 == 0 || i % 7 == 0);
+    }
+    for floor in [128, 129, 191, 255, 256, 300] {
+        let mut map = Prunable::<16>::new_with_pruned_chunks(rt.alloc(), 1)?;
+        map.extend_to(floor)?;
+        let mut other = map.clone()?;
+        extend_from_bitmap(&rt, &mut map, &source)?;
+        for bit in source.iter() {
+            push(&rt, &mut other, bit)?;
+        }
+        assert_eq!(rt; map.len(), floor + 1000);
+        assert!(rt; same(&rt, &map, &other), "from {floor}");
+    }
+    Ok(())
+}

@@ -1,0 +1,258 @@
+//! Bitmaps as their readers see them: set positions, of bitmaps of this repository and of others.
+
+ghost use Rattle.std.specs.Prelude.{◌≡◌, ◌*◌, ◌^◌, ◌<◌, true};
+
+use crate::asked::{extend_from_bitmap, prune_to_bit, push, set_bit};
+use bitmap_core::bitmap::BitMap;
+use bitmap_core::bitmap::prunable::Prunable;
+use bitmap_core::bitmap::readable::Readable;
+use std::alloc::{AllocError, Global};
+use std::cell::Cell;
+use std::process::Abort;
+use std::test::Fail;
+
+// Five set bits in one chunk, which shows set bits past the length too.
+#[derive(Drop)]
+struct Five;
+
+impl Readable<4> for Five {
+    ghost meaning = { λ _. record { pruned = 0; len = 5; bit = λ _. true } };
+
+    fn complete_chunks(&self) -> usize {
+        0
+    }
+
+    fn get_chunk(&self, _chunk: usize) -> [u8; 4] {
+        [255; 4]
+    }
+
+    fn last_chunk(&self) -> ([u8; 4], u64) {
+        ([255; 4], 5)
+    }
+
+    fn pruned_chunks(&self) -> usize {
+        0
+    }
+
+    fn len(&self) -> u64 {
+        5
+    }
+}
+
+// The seven last positions of `u64`, all set.
+#[derive(Drop)]
+struct Top;
+
+impl Readable<1> for Top {
+    ghost meaning = { λ _. record { pruned = 2305843009213693951; len = 18446744073709551615; bit = λ _. true } };
+
+    fn complete_chunks(&self) -> usize {
+        2305843009213693951
+    }
+
+    fn get_chunk(&self, _chunk: usize) -> [u8; 1] {
+        [255]
+    }
+
+    fn last_chunk(&self) -> ([u8; 1], u64) {
+        ([255], 7)
+    }
+
+    fn pruned_chunks(&self) -> usize {
+        2305843009213693951
+    }
+
+    fn len(&self) -> u64 {
+        u64::MAX
+    }
+}
+
+// Set bits in chunks of nine bytes, at most two chunks of them, and how often they were asked for.
+#[derive(Drop)]
+struct Counting {
+    len: u8,
+    chunk_calls: Cell<u64>,
+    len_calls: Cell<u64>,
+}
+
+impl Counting {
+    fn new(len: u8) -> Counting
+        ensures { result.len ≡ len }
+    {
+        Counting {
+            len,
+            chunk_calls: Cell::new(0),
+            len_calls: Cell::new(0),
+        }
+    }
+}
+
+impl Readable<9> for Counting {
+    ghost meaning = { λ s. record { pruned = 0; len = s.len; bit = λ _. true } };
+
+    fn complete_chunks(&self) -> usize {
+        (self.len / 72) as usize
+    }
+
+    fn get_chunk(&self, _chunk: usize) -> [u8; 9] {
+        self.chunk_calls.set(self.chunk_calls.get().wrapping_add(1));
+        [255; 9]
+    }
+
+    fn last_chunk(&self) -> ([u8; 9], u64) {
+        self.chunk_calls.set(self.chunk_calls.get().wrapping_add(1));
+        ([255; 9], (self.len as u64 - 1) % 72 + 1)
+    }
+
+    fn pruned_chunks(&self) -> usize {
+        // Tells the proof that the length fits.
+        let _len = self.len;
+        0
+    }
+
+    fn len(&self) -> u64 {
+        self.len_calls.set(self.len_calls.get().wrapping_add(1));
+        self.len as u64
+    }
+}
+
+#[test]
+fn bits_past_the_length_are_not_read(rt: HostRuntime) {
+    let mut ones = Five.ones_iter_from(0);
+    for want in [Some(0), Some(1), Some(2), Some(3), Some(4), None, None] {
+        assert_eq!(rt; ones.next(), want);
+    }
+    let map = Counting::new(70);
+    assert!(rt; map.ones_iter_range(64..u64::MAX).eq(64..70));
+}
+
+#[test]
+fn positions_up_to_the_greatest(rt: HostRuntime) {
+    let mut ones = Top.ones_iter_from(0);
+    for want in 18446744073709551608..18446744073709551615 {
+        assert_eq!(rt; ones.next(), Some(want));
+    }
+    assert_eq!(rt; ones.next(), None);
+    assert_eq!(rt; ones.next(), None);
+    assert!(rt; Top.get_bit(18446744073709551614) && !Top.is_empty());
+    assert_eq!(rt; Top.pruned_bits(), 18446744073709551608);
+}
+
+#[test]
+fn few_questions(rt: HostRuntime) {
+    for (start, end, chunk_calls) in [(0, 144, 2), (64, 72, 1), (72, 73, 1), (5, 5, 0)] {
+        let map = Counting::new(144);
+        assert!(rt; map.ones_iter_range(start..end).eq(start..end));
+        assert!(rt; map.chunk_calls.get() <= chunk_calls, "{start}..{end}");
+        assert!(rt; map.len_calls.get() <= 1, "{start}..{end}");
+    }
+}
+
+#[test]
+fn where_words_meet_chunks(rt: HostRuntime) -> Result<(), Fail> {
+    let mut map = BitMap::<9>::zeroes(rt.alloc(), 144)?;
+    for position in [63, 64, 71, 72] {
+        assert!(rt; position < map.len());
+        map.set(position, true);
+    }
+    assert!(rt; map.ones_iter().eq([63, 64, 71, 72].iter().copied()));
+    assert!(rt; map.ones_iter_range(64..72).eq([64, 71].iter().copied()));
+    Ok(())
+}
+
+#[test]
+fn positions_behind_a_pruned_front(rt: HostRuntime) -> Result<(), Fail> {
+    let mut map = Prunable::<4>::new(rt.alloc());
+    map.extend_from_bitmap(&BitMap::<4>::ones(rt.alloc(), 64)?)?;
+    prune_to_bit(&rt, &mut map, 32);
+    assert!(rt; map.ones_iter_from(0).eq(32..64));
+    let mut sparse = Prunable::<4>::new(rt.alloc());
+    sparse.extend_to(96)?;
+    assert!(rt; sparse.pruned_bits() == 0 && sparse.len() == 96);
+    for position in [40, 55, 64, 90] {
+        set_bit(&rt, &mut sparse, position, true);
+    }
+    prune_to_bit(&rt, &mut sparse, 32);
+    assert!(rt;
+        sparse
+            .ones_iter_from(32)
+            .eq([40, 55, 64, 90].iter().copied())
+    );
+    assert!(rt; sparse.ones_iter_from(50).eq([55, 64, 90].iter().copied()));
+    assert_eq!(rt; sparse.ones_iter_from(91).next(), None);
+    Ok(())
+}
+
+#[test]
+fn positions_in_the_last_chunk(rt: HostRuntime) -> Result<(), Fail> {
+    let made = Prunable::<8>::new_with_pruned_chunks(rt.alloc(), 288230376151711743);
+    assert!(rt; made.is_ok());
+    if let Ok(mut map) = made {
+        assert_eq!(rt; map.ones_iter_from(0).next(), None);
+        assert_eq!(rt; map.len(), 18446744073709551552);
+        for i in 0..32 {
+            push(&rt, &mut map, i == 0 || i == 31)?;
+        }
+        let want = [18446744073709551552, 18446744073709551583];
+        assert!(rt; map.ones_iter_from(0).eq(want.iter().copied()));
+    }
+    Ok(())
+}
+
+// Whether the set positions of a range are those that reading each bit finds.
+fn agrees<B: Readable<N>, const N: usize>(map: &B, start: u64, end: u64) -> bool {
+    let len = map.len();
+    let mut ones = map.ones_iter_range(start..end);
+    for position in start.max(map.pruned_bits())..end.min(len) {
+        if map.get_bit(position) && ones.next() != Some(position) {
+            return false;
+        }
+    }
+    ones.next().is_none() && ones.next().is_none()
+}
+
+fn check_ranges<const N: usize>(
+    rt: &impl Abort,
+    alloc: Global,
+    stride: usize,
+) -> Result<(), AllocError>
+    requires positive { 0 < N }
+    requires fits { 8 * N < 2 ^ 64 }
+{
+    assert!(rt; N <= 64 && stride > 0);
+    let width = 8 * N as u64;
+    let len = 2 * width + 2;
+    let mut dense = BitMap::<N>::new(alloc);
+    for i in 0..len {
+        assert!(rt; dense.len() < len);
+        dense.push(i * i % 11 < 4)?;
+    }
+    let mut pruned = Prunable::<N>::new(alloc);
+    extend_from_bitmap(rt, &mut pruned, &dense)?;
+    prune_to_bit(rt, &mut pruned, width);
+    for start in (0..len + 3).step_by(stride) {
+        for end in (0..len + 3).step_by(stride) {
+            assert!(rt;
+                agrees(&dense, start, end),
+                "{start}..{end} in chunks of {N}"
+            );
+            assert!(rt;
+                agrees(&pruned, start, end),
+                "{start}..{end} in chunks of {N}"
+            );
+        }
+    }
+    Ok(())
+}
+
+#[test]
+fn each_range(rt: HostRuntime) -> Result<(), Fail> {
+    check_ranges::<1>(&rt, rt.alloc(), 1)?;
+    check_ranges::<3>(&rt, rt.alloc(), 1)?;
+    check_ranges::<7>(&rt, rt.alloc(), 1)?;
+    check_ranges::<8>(&rt, rt.alloc(), 1)?;
+    check_ranges::<9>(&rt, rt.alloc(), 1)?;
+    check_ranges::<32>(&rt, rt.alloc(), 7)?;
+    check_ranges::<64>(&rt, rt.alloc(), 13)?;
+    Ok(())
+}
