@@ -1,9 +1,9 @@
 //! Tests of the bitmaps from outside, through their public calls alone.
 #![tactic(auto)]
 
+mod asked;
 #[cfg(test)]
 mod codec;
-mod asked;
 #[cfg(test)]
 mod dense;
 #[cfg(test)]
