@@ -1,10 +1,8 @@
 //! Tests of the bitmaps from outside, through their public calls alone.
 #![tactic(auto)]
 
-mod asked;
 #[cfg(test)]
 mod asked;
-mod codec;
 #[cfg(test)]
 mod codec;
 #[cfg(test)]
