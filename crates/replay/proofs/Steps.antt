@@ -1,11 +1,11 @@
 -- A command that no refusal holds of is accepted.
 use Rattle.std.proofs.Common.{◌≡◌, ◌≢◌, ℕ, ◌+◌, ◌*◌, ◌<◌, ◌≤◌, ◌^◌, List, [], ◌∷◌, ◌++◌, Bool, Some, None, Option, refl, ap, inl, arith, leb, ltb, false, length, eqb}
-use Rattle.std.specs.Prelude.{MatchOption, nat_eq}
+use Rattle.std.specs.Prelude.{MatchOption}
 use Rattle.std.proofs.lemmas.Bool.{false≢true, ne_eqb}
 use Rattle.std.proofs.lemmas.Bool.Decides.{nat_tests}
 use Rattle.bitmap_core.specs.PrunedBits.{PrunedBits, pruned_bits, bit_len, pushed, popped, last_bit, set_at}
 use Rattle.replay.specs.declared.command.Command.TheVariants.{Start, Push, Pop, Set, Commit, Abort}
-use Rattle.replay.specs.History.{History, kept_under, latest}
+use Rattle.replay.specs.History.{History, latest}
 use Rattle.replay.specs.Machine.{Machine, Done, Bit, Agrees, StepTo}
 use Rattle.replay.specs.Seen.{no_costs}
 
