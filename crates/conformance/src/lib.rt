@@ -1,6 +1,7 @@
 //! Tests of the bitmaps from outside, through their public calls alone.
 #![tactic(auto)]
 
+#[cfg(test)]
 mod asked;
 #[cfg(test)]
 mod codec;

@@ -359,8 +359,8 @@ fn zeros_appended(rt: HostRuntime) -> Result<(), Fail> {
 #[test]
 fn a_bitmap_appended_or_pushed(rt: HostRuntime) -> Result<(), Fail> {
     let mut source = BitMap::<8>::zeroes(rt.alloc(), 1000)?;
-    assert_eq!(rt; source.len(), 1000);
     for i in 0..1000 {
+        assert!(rt; i < source.len());
         source.set(i, i % 3 == 0 || i % 7 == 0);
     }
     for floor in [128, 129, 191, 255, 256, 300] {

@@ -20,6 +20,14 @@ fn run(alloc: Global, script: Result<&[u8], io::Error>) -> Outcome {
     Outcome { status, out, err }
 }
 
+// The same with chunks of one byte.
+fn run_bytes(alloc: Global, script: Result<&[u8], io::Error>) -> Outcome {
+    let mut out = Vec::new(alloc);
+    let mut err = Vec::new(alloc);
+    let status = run_script(alloc, 1, script, &mut out, &mut err);
+    Outcome { status, out, err }
+}
+
 // A stream that takes nothing.
 #[derive(Drop)]
 struct Full;
@@ -71,6 +79,20 @@ fn a_pruned_front_stays_pruned(rt: HostRuntime) -> Result<(), Fail> {
     assert_eq!(rt;
         out.as_slice(),
         b"done\ndone\ndone\nbit 1\nrefused pruned\nrefused pruned\nrefused out-of-bounds\nbit 1\nrefused no-retained-bit\ndone\ndone\nbitmap 2 0\nnumber 2\nnumber 65\nrefused pruned-chunks-overflow\nnumber 65\ndone\nnone\n".as_slice()
+    );
+    assert_eq!(rt; err.len(), 0);
+    Ok(())
+}
+
+#[test]
+fn the_length_ends_with_u64(rt: HostRuntime) -> Result<(), Fail> {
+    let script =
+        b"start 2305843009213693951\nlen\nbegin\npush 1\npush 1\npush 1\npush 1\npush 1\npush 1\npush 1\nlen\npush 1\nabort\nstart 2305843009213693952\n";
+    let Outcome { status, out, err } = run_bytes(rt.alloc(), Ok(script.as_slice()));
+    assert_eq!(rt; status, 0);
+    assert_eq!(rt;
+        out.as_slice(),
+        b"done\nnumber 18446744073709551608\ndone\ndone\ndone\ndone\ndone\ndone\ndone\ndone\nnumber 18446744073709551615\nrefused too-long\ndone\nrefused pruned-chunks-overflow\n".as_slice()
     );
     assert_eq!(rt; err.len(), 0);
     Ok(())

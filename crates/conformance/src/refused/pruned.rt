@@ -185,7 +185,7 @@ fn reads_that_take_no_memory(rt: HostRuntime) {
         map.ones_iter_range(20..28)
             .eq([22, 25, 26, 27].iter().copied())
     );
-    assert_eq!(rt; map.ones_iter_from(0).count(), 9);
+    assert!(rt; map.ones_iter_from(28).eq([29, 31].iter().copied()));
     assert_eq!(rt; Prunable::<1>::to_chunk_index(31), 3);
     assert_eq!(rt; Prunable::<1>::chunk_byte_offset(31), 0);
     assert_eq!(rt; Prunable::<1>::chunk_byte_bitmask(31), 128);
