@@ -108,7 +108,8 @@ pub fn size_is_written<const N: usize>(
     map: &BitMap<N>,
     out: &mut Vec<u8>,
 ) -> Result<usize, AllocError>
-    ensures { IfOk result (λ size. length out.new.items ≡ length out.old.items + size) }
+    ensures written { OnOk result (out.new.items ≡ out.old.items ++ spelling N map.now) }
+    ensures size { IfOk result (λ size. length out.new.items ≡ length out.old.items + size) }
 {
     map.write(out)?;
     Ok(map.encode_size())
