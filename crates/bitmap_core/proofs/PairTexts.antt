@@ -4,8 +4,8 @@ use Rattle.std.specs.Int.{w64, to_be_bytes}
 use Rattle.std.proofs.lemmas.List.{length-append, drop_at}
 use Rattle.bitmap_core.specs.PrunedBits.{PrunedBits, bit_len}
 use Rattle.bitmap_core.specs.Spelling.{spelling, pair_spelling}
-use Rattle.bitmap_core.specs.Reading.{number, bits_fault, pair_fault, SpellsPair}
-use Rattle.bitmap_core.proofs.Texts.{AreBytes, AreBytes-drop, number_of_text, number-again, spelling-number, same_spelling}
+use Rattle.bitmap_core.specs.Reading.{number, bits_fault, pair_fault, pair_in, SpellsPair}
+use Rattle.bitmap_core.proofs.Texts.{AreBytes, AreBytes-drop, number_of_text, number-again, spelling-number, bits_in_spelled, same_spelling}
 use Rattle.bitmap_core.proofs.Faults.{sound, sound-none, sound-spells, spells-sound, SoundPair, sound_pair, sound_pair-none}
 
 pair-number : (n : ℕ) (b : PrunedBits) (rest : List ℕ) → b.pruned < 2 ^ 64 → number (pair_spelling n b ++ rest) ≡ b.pruned
@@ -19,6 +19,14 @@ pair-body n b rest = ap (drop 8) (append_assoc (to_be_bytes w64 b.pruned) (spell
 pub length-pair : (n : ℕ) (b : PrunedBits) → length (pair_spelling n b) ≡ 8 + length (spelling n b.bits)
 unfolding pair_spelling
 length-pair n b = length-append (to_be_bytes w64 b.pruned) (spelling n b.bits)
+
+-- what is spelled is read off
+pub pair_in_spelled : (n : ℕ) (text : List ℕ) (b : PrunedBits) (rest : List ℕ) → 0 < n → length b.bits < 2 ^ 64 → b.pruned < 2 ^ 64 → text ≡ pair_spelling n b ++ rest → b ≡ pair_in text
+unfolding pair_in
+pair_in_spelled n text b rest p l h e =
+    let k : b.pruned ≡ number text = sym (pair-number n b rest h) ∙ ap number (sym e) in
+    let v = bits_in_spelled n (drop 8 text) b.bits rest p l (ap (drop 8) e ∙ pair-body n b rest) in
+    ap (λ x. let y : PrunedBits = record { pruned = x; bits = b.bits } in y) k ∙ ap (λ x. let y : PrunedBits = record { pruned = number text; bits = x } in y) v
 
 -- a pair by its count and the spelling of its bits
 pair-joined : (n : ℕ) (text : List ℕ) (v : List Bool) (rest : List ℕ) → AreBytes text → 8 ≤ length text → drop 8 text ≡ spelling n v ++ rest → text ≡ pair_spelling n (record { pruned = number text; bits = v }) ++ rest

@@ -12,7 +12,7 @@ use Rattle.std.proofs.lemmas.Bool.{cases_lt}
 use Rattle.bitmap_core.specs.Chunk.{bit_in, chunk_of}
 use Rattle.bitmap_core.specs.Bits.{bit_of, bits, IsZeroFrom}
 use Rattle.bitmap_core.specs.Spelling.{chunk_count, spelling}
-use Rattle.bitmap_core.specs.Reading.{number, chunk_bytes, trailing}
+use Rattle.bitmap_core.specs.Reading.{number, chunk_bytes, trailing, bits_in}
 use Rattle.bitmap_core.proofs.Places.{IsChunkCount-ceil}
 use Rattle.bitmap_core.proofs.BitLists.{length-bits}
 use Rattle.bitmap_core.proofs.ChunkLists.{bit_of_past}
@@ -145,6 +145,17 @@ spelling-body n v rest = ap (drop 8) (append_assoc (to_be_bytes w64 (length v)) 
 
 spelling-bit : (n : ℕ) (v : List Bool) (rest : List ℕ) (i : ℕ) → 0 < n → i < 8 * (n * chunk_count n (length v)) → bit_in (drop 8 (spelling n v ++ rest)) i ≡ get_or v i false
 spelling-bit n v rest i p h = ap (λ x. bit_in x i) (spelling-body n v rest) ∙ bit_in-chunks n v (chunk_count n (length v)) i rest p h
+
+-- what is spelled is read off
+bits_in-spelling : (n : ℕ) (v : List Bool) (rest : List ℕ) → 0 < n → length v < 2 ^ 64 → v ≡ bits_in (spelling n v ++ rest)
+unfolding bits_in
+bits_in-spelling n v rest p h =
+    let c = IsChunkCount-ceil n (length v) p in
+    let g : 8 * n * chunk_count n (length v) ≡ 8 * (n * chunk_count n (length v)) = grind arith in
+    fill_by_all (bit_in (drop 8 (spelling n v ++ rest))) v (number (spelling n v ++ rest)) false (sym (spelling-number n v rest h)) (λ i s. sym (spelling-bit n v rest i p (omega (arith, spelling-number n v rest h))))
+
+pub bits_in_spelled : (n : ℕ) (text : List ℕ) (v : List Bool) (rest : List ℕ) → 0 < n → length v < 2 ^ 64 → text ≡ spelling n v ++ rest → v ≡ bits_in text
+bits_in_spelled n text v rest p h e = bits_in-spelling n v rest p h ∙ ap bits_in (sym e)
 
 pub spelling-trailing : (n : ℕ) (v : List Bool) (rest : List ℕ) → 0 < n → length v < 2 ^ 64 → list_any (bit_in (drop 8 (spelling n v ++ rest))) (trailing n (spelling n v ++ rest)) ≡ false
 spelling-trailing n v rest p h =

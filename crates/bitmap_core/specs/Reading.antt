@@ -1,5 +1,5 @@
 -- What is wrong with a text that is read as a bitmap. A chunk has n bytes, and a range says which lengths it admits.
-use Rattle.std.specs.Prelude.{◌≡◌, ℕ, ◌+◌, ◌-◌, ◌*◌, ◌^◌, ◌<◌, Bool, true, not, List, [], ◌∷◌, ◌++◌, length, take, drop, Option, Some, None, nat_lt, nat_le, ◌&&◌, codes, if◌then◌else◌}
+use Rattle.std.specs.Prelude.{◌≡◌, ℕ, ◌+◌, ◌-◌, ◌*◌, ◌^◌, ◌<◌, Bool, true, not, List, [], ◌∷◌, ◌++◌, length, take, drop, map, Option, Some, None, nat_lt, nat_le, ◌&&◌, codes, if◌then◌else◌}
 use Rattle.std.specs.Int.{w64, from_be_bytes}
 use Rattle.std.specs.List.{range_with_len, list_any}
 use Rattle.bitmap_core.specs.declared.bitmap.codec.error.CodecError.{CodecError}
@@ -106,6 +106,14 @@ bits_fault n range text = first_fault (bits_tests n range text)
 -- the first fault of a text that is read as a pair
 unfoldable pub pair_fault : ℕ → (ℕ → Bool) → List ℕ → Option Fault
 pair_fault n range text = first_fault (pair_tests n range text)
+
+-- the bits that a text without fault spells: as many as its number says, from the ninth byte on
+unfoldable pub bits_in : List ℕ → List Bool
+bits_in text = map (bit_in (drop 8 text)) (range_with_len 0 (number text))
+
+-- the pair that a text without fault spells: a count, and the bits from the ninth byte on
+unfoldable pub pair_in : List ℕ → PrunedBits
+pair_in text = record { pruned = number text; bits = bits_in (drop 8 text) }
 
 -- some front of the text spells a list of bits whose length the range admits
 pub record SpellsBits (n : ℕ) (range : ℕ → Bool) (text : List ℕ) : Type 0 where

@@ -42,6 +42,9 @@ pub trait Read: EncodeSize + Sized {
     // What a read asks of the type.
     ghost can_read: { Type 0 };
 
+    // The value that a text without fault spells.
+    ghost value_in: { List ℕ → Self };
+
     // The first fault of a text, where a range admits some lengths.
     ghost fault_of: { (ℕ → Bool) → List ℕ → Option Fault };
 
@@ -52,6 +55,7 @@ pub trait Read: EncodeSize + Sized {
     fn read_cfg(alloc: Global, from: &mut &[u8], range: &RangeCfg) -> Result<Self, CodecError>
         requires { can_read }
         ensures found { IfOk result (λ v. from.old.now ≡ Self.spelled v ++ from.new.now) }
+        ensures value { IfOk result (λ v. v ≡ value_in from.old.now) }
         ensures sized { IfOk result (λ v. Self.IsSized v) }
         ensures accepted { OnOk result (fault_of (admits range.now) from.old.now ≡ None) }
         ensures refused { IfErr result (λ e. fault_of (admits range.now) from.old.now ≡ fault e) }

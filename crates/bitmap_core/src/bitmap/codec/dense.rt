@@ -5,7 +5,7 @@ ghost use Rattle.std.specs.List.{list_any, range_with_len};
 ghost use Rattle.std.specs.Simd.{first_chunks};
 ghost use Rattle.bitmap_core.specs.Bits.{bit_of, bits, IsChunkCount, IsZeroFrom};
 ghost use Rattle.bitmap_core.specs.Spelling.{chunk_count, spelling};
-ghost use Rattle.bitmap_core.specs.Reading.{admits, bits_fault, chunk_bytes, fault, number};
+ghost use Rattle.bitmap_core.specs.Reading.{admits, bits_fault, bits_in, chunk_bytes, fault, number};
 
 use crate::bitmap::BitMap;
 use crate::bitmap::chunks::{chunk_bits, chunk_index};
@@ -124,6 +124,8 @@ impl<const N: usize> Write for BitMap<N> {
 
 impl<const N: usize> Read for BitMap<N> {
     ghost can_read = { (0 < N) × (8 * N < 2 ^ 64) };
+
+    ghost value_in = { bits_in };
 
     ghost fault_of = { bits_fault N };
 

@@ -4,7 +4,7 @@ ghost use Rattle.std.specs.Prelude.{◌≡◌, ℕ, ◌+◌, ◌*◌, ◌^◌, �
 ghost use Rattle.std.specs.Simd.{first_chunks};
 ghost use Rattle.bitmap_core.specs.PrunedBits.{bit_len};
 ghost use Rattle.bitmap_core.specs.Spelling.{chunk_count, pair_spelling};
-ghost use Rattle.bitmap_core.specs.Reading.{admits, bits_fault, chunk_bytes, fault, number, pair_fault};
+ghost use Rattle.bitmap_core.specs.Reading.{admits, bits_fault, chunk_bytes, fault, number, pair_fault, pair_in};
 
 use crate::bitmap::BitMap;
 use crate::bitmap::chunks::chunk_bits;
@@ -95,6 +95,8 @@ impl<const N: usize> Write for Prunable<N> {
 
 impl<const N: usize> Read for Prunable<N> {
     ghost can_read = { (0 < N) × (8 * N < 2 ^ 64) };
+
+    ghost value_in = { pair_in };
 
     ghost fault_of = { pair_fault N };
 

@@ -2,7 +2,7 @@ use Rattle.std.proofs.Common.{arith, rules, ◌≡◌, ◌∙◌, ◌++◌, sym,
 use Rattle.bitmap_core.specs.Bits.{bits}
 use Rattle.bitmap_core.specs.Spelling.{spelling}
 use Rattle.bitmap_core.proofs.BitLists.{length-bits}
-use Rattle.bitmap_core.proofs.Texts.{number-lt}
+use Rattle.bitmap_core.proofs.Texts.{number-lt, bits_in_spelled}
 use Rattle.bitmap_core.proofs.TextParts.{read_is}
 use Rattle.bitmap_core.proofs.bitmap.codec.dense.BitMapRead.read_cfg.Goals as goal
 
@@ -23,3 +23,6 @@ pub returns-clause-sized : goal.returns-clause-sized
 returns-clause-sized g c =
     let v : c.in_ok-map.map ≡ bits g.row.N c.in_ok-len.chunks.now c.in_ok-len.len = search rules in
     omega (arith, ap length v, length-bits g.row.N c.in_ok-len.chunks.now c.in_ok-len.len, c.in_ok-len.ensures.len, number-lt c.args.from.now.now c.parts.ensures.bytes)
+
+pub returns-clause-value : goal.returns-clause-value
+returns-clause-value g c = bits_in_spelled g.row.N c.args.from.now.now c.in_ok-map.map c.in_ok-len.rest.now c.requires.0 (returns-clause-sized g c) (returns-clause-found g c)
