@@ -3,10 +3,8 @@ use Rattle.std.proofs.Common.{◌≡◌, ℕ, List, [], ◌∷◌, ◌++◌, Boo
 use Rattle.std.specs.Prelude.{◌&&◌, MatchOption, IsTrue, ◌⊎◌, ◌||◌, nat_eq, if◌then◌else◌}
 use Rattle.std.specs.Set.{is_member}
 use Rattle.replay.specs.declared.command.Command.{Command}
-use Rattle.replay.specs.declared.command.Refusal.{Refusal}
-use Rattle.replay.specs.declared.command.Refusal.TheVariants.{NoMemory}
 use Rattle.replay.specs.History.{IsWithin}
-use Rattle.replay.specs.Machine.{Machine, State, Answer, Agrees, StepTo, Step, Accepts, Refuses, after, refusal_of, takes_memory, is_dirty, state_after, touches}
+use Rattle.replay.specs.Machine.{Machine, State, Answer, Refusal, NoMemory, Agrees, StepTo, Step, Accepts, Refuses, after, refusal_of, takes_memory, is_dirty, state_after, touches}
 use Rattle.replay.proofs.Counting.{count_within}
 
 or_assoc : (a b c : Bool) → (a || (b || c)) ≡ ((a || b) || c)

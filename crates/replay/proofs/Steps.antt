@@ -1,13 +1,19 @@
 -- A command that no refusal holds of is accepted.
-use Rattle.std.proofs.Common.{◌≡◌, ◌≢◌, ℕ, ◌+◌, ◌*◌, ◌<◌, ◌≤◌, ◌^◌, List, [], ◌∷◌, ◌++◌, Bool, Some, None, Option, refl, ap, inl, arith, leb, ltb, false, length, eqb}
-use Rattle.std.specs.Prelude.{MatchOption}
+use Rattle.std.proofs.Common.{◌≡◌, ◌≢◌, ℕ, ◌+◌, ◌*◌, ◌<◌, ◌≤◌, ◌^◌, List, [], ◌∷◌, ◌++◌, Bool, Some, None, Option, refl, ap, inl, inr, arith, leb, ltb, true, false, length, eqb}
+use Rattle.std.specs.Prelude.{MatchOption, IsTrue, ◌⊎◌}
+use Rattle.std.specs.Option.{option_or, option_map}
+use Rattle.std.specs.Global.{Vec}
 use Rattle.std.proofs.lemmas.Bool.{false≢true, ne_eqb}
 use Rattle.std.proofs.lemmas.Bool.Decides.{nat_tests}
 use Rattle.bitmap_core.specs.PrunedBits.{PrunedBits, pruned_bits, bit_len, pushed, popped, last_bit, set_at}
-use Rattle.replay.specs.declared.command.Command.TheVariants.{Start, Push, Pop, Set, Commit, Abort}
+use Rattle.bitmap_core.specs.declared.bitmap.codec.range.RangeCfg.{RangeCfg}
+use Rattle.bitmap_core.specs.Reading.{Fault, admits, pair_fault}
+use Rattle.replay.specs.declared.session.State.{State}
+use Rattle.replay.specs.declared.session.State.TheVariants as state
+use Rattle.replay.specs.declared.command.Command.TheVariants.{Start, Push, Pop, Set, Decode, Commit, Abort}
 use Rattle.replay.specs.History.{History, latest}
-use Rattle.replay.specs.Machine.{Machine, Done, Bit, Agrees, StepTo}
-use Rattle.replay.specs.Seen.{no_costs}
+use Rattle.replay.specs.Machine.{Machine, Answer, Done, Bit, Refused, Codec, NoMemory, Agrees, Refuses, StepTo, IsDecoded, decoded, most_cost}
+use Rattle.replay.specs.Seen.{no_costs, seen}
 
 -- a session without and with pending edits
 abbrev pub clean : PrunedBits → History → Machine
@@ -44,6 +50,19 @@ set_accepted N current pending history position value retained bound = rw (not_p
 
 pub abort_accepted : (N : ℕ) (current pending : PrunedBits) (history : History) → StepTo N Agrees (dirty current history pending) Abort Done (clean current history)
 abort_accepted N current pending history = inl (refl, (0, omega arith, record { same = refl; within = λ q h. absurd (false≢true h) }))
+
+-- what a read of a text answers is a step of a session, with and without pending edits
+decoded_by : (N : ℕ) (m : Machine) (fault : Option Fault) (value answer : Answer) → Agrees m m → MatchOption fault ((answer ≡ value) ⊎ (answer ≡ Refused NoMemory)) (λ f. answer ≡ Refused (Codec (Some f))) → MatchOption (option_or (option_map (λ f. Codec (Some f)) fault) None) (((answer ≡ value) × ((cost : ℕ) × (cost ≤ most_cost N m) × Agrees m m)) ⊎ (IsTrue true × Refuses N Agrees m NoMemory answer m)) (λ r. Refuses N Agrees m r answer m)
+decoded_by N m None value answer a (inl e) = inl (e, (0, omega arith, a))
+decoded_by N m None value answer a (inr e) = inr (refl, (e, a))
+decoded_by N m (Some f) value answer a e = (e, a)
+
+agrees_with_itself : (m : Machine) → Agrees m m
+agrees_with_itself m = record { same = refl; within = λ q h. h }
+
+pub decode_stepped : {N : ℕ} (s : State N) (text : Vec ℕ) (range : RangeCfg) (answer : Answer) → IsDecoded N (admits range) text.items answer → StepTo N Agrees (seen s) (Decode text range) answer (seen s)
+decode_stepped {N = N} (state.Clean c) text range answer h = decoded_by N (seen {N = N} (state.Clean c)) (pair_fault N (admits range) text.items) (decoded N text.items) answer (agrees_with_itself _) h
+decode_stepped {N = N} (state.Dirty d) text range answer h = decoded_by N (seen {N = N} (state.Dirty d)) (pair_fault N (admits range) text.items) (decoded N text.items) answer (agrees_with_itself _) h
 
 -- the commits that are kept are below the number
 abbrev pub IsAbove : Option ℕ → ℕ → Type 0

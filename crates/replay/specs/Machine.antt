@@ -1,13 +1,13 @@
 -- The machine that keeps every committed bitmap whole, and what it replies.
 use Rattle.std.specs.Prelude.{◌≡◌, ℕ, ◌+◌, ◌-◌, ◌*◌, ◌/◌, ◌%◌, ◌^◌, ◌≤◌, Bool, true, false, not, ◌==◌, ◌&&◌, ◌⊎◌, List, [], ◌∷◌, ◌++◌, length, Option, Some, None, nat_lt, nat_le, nat_eq, IsTrue, MatchOption, if◌then◌else◌, unwrap_or, is_some, option_and_then}
-use Rattle.std.specs.Option.{option_or}
+use Rattle.std.specs.Option.{option_or, option_map}
 use Rattle.std.specs.Set.{distinct_count}
 use Rattle.bitmap_core.specs.PrunedBits.{PrunedBits, pruned_bits, bit_len, bit_at, pushed, popped, last_bit, set_at}
 use Rattle.bitmap_core.specs.Meaning.{ones, pair_meaning}
+use Rattle.bitmap_core.specs.Spelling.{pair_spelling}
+use Rattle.bitmap_core.specs.Reading.{Fault, admits, pair_fault, pair_in}
 use Rattle.replay.specs.declared.command.Command.{Command}
-use Rattle.replay.specs.declared.command.Command.TheVariants.{Start, Begin, Push, Pop, Set, Commit, Abort, Len, PrunedChunks, Get, Ones, At}
-use Rattle.replay.specs.declared.command.Refusal.{Refusal}
-use Rattle.replay.specs.declared.command.Refusal.TheVariants.{WrongMode, OutOfBounds, Pruned, TooLong, NoRetainedBit, ReservedCommitNumber, NonMonotonicCommit, PrunedChunksOverflow, NoMemory}
+use Rattle.replay.specs.declared.command.Command.TheVariants.{Start, Begin, Push, Pop, Set, Commit, Abort, Len, PrunedChunks, Get, Ones, Encode, At, Decode}
 use Rattle.replay.specs.History.{History, kept_under, latest, IsWithin}
 
 -- the current bitmap, in dirty mode the pending one, the history, and what each kept number costs
@@ -42,13 +42,28 @@ shown s = unwrap_or s.pending s.current
 abbrev pub edited : State → PrunedBits → State
 edited s bitmap = record s { pending = Some bitmap }
 
+-- why a command is refused: of a text, its first fault
+pub data Refusal : Type 0 where
+  WrongMode : Refusal
+  OutOfBounds : Refusal
+  Pruned : Refusal
+  TooLong : Refusal
+  NoRetainedBit : Refusal
+  ReservedCommitNumber : Refusal
+  NonMonotonicCommit : (previous attempted : ℕ) → Refusal
+  PrunedChunksOverflow : Refusal
+  Codec : (fault : Option Fault) → Refusal
+  NoMemory : Refusal
+
 -- what a reply says
 pub data Answer : Type 0 where
   Done : Answer
   Bit : (bit : Bool) → Answer
   Number : (number : ℕ) → Answer
   Positions : (positions : Option (List ℕ)) → Answer
+  Bytes : (bytes : Option (List ℕ)) → Answer
   Snapshot : (bitmap : Option PrunedBits) → Answer
+  Read : (bitmap : PrunedBits) (left : ℕ) → Answer
   Refused : (refusal : Refusal) → Answer
 
 -- the refusal, where the test holds
@@ -70,7 +85,7 @@ module _ (N : ℕ) where
   abbrev pub shown_len : State → ℕ
   shown_len s = bit_len N (shown s)
 
-  -- edits and their end want dirty mode; a start, the begin of a batch, and reads of set positions and of commits want clean mode
+  -- edits and their end want dirty mode; a start, the begin of a batch, and reads of set positions, of bytes and of commits want clean mode
   abbrev pub wrong_mode : State → Command N → Bool
   wrong_mode s (Push value) = not (is_dirty s)
   wrong_mode s Pop = not (is_dirty s)
@@ -80,6 +95,7 @@ module _ (N : ℕ) where
   wrong_mode s Len = false
   wrong_mode s PrunedChunks = false
   wrong_mode s (Get position) = false
+  wrong_mode s (Decode text range) = false
   wrong_mode s _ = is_dirty s
 
   -- the position is at or past the length
@@ -119,6 +135,11 @@ module _ (N : ℕ) where
   overflows s (Start chunks) = nat_le (2 ^ 64) (8 * N * chunks)
   overflows s _ = false
 
+  -- the text has a fault
+  abbrev pub unreadable : State → Command N → Option Refusal
+  unreadable s (Decode text range) = option_map (λ fault. Codec (Some fault)) (pair_fault N (admits range) text.items)
+  unreadable s _ = None
+
   -- the first refusal that holds, in their order
   abbrev pub refusal_of : State → Command N → Option Refusal
   refusal_of s command = first
@@ -130,6 +151,7 @@ module _ (N : ℕ) where
       ∷ when (reserved s command) ReservedCommitNumber
       ∷ not_above s command
       ∷ when (overflows s command) PrunedChunksOverflow
+      ∷ unreadable s command
       ∷ [])
 
   -- the commands that may find no memory
@@ -139,8 +161,20 @@ module _ (N : ℕ) where
   takes_memory s (Set position value) = true
   takes_memory s (Commit number) = true
   takes_memory s (Ones from to) = true
+  takes_memory s Encode = true
+  takes_memory s (Decode text range) = true
   takes_memory s (At number) = is_some (kept_under s.history number)
   takes_memory s _ = false
+
+  -- what a text without fault is read as: its pair, and how many bytes stand behind the spelling of it
+  abbrev pub decoded : List ℕ → Answer
+  decoded text = Read (pair_in text) (length text - length (pair_spelling N (pair_in text)))
+
+  -- a read of the text may answer so: by its fault, and where it has none by its value or for want of memory
+  abbrev pub IsDecoded : (ℕ → Bool) → List ℕ → Answer → Type 0
+  IsDecoded range text answer = MatchOption (pair_fault N range text)
+      ((answer ≡ decoded text) ⊎ (answer ≡ Refused NoMemory))
+      (λ fault. answer ≡ Refused (Codec (Some fault)))
 
   -- what an accepted command replies
   abbrev pub answer_of : State → Command N → Answer
@@ -149,6 +183,8 @@ module _ (N : ℕ) where
   answer_of s PrunedChunks = Number (shown s).pruned
   answer_of s (Get position) = Bit (bit_at N (shown s) position)
   answer_of s (Ones from to) = Positions (Some (ones N (pair_meaning N s.current) from to))
+  answer_of s Encode = Bytes (Some (pair_spelling N s.current))
+  answer_of s (Decode text range) = decoded text.items
   answer_of s (At number) = Snapshot (kept_under s.history number)
   answer_of s _ = Done
 

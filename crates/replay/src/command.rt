@@ -1,6 +1,7 @@
 //! Commands, and the replies to them.
 
 use bitmap_core::bitmap::Prunable;
+use bitmap_core::bitmap::codec::{CodecError, RangeCfg};
 
 /// What a session is asked to do. Positions count bits from 0.
 #[derive(Drop, Debug)]
@@ -23,6 +24,11 @@ pub enum Command<const N: usize> {
     PrunedChunks,
     /// Replies the set positions of the current bitmap, ascending: those from the first number up to the second.
     Ones(u64, u64),
+    /// Replies the bytes that spell the current bitmap.
+    Encode,
+    /// Reads a bitmap from the front of the bytes, with so many retained bits as the range admits, and replies it. The
+    /// session's own bitmaps stay as they are.
+    Decode(Vec<u8>, RangeCfg),
     /// Ends the batch: the pending bitmap is current, and kept under the number.
     Commit(u64),
     /// Ends the batch and drops its edits.
@@ -32,7 +38,7 @@ pub enum Command<const N: usize> {
 }
 
 /// Why a command was refused. Refused, it has changed nothing.
-#[derive(Clone, Copy, Debug, PartialEq, Eq)]
+#[derive(Drop, Debug)]
 pub enum Refusal {
     /// The command wants a batch and there is none, or the other way round.
     WrongMode,
@@ -50,6 +56,8 @@ pub enum Refusal {
     NonMonotonicCommit { previous: u64, attempted: u64 },
     /// The pruned bits would pass `u64`.
     PrunedChunksOverflow,
+    /// The bytes are not the form of a bitmap that the range admits. Never `CodecError::OutOfMemory`, which is `NoMemory`.
+    Codec(CodecError),
     /// There was not enough memory.
     NoMemory,
 }
@@ -61,7 +69,10 @@ pub enum Reply<const N: usize> {
     Bit(bool),
     Number(u64),
     Positions(Option<Vec<u64>>),
+    Bytes(Option<Vec<u8>>),
     /// A kept bitmap, or `None` where the number is not kept.
     Snapshot(Option<Prunable<N>>),
+    /// A bitmap that was read, and the number of bytes behind it.
+    Read(Prunable<N>, usize),
     Refused(Refusal),
 }

@@ -5,8 +5,10 @@ ghost use Rattle.replay.specs.Width.{IsWidth};
 
 use crate::command::{Command, Refusal, Reply};
 use crate::script;
+use crate::script::Line;
 use crate::session::Session;
 use bitmap_core::bitmap::Prunable;
+use bitmap_core::bitmap::codec::CodecError;
 use std::alloc::{AllocError, Global};
 use std::io;
 use std::io::{BufWriter, Read, Write};
@@ -73,7 +75,7 @@ fn read_all<R: Read + Drop>(alloc: Global, script: Result<R, io::Error>) -> Resu
 // Finds the first line that is no command, and takes no memory.
 fn check_lines<const N: usize>(text: &[u8]) -> Result<(), Fault> {
     for (index, line) in text.split(|byte| *byte == b'\n').enumerate() {
-        if !script::is_skipped(line) && script::command::<N>(line).is_none() {
+        if !script::is_skipped(line) && Line::<N>::parse(line).is_none() {
             return Err(Fault::NotACommand(index));
         }
     }
@@ -85,15 +87,16 @@ fn read_commands<const N: usize>(alloc: Global, text: &[u8]) -> Result<Vec<Comma
     let mut commands = Vec::new(alloc);
     for line in text.split(|byte| *byte == b'\n') {
         if !script::is_skipped(line)
-            && let Some(command) = script::command::<N>(line)
+            && let Some(line) = Line::<N>::parse(line)
         {
+            let command = line.into_command(alloc)?;
             commands.push(command).map_err(AllocError::from)?;
         }
     }
     Ok(commands)
 }
 
-fn write_refusal<W: Write>(out: &mut W, refusal: Refusal) -> io::Result<()> {
+fn write_refusal<W: Write>(out: &mut W, refusal: &Refusal) -> io::Result<()> {
     match refusal {
         Refusal::WrongMode => writeln!(out, "refused wrong-mode"),
         Refusal::OutOfBounds => writeln!(out, "refused out-of-bounds"),
@@ -106,7 +109,16 @@ fn write_refusal<W: Write>(out: &mut W, refusal: Refusal) -> io::Result<()> {
             attempted,
         } => writeln!(out, "refused non-monotonic-commit {previous} {attempted}"),
         Refusal::PrunedChunksOverflow => writeln!(out, "refused pruned-chunks-overflow"),
-        Refusal::NoMemory => writeln!(out, "refused no-memory"),
+        Refusal::Codec(CodecError::EndOfBuffer) => writeln!(out, "refused codec end-of-buffer"),
+        Refusal::Codec(CodecError::InvalidLength(len)) => {
+            writeln!(out, "refused codec invalid-length {len}")
+        }
+        Refusal::Codec(CodecError::Invalid(what, why)) => {
+            writeln!(out, "refused codec invalid {what}: {why}")
+        }
+        Refusal::Codec(CodecError::OutOfMemory) | Refusal::NoMemory => {
+            writeln!(out, "refused no-memory")
+        }
     }
 }
 
@@ -133,6 +145,15 @@ fn write_positions<W: Write>(out: &mut W, positions: &[u64]) -> io::Result<()> {
     writeln!(out)
 }
 
+// Each byte as two hexadecimal digits.
+fn write_bytes<W: Write>(out: &mut W, bytes: &[u8]) -> io::Result<()> {
+    write!(out, "bytes ")?;
+    for byte in bytes {
+        write!(out, "{byte:02x}")?;
+    }
+    writeln!(out)
+}
+
 fn write_reply<const N: usize, W: Write>(out: &mut W, reply: &Reply<N>) -> io::Result<()> {
     match reply {
         Reply::Done => writeln!(out, "done"),
@@ -141,14 +162,22 @@ fn write_reply<const N: usize, W: Write>(out: &mut W, reply: &Reply<N>) -> io::R
             writeln!(out, "bit {digit}")
         }
         Reply::Number(number) => writeln!(out, "number {number}"),
-        Reply::Positions(None) | Reply::Snapshot(None) => writeln!(out, "none"),
+        Reply::Positions(None) | Reply::Bytes(None) | Reply::Snapshot(None) => {
+            writeln!(out, "none")
+        }
         Reply::Positions(Some(positions)) => write_positions(out, positions.as_slice()),
+        Reply::Bytes(Some(bytes)) => write_bytes(out, bytes.as_slice()),
         Reply::Snapshot(Some(bitmap)) => {
             write!(out, "bitmap ")?;
             write_bitmap(out, bitmap)?;
             writeln!(out)
         }
-        Reply::Refused(refusal) => write_refusal(out, *refusal),
+        Reply::Read(bitmap, left) => {
+            write!(out, "read ")?;
+            write_bitmap(out, bitmap)?;
+            writeln!(out, " {left}")
+        }
+        Reply::Refused(refusal) => write_refusal(out, refusal),
     }
 }
 

@@ -2,11 +2,14 @@
 
 ghost use Rattle.std.specs.Prelude.{◌≡◌, ℕ, ◌+◌, ◌*◌, ◌^◌, ◌<◌, ◌≤◌, List, [], ◌∷◌, ◌++◌, length, map, IfOk, OnErr, OnOk, vec_len, vec_capacity};
 ghost use Rattle.bitmap_core.specs.Meaning.{ones, pair_meaning};
-ghost use Rattle.replay.specs.Machine.{Agrees, StepTo, RunsOn, shown, start};
+ghost use Rattle.bitmap_core.specs.Spelling.{pair_spelling};
+ghost use Rattle.bitmap_core.specs.Reading.{admits};
+ghost use Rattle.replay.specs.Machine.{Agrees, IsDecoded, StepTo, RunsOn, shown, start};
 ghost use Rattle.replay.specs.Seen.{seen, said};
 
 use crate::command::{Command, Refusal, Reply};
 use crate::store::{Clean, Dirty};
+use bitmap_core::bitmap::codec::{CodecError, RangeCfg, Read, Write};
 use bitmap_core::bitmap::{Prunable, Readable};
 use std::alloc::{AllocError, Global};
 use std::marker::Model;
@@ -202,6 +205,40 @@ fn ones_of_current<const N: usize>(state: &State<N>, alloc: Global, from: u64, t
     }
 }
 
+// The bytes that spell a bitmap.
+fn spelled<const N: usize>(bitmap: &Prunable<N>, alloc: Global) -> Result<Vec<u8>, AllocError>
+    ensures { IfOk result (λ bytes. bytes.items ≡ pair_spelling N bitmap.now) }
+{
+    let mut bytes = Vec::new(alloc);
+    bitmap.write(&mut bytes)?;
+    Ok(bytes)
+}
+
+fn encode<const N: usize>(state: &State<N>, alloc: Global) -> Reply<N>
+    ensures { StepTo N Agrees (seen state.now) Command.Encode (said result) (seen state.now) }
+{
+    match state {
+        State::Clean(clean) => match spelled(clean.current(), alloc) {
+            Ok(bytes) => Reply::Bytes(Some(bytes)),
+            Err(_) => Reply::Refused(Refusal::NoMemory),
+        },
+        State::Dirty(_) => Reply::Refused(Refusal::WrongMode),
+    }
+}
+
+fn decode<const N: usize>(alloc: Global, text: &[u8], range: &RangeCfg) -> Reply<N>
+    requires positive { 0 < N }
+    requires fits { 8 * N < 2 ^ 64 }
+    ensures { IsDecoded N (admits range.now) text.now (said result) }
+{
+    let mut left = text;
+    match Prunable::read_cfg(alloc, &mut left, range) {
+        Ok(bitmap) => Reply::Read(bitmap, left.len()),
+        Err(CodecError::OutOfMemory) => Reply::Refused(Refusal::NoMemory),
+        Err(error) => Reply::Refused(Refusal::Codec(error)),
+    }
+}
+
 fn at<const N: usize>(state: &State<N>, number: u64) -> Reply<N>
     ensures { StepTo N Agrees (seen state.now) (Command.At number) (said result) (seen state.now) }
 {
@@ -246,6 +283,14 @@ fn step<const N: usize>(
         }
         Command::Ones(from, to) => {
             let reply = ones_of_current(&state, alloc, *from, *to);
+            (state, reply)
+        }
+        Command::Encode => {
+            let reply = encode(&state, alloc);
+            (state, reply)
+        }
+        Command::Decode(text, range) => {
+            let reply = decode(alloc, text.as_slice(), range);
             (state, reply)
         }
         Command::At(number) => {

@@ -85,6 +85,48 @@ fn a_pruned_front_stays_pruned(rt: HostRuntime) -> Result<(), Fail> {
 }
 
 #[test]
+fn bytes_of_the_current_bitmap(rt: HostRuntime) -> Result<(), Fail> {
+    let script =
+        b"encode\nstart 2\nencode\nbegin\npush 1\nencode\npush 0\npush 1\ncommit 1\nencode\n";
+    let Outcome { status, out, err } = run(rt.alloc(), Ok(script.as_slice()));
+    assert_eq!(rt; status, 0);
+    assert_eq!(rt;
+        out.as_slice(),
+        b"bytes 00000000000000000000000000000000\ndone\nbytes 00000000000000020000000000000000\ndone\ndone\nrefused wrong-mode\ndone\ndone\ndone\nbytes 0000000000000002000000000000000305000000\n".as_slice()
+    );
+    assert_eq!(rt; err.len(), 0);
+    Ok(())
+}
+
+#[test]
+fn bytes_are_read(rt: HostRuntime) -> Result<(), Fail> {
+    let script =
+        b"decode 0000000000000001000000000000000305000000aa any\ndecode 0000000000000001000000000000000305000000 exact:3\nbegin\ndecode 00000000000000000000000000000008FF000000aAfF most:8\ndecode 00000000000000000000000000000000 between:0:0\nlen\n";
+    let Outcome { status, out, err } = run(rt.alloc(), Ok(script.as_slice()));
+    assert_eq!(rt; status, 0);
+    assert_eq!(rt;
+        out.as_slice(),
+        b"read 1 101 1\nread 1 101 0\ndone\nread 0 11111111 2\nread 0 - 0\nnumber 0\n".as_slice()
+    );
+    assert_eq!(rt; err.len(), 0);
+    Ok(())
+}
+
+#[test]
+fn faults_of_bytes(rt: HostRuntime) -> Result<(), Fail> {
+    let script =
+        b"decode - any\ndecode 00000000000000010000000000000003050000 any\ndecode 0000000000000001000000000000000305000000 least:4\ndecode 0000000000000001000000000000000305000000 between:5:3\ndecode 000000000000000100000000000000030d000000 any\ndecode 0800000000000000 any\ndecode 07ffffffffffffff000000000000002000000000 any\n";
+    let Outcome { status, out, err } = run(rt.alloc(), Ok(script.as_slice()));
+    assert_eq!(rt; status, 0);
+    assert_eq!(rt;
+        out.as_slice(),
+        b"refused codec end-of-buffer\nrefused codec end-of-buffer\nrefused codec invalid-length 3\nrefused codec invalid-length 3\nrefused codec invalid BitMap: Invalid trailing bits in encoded data\nrefused codec invalid Prunable: pruned_chunks would overflow when computing pruned_bits\nrefused codec invalid Prunable: total bitmap length (pruned + unpruned) would overflow u64\n".as_slice()
+    );
+    assert_eq!(rt; err.len(), 0);
+    Ok(())
+}
+
+#[test]
 fn the_length_ends_with_u64(rt: HostRuntime) -> Result<(), Fail> {
     let script =
         b"start 2305843009213693951\nlen\nbegin\npush 1\npush 1\npush 1\npush 1\npush 1\npush 1\npush 1\nlen\npush 1\nabort\nstart 2305843009213693952\n";
@@ -125,7 +167,7 @@ fn empty_lines_and_comments_are_skipped_but_counted(rt: HostRuntime) -> Result<(
 
 #[test]
 fn a_line_that_is_no_command_stops_all(rt: HostRuntime) -> Result<(), Fail> {
-    let lines: [&[u8]; 14] = [
+    let lines: [&[u8]; 27] = [
         b"push 2",
         b"push",
         b"push  1",
@@ -140,6 +182,19 @@ fn a_line_that_is_no_command_stops_all(rt: HostRuntime) -> Result<(), Fail> {
         b"get \xff",
         b"set 1",
         b"start -",
+        b"encode 1",
+        b"decode",
+        b"decode 00",
+        b"decode any",
+        b"decode  any",
+        b"decode 0 any",
+        b"decode 0g any",
+        b"decode -- any",
+        b"decode 00 any any",
+        b"decode 00 some",
+        b"decode 00 any:",
+        b"decode 00 exact:01",
+        b"decode 00 between:1",
     ];
     for line in lines {
         let mut script = b"begin\npush 1\n".to_vec(rt.alloc())?;
