@@ -100,6 +100,19 @@ fn written<const N: usize>(alloc: Global, map: &Prunable<N>) -> Result<Vec<u8>, 
     Ok(out)
 }
 
+// The text of a full chunk and one bit more, all of them set.
+fn one_chunk_and_a_bit<const N: usize>(alloc: Global) -> Result<Vec<u8>, AllocError>
+    requires positive { 0 < N }
+    requires small { N < 65 }
+{
+    let mut text = Vec::from_slice(alloc, &(8 * N as u64 + 1).to_be_bytes())?;
+    let mut last = [0; N];
+    last[0] = 1;
+    text.extend_from_slice(&[0xff; N])?;
+    text.extend_from_slice(&last)?;
+    Ok(text)
+}
+
 // A text with one byte flipped under a mask.
 fn damaged(
     rt: &impl Abort,
@@ -112,6 +125,69 @@ fn damaged(
     let mut text = Vec::from_slice(alloc, text)?;
     text[at] ^= mask;
     Ok(text)
+}
+
+// The form of a full chunk and one bit more, and each front of it.
+fn check_bits<const N: usize>(rt: &impl Abort, alloc: Global) -> Result<(), AllocError>
+    requires positive { 0 < N }
+    requires fits { 8 * N < 2 ^ 64 }
+{
+    assert!(rt; N <= 64);
+    let any = RangeCfg::any();
+    let text = one_chunk_and_a_bit::<N>(alloc)?;
+    let mut out = Vec::new(alloc);
+    BitMap::<N>::ones(alloc, 8 * N as u64 + 1)?.write(&mut out)?;
+    assert!(rt; out == text);
+    assert!(rt; is_accepted::<N>(alloc, &text, &any));
+    for len in 0..text.len() {
+        assert!(rt;
+            is_short(refusal::<N>(alloc, &text[..len], &any)),
+            "{len} bytes"
+        );
+    }
+    let trailing = damaged(rt, alloc, &text, 2 * N + 7, 128)?;
+    assert!(rt; is_invalid(refusal::<N>(alloc, &trailing, &any), "BitMap", TRAILING));
+    Ok(())
+}
+
+// The same behind a pruned chunk.
+fn check_pair<const N: usize>(rt: &impl Abort, alloc: Global) -> Result<(), AllocError>
+    requires positive { 0 < N }
+    requires fits { 8 * N < 2 ^ 64 }
+{
+    assert!(rt; N <= 64);
+    let any = RangeCfg::any();
+    let mut text = Vec::from_slice(alloc, &[0, 0, 0, 0, 0, 0, 0, 1])?;
+    text.extend_from_slice(&one_chunk_and_a_bit::<N>(alloc)?)?;
+    let mut map = of_chunks(rt, alloc, &[[0xff; N], [0xff; N]])?;
+    push(rt, &mut map, true)?;
+    prune_to_bit(rt, &mut map, 8 * N as u64);
+    assert!(rt; written(alloc, &map)? == text);
+    assert!(rt; is_pair::<N>(rt, alloc, &text, 1, &[b'1'; 513][..8 * N + 1]));
+    for len in 0..text.len() {
+        assert!(rt;
+            is_short(pruned_refusal::<N>(alloc, &text[..len], &any)),
+            "{len} bytes"
+        );
+    }
+    let trailing = damaged(rt, alloc, &text, 2 * N + 15, 128)?;
+    assert!(rt;
+        is_invalid(
+            pruned_refusal::<N>(alloc, &trailing, &any),
+            "BitMap",
+            TRAILING
+        )
+    );
+    Ok(())
+}
+
+// Both forms.
+fn check_forms<const N: usize>(rt: &impl Abort, alloc: Global) -> Result<(), AllocError>
+    requires positive { 0 < N }
+    requires fits { 8 * N < 2 ^ 64 }
+{
+    check_bits::<N>(rt, alloc)?;
+    check_pair::<N>(rt, alloc)
 }
 
 fn is_short(error: Option<CodecError>) -> bool {
@@ -348,7 +424,7 @@ fn pair_with_a_damaged_byte(rt: HostRuntime) -> Result<(), Fail> {
     let any = RangeCfg::any();
     let text = damaged(&rt, alloc, &BEHIND_ONE, 0, 255)?;
     assert!(rt; is_invalid(pruned_refusal::<4>(alloc, &text, &any), "Prunable", MANY));
-    // Any other damage of the count leaves the text of another pair.
+    // Elsewhere in the count damage leaves the text of another pair.
     for (at, count) in [(1, 0xff000000000001), (6, 0xff01), (7, 254)] {
         let text = damaged(&rt, alloc, &BEHIND_ONE, at, 255)?;
         assert!(rt; is_pair::<4>(&rt, alloc, &text, count, b"101"), "at {at}");
@@ -426,6 +502,10 @@ fn nothing_retained(rt: HostRuntime) -> Result<(), Fail> {
     let mut map = of_chunks::<4>(&rt, alloc, &[[0xff; 4]; 3])?;
     prune_to_bit(&rt, &mut map, 96);
     let text = written(alloc, &map)?;
+    assert_eq!(rt;
+        text.as_slice(),
+        [0, 0, 0, 0, 0, 0, 0, 3, 0, 0, 0, 0, 0, 0, 0, 0].as_slice()
+    );
     let mut from = text.as_slice();
     let read = Prunable::<4>::read_cfg(alloc, &mut from, &RangeCfg::exact(0));
     let map = read.ok().ok_or("the text is read")?;
@@ -484,5 +564,16 @@ fn chunks_of_nine_bytes(rt: HostRuntime) -> Result<(), Fail> {
     ];
     assert_eq!(rt; written(alloc, &map)?.as_slice(), pair.as_slice());
     assert!(rt; is_pair::<9>(&rt, alloc, &pair, 258, b"101100101"));
+    Ok(())
+}
+
+#[test]
+fn forms_at_each_width(rt: HostRuntime) -> Result<(), Fail> {
+    check_forms::<1>(&rt, rt.alloc())?;
+    check_forms::<3>(&rt, rt.alloc())?;
+    check_forms::<7>(&rt, rt.alloc())?;
+    check_forms::<9>(&rt, rt.alloc())?;
+    check_forms::<32>(&rt, rt.alloc())?;
+    check_forms::<64>(&rt, rt.alloc())?;
     Ok(())
 }
