@@ -136,7 +136,9 @@ fn check_bits<const N: usize>(rt: &impl Abort, alloc: Global) -> Result<(), Allo
     let any = RangeCfg::any();
     let text = one_chunk_and_a_bit::<N>(alloc)?;
     let mut out = Vec::new(alloc);
-    BitMap::<N>::ones(alloc, 8 * N as u64 + 1)?.write(&mut out)?;
+    let map = BitMap::<N>::ones(alloc, 8 * N as u64 + 1)?;
+    assert_eq!(rt; map.encode_size(), 2 * N + 8);
+    map.write(&mut out)?;
     assert!(rt; out == text);
     assert!(rt; is_accepted::<N>(alloc, &text, &any));
     for len in 0..text.len() {
@@ -162,6 +164,7 @@ fn check_pair<const N: usize>(rt: &impl Abort, alloc: Global) -> Result<(), Allo
     let mut map = of_chunks(rt, alloc, &[[0xff; N], [0xff; N]])?;
     push(rt, &mut map, true)?;
     prune_to_bit(rt, &mut map, 8 * N as u64);
+    assert_eq!(rt; map.encode_size(), 2 * N + 16);
     assert!(rt; written(alloc, &map)? == text);
     assert!(rt; is_pair::<N>(rt, alloc, &text, 1, &[b'1'; 513][..8 * N + 1]));
     for len in 0..text.len() {
