@@ -19,7 +19,7 @@ const BEHIND_ONE: [u8; 20] = [0, 0, 0, 0, 0, 0, 0, 1, 0, 0, 0, 0, 0, 0, 0, 3, 5,
 // The most pruned chunks of four bytes, and what follows them up to the last byte of the length.
 const MOST_PRUNED: [u8; 15] = [7, 255, 255, 255, 255, 255, 255, 255, 0, 0, 0, 0, 0, 0, 0];
 
-// The most pruned chunks of four bytes, which leave room for 31 bits.
+// How many chunks these are. They leave room for 31 bits.
 const MOST_PRUNED_CHUNKS: usize = 576460752303423487;
 
 const MANY: &str = "pruned_chunks would overflow when computing pruned_bits";
@@ -470,6 +470,14 @@ fn total_behind_a_pruned_front(rt: HostRuntime) -> Result<(), Fail> {
     text.extend_from_slice(&[32, 0, 0, 0, 0])?;
     let long = "total bitmap length (pruned + unpruned) would overflow u64";
     assert!(rt; is_invalid(pruned_refusal::<4>(alloc, &text, &any), "Prunable", long));
+    // What is wrong with the retained bits is told first.
+    assert!(rt;
+        is_length(
+            pruned_refusal::<4>(alloc, &text, &RangeCfg::at_most(31)),
+            32
+        )
+    );
+    assert!(rt; is_short(pruned_refusal::<4>(alloc, &text[..19], &any)));
     text.truncate(15);
     text.extend_from_slice(&[33, 0, 0, 0, 0, 2, 0, 0, 0])?;
     assert!(rt; is_invalid(pruned_refusal::<4>(alloc, &text, &any), "BitMap", TRAILING));
