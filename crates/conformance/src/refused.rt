@@ -3,6 +3,7 @@
 //! Each test is a scenario for runs in which requests are refused. It is over where its set-up is refused.
 //! After a refused call the value is as before, and is used further. Run by itself, a scenario has ample memory.
 
+mod codec;
 mod pruned;
 
 use bitmap_core::bitmap::BitMap;

@@ -1,0 +1,163 @@
+//! Byte forms.
+
+use crate::asked::{push_digits, shows};
+use bitmap_core::bitmap::BitMap;
+use bitmap_core::bitmap::codec::{CodecError, RangeCfg, Read, Write};
+use bitmap_core::bitmap::prunable::Prunable;
+use std::alloc::Global;
+use std::process::Abort;
+
+// Three bits, and a byte that belongs to what follows.
+const THREE_BITS: [u8; 13] = [0, 0, 0, 0, 0, 0, 0, 3, 5, 0, 0, 0, 0xaa];
+
+// The same behind one pruned chunk.
+const BEHIND_ONE: [u8; 21] = [
+    0, 0, 0, 0, 0, 0, 0, 1, 0, 0, 0, 0, 0, 0, 0, 3, 5, 0, 0, 0, 0xaa,
+];
+
+// What a vector holds before a write.
+const BEFORE: &[u8] = b"ab";
+
+// Whether an error is that of a bit past the length.
+fn is_trailing(error: Option<CodecError>) -> bool {
+    matches!(
+        error,
+        Some(CodecError::Invalid("BitMap", "Invalid trailing bits in encoded data"))
+    )
+}
+
+// Reads the three bits, and answers whether it was refused.
+fn read_bits(rt: &impl Abort, alloc: Global, from: &mut &[u8]) -> bool {
+    match BitMap::<4>::read_cfg(alloc, from, &RangeCfg::exact(3)) {
+        Ok(map) => {
+            assert!(rt; map.iter().eq([true, false, true].iter().copied()));
+            false
+        }
+        Err(error) => {
+            assert!(rt; matches!(error, CodecError::OutOfMemory));
+            true
+        }
+    }
+}
+
+// Reads the three bits behind the pruned chunk, and answers whether it was refused.
+fn read_pair(rt: &impl Abort, alloc: Global, from: &mut &[u8]) -> bool {
+    match Prunable::<4>::read_cfg(alloc, from, &RangeCfg::exact(3)) {
+        Ok(map) => {
+            assert!(rt; shows(rt, &map, 1, b"101"));
+            false
+        }
+        Err(error) => {
+            assert!(rt; matches!(error, CodecError::OutOfMemory));
+            true
+        }
+    }
+}
+
+// Three bits behind one pruned chunk, unless their memory is refused.
+fn set_up_pair(rt: &impl Abort, alloc: Global) -> Option<Prunable<4>> {
+    let mut map = Prunable::<4>::new_with_pruned_chunks(alloc, 1).ok()?;
+    push_digits(rt, &mut map, b"101").ok()?;
+    Some(map)
+}
+
+#[test]
+fn faulty_bits(rt: HostRuntime) {
+    let text = [0, 0, 0, 0, 0, 0, 0, 3, 13, 0, 0, 0];
+    let mut from = text.as_slice();
+    for _ in 0..2 {
+        let read = BitMap::<4>::read_cfg(rt.alloc(), &mut from, &RangeCfg::any());
+        assert!(rt; is_trailing(read.err()));
+        assert_eq!(rt; from, text.as_slice());
+    }
+}
+
+#[test]
+fn faulty_pair(rt: HostRuntime) {
+    let text = [0, 0, 0, 0, 0, 0, 0, 1, 0, 0, 0, 0, 0, 0, 0, 3, 13, 0, 0, 0];
+    let mut from = text.as_slice();
+    for _ in 0..2 {
+        let read = Prunable::<4>::read_cfg(rt.alloc(), &mut from, &RangeCfg::any());
+        assert!(rt; is_trailing(read.err()));
+        assert_eq!(rt; from, text.as_slice());
+    }
+}
+
+#[test]
+fn bits_read(rt: HostRuntime) {
+    let mut from = THREE_BITS.as_slice();
+    let refused = read_bits(&rt, rt.alloc(), &mut from)
+        && {
+            assert_eq!(rt; from, THREE_BITS.as_slice());
+            read_bits(&rt, rt.alloc(), &mut from)
+        };
+    let after: &[u8] = if refused { &THREE_BITS } else { &[0xaa] };
+    assert_eq!(rt; from, after);
+}
+
+#[test]
+fn pair_read(rt: HostRuntime) {
+    let mut from = BEHIND_ONE.as_slice();
+    let refused = read_pair(&rt, rt.alloc(), &mut from)
+        && {
+            assert_eq!(rt; from, BEHIND_ONE.as_slice());
+            read_pair(&rt, rt.alloc(), &mut from)
+        };
+    let after: &[u8] = if refused { &BEHIND_ONE } else { &[0xaa] };
+    assert_eq!(rt; from, after);
+}
+
+#[test]
+fn bits_written(rt: HostRuntime) {
+    let Ok(map) = BitMap::<4>::from_bools(rt.alloc(), &[true, false, true]) else {
+        return;
+    };
+    let Ok(mut out) = Vec::from_slice(rt.alloc(), BEFORE) else {
+        return;
+    };
+    let refused = map.write(&mut out).is_err()
+        && {
+            assert_eq!(rt; out.as_slice(), BEFORE);
+            map.write(&mut out).is_err()
+        };
+    let added: &[u8] = if refused { &[] } else { &THREE_BITS[..12] };
+    assert!(rt; out.iter().eq(BEFORE.iter().chain(added)));
+    assert!(rt; map.iter().eq([true, false, true].iter().copied()));
+}
+
+#[test]
+fn pair_written(rt: HostRuntime) {
+    let Some(map) = set_up_pair(&rt, rt.alloc()) else {
+        return;
+    };
+    let Ok(mut out) = Vec::from_slice(rt.alloc(), BEFORE) else {
+        return;
+    };
+    let refused = map.write(&mut out).is_err()
+        && {
+            assert_eq!(rt; out.as_slice(), BEFORE);
+            map.write(&mut out).is_err()
+        };
+    let added: &[u8] = if refused { &[] } else { &BEHIND_ONE[..20] };
+    assert!(rt; out.iter().eq(BEFORE.iter().chain(added)));
+    assert!(rt; shows(&rt, &map, 1, b"101"));
+}
+
+#[test]
+fn written_where_there_is_room(rt: HostRuntime) {
+    let Ok(bits) = BitMap::<4>::from_bools(rt.alloc(), &[true, false, true]) else {
+        return;
+    };
+    let Some(pair) = set_up_pair(&rt, rt.alloc()) else {
+        return;
+    };
+    let Ok(mut out) = Vec::with_capacity(rt.alloc(), 32) else {
+        return;
+    };
+    assert!(rt; bits.write(&mut out).is_ok());
+    assert!(rt; pair.write(&mut out).is_ok());
+    assert!(rt;
+        out.iter()
+            .eq(THREE_BITS[..12].iter().chain(&BEHIND_ONE[..20]))
+    );
+}
