@@ -7,10 +7,10 @@ use Rattle.std.proofs.lemmas.Nat.{pow-add, and_le_l}
 use Rattle.std.proofs.lemmas.Nat.Bits.{bit_at-lt, bit_at_and, bit_at_mask_inside, bit_at_mask_below, bit_at_mask_above, ones_shr}
 use Rattle.std.proofs.lemmas.List.{get_or-take, length-take, length-drop}
 use Rattle.std.proofs.lemmas.Bool.Decides.{nat_tests}
-use Rattle.bitmap_core.specs.Chunk.{chunk_bits}
+use Rattle.bitmap_core.specs.Chunk.{chunk_bits, bit_in}
 use Rattle.bitmap_core.proofs.Counts.{ones_from, ones_from_same}
 use Rattle.bitmap_core.proofs.PlaceCounts.{ones_from_clear, ones_from_split, none_from, more_ones, ones_of_zero, ones_of_other, rest_zero, some_left, some_right}
-use Rattle.bitmap_core.proofs.WordBits.{byte_bit, byte_bit-at, byte_bit-drop, none_chunk, none_chunk_slice}
+use Rattle.bitmap_core.proofs.WordBits.{bit_in-at, bit_in-drop, none_chunk, none_chunk_slice}
 
 -- ---- a byte under a mask
 
@@ -64,17 +64,17 @@ none_masked b lo hi f h s =
 -- ---- several bytes
 
 -- the bits of one byte
-range_byte : (xs : List ℕ) (j a s e : ℕ) → e ≤ 8 → a ≡ 8 * j + s → ones_from (byte_bit xs) a (e - s) ≡ ones_from (λ t. eqb (bit_at (get_or xs j 0) t) 1) s (e - s)
+range_byte : (xs : List ℕ) (j a s e : ℕ) → e ≤ 8 → a ≡ 8 * j + s → ones_from (bit_in xs) a (e - s) ≡ ones_from (λ t. eqb (bit_at (get_or xs j 0) t) 1) s (e - s)
 range_byte xs j a s e h q =
-    ones_from_same (byte_bit xs) (λ t. eqb (bit_at (get_or xs j 0) t) 1) a s (e - s) (λ t l.
+    ones_from_same (bit_in xs) (λ t. eqb (bit_at (get_or xs j 0) t) 1) a s (e - s) (λ t l.
     let r : a + t ≡ 8 * j + (s + t) = omega arith in
-    ap (byte_bit xs) r ∙ byte_bit-at xs j (s + t) (omega arith))
+    ap (bit_in xs) r ∙ bit_in-at xs j (s + t) (omega arith))
 
 pub none_in_byte : (xs : List ℕ) (from to : ℕ) → from < to → to ≤ 8 * length xs → from / 8 ≡ (to - 1) / 8 → list_all (λ t. not (eqb (bit_at (get_or xs (from / 8) 0) t) 1)) (range_with_len (from % 8) ((to - 1) % 8 + 1 - from % 8)) ≡ list_all not (slice_range (chunk_bits (length xs) xs) from to)
 none_in_byte xs from to h w q =
     let k : (to - 1) % 8 + 1 - from % 8 ≡ to - from = omega arith in
     none_from (λ t. eqb (bit_at (get_or xs (from / 8) 0) t) 1) (from % 8) ((to - 1) % 8 + 1 - from % 8)
-    ∙ ap (λ x. eqb x 0) (sym (range_byte xs (from / 8) from (from % 8) ((to - 1) % 8 + 1) (omega arith) (omega arith)) ∙ ap (λ m. ones_from (byte_bit xs) from m) k)
+    ∙ ap (λ x. eqb x 0) (sym (range_byte xs (from / 8) from (from % 8) ((to - 1) % 8 + 1) (omega arith) (omega arith)) ∙ ap (λ m. ones_from (bit_in xs) from m) k)
     ∙ sym (none_chunk_slice (length xs) xs from to w)
 
 -- whether no bit of a byte from place s on and below place e is set
@@ -82,32 +82,32 @@ abbrev pub none_in : ℕ → ℕ → ℕ → Bool
 none_in b s e = list_all (λ t. not (eqb (bit_at b t) 1)) (range_with_len s (e - s))
 
 -- the bits of the bytes from byte i on and below byte j
-middle_ones : (xs : List ℕ) (i j : ℕ) → i ≤ j → j ≤ length xs → ones_from (byte_bit xs) (8 * i) (8 * j - 8 * i) ≡ ones_from (byte_bit (slice_range xs i j)) 0 (8 * length (slice_range xs i j))
+middle_ones : (xs : List ℕ) (i j : ℕ) → i ≤ j → j ≤ length xs → ones_from (bit_in xs) (8 * i) (8 * j - 8 * i) ≡ ones_from (bit_in (slice_range xs i j)) 0 (8 * length (slice_range xs i j))
 middle_ones xs i j h w =
     let d = length-drop {A = ℕ} i xs in
     let t = length-take {A = ℕ} (j - i) (drop i xs) in
     let l : 8 * j - 8 * i ≡ 8 * length (slice_range xs i j) = omega arith in
-    ones_from_same (byte_bit xs) (byte_bit (slice_range xs i j)) (8 * i) 0 (8 * j - 8 * i) (λ t s.
+    ones_from_same (bit_in xs) (bit_in (slice_range xs i j)) (8 * i) 0 (8 * j - 8 * i) (λ t s.
     let r : 8 * i + t ≡ 8 * i + (0 + t) = omega arith in
-    ap (byte_bit xs) r ∙ sym (byte_bit-drop i xs (0 + t)) ∙ ap (λ b. eqb (bit_at b ((0 + t) % 8)) 1) (sym (get_or-take (j - i) (drop i xs) ((0 + t) / 8) 0 (omega arith))))
-    ∙ ap (λ m. ones_from (byte_bit (slice_range xs i j)) 0 m) l
+    ap (bit_in xs) r ∙ sym (bit_in-drop i xs (0 + t)) ∙ ap (λ b. eqb (bit_at b ((0 + t) % 8)) 1) (sym (get_or-take (j - i) (drop i xs) ((0 + t) / 8) 0 (omega arith))))
+    ∙ ap (λ m. ones_from (bit_in (slice_range xs i j)) 0 m) l
 
 -- a range over several bytes: its part of the first, its part of the last, and the bytes between
 range_parts : (xs : List ℕ) (from to : ℕ) → from < to → to ≤ 8 * length xs → (from / 8 ≡ (to - 1) / 8 → ⊥)
-    → ones_from (byte_bit xs) from (to - from)
+    → ones_from (bit_in xs) from (to - from)
     ≡ ones_from (λ t. eqb (bit_at (get_or xs (from / 8) 0) t) 1) (from % 8) (8 - from % 8)
     + (ones_from (λ t. eqb (bit_at (get_or xs ((to - 1) / 8) 0) t) 1) 0 ((to - 1) % 8 + 1 - 0)
-    + ones_from (byte_bit (slice_range xs (from / 8 + 1) ((to - 1) / 8))) 0 (8 * length (slice_range xs (from / 8 + 1) ((to - 1) / 8))))
+    + ones_from (bit_in (slice_range xs (from / 8 + 1) ((to - 1) / 8))) 0 (8 * length (slice_range xs (from / 8 + 1) ((to - 1) / 8))))
 range_parts xs from to h w d =
     let i : ℕ = from / 8 + 1 in
     let j : ℕ = (to - 1) / 8 in
     let o : i ≤ j = omega arith in
-    let a = ones_from_split (byte_bit xs) from (8 * i) to (omega arith) (omega arith) in
-    let b = ones_from_split (byte_bit xs) (8 * i) (8 * j) to (omega arith) (omega arith) in
+    let a = ones_from_split (bit_in xs) from (8 * i) to (omega arith) (omega arith) in
+    let b = ones_from_split (bit_in xs) (8 * i) (8 * j) to (omega arith) (omega arith) in
     let p : 8 * i - from ≡ 8 - from % 8 = omega arith in
     let q : to - 8 * j ≡ (to - 1) % 8 + 1 - 0 = omega arith in
-    let first = ap (λ m. ones_from (byte_bit xs) from m) p ∙ range_byte xs (from / 8) from (from % 8) 8 (omega arith) (omega arith) in
-    let last = ap (λ m. ones_from (byte_bit xs) (8 * j) m) q ∙ range_byte xs j (8 * j) 0 ((to - 1) % 8 + 1) (omega arith) (omega arith) in
+    let first = ap (λ m. ones_from (bit_in xs) from m) p ∙ range_byte xs (from / 8) from (from % 8) 8 (omega arith) (omega arith) in
+    let last = ap (λ m. ones_from (bit_in xs) (8 * j) m) q ∙ range_byte xs j (8 * j) 0 ((to - 1) % 8 + 1) (omega arith) (omega arith) in
     let mid = middle_ones xs i j o (omega arith) in
     omega arith
 

@@ -6,98 +6,68 @@ use Rattle.std.proofs.Math.Nat.{div-add-mod, div-div-eq-div-mul, div-lt_iff_lt-m
 use Rattle.std.proofs.lemmas.Nat.{mod_below}
 use Rattle.std.proofs.lemmas.List.{get_or_append_left, get_or-append_right, length-append}
 use Rattle.std.proofs.lemmas.Bool.{cases_lt}
-use Rattle.bitmap_core.specs.Chunk.{chunk_bits}
-use Rattle.bitmap_core.specs.Bits.{bit_of, bits}
+use Rattle.bitmap_core.specs.Chunk.{chunk_bits, bit_in}
+use Rattle.bitmap_core.specs.Bits.{bit_of, bits, AreChunks}
 use Rattle.bitmap_core.proofs.Counts.{ones_from, ones_from_add, ones_from_same, ones_from_le, count-bits}
 use Rattle.bitmap_core.proofs.PlaceCounts.{ones_from_split, none_from, rest_zero, some_left}
-use Rattle.bitmap_core.proofs.WordBits.{byte_bit, none_chunk_slice, count-chunk}
+use Rattle.bitmap_core.proofs.WordBits.{none_chunk_slice, count-chunk}
+use Rattle.bitmap_core.proofs.Runs.{bit_in-flat, bit_in-left, bit_in-right}
 
--- each chunk has n bytes
-abbrev pub AreWide : ℕ → List (List ℕ) → Type 0
-AreWide n chunks = (i : ℕ) → i < length chunks → length (get_or chunks i []) ≡ n
-
-flat-length : (n : ℕ) (chunks : List (List ℕ)) → AreWide n chunks → length (flat_map (λ c. c) chunks) ≡ n * length chunks
+flat-length : (n : ℕ) (chunks : List (List ℕ)) → AreChunks n chunks → length (flat_map (λ c. c) chunks) ≡ n * length chunks
 flat-length n [] h = omega arith
-flat-length n (c ∷ chunks) h = omega (arith, length-append c (flat_map (λ x. x) chunks), h 0 (omega arith), flat-length n chunks (λ i s. h (suc i) (omega arith)), mul-add n (length chunks) 1)
-
-flat_byte : (n : ℕ) (chunks : List (List ℕ)) (i j : ℕ) → AreWide n chunks → i < length chunks → j < n → get_or (flat_map (λ c. c) chunks) (n * i + j) 0 ≡ get_or (get_or chunks i []) j 0
-flat_byte n [] i j h s w = absurd (omega arith)
-flat_byte n (c ∷ chunks) zero j h s w =
-    let l : length c ≡ n = h 0 (omega arith) in
-    let e : n * 0 + j ≡ j = omega arith in
-    ap (λ k. get_or (c ++ flat_map (λ x. x) chunks) k 0) e ∙ get_or_append_left c (flat_map (λ x. x) chunks) 0 j (omega arith)
-flat_byte n (c ∷ chunks) (suc i) j h s w =
-    let l : length c ≡ n = h 0 (omega arith) in
-    let m : n * suc i ≡ n * i + n = omega (arith, mul-add n i 1) in
-    let e : n * suc i + j - n ≡ n * i + j = omega arith in
-    get_or-append_right c (flat_map (λ x. x) chunks) n (n * suc i + j) 0 l (omega arith) ∙ ap (λ k. get_or (flat_map (λ x. x) chunks) k 0) e ∙ flat_byte n chunks i j (λ k t. h (suc k) (omega arith)) (omega arith) w
-
-flat_bit : (n : ℕ) (chunks : List (List ℕ)) (i : ℕ) → 0 < n → AreWide n chunks → i < 8 * n * length chunks → byte_bit (flat_map (λ c. c) chunks) i ≡ bit_of n chunks i
-flat_bit n chunks i p h s =
-    let at : i / 8 ≡ n * (i / (8 * n)) + i / 8 % n = sym (ap (λ q. n * q + i / 8 % n) (sym (div-div-eq-div-mul i 8 n)) ∙ div-add-mod (i / 8) n) in
-    let w : i / (8 * n) < length chunks = (div-lt_iff_lt-mul {k = 8 * n} {x = i} {y = length chunks} (omega arith)).1 (grind arith) in
-    ap (λ k. eqb (bit_at (get_or (flat_map (λ c. c) chunks) k 0) (i % 8)) 1) at ∙ ap (λ b. eqb (bit_at b (i % 8)) 1) (flat_byte n chunks (i / (8 * n)) (i / 8 % n) h w (mod_below (i / 8) n p))
-
-left_bit : (a b : List ℕ) (i : ℕ) → i < 8 * length a → byte_bit (a ++ b) i ≡ byte_bit a i
-left_bit a b i h = ap (λ x. eqb (bit_at x (i % 8)) 1) (get_or_append_left a b 0 (i / 8) (omega arith))
-
-right_bit : (a b : List ℕ) (i : ℕ) → byte_bit (a ++ b) (8 * length a + i) ≡ byte_bit b i
-right_bit a b i =
-    let q : (8 * length a + i) / 8 - length a ≡ i / 8 = omega arith in
-    let r : (8 * length a + i) % 8 ≡ i % 8 = omega arith in
-    ap (λ x. eqb (bit_at x ((8 * length a + i) % 8)) 1) (get_or-append_right a b (length a) ((8 * length a + i) / 8) 0 refl (omega arith) ∙ ap (λ k. get_or b k 0) q) ∙ ap (λ x. eqb (bit_at (get_or b (i / 8) 0) x) 1) r
+flat-length n (c ∷ chunks) h = omega (arith, length-append c (flat_map (λ x. x) chunks), (h 0 (omega arith)).len, flat-length n chunks (λ i s. h (suc i) (omega arith)), mul-add n (length chunks) 1)
 
 -- the bits of a range of chunks are those of their bytes
-ones_of_chunks : (n : ℕ) (chunks : List (List ℕ)) (bytes : List ℕ) (a k : ℕ) → 0 < n → AreWide n chunks → bytes ≡ flat_map (λ c. c) chunks → a + k ≤ 8 * n * length chunks → ones_from (bit_of n chunks) a k ≡ ones_from (byte_bit bytes) a k
-ones_of_chunks n chunks bytes a k p h e l = ones_from_same (bit_of n chunks) (byte_bit bytes) a a k (λ t s. sym (ap (λ x. byte_bit x (a + t)) e ∙ flat_bit n chunks (a + t) p h (omega arith)))
+ones_of_chunks : (n : ℕ) (chunks : List (List ℕ)) (bytes : List ℕ) (a k : ℕ) → 0 < n → AreChunks n chunks → bytes ≡ flat_map (λ c. c) chunks → a + k ≤ 8 * n * length chunks → ones_from (bit_of n chunks) a k ≡ ones_from (bit_in bytes) a k
+ones_of_chunks n chunks bytes a k p h e l = ones_from_same (bit_of n chunks) (bit_in bytes) a a k (λ t s. sym (ap (λ x. bit_in x (a + t)) e ∙ bit_in-flat n chunks p (λ i l. (h i l).len) (a + t)))
 
-joined-length : (n : ℕ) (chunks : List (List ℕ)) (a b : List ℕ) → AreWide n chunks → a ++ b ≡ flat_map (λ c. c) chunks → 8 * n * length chunks ≡ 8 * length a + 8 * length b
+joined-length : (n : ℕ) (chunks : List (List ℕ)) (a b : List ℕ) → AreChunks n chunks → a ++ b ≡ flat_map (λ c. c) chunks → 8 * n * length chunks ≡ 8 * length a + 8 * length b
 joined-length n chunks a b h e =
     let l = sym (length-append a b) ∙ ap length e ∙ flat-length n chunks h in
     let m : 8 * n * length chunks ≡ 8 * (n * length chunks) = grind arith in
     omega arith
 
 -- the ones of chunks are those of their bytes, in two pieces
-pub count-pieces : (n : ℕ) (chunks : List (List ℕ)) (a b : List ℕ) → 0 < n → AreWide n chunks → a ++ b ≡ flat_map (λ c. c) chunks
+pub count-pieces : (n : ℕ) (chunks : List (List ℕ)) (a b : List ℕ) → 0 < n → AreChunks n chunks → a ++ b ≡ flat_map (λ c. c) chunks
     → count_by (λ b. b) (bits n chunks (8 * n * length chunks)) ≡ count_by (λ b. b) (chunk_bits (length a) a) + count_by (λ b. b) (chunk_bits (length b) b)
 count-pieces n chunks a b p h e =
     let l = joined-length n chunks a b h e in
     let o = ones_of_chunks n chunks (a ++ b) 0 (8 * n * length chunks) p h e (omega arith) in
-    let s = ap (λ k. ones_from (byte_bit (a ++ b)) 0 k) l ∙ ones_from_add (byte_bit (a ++ b)) 0 (8 * length a) (8 * length b) in
-    let left = ones_from_same (byte_bit (a ++ b)) (byte_bit a) 0 0 (8 * length a) (λ t w. left_bit a b (0 + t) (omega arith)) in
-    let right = ones_from_same (byte_bit (a ++ b)) (byte_bit b) (0 + 8 * length a) 0 (8 * length b) (λ t w. (let q : 0 + 8 * length a + t ≡ 8 * length a + (0 + t) = omega arith in ap (byte_bit (a ++ b)) q) ∙ right_bit a b (0 + t)) in
+    let s = ap (λ k. ones_from (bit_in (a ++ b)) 0 k) l ∙ ones_from_add (bit_in (a ++ b)) 0 (8 * length a) (8 * length b) in
+    let left = ones_from_same (bit_in (a ++ b)) (bit_in a) 0 0 (8 * length a) (λ t w. bit_in-left a b (0 + t) (omega arith)) in
+    let right = ones_from_same (bit_in (a ++ b)) (bit_in b) (0 + 8 * length a) 0 (8 * length b) (λ t w. (let q : 0 + 8 * length a + t ≡ 8 * length a + (0 + t) = omega arith in ap (bit_in (a ++ b)) q) ∙ bit_in-right a b (0 + t)) in
     omega (arith, count-bits n chunks (8 * n * length chunks), count-chunk (length a) a, count-chunk (length b) b)
 
 -- a range, cut at s: the part in the first piece and the part in the second
 range_cut : (a b : List ℕ) (from to s : ℕ) → s ≤ 8 * length a → (s < to → s ≡ 8 * length a)
-    → ones_from (byte_bit (a ++ b)) from (to - from) ≡ ones_from (byte_bit a) (min from s) (min to s - min from s) + ones_from (byte_bit b) (max from s - s) (max to s - s - (max from s - s))
+    → ones_from (bit_in (a ++ b)) from (to - from) ≡ ones_from (bit_in a) (min from s) (min to s - min from s) + ones_from (bit_in b) (max from s - s) (max to s - s - (max from s - s))
 range_cut a b from to s l h = elim (cases_lt to from) [
-  | inl o ↦ omega (arith, ones_from_le (byte_bit (a ++ b)) from (to - from), ones_from_le (byte_bit a) (min from s) (min to s - min from s), ones_from_le (byte_bit b) (max from s - s) (max to s - s - (max from s - s)))
+  | inl o ↦ omega (arith, ones_from_le (bit_in (a ++ b)) from (to - from), ones_from_le (bit_in a) (min from s) (min to s - min from s), ones_from_le (bit_in b) (max from s - s) (max to s - s - (max from s - s)))
   | inr o ↦
       let m : ℕ = max from (min to s) in
-      let cut = ones_from_split (byte_bit (a ++ b)) from m to (omega arith) (omega arith) in
+      let cut = ones_from_split (bit_in (a ++ b)) from m to (omega arith) (omega arith) in
       let j : m - from ≡ min to s - min from s = omega arith in
       let k : to - m ≡ max to s - s - (max from s - s) = omega arith in
-      let left = ones_from_same (byte_bit (a ++ b)) (byte_bit a) from (min from s) (m - from) (λ t w.
+      let left = ones_from_same (bit_in (a ++ b)) (bit_in a) from (min from s) (m - from) (λ t w.
       let q : from + t ≡ min from s + t = omega arith in
-      ap (byte_bit (a ++ b)) q ∙ left_bit a b (min from s + t) (omega arith)) ∙ ap (λ x. ones_from (byte_bit a) (min from s) x) j in
-      let right = ones_from_same (byte_bit (a ++ b)) (byte_bit b) m (max from s - s) (to - m) (λ t w.
+      ap (bit_in (a ++ b)) q ∙ bit_in-left a b (min from s + t) (omega arith)) ∙ ap (λ x. ones_from (bit_in a) (min from s) x) j in
+      let right = ones_from_same (bit_in (a ++ b)) (bit_in b) m (max from s - s) (to - m) (λ t w.
       let e : s ≡ 8 * length a = h (omega arith) in
       let q : m + t ≡ 8 * length a + (max from s - s + t) = omega arith in
-      ap (byte_bit (a ++ b)) q ∙ right_bit a b (max from s - s + t)) ∙ ap (λ x. ones_from (byte_bit b) (max from s - s) x) k in
+      ap (bit_in (a ++ b)) q ∙ bit_in-right a b (max from s - s + t)) ∙ ap (λ x. ones_from (bit_in b) (max from s - s) x) k in
       omega arith
 ]
 
 -- chunks whose bytes are a and b, and the place in bits where b begins, or 2 ^ 64 - 1 where that is less
 pub record IsCut (n : ℕ) (chunks : List (List ℕ)) (a b : List ℕ) (s to : ℕ) : Type 0 where
   pub positive : 0 < n
-  pub wide : AreWide n chunks
+  pub wide : AreChunks n chunks
   pub bytes : a ++ b ≡ flat_map (λ c. c) chunks
   pub place : s ≡ min (length a * 8) (2 ^ 64 - 1)
   pub within : to ≤ 8 * n * length chunks
   pub fits : to < 2 ^ 64
 
-pub cut_is : (n : ℕ) (chunks : List (List ℕ)) (a b : List ℕ) (s to : ℕ) → 0 < n → AreWide n chunks → a ++ b ≡ flat_map (λ c. c) chunks → s ≡ min (length a * 8) (2 ^ 64 - 1) → to ≤ 8 * n * length chunks → to < 2 ^ 64 → IsCut n chunks a b s to
+pub cut_is : (n : ℕ) (chunks : List (List ℕ)) (a b : List ℕ) (s to : ℕ) → 0 < n → AreChunks n chunks → a ++ b ≡ flat_map (λ c. c) chunks → s ≡ min (length a * 8) (2 ^ 64 - 1) → to ≤ 8 * n * length chunks → to < 2 ^ 64 → IsCut n chunks a b s to
 cut_is n chunks a b s to p h e q w f = record { positive = p; wide = h; bytes = e; place = q; within = w; fits = f }
 
 pub cut_within : (n : ℕ) (chunks : List (List ℕ)) (a b : List ℕ) (s to : ℕ) → IsCut n chunks a b s to → (min to s ≤ 8 * length a) × (max to s - s ≤ 8 * length b)
@@ -109,13 +79,13 @@ cut_within n chunks a b s to c =
     (omega arith, omega arith)
 
 cut_ones : (n : ℕ) (chunks : List (List ℕ)) (a b : List ℕ) (s from to : ℕ) → IsCut n chunks a b s to
-    → ones_from (bit_of n chunks) from (to - from) ≡ ones_from (byte_bit a) (min from s) (min to s - min from s) + ones_from (byte_bit b) (max from s - s) (max to s - s - (max from s - s))
+    → ones_from (bit_of n chunks) from (to - from) ≡ ones_from (bit_in a) (min from s) (min to s - min from s) + ones_from (bit_in b) (max from s - s) (max to s - s - (max from s - s))
 cut_ones n chunks a b s from to c =
     let p = c.place in
     let w = c.within in
     let f = c.fits in
     elim (cases_lt to from) [
-      | inl o ↦ omega (arith, ones_from_le (bit_of n chunks) from (to - from), ones_from_le (byte_bit a) (min from s) (min to s - min from s), ones_from_le (byte_bit b) (max from s - s) (max to s - s - (max from s - s)))
+      | inl o ↦ omega (arith, ones_from_le (bit_of n chunks) from (to - from), ones_from_le (bit_in a) (min from s) (min to s - min from s), ones_from_le (bit_in b) (max from s - s) (max to s - s - (max from s - s)))
       | inr o ↦ ones_of_chunks n chunks (a ++ b) from (to - from) c.positive c.wide c.bytes (omega arith) ∙ range_cut a b from to s (omega arith) (λ h. omega arith)
     ]
 

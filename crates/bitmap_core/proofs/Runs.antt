@@ -176,13 +176,11 @@ pushed_here n xs len run new w filled i e =
 
 -- ---- chunks as a run of bytes
 
-pub IsWide-append : (n : ℕ) (a b : List (List ℕ)) → ((i : ℕ) → i < length a → length (get_or a i []) ≡ n) → ((i : ℕ) → i < length b → length (get_or b i []) ≡ n) → (i : ℕ) → i < length (a ++ b) → length (get_or (a ++ b) i []) ≡ n
-IsWide-append n a b f g i h = elim (cases_lt i (length a)) [
-  | inl s ↦ ap length (get_or_append_left a b [] i s) ∙ f i s
-  | inr s ↦ ap length (get_or-append_right a b (length a) i [] refl s) ∙ g (i - length a) (omega (arith, length-append a b))
-]
+-- each has n bytes
+abbrev pub AreWide : ℕ → List (List ℕ) → Type 0
+AreWide n xs = (i : ℕ) → i < length xs → length (get_or xs i []) ≡ n
 
-pub flat_at : (n : ℕ) (xs : List (List ℕ)) → ((i : ℕ) → i < length xs → length (get_or xs i []) ≡ n) → (c j : ℕ) → j < n → get_or (flat_map (λ x. x) xs) (n * c + j) 0 ≡ get_or (get_or xs c []) j 0
+pub flat_at : (n : ℕ) (xs : List (List ℕ)) → AreWide n xs → (c j : ℕ) → j < n → get_or (flat_map (λ x. x) xs) (n * c + j) 0 ≡ get_or (get_or xs c []) j 0
 flat_at n [] h c j w = refl
 flat_at n (x ∷ xs) h zero j w =
     let e : n * 0 + j ≡ j = omega arith in
@@ -193,11 +191,8 @@ flat_at n (x ∷ xs) h (suc c) j w =
     let e : n * suc c + j - length x ≡ n * c + j = omega arith in
     get_or-append_right x (flat_map (λ x. x) xs) (length x) (n * suc c + j) 0 refl (omega arith) ∙ ap (λ k. get_or (flat_map (λ x. x) xs) k 0) e ∙ flat_at n xs (λ i s. h (suc i) (omega arith)) c j w
 
-pub bit_in-flat : (n : ℕ) (xs : List (List ℕ)) → 0 < n → ((i : ℕ) → i < length xs → length (get_or xs i []) ≡ n) → (i : ℕ) → bit_in (flat_map (λ x. x) xs) i ≡ bit_of n xs i
+pub bit_in-flat : (n : ℕ) (xs : List (List ℕ)) → 0 < n → AreWide n xs → (i : ℕ) → bit_in (flat_map (λ x. x) xs) i ≡ bit_of n xs i
 bit_in-flat n xs p h i =
     let d : i / 8 ≡ n * (i / 8 / n) + i / 8 % n = sym (div-add-mod (i / 8) n) in
     let q : i / 8 / n ≡ i / (8 * n) = div-div-eq-div-mul i 8 n in
     ap (λ x. eqb (bit_at x (i % 8)) 1) (ap (λ k. get_or (flat_map (λ x. x) xs) k 0) d ∙ flat_at n xs h (i / 8 / n) (i / 8 % n) (mod_below (i / 8) n p) ∙ ap (λ c. get_or (get_or xs c []) (i / 8 % n) 0) q)
-
-pub bit_in-pieces : (n : ℕ) (a b xs : List (List ℕ)) → 0 < n → a ++ b ≡ xs → ((i : ℕ) → i < length a → length (get_or a i []) ≡ n) → ((i : ℕ) → i < length b → length (get_or b i []) ≡ n) → (i : ℕ) → bit_in (flat_map (λ x. x) a ++ flat_map (λ x. x) b) i ≡ bit_of n xs i
-bit_in-pieces n a b xs p e f g i = ap (λ r. bit_in r i) (sym (flat_map-append (λ x. x) a b)) ∙ bit_in-flat n (a ++ b) p (IsWide-append n a b f g) i ∙ ap (λ l. bit_of n l i) e

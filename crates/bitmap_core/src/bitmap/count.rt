@@ -5,6 +5,7 @@ ghost use Rattle.std.specs.List.{count_by, flat_map, list_all, range_with_len, s
 ghost use Rattle.bitmap_core.specs.Bits.{bit_of, bits};
 
 use crate::bitmap::BitMap;
+use crate::bitmap::every_chunk::bytes;
 use crate::chunk::words;
 use std::collections::VecDeque;
 use std::ops::Range;
@@ -43,7 +44,7 @@ fn chunk_ones<const N: usize>(chunks: &VecDeque<[u8; N]>) -> u64
     requires fits { count_by (λ b. b) (bits N chunks.now.items (8 * N * length chunks.now.items)) < 2 ^ 64 }
     ensures { result ≡ count_by (λ b. b) (bits N chunks.now.items (8 * N * length chunks.now.items)) }
 {
-    let (front, back) = chunk_bytes(chunks);
+    let (front, back) = bytes(chunks);
     words::count_ones(front) + words::count_ones(back)
 }
 
@@ -53,34 +54,8 @@ fn is_range_unset<const N: usize>(chunks: &VecDeque<[u8; N]>, from: u64, to: u64
     requires within { to ≤ 8 * N * length chunks.now.items }
     ensures { result ≡ list_all (λ i. not (bit_of N chunks.now.items i)) (range_with_len from (to - from)) }
 {
-    let (front, back) = chunk_bytes(chunks);
+    let (front, back) = bytes(chunks);
     let split = (front.len() as u64).saturating_mul(8);
     words::is_unset(front, from.min(split), to.min(split))
         && words::is_unset(back, from.max(split) - split, to.max(split) - split)
 }
-
-// The bytes of some chunks, in two pieces.
-fn chunk_bytes<const N: usize>(chunks: &VecDeque<[u8; N]>) -> (&[u8], &[u8])
-    requires { 0 < N }
-    ensures bytes { result.0.now ++ result.1.now ≡ flat_map (λ c. c) chunks.now.items }
-    ensures widths { (i : ℕ) → i < length chunks.now.items → length (slice_index_or chunks.now.items i []) ≡ N }
-{
-    let (front, back) = chunks.as_slices();
-    widths_known(front);
-    widths_known(back);
-    (front.as_flattened(), back.as_flattened())
-}
-
-// What the type of chunks says of each.
-fn widths_known<const N: usize>(chunks: &[[u8; N]])
-    ensures { (i : ℕ) → i < length chunks.now → length (slice_index_or chunks.now i []) ≡ N }
-{
-    for chunk in chunks {
-        width_known(chunk);
-    }
-}
-
-// What the type of a chunk says of it.
-fn width_known<const N: usize>(chunk: &[u8; N])
-    ensures { length chunk.now ≡ N }
-{}

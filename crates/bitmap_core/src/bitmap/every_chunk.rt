@@ -2,7 +2,7 @@
 
 ghost use Rattle.std.specs.Prelude.{◌≡◌, ℕ, ◌+◌, ◌*◌, ◌/◌, ◌<◌, ◌≤◌, ◌++◌, length, not};
 ghost use Rattle.std.specs.Bool.{Decides};
-ghost use Rattle.std.specs.List.{fold};
+ghost use Rattle.std.specs.List.{flat_map, fold};
 ghost use Rattle.bitmap_core.specs.Bits.{bit_of, AreChunks};
 ghost use Rattle.bitmap_core.specs.Gates.{IsJoined};
 
@@ -122,6 +122,15 @@ pub fn slices<const N: usize>(chunks: &VecDeque<[u8; N]>) -> (&[[u8; N]], &[[u8;
     all_known(front);
     all_known(back);
     (front, back)
+}
+
+// The bytes of a deque's chunks, in two runs.
+pub fn bytes<const N: usize>(chunks: &VecDeque<[u8; N]>) -> (&[u8], &[u8])
+    ensures items { result.0.now ++ result.1.now ≡ flat_map (λ c. c) chunks.now.items }
+    ensures known { AreChunks N chunks.now.items }
+{
+    let (front, back) = slices(chunks);
+    (front.as_flattened(), back.as_flattened())
 }
 
 // What the type of chunks says of each.

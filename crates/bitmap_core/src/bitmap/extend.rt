@@ -1,6 +1,6 @@
 //! A bitmap appended to another.
 
-ghost use Rattle.std.specs.Prelude.{◌≡◌, ℕ, ◌+◌, ◌-◌, ◌*◌, ◌/◌, ◌%◌, ◌^◌, ◌<◌, ◌≤◌, ◌++◌, length, slice_index_or, [], OnOk, OnErr};
+ghost use Rattle.std.specs.Prelude.{◌≡◌, ℕ, ◌+◌, ◌-◌, ◌*◌, ◌/◌, ◌%◌, ◌^◌, ◌<◌, ◌≤◌, ◌++◌, length, OnOk, OnErr};
 ghost use Rattle.std.specs.Int.{div_ceil};
 ghost use Rattle.std.specs.VecDeque.{deque_capacity};
 ghost use Rattle.bitmap_core.specs.Chunk.{bit_in};
@@ -8,6 +8,7 @@ ghost use Rattle.bitmap_core.specs.Bits.{bit_of, IsChunkCount};
 
 use crate::bitmap::BitMap;
 use crate::bitmap::chunks::{chunk_bits, chunk_index};
+use crate::bitmap::every_chunk::bytes;
 use crate::chunk::join::{chunk_from, join};
 use std::alloc::AllocError;
 use std::collections::VecDeque;
@@ -75,31 +76,6 @@ fn append<const N: usize>(
     Ok(())
 }
 
-// What the type of chunks says of their widths.
-fn all_wide<const N: usize>(chunks: &[[u8; N]])
-    ensures { (i : ℕ) → i < length chunks.now → length (slice_index_or chunks.now i []) ≡ N }
-{
-    for i in 0..chunks.len() {
-        wide(&chunks[i]);
-    }
-}
-
-// What the type of a chunk says of its width.
-fn wide<const N: usize>(chunk: &[u8; N])
-    ensures { length chunk.now ≡ N }
-{}
-
-// The bytes of chunks, in two pieces.
-fn byte_run<const N: usize>(chunks: &VecDeque<[u8; N]>) -> (&[u8], &[u8])
-    requires { 0 < N }
-    ensures { (i : ℕ) → bit_in (result.0.now ++ result.1.now) i ≡ bit_of N chunks.now.items i }
-{
-    let (front, back) = chunks.as_slices();
-    all_wide(front);
-    all_wide(back);
-    (front.as_flattened(), back.as_flattened())
-}
-
 impl<const N: usize> BitMap<N> {
     /// Appends the bits of another bitmap, whose chunks may have another width. The lengths add up to less than `2 ^ 64`.
     ///
@@ -114,7 +90,7 @@ impl<const N: usize> BitMap<N> {
     {
         let len = self.len;
         let total = len + other.len();
-        let (front, back) = byte_run(&other.chunks);
+        let (front, back) = bytes(&other.chunks);
         append(&mut self.chunks, len, total, front, back)?;
         self.len = total;
         Ok(())

@@ -1,7 +1,9 @@
-use Rattle.std.proofs.Common.{◌≡◌, ◌-◌, ◌∙◌, sym, arith}
+use Rattle.std.proofs.Common.{◌≡◌, ◌-◌, ◌∙◌, ap, sym, arith}
+use Rattle.bitmap_core.specs.Chunk.{bit_in}
 use Rattle.bitmap_core.proofs.BitLists.{len_is}
 use Rattle.bitmap_core.proofs.BitEdits.{bits-append}
 use Rattle.bitmap_core.proofs.ChunkLists.{IsZeroFrom-append}
+use Rattle.bitmap_core.proofs.Runs.{bit_in-flat}
 use Rattle.bitmap_core.proofs.bitmap.BitMap.extend_from_bitmap.Goals as goal
 
 pub overflow_add-total : goal.overflow_add-total
@@ -10,9 +12,9 @@ overflow_add-total g c = omega (arith, len_is _ _ _ _ c.self.view_is, c.len.ensu
 pub invariant_of-self-2 : goal.invariant_of-self-2
 invariant_of-self-2 g c =
     let o : c.len.result ≡ c.other.inside.len = c.len.ensures.value ∙ len_is _ _ _ _ c.other.view_is in
-    (c.self.invariant.0, c.self.invariant.1, c.in_ok-append.ensures.count, IsZeroFrom-append g.row.N g.row.M _ c.other.inside.chunks.items c.self.inside.len c.len.result (λ i h. c.other.invariant.3 i (omega arith)) (λ i h s. c.in_ok-append.ensures.joined i h s ∙ c.byte_run.ensures (i - c.self.inside.len)))
+    (c.self.invariant.0, c.self.invariant.1, c.in_ok-append.ensures.count, IsZeroFrom-append g.row.N g.row.M _ c.other.inside.chunks.items c.self.inside.len c.len.result (λ i h. c.other.invariant.3 i (omega arith)) (λ i h s. c.in_ok-append.ensures.joined i h s ∙ (ap (λ r. bit_in r (i - c.self.inside.len)) c.bytes.ensures.items ∙ bit_in-flat g.row.M c.other.inside.chunks.items c.other.invariant.0 (λ j l. (c.bytes.ensures.known j l).len) (i - c.self.inside.len))))
 
 pub returns-clause-ok : goal.returns-clause-ok
 returns-clause-ok g c =
     let o : c.other.inside.len ≡ c.len.result = sym (c.len.ensures.value ∙ len_is _ _ _ _ c.other.view_is) in
-    bits-append g.row.N g.row.M c.self.inside.chunks.items _ c.other.inside.chunks.items c.self.inside.len c.len.result _ _ c.self.invariant.0 c.in_ok-append.ensures.count c.self.view_is (rw o at c.other.view_is) c.in_ok-append.ensures.kept (λ i h s. c.in_ok-append.ensures.joined i h s ∙ c.byte_run.ensures (i - c.self.inside.len))
+    bits-append g.row.N g.row.M c.self.inside.chunks.items _ c.other.inside.chunks.items c.self.inside.len c.len.result _ _ c.self.invariant.0 c.in_ok-append.ensures.count c.self.view_is (rw o at c.other.view_is) c.in_ok-append.ensures.kept (λ i h s. c.in_ok-append.ensures.joined i h s ∙ (ap (λ r. bit_in r (i - c.self.inside.len)) c.bytes.ensures.items ∙ bit_in-flat g.row.M c.other.inside.chunks.items c.other.invariant.0 (λ j l. (c.bytes.ensures.known j l).len) (i - c.self.inside.len)))

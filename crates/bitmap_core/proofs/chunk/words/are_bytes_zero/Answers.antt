@@ -1,6 +1,7 @@
 use Rattle.std.proofs.Common.{◌≡◌, ◌*◌, ◌∙◌, length, sym, ap, eqb, arith}
 use Rattle.bitmap_core.proofs.Counts.{ones_from}
-use Rattle.bitmap_core.proofs.WordBits.{byte_bit, none_chunk, zero_byte, other_byte}
+use Rattle.bitmap_core.specs.Chunk.{bit_in}
+use Rattle.bitmap_core.proofs.WordBits.{none_chunk, zero_byte, other_byte}
 use Rattle.bitmap_core.proofs.chunk.words.are_bytes_zero.Goals as goal
 
 pub returns-then-byte-ne0 : goal.returns-then-byte-ne0
@@ -12,4 +13,4 @@ loop-byte-preserved c = zero_byte c.args.bytes.now c.loop-byte.byte-index c.if-b
 pub returns : goal.returns
 returns c =
     let e : c.loop-byte.byte-index ≡ length c.args.bytes.now = omega arith in
-    sym (none_chunk (length c.args.bytes.now) c.args.bytes.now ∙ ap (λ x. eqb x 0) (sym (ap (λ k. ones_from (byte_bit c.args.bytes.now) 0 (8 * k)) e) ∙ c.loop-byte.invariant))
+    sym (none_chunk (length c.args.bytes.now) c.args.bytes.now ∙ ap (λ x. eqb x 0) (sym (ap (λ k. ones_from (bit_in c.args.bytes.now) 0 (8 * k)) e) ∙ c.loop-byte.invariant))
