@@ -6,7 +6,7 @@ use Rattle.std.specs.Simd.{first_chunks}
 use Rattle.std.proofs.Math.Nat.{mod-eq_of_lt, div-add-mod, div-lt_iff_lt-mul, mul-add, div-div-eq-div-mul}
 use Rattle.std.proofs.lemmas.Nat.{mod_below, div-mul-add, mod-mul-add}
 use Rattle.std.proofs.lemmas.List.{get_or-take, get_or-drop, get_or_read, length-drop, length-append, take-append-drop}
-use Rattle.std.proofs.lemmas.List.FromFn.{length-map-range_with_len, get_or-map-range_with_len}
+use Rattle.std.proofs.lemmas.List.FromFn.{length-range_with_len, length-map-range_with_len, get_or-map-range_with_len}
 use Rattle.std.proofs.lemmas.List.Folds.{flat_map-map}
 use Rattle.bitmap_core.specs.Chunk.{chunk_bit, chunk_of, bit_in}
 use Rattle.bitmap_core.specs.Bits.{bit_of, IsChunkCount}
@@ -14,6 +14,7 @@ use Rattle.bitmap_core.proofs.Places.{full_len, open_last}
 use Rattle.bitmap_core.proofs.ChunkBits.{chunk_bit-mod}
 use Rattle.bitmap_core.proofs.ChunkBytes.{chunk_of-bit, length-chunk_of}
 use Rattle.bitmap_core.proofs.WordBits.{get_or-first_chunks}
+use Rattle.bitmap_core.proofs.FrontChunks.{length_pieces}
 use Rattle.bitmap_core.proofs.PlaceTests.{any_range-moved}
 use Rattle.bitmap_core.proofs.Runs.{bit_in-flat, bit_in-left}
 
@@ -47,8 +48,7 @@ chunks-exact n k xs p l =
 -- ---- chunks of bits, as bytes
 
 pub length-pieces : (n : ℕ) (f : ℕ → List ℕ) (a k : ℕ) → ((i : ℕ) → length (f i) ≡ n) → length (flat_map f (range_with_len a k)) ≡ n * k
-length-pieces n f a zero h = omega arith
-length-pieces n f a (suc k) h = omega (arith, length-append (f a) (flat_map f (range_with_len (a + 1) k)), h a, length-pieces n f (a + 1) k h, mul-add n k 1)
+length-pieces n f a k h = length_pieces f n (range_with_len a k) h ∙ ap (λ m. n * m) (length-range_with_len a k)
 
 -- bit i of the bytes of the chunks is bit i of the list, and past its end there is none
 pub bit_in-chunks : (n : ℕ) (v : List Bool) (k i : ℕ) (rest : List ℕ) → 0 < n → i < 8 * (n * k) → bit_in (flat_map (chunk_of n v) (range_with_len 0 k) ++ rest) i ≡ get_or v i false

@@ -78,7 +78,7 @@ none_in_byte xs from to h w q =
     ∙ sym (none_chunk_slice (length xs) xs from to w)
 
 -- whether no bit of a byte from place s on and below place e is set
-abbrev pub none_in : ℕ → ℕ → ℕ → Bool
+abbrev none_in : ℕ → ℕ → ℕ → Bool
 none_in b s e = list_all (λ t. not (eqb (bit_at b t) 1)) (range_with_len s (e - s))
 
 -- the bits of the bytes from byte i on and below byte j

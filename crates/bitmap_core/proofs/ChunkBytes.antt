@@ -44,7 +44,7 @@ unfolding number_of
 number_of_byte f = omega arith
 
 -- a bit of a byte made from its bits
-pub byte_of-bit : (f : ℕ → Bool) (t : ℕ) → t < 8 → eqb (bit_at (byte_of f) t) 1 ≡ f t
+byte_of-bit : (f : ℕ → Bool) (t : ℕ) → t < 8 → eqb (bit_at (byte_of f) t) 1 ≡ f t
 byte_of-bit f t h = ap (λ x. eqb x 1) (byte_bit f t h) ∙ digit_is (f t)
 
 -- a bit of chunk q of the bits v
@@ -64,7 +64,7 @@ pub byte_is : (b : ℕ) (f : ℕ → Bool) → b < 256 → ((t : ℕ) → t < 8 
 byte_is b f h e = sym (mod-eq_of_lt {n = b} {m = 2 ^ 8} h) ∙ number_of_bits b 8 ∙ number_of-same _ f 8 e ∙ number_of_byte f
 
 -- a byte of a chunk by the chunk's bits
-pub chunk_byte : (n : ℕ) (chunk : List ℕ) (j : ℕ) (f : ℕ → Bool) → j < n → get_or chunk j 0 < 256 → ((t : ℕ) → t < 8 → chunk_bit n chunk (8 * j + t) ≡ f t) → get_or chunk j 0 ≡ byte_of f
+chunk_byte : (n : ℕ) (chunk : List ℕ) (j : ℕ) (f : ℕ → Bool) → j < n → get_or chunk j 0 < 256 → ((t : ℕ) → t < 8 → chunk_bit n chunk (8 * j + t) ≡ f t) → get_or chunk j 0 ≡ byte_of f
 chunk_byte n chunk j f s h e = byte_is (get_or chunk j 0) f h (λ t w.
     let q : (8 * j + t) / 8 ≡ j = omega arith in
     let r : t ≡ (8 * j + t) % 8 = omega arith in

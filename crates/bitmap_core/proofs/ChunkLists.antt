@@ -55,7 +55,7 @@ bit_of-ones n k i p h =
 pub bit_of-take_in : (n : ℕ) (xs : List (List ℕ)) (k i : ℕ) → i / (8 * n) < k → bit_of n (take k xs) i ≡ bit_of n xs i
 bit_of-take_in n xs k i h = ap (λ c. chunk_bit n c i) (get_or-take k xs (i / (8 * n)) [] h)
 
-pub bit_of-take_past : (n : ℕ) (xs : List (List ℕ)) (k i : ℕ) → k ≤ i / (8 * n) → bit_of n (take k xs) i ≡ false
+bit_of-take_past : (n : ℕ) (xs : List (List ℕ)) (k i : ℕ) → k ≤ i / (8 * n) → bit_of n (take k xs) i ≡ false
 bit_of-take_past n xs k i h = bit_of_past n (take k xs) i (omega (arith, length-take {A = List ℕ} k xs))
 
 -- the last chunk, if all its bits are zero, may go

@@ -11,7 +11,7 @@ use Rattle.bitmap_core.proofs.ChunkBits.{byte_from_bits}
 use Rattle.bitmap_core.proofs.ChunkLists.{chunk_from_bits}
 
 -- chunks with the same bits are the same
-pub chunks_from_bits : (n : ℕ) (xs ys : List (List ℕ)) → 0 < n → length xs ≡ length ys → AreChunks n xs → AreChunks n ys → ((k : ℕ) → bit_of n xs k ≡ bit_of n ys k) → xs ≡ ys
+chunks_from_bits : (n : ℕ) (xs ys : List (List ℕ)) → 0 < n → length xs ≡ length ys → AreChunks n xs → AreChunks n ys → ((k : ℕ) → bit_of n xs k ≡ bit_of n ys k) → xs ≡ ys
 chunks_from_bits n xs ys p l f g h =
     ext_get_or [] xs ys l (λ i s.
     let t : i < length ys = omega arith in
@@ -24,12 +24,12 @@ chunks_from_bits n xs ys p l f g h =
 pub same_bits_decided : (n : ℕ) (r : Bool) (xs ys : List (List ℕ)) → 0 < n → length xs ≡ length ys → AreChunks n xs → AreChunks n ys → Decides r (xs ≡ ys) → Decides r ((k : ℕ) → bit_of n xs k ≡ bit_of n ys k)
 same_bits_decided n r xs ys p l f g d = (λ q k. ap (λ zs. bit_of n zs k) (d.0 q), λ h. d.1 (chunks_from_bits n xs ys p l f g h))
 
-pub append_split : {A : Type 0} (fs gs xs ys : List A) → length fs ≡ length xs → fs ++ gs ≡ xs ++ ys → (fs ≡ xs) × (gs ≡ ys)
+append_split : {A : Type 0} (fs gs xs ys : List A) → length fs ≡ length xs → fs ++ gs ≡ xs ++ ys → (fs ≡ xs) × (gs ≡ ys)
 append_split fs gs xs ys l e =
     (sym (take-append_seam fs gs) ∙ ap (λ k. take k (fs ++ gs)) l ∙ ap (λ zs. take (length xs) zs) e ∙ take-append_seam xs ys, sym (drop-append_seam fs gs) ∙ ap (λ k. drop k (fs ++ gs)) l ∙ ap (λ zs. drop (length xs) zs) e ∙ drop-append_seam xs ys)
 
 -- chunks are the same where their bytes are
-pub chunks_from_bytes : (n : ℕ) (xs ys : List (List ℕ)) → length xs ≡ length ys → AreChunks n xs → AreChunks n ys → flat_map (λ x. x) xs ≡ flat_map (λ x. x) ys → xs ≡ ys
+chunks_from_bytes : (n : ℕ) (xs ys : List (List ℕ)) → length xs ≡ length ys → AreChunks n xs → AreChunks n ys → flat_map (λ x. x) xs ≡ flat_map (λ x. x) ys → xs ≡ ys
 chunks_from_bytes n [] [] l f g e = refl
 chunks_from_bytes n [] (y ∷ ys) l f g e = absurd (omega arith)
 chunks_from_bytes n (x ∷ xs) [] l f g e = absurd (omega arith)

@@ -41,7 +41,7 @@ pub ones_from_none : (f : ℕ → Bool) (a k : ℕ) → ((t : ℕ) → a ≤ t �
 ones_from_none f a zero h = refl
 ones_from_none f a (suc k) h = ap (λ x. cond x 1 0 + ones_from f (a + 1) k) (h a (omega arith)) ∙ (let r = ones_from_none f (a + 1) k (λ t s. h t (omega arith)) in omega arith)
 
-pub cond_le : (b : Bool) → cond b 1 0 ≤ 1
+cond_le : (b : Bool) → cond b 1 0 ≤ 1
 cond_le true = omega arith
 cond_le false = omega arith
 
@@ -63,7 +63,7 @@ ones_from_all f len m s h =
     ap (λ x. ones_from f 0 x) (sym e) ∙ ones_from_add f 0 len (m - len) ∙ omega (arith, ones_from_none f (0 + len) (m - len) (λ t w. h t (omega arith)))
 
 -- the ones of a number are those of its bits
-pub bit_worth : (m : ℕ) → m < 2 → m ≡ cond (eqb m 1) 1 0
+bit_worth : (m : ℕ) → m < 2 → m ≡ cond (eqb m 1) 1 0
 bit_worth m h = grind (arith, nat_tests)
 
 pub ones_bits : (n a k : ℕ) → n / 2 ^ a < 2 ^ k → count_ones (n / 2 ^ a) ≡ ones_from (λ t. eqb (bit_at n t) 1) a k
@@ -76,15 +76,15 @@ ones_bits n a (suc k) h =
     let w : n / 2 ^ a % 2 ≡ cond (eqb (bit_at n a) 1) 1 0 = bit_worth (n / 2 ^ a % 2) (mod_below (n / 2 ^ a) 2 (omega arith)) in
     ones_step (n / 2 ^ a) ∙ ap (λ x. x + count_ones (n / 2 ^ a / 2)) w ∙ ap (λ x. cond (eqb (bit_at n a) 1) 1 0 + count_ones x) s ∙ ap (λ x. cond (eqb (bit_at n a) 1) 1 0 + x) i
 
-pub trues : List Bool → ℕ
+trues : List Bool → ℕ
 trues [] = 0
 trues (b ∷ bs) = cond b (1 + trues bs) (trues bs)
 
-pub trues_step : (b : Bool) (n : ℕ) → cond b (1 + n) n ≡ cond b 1 0 + n
+trues_step : (b : Bool) (n : ℕ) → cond b (1 + n) n ≡ cond b 1 0 + n
 trues_step true n = refl
 trues_step false n = omega arith
 
-pub trues-map : (f : ℕ → Bool) (a k : ℕ) → trues (map f (range_with_len a k)) ≡ ones_from f a k
+trues-map : (f : ℕ → Bool) (a k : ℕ) → trues (map f (range_with_len a k)) ≡ ones_from f a k
 unfolding trues
 trues-map f a zero = refl
 trues-map f a (suc k) = trues_step (f a) (trues (map f (range_with_len (a + 1) k))) ∙ ap (λ x. cond (f a) 1 0 + x) (trues-map f (a + 1) k)

@@ -8,7 +8,7 @@ use Rattle.std.proofs.Math.Bool.{beq}
 use Rattle.bitmap_core.specs.Bits.{bit_of, bits, IsZeroFrom}
 use Rattle.bitmap_core.proofs.BitLists.{get_or-bits, bits-same, len_is}
 
-pub decides_from : {P : Type 0} (r : Bool) → (r ≡ true → P) → (r ≡ false → P → ⊥) → Decides r P
+decides_from : {P : Type 0} (r : Bool) → (r ≡ true → P) → (r ≡ false → P → ⊥) → Decides r P
 decides_from true f g = (f, λ _. refl)
 decides_from false f g = (f, λ p. absurd (g refl p))
 

@@ -87,7 +87,7 @@ pub record SoundPair (n : ℕ) (range : ℕ → Bool) (text : List ℕ) : Type 0
   pub total : 8 * n * number text + number (drop 8 text) < 2 ^ 64
 
 -- the first of two faults
-pub or_else : Option Fault → Option Fault → Option Fault
+or_else : Option Fault → Option Fault → Option Fault
 or_else None g = g
 or_else (Some f) g = Some f
 

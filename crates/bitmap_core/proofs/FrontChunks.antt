@@ -13,14 +13,14 @@ use Rattle.bitmap_core.proofs.ChunkBits.{chunk_bit-mod}
 use Rattle.bitmap_core.proofs.BitLists.{get_or-bits, bits_are, len_is}
 
 -- a position moved up by k chunks
-pub quotient_up : (n k i : ℕ) → 0 < n → (8 * n * k + i) / (8 * n) ≡ k + i / (8 * n)
+quotient_up : (n k i : ℕ) → 0 < n → (8 * n * k + i) / (8 * n) ≡ k + i / (8 * n)
 quotient_up n k i p = mul-add-div (omega arith) k i
 
-pub rest_up : (n k i : ℕ) → (8 * n * k + i) % (8 * n) ≡ i % (8 * n)
+rest_up : (n k i : ℕ) → (8 * n * k + i) % (8 * n) ≡ i % (8 * n)
 rest_up n k i = mul-add-mod_self_left (8 * n) k i
 
 -- without the first k chunks, each bit is the one k chunks on
-pub bit_of-drop : (n : ℕ) (xs : List (List ℕ)) (k i : ℕ) → 0 < n → bit_of n (drop k xs) i ≡ bit_of n xs (8 * n * k + i)
+bit_of-drop : (n : ℕ) (xs : List (List ℕ)) (k i : ℕ) → 0 < n → bit_of n (drop k xs) i ≡ bit_of n xs (8 * n * k + i)
 bit_of-drop n xs k i p =
     ap (λ c. chunk_bit n c i) (get_or-drop k xs (i / (8 * n)) [] ∙ ap (λ j. get_or xs j []) (sym (quotient_up n k i p)))
     ∙ chunk_bit-mod n (get_or xs ((8 * n * k + i) / (8 * n)) []) i (8 * n * k + i) p (sym (rest_up n k i))
@@ -43,10 +43,10 @@ drop-append : (cs xs : List (List ℕ)) → drop (length cs) (cs ++ xs) ≡ xs
 drop-append [] xs = refl
 drop-append (c ∷ cs) xs = drop-append cs xs
 
-pub bit_of-front : (n : ℕ) (cs xs : List (List ℕ)) (i : ℕ) → i / (8 * n) < length cs → bit_of n (cs ++ xs) i ≡ bit_of n cs i
+bit_of-front : (n : ℕ) (cs xs : List (List ℕ)) (i : ℕ) → i / (8 * n) < length cs → bit_of n (cs ++ xs) i ≡ bit_of n cs i
 bit_of-front n cs xs i h = ap (λ c. chunk_bit n c i) (get_or_append_left cs xs [] (i / (8 * n)) h)
 
-pub bit_of-behind : (n : ℕ) (cs xs : List (List ℕ)) (i : ℕ) → 0 < n → 8 * n * length cs ≤ i → bit_of n (cs ++ xs) i ≡ bit_of n xs (i - 8 * n * length cs)
+bit_of-behind : (n : ℕ) (cs xs : List (List ℕ)) (i : ℕ) → 0 < n → 8 * n * length cs ≤ i → bit_of n (cs ++ xs) i ≡ bit_of n xs (i - 8 * n * length cs)
 bit_of-behind n cs xs i p h =
     let e : 8 * n * length cs + (i - 8 * n * length cs) ≡ i = omega arith in
     ap (λ j. bit_of n (cs ++ xs) j) (sym e) ∙ sym (bit_of-drop n (cs ++ xs) (length cs) (i - 8 * n * length cs) p) ∙ ap (λ ys. bit_of n ys (i - 8 * n * length cs)) (drop-append cs xs)
@@ -56,7 +56,7 @@ pub length_pieces : {X A : Type 0} (f : X → List A) (w : ℕ) (xs : List X) �
 length_pieces f w [] h = omega arith
 length_pieces f w (x ∷ xs) h = omega (arith, length-append (f x) (flat_map f xs), h x, length_pieces f w xs h)
 
-pub in_piece : {X A : Type 0} (f : X → List A) (w : ℕ) (xs : List X) (k : ℕ) (e : X) (d : A) → 0 < w → ((x : X) → length (f x) ≡ w) → k < w * length xs → get_or (flat_map f xs) k d ≡ get_or (f (get_or xs (k / w) e)) (k % w) d
+in_piece : {X A : Type 0} (f : X → List A) (w : ℕ) (xs : List X) (k : ℕ) (e : X) (d : A) → 0 < w → ((x : X) → length (f x) ≡ w) → k < w * length xs → get_or (flat_map f xs) k d ≡ get_or (f (get_or xs (k / w) e)) (k % w) d
 in_piece f w xs k e d pos h l =
     let i : k / w < length xs = div_below k w (length xs) pos (omega arith) in
     let place = div-add-mod k w in

@@ -73,7 +73,7 @@ module _ (n : ℕ) (m : Meaning) (base lo end : ℕ) (bytes : List ℕ) (word : 
 
 -- ---- a word with no bit left
 
-pub left_empty : (n : ℕ) (m : Meaning) (base word end : ℕ) → word ≡ 0 → left_from n m base word end ≡ ones_between m.bit (next_word n base) end
+left_empty : (n : ℕ) (m : Meaning) (base word end : ℕ) → word ≡ 0 → left_from n m base word end ≡ ones_between m.bit (next_word n base) end
 left_empty n m base word end e =
     let none : ones_between (word_bit base word) base (base + 64) ≡ [] =
     ones_between-false (word_bit base word) base (base + 64) (λ k a b. bit_of_zero_byte word (k - base) e) in
@@ -127,13 +127,13 @@ pub record IsLowestTaken (old new place : ℕ) : Type 0 where
   pub others : (i : ℕ) → i < 64 → i ≢ place → eqb (bit_at new i) 1 ≡ eqb (bit_at old i) 1
 
 module _ (old new place : ℕ) (t : IsLowestTaken old new place) where
-  pub taken_false : (i : ℕ) → i < 64 → eqb (bit_at old i) 1 ≡ false → eqb (bit_at new i) 1 ≡ false
+  taken_false : (i : ℕ) → i < 64 → eqb (bit_at old i) 1 ≡ false → eqb (bit_at new i) 1 ≡ false
   taken_false i h e = elim (cases_eq i place) [
     | inl q ↦ ap (λ (k : ℕ). eqb (bit_at new k) 1) q ∙ t.cleared
     | inr d ↦ t.others i h d ∙ e
   ]
 
-  pub taken_first : (base : ℕ) → ones_between (word_bit base old) base (base + 64) ≡ (base + place) ∷ ones_between (word_bit base new) base (base + 64)
+  taken_first : (base : ℕ) → ones_between (word_bit base old) base (base + 64) ≡ (base + place) ∷ ones_between (word_bit base new) base (base + 64)
   taken_first base =
       let w = t.within in
       let at : base + place - base ≡ place = omega arith in

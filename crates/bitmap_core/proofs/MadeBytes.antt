@@ -27,7 +27,7 @@ map_range_same f g a zero h = refl
 map_range_same f g a (suc m) h = rw (h a (omega arith) (omega arith)) (ap (λ ys. g a ∷ ys) (map_range_same f g (a + 1) m (λ j l r. h j (omega arith) (omega arith))))
 
 -- bit t of byte j of a chunk
-pub chunk_bit_in_byte : (n : ℕ) (c : List ℕ) (j t : ℕ) → j < n → t < 8 → chunk_bit n c (8 * j + t) ≡ eqb (bit_at (get_or c j 0) t) 1
+chunk_bit_in_byte : (n : ℕ) (c : List ℕ) (j t : ℕ) → j < n → t < 8 → chunk_bit n c (8 * j + t) ≡ eqb (bit_at (get_or c j 0) t) 1
 chunk_bit_in_byte n c j t h s =
     let e : 8 * j + t ≡ j * 8 + t = omega arith in
     let q : (8 * j + t) / 8 ≡ j = ap (λ x. x / 8) e ∙ div-mul-add j 8 t s in

@@ -50,7 +50,7 @@ module _ (bit : ℕ → Bool) (lo hi : ℕ) where
       let w = All-at (λ x. (lo ≤ x) × (x < lo + (hi - lo))) (ones_between bit lo hi) k (All-filter bit (λ x. (lo ≤ x) × (x < lo + (hi - lo))) (range_with_len lo (hi - lo)) (range_within lo (hi - lo))) c in
       (w.0, omega (arith, w.0, w.1), All-at (λ x. bit x ≡ true) (ones_between bit lo hi) k (filter_passes bit (range_with_len lo (hi - lo))) c)
 
-  pub ones_between-exact : (k : ℕ) → Contains (ones_between bit lo hi) k ↔ ((lo ≤ k) × (k < hi) × (bit k ≡ true))
+  ones_between-exact : (k : ℕ) → Contains (ones_between bit lo hi) k ↔ ((lo ≤ k) × (k < hi) × (bit k ≡ true))
   ones_between-exact k = (found k, λ h. has k h.0 h.1 h.2)
 
 pub ones-exact : (n : ℕ) (m : Meaning) (a b k : ℕ) → Contains (ones n m a b) k ↔ ((a ≤ k) × (k < b) × IsRetained n m k × (m.bit k ≡ true))

@@ -45,7 +45,7 @@ byte-more v byte t r h s e b k =
     ]
 
 -- the booleans of a piece, which is short only at the end
-pub piece-bit : (v : List Bool) (from size at t : ℕ) → (at + t < length v → (from ≡ at) × (t < size)) → (length v ≤ at + t → size ≤ t) → get_or (take size (drop from v)) t false ≡ get_or v (at + t) false
+piece-bit : (v : List Bool) (from size at t : ℕ) → (at + t < length v → (from ≡ at) × (t < size)) → (length v ≤ at + t → size ≤ t) → get_or (take size (drop from v)) t false ≡ get_or v (at + t) false
 piece-bit v from size at t a b = elim (cases_lt (at + t) (length v)) [
   | inl h ↦ get_or-take size (drop from v) t false (a h).1 ∙ get_or-drop from v t false ∙ ap (λ x. get_or v (x + t) false) (a h).0
   | inr h ↦ let s = b h in get_or_past (take size (drop from v)) t false (omega (arith, length-take {A = Bool} size (drop from v))) ∙ sym (get_or_past v (at + t) false h)
@@ -96,7 +96,7 @@ bools-more n chunk i m old xs ys h e a b =
     b ∙ ap (λ y. xs ++ y ∷ []) x ∙ ap (λ l. l ++ chunk_bit n chunk i ∷ []) a ∙ append_assoc old (map (chunk_bit n chunk) (range_with_len 0 i)) (chunk_bit n chunk i ∷ []) ∙ ap (λ l. old ++ l) (sym (map-range_with_len_more (chunk_bit n chunk) 0 i i (omega arith)))
 
 -- the first bits of a chunk follow those of the chunks before it
-pub bits-chunk : (n : ℕ) (xs : List (List ℕ)) (i : ℕ) (c : List ℕ) (count : ℕ) → 0 < n → i < length xs → c ≡ get_or xs i c → count ≤ 8 * n → bits n xs (8 * n * i + count) ≡ bits n xs (8 * n * i) ++ map (chunk_bit n c) (range_with_len 0 count)
+bits-chunk : (n : ℕ) (xs : List (List ℕ)) (i : ℕ) (c : List ℕ) (count : ℕ) → 0 < n → i < length xs → c ≡ get_or xs i c → count ≤ 8 * n → bits n xs (8 * n * i + count) ≡ bits n xs (8 * n * i) ++ map (chunk_bit n c) (range_with_len 0 count)
 bits-chunk n xs i c count p s r h =
     let l = length-bits n xs (8 * n * i) in
     let m = length-map-range_with_len (chunk_bit n c) 0 count in
@@ -111,7 +111,7 @@ bits-chunk n xs i c count p s r h =
           ∙ sym (get_or-map-range_with_len (chunk_bit n c) 0 count (k - 8 * n * i) (k - 8 * n * i) false (omega arith) (omega arith)) ∙ sym (get_or-append_right (bits n xs (8 * n * i)) (map (chunk_bit n c) (range_with_len 0 count)) (8 * n * i) k false l q)
     ])
 
-pub before_last : (n k len i : ℕ) → 0 < n → IsChunkCount n k len → i < k → 8 * n * i < len
+before_last : (n k len i : ℕ) → 0 < n → IsChunkCount n k len → i < k → 8 * n * i < len
 before_last n k len i p c h = grind arith
 
 -- the bits of one more chunk, the last one perhaps in part

@@ -25,7 +25,7 @@ len_truncated n b len l h = omega (arith, length-take-le (len - pruned_bits n b)
 pub len_appended : (n : ℕ) (b : PrunedBits) (more : List Bool) → bit_len n (appended b more) ≡ bit_len n b + length more
 len_appended n b more = omega (arith, length-append b.bits more)
 
-pub len_with_chunk : (n : ℕ) (b : PrunedBits) (i : ℕ) (bytes : List ℕ) → bit_len n (with_chunk n b i bytes) ≡ bit_len n b
+len_with_chunk : (n : ℕ) (b : PrunedBits) (i : ℕ) (bytes : List ℕ) → bit_len n (with_chunk n b i bytes) ≡ bit_len n b
 len_with_chunk n b i bytes = len_from_bits n b.pruned (bit_len n b) (λ k. cond (eqb (k / (8 * n)) i) (chunk_bit n bytes k) (bit_at n b k)) (omega arith)
 
 pub len_pruned_to : (n : ℕ) (b : PrunedBits) (i : ℕ) → 8 * n * i ≤ bit_len n b → bit_len n (pruned_to n b i) ≡ bit_len n b
@@ -75,7 +75,7 @@ bit_extended n b len k = elim (cases_lt (k - pruned_bits n b) (length b.bits)) [
   | inr l ↦ get_or-append_right b.bits (replicate (len - bit_len n b) false) (length b.bits) (k - pruned_bits n b) false refl l ∙ (zeros (len - bit_len n b) (k - pruned_bits n b - length b.bits) ∙ sym (get_or_past b.bits (k - pruned_bits n b) false l))
 ]
 
-pub bit_with_chunk : (n : ℕ) (b : PrunedBits) (i : ℕ) (bytes : List ℕ) (k : ℕ) → IsRetained n b k → bit_at n (with_chunk n b i bytes) k ≡ cond (eqb (k / (8 * n)) i) (chunk_bit n bytes k) (bit_at n b k)
+bit_with_chunk : (n : ℕ) (b : PrunedBits) (i : ℕ) (bytes : List ℕ) (k : ℕ) → IsRetained n b k → bit_at n (with_chunk n b i bytes) k ≡ cond (eqb (k / (8 * n)) i) (chunk_bit n bytes k) (bit_at n b k)
 bit_with_chunk n b i bytes k h = bit_from_bits n b.pruned (bit_len n b) (λ k. cond (eqb (k / (8 * n)) i) (chunk_bit n bytes k) (bit_at n b k)) k h.0 h.1
 
 -- an unprune puts the chunks' bits before the others, which keep their positions
@@ -86,7 +86,7 @@ module _ (n : ℕ) (b : PrunedBits) (chunks : List (List ℕ)) (p : 0 < n) (fits
       front_before : 8 * n * (b.pruned - length chunks) + 8 * n * length chunks ≡ 8 * n * b.pruned
       front_before = front_of (8 * n) (length chunks) b.pruned fits
 
-  pub bit_unpruned_high : (k : ℕ) → pruned_bits n b ≤ k → bit_at n (unpruned n b chunks) k ≡ bit_at n b k
+  bit_unpruned_high : (k : ℕ) → pruned_bits n b ≤ k → bit_at n (unpruned n b chunks) k ≡ bit_at n b k
   bit_unpruned_high k l =
       let f = front_of (8 * n) (length chunks) b.pruned fits in
       get_or-append_right (flat_map (chunk_bits n) chunks) b.bits (8 * n * length chunks) (k - 8 * n * (b.pruned - length chunks)) false (length-front_bits n chunks) (omega arith)

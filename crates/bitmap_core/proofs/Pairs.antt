@@ -73,7 +73,7 @@ same_bitmap n a b p l h =
     ap (λ j. get_or a.bits j false) (sym e) ∙ h (pruned_bits n b + i) (omega arith, omega arith) ∙ ap (λ j. get_or b.bits j false) f))
 
 -- chunks with the same bits are equal
-pub chunk_same : (n : ℕ) (a b : PrunedBits) (i j : ℕ) → ((t : ℕ) → t < 8 * n → bit_at n a (8 * n * i + t) ≡ bit_at n b (8 * n * j + t)) → chunk n a i ≡ chunk n b j
+chunk_same : (n : ℕ) (a b : PrunedBits) (i j : ℕ) → ((t : ℕ) → t < 8 * n → bit_at n a (8 * n * i + t) ≡ bit_at n b (8 * n * j + t)) → chunk n a i ≡ chunk n b j
 chunk_same n a b i j h =
     map_range_same (λ s. byte_of (λ t. bit_at n a (8 * n * i + 8 * s + t))) (λ s. byte_of (λ t. bit_at n b (8 * n * j + 8 * s + t))) 0 n (λ s _ r.
     byte_same (λ t. bit_at n a (8 * n * i + 8 * s + t)) (λ t. bit_at n b (8 * n * j + 8 * s + t)) (λ t u.

@@ -40,7 +40,7 @@ pub any_range-same : (f g : ℕ → Bool) (a m : ℕ) → ((i : ℕ) → a ≤ i
 any_range-same f g a m h = any_range-moved f g a a m (λ j s. h (a + j) (omega arith) (omega arith))
 
 -- some place passes where not all fail
-pub any_range-not : (f : ℕ → Bool) (a m : ℕ) → list_any f (range_with_len a m) ≡ not (list_all (λ t. not (f t)) (range_with_len a m))
+any_range-not : (f : ℕ → Bool) (a m : ℕ) → list_any f (range_with_len a m) ≡ not (list_all (λ t. not (f t)) (range_with_len a m))
 any_range-not f a zero = refl
 any_range-not f a (suc m) = step (f a) _ _ (any_range-not f (a + 1) m)
   where

@@ -26,7 +26,7 @@ IsChunkCount-same n k len p c e = let d = div-add-mod len (8 * n) in (grind arit
 pub last_within : (n k len : ℕ) → 0 < n → IsChunkCount n k (len + 1) → len / (8 * n) < k
 last_within n k len p c = index_below n k (len + 1) len p (omega arith) c
 
-pub quotient_is : (w q k : ℕ) → 0 < w → w * q < w * k → w * k < w * q + 1 + w → k ≡ q + 1
+quotient_is : (w q k : ℕ) → 0 < w → w * q < w * k → w * k < w * q + 1 + w → k ≡ q + 1
 quotient_is w q k p a b =
     let f : q < k = lt_of_mul-lt-mul_left w a in
     let s : k < q + 2 = lt_of_mul-lt-mul_left w (rw (mul-add w q 2) (omega arith)) in

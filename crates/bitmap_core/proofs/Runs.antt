@@ -27,12 +27,12 @@ bit_at_mod w x i h =
     let e : x / 2 ^ w * 2 ^ w + x % 2 ^ w ≡ x = ap (λ y. y + x % 2 ^ w) (mul_comm (x / 2 ^ w) (2 ^ w)) ∙ div-add-mod x (2 ^ w) in
     sym (ap (λ y. bit_at y i) (sym e) ∙ bit_at_cat_low (x / 2 ^ w) w (x % 2 ^ w) i h)
 
-pub bit_at_shl_low : (w x m i : ℕ) → i < w → i < m → bit_at (x * 2 ^ m % 2 ^ w) i ≡ 0
+bit_at_shl_low : (w x m i : ℕ) → i < w → i < m → bit_at (x * 2 ^ m % 2 ^ w) i ≡ 0
 bit_at_shl_low w x m i s h =
     let e : x * 2 ^ m ≡ x * 2 ^ m + 0 = omega arith in
     bit_at_mod w (x * 2 ^ m) i s ∙ ap (λ y. bit_at y i) e ∙ bit_at_cat_low x m 0 i h ∙ bit_at-zero i
 
-pub bit_at_shl_high : (w x m i : ℕ) → i < w → m ≤ i → bit_at (x * 2 ^ m % 2 ^ w) i ≡ bit_at x (i - m)
+bit_at_shl_high : (w x m i : ℕ) → i < w → m ≤ i → bit_at (x * 2 ^ m % 2 ^ w) i ≡ bit_at x (i - m)
 bit_at_shl_high w x m i s h =
     let e : x * 2 ^ m ≡ x * 2 ^ m + 0 = omega arith in
     bit_at_mod w (x * 2 ^ m) i s ∙ ap (λ y. bit_at y i) e ∙ bit_at_cat_high x m 0 i (pow_pos m) h
@@ -177,10 +177,10 @@ pushed_here n xs len run new w filled i e =
 -- ---- chunks as a run of bytes
 
 -- each has n bytes
-abbrev pub AreWide : ℕ → List (List ℕ) → Type 0
+abbrev AreWide : ℕ → List (List ℕ) → Type 0
 AreWide n xs = (i : ℕ) → i < length xs → length (get_or xs i []) ≡ n
 
-pub flat_at : (n : ℕ) (xs : List (List ℕ)) → AreWide n xs → (c j : ℕ) → j < n → get_or (flat_map (λ x. x) xs) (n * c + j) 0 ≡ get_or (get_or xs c []) j 0
+flat_at : (n : ℕ) (xs : List (List ℕ)) → AreWide n xs → (c j : ℕ) → j < n → get_or (flat_map (λ x. x) xs) (n * c + j) 0 ≡ get_or (get_or xs c []) j 0
 flat_at n [] h c j w = refl
 flat_at n (x ∷ xs) h zero j w =
     let e : n * 0 + j ≡ j = omega arith in

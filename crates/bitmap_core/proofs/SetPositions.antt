@@ -39,7 +39,7 @@ run-length p lo (suc n) = cond_length (p lo) lo (run p (lo + 1) n) n (run-length
 pub ones_between-none : (bit : ℕ → Bool) (lo hi : ℕ) → hi ≤ lo → ones_between bit lo hi ≡ []
 ones_between-none bit lo hi h = let e : hi - lo ≡ 0 = omega arith in rw e
 
-pub ones_between-step : (bit : ℕ → Bool) (lo hi : ℕ) → lo < hi → ones_between bit lo hi ≡ cond (bit lo) (lo ∷ ones_between bit (lo + 1) hi) (ones_between bit (lo + 1) hi)
+ones_between-step : (bit : ℕ → Bool) (lo hi : ℕ) → lo < hi → ones_between bit lo hi ≡ cond (bit lo) (lo ∷ ones_between bit (lo + 1) hi) (ones_between bit (lo + 1) hi)
 ones_between-step bit lo hi h = let e : hi - lo ≡ suc (hi - (lo + 1)) = omega arith in rw e
 
 pub ones_between-hit : (bit : ℕ → Bool) (lo hi : ℕ) → lo < hi → bit lo ≡ true → ones_between bit lo hi ≡ lo ∷ ones_between bit (lo + 1) hi

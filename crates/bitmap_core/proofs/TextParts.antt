@@ -48,9 +48,6 @@ module _ (n : ℕ) (text : List ℕ) (count : ℕ) (body : List ℕ) (counted : 
   pub read_whole : 8 ≤ length text → n * count ≤ length body → 8 + chunk_bytes n text ≤ length text
   read_whole h l = omega (arith, ap (λ m. n * m) counted, ap length at, length-drop 8 text)
 
-  pub read_short : length body < n * count → length text < 8 + chunk_bytes n text
-  read_short l = omega (arith, ap (λ m. n * m) counted, ap length at, length-drop 8 text)
-
   pub read_rest : (rest : List ℕ) → rest ≡ drop (n * count) body → rest ≡ drop (8 + chunk_bytes n text) text
   read_rest rest e = e ∙ ap (λ m. drop (n * m) body) counted ∙ ap (drop (chunk_bytes n text)) at ∙ drop-drop (chunk_bytes n text) 8 text
 

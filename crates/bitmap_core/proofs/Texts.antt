@@ -30,7 +30,7 @@ AreBytes text = (i : ℕ) → get_or text i 0 < 256
 pub AreBytes-drop : (a : ℕ) (text : List ℕ) → AreBytes text → AreBytes (drop a text)
 AreBytes-drop a text h i = rw get_or-drop (h (a + i))
 
-pub AreBytes-take : (a : ℕ) (text : List ℕ) → AreBytes text → AreBytes (take a text)
+AreBytes-take : (a : ℕ) (text : List ℕ) → AreBytes text → AreBytes (take a text)
 AreBytes-take a text h i = elim (cases_lt i a) [
   | inl s ↦ rw (get_or-take a text i 0 s) (h i)
   | inr l ↦ rw (get_or_past (take a text) i 0 (omega (arith, length-take a text))) (omega arith)
@@ -91,7 +91,7 @@ same_past n len body p =
     ∙ any_range-same (bit_of n (chunks_in n len body)) (bit_in body) len (8 * (n * chunk_count n len) - len) (λ i a b. bit_of-chunks_in n len body i p (omega arith))
 
 -- chunks with no bit past the length are the chunks of the bits that they have
-pub chunks-spell : (n len : ℕ) (body : List ℕ) → 0 < n → AreBytes body → n * chunk_count n len ≤ length body → list_any (bit_in body) (range_with_len len (8 * (n * chunk_count n len) - len)) ≡ false
+chunks-spell : (n len : ℕ) (body : List ℕ) → 0 < n → AreBytes body → n * chunk_count n len ≤ length body → list_any (bit_in body) (range_with_len len (8 * (n * chunk_count n len) - len)) ≡ false
     → chunks_in n len body ≡ map (chunk_of n (bits n (chunks_in n len body) len)) (range_with_len 0 (chunk_count n len))
 chunks-spell n len body p h l e =
     let k : ℕ = chunk_count n len in

@@ -42,7 +42,7 @@ IsZeroFrom-zip n f xs os ys len o j y z i h = elim (cases_lt (i / (8 * n)) (leng
 ]
 
 -- two runs of chunks, each joined with its own
-pub IsJoined-append : (n : ℕ) (f : Bool → Bool → Bool) (fs gs os ps xs ys : List (List ℕ)) → length fs ≡ length os → IsJoined n f fs os xs → IsJoined n f gs ps ys → IsJoined n f (fs ++ gs) (os ++ ps) (xs ++ ys)
+IsJoined-append : (n : ℕ) (f : Bool → Bool → Bool) (fs gs os ps xs ys : List (List ℕ)) → length fs ≡ length os → IsJoined n f fs os xs → IsJoined n f gs ps ys → IsJoined n f (fs ++ gs) (os ++ ps) (xs ++ ys)
 IsJoined-append n f fs gs os ps xs ys e j k = record {
   count = omega (arith, j.count, k.count, length-append xs ys, length-append fs gs);
   bits = λ i h t. elim (cases_lt i (length fs)) [

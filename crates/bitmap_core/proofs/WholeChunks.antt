@@ -18,14 +18,14 @@ pub chunk_within : (n k len i : ℕ) → 8 * n * i < len → IsChunkCount n k le
 chunk_within n k len i h c = lt_of_mul-lt-mul_left (8 * n) (omega (arith, c.0))
 
 -- every stored bit is the list's, and past the length it is false
-pub stored_bit : (n : ℕ) (xs : List (List ℕ)) (len : ℕ) (v : List Bool) (i : ℕ) → bits n xs len ≡ v → IsZeroFrom n xs len → bit_of n xs i ≡ get_or v i false
+stored_bit : (n : ℕ) (xs : List (List ℕ)) (len : ℕ) (v : List Bool) (i : ℕ) → bits n xs len ≡ v → IsZeroFrom n xs len → bit_of n xs i ≡ get_or v i false
 stored_bit n xs len v i e z = elim (cases_lt i len) [
   | inl h ↦ sym (get_or-bits n xs len i false h) ∙ ap (λ x. get_or x i false) e
   | inr h ↦ z i h ∙ sym (get_or_past v i false (omega (arith, len_is n xs len v e)))
 ]
 
 -- bit t of the chunk at index i
-pub bit_in_chunk : (n : ℕ) (xs : List (List ℕ)) (i t : ℕ) → 0 < n → t < 8 * n → chunk_bit n (get_or xs i []) t ≡ bit_of n xs (8 * n * i + t)
+bit_in_chunk : (n : ℕ) (xs : List (List ℕ)) (i t : ℕ) → 0 < n → t < 8 * n → chunk_bit n (get_or xs i []) t ≡ bit_of n xs (8 * n * i + t)
 bit_in_chunk n xs i t p h =
     let e : i * (8 * n) + t ≡ 8 * n * i + t = omega arith in
     let q : (8 * n * i + t) / (8 * n) ≡ i = ap (λ x. x / (8 * n)) (sym e) ∙ div-mul-add i (8 * n) t h in
@@ -67,7 +67,7 @@ module _ (n : ℕ) (xs ys : List (List ℕ)) (len : ℕ) (v : List Bool) (p : 0 
       ∙ sym (take-bits n xs len (len - 8 * n) (omega arith)) ∙ ap (λ u. take (len - 8 * n) u) e ∙ ap (λ m. take (m - 8 * n) v) (sym w.0)
 
 -- a chunk replaced by c
-pub bit_of-replaced : (n : ℕ) (xs : List (List ℕ)) (i : ℕ) (c : List ℕ) (k : ℕ) → i < length xs → bit_of n (set xs i c) k ≡ cond (eqb (k / (8 * n)) i) (chunk_bit n c k) (bit_of n xs k)
+bit_of-replaced : (n : ℕ) (xs : List (List ℕ)) (i : ℕ) (c : List ℕ) (k : ℕ) → i < length xs → bit_of n (set xs i c) k ≡ cond (eqb (k / (8 * n)) i) (chunk_bit n c k) (bit_of n xs k)
 bit_of-replaced n xs i c k h = elim (cases_eq (k / (8 * n)) i) [
   | inl e ↦ rw (eq-eqb (k / (8 * n)) i e) (bit_of-set_here n xs i c k h e)
   | inr d ↦ rw (ne_eqb (k / (8 * n)) i d) (bit_of-set_other n xs i c k d)

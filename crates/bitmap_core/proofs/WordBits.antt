@@ -15,7 +15,7 @@ use Rattle.bitmap_core.proofs.ChunkBits.{chunk_bit-mod}
 use Rattle.bitmap_core.proofs.Counts.{ones_from, ones_from_add, ones_from_same, count-bits}
 use Rattle.bitmap_core.proofs.PlaceCounts.{none_map, count_map, none_slice, none_bits, found, more_ones, ones_of_zero, ones_of_other, rest_zero, some_left}
 
-pub chunk_bit-within : (n : ℕ) (c : List ℕ) (i : ℕ) → i < 8 * n → chunk_bit n c i ≡ bit_in c i
+chunk_bit-within : (n : ℕ) (c : List ℕ) (i : ℕ) → i < 8 * n → chunk_bit n c i ≡ bit_in c i
 chunk_bit-within n c i h = ap (λ k. eqb (bit_at (get_or c k 0) (i % 8)) 1) (mod-eq_of_lt {n = i / 8} {m = n} (omega arith))
 
 ones_from_chunk : (n : ℕ) (c : List ℕ) → ones_from (chunk_bit n c) 0 (8 * n) ≡ ones_from (bit_in c) 0 (8 * n)
@@ -146,7 +146,7 @@ bit_in-drop k xs t =
     ap (λ b. eqb (bit_at b (t % 8)) 1) (get_or-drop k xs (t / 8) 0) ∙ ap (λ x. eqb (bit_at (get_or xs x 0) (t % 8)) 1) q ∙ ap (λ x. eqb (bit_at (get_or xs ((8 * k + t) / 8) 0) x) 1) r
 
 -- bytes are words and a rest
-pub words_and_rest : (xs : List ℕ) (words : List (List ℕ)) (rest : List ℕ) → words ≡ first_chunks 8 (length xs / 8) xs → rest ≡ drop (length xs / 8 * 8) xs → length words ≡ length xs / 8 → length rest ≡ length xs % 8
+words_and_rest : (xs : List ℕ) (words : List (List ℕ)) (rest : List ℕ) → words ≡ first_chunks 8 (length xs / 8) xs → rest ≡ drop (length xs / 8 * 8) xs → length words ≡ length xs / 8 → length rest ≡ length xs % 8
     → ones_from (bit_in xs) 0 (8 * length xs) ≡ ones_from (bit_of 8 words) 0 (64 * length words) + ones_from (bit_in rest) 0 (8 * length rest)
 words_and_rest xs words rest e f l m =
     let k : ℕ = length xs / 8 in

@@ -65,7 +65,7 @@ rest_bit n chunk byte t h =
 pub low_mask : (count : ℕ) → count < 64 → 1 * 2 ^ count % 2 ^ 64 - 1 ≡ 2 ^ count - 1
 low_mask count h = let p : 2 ^ count < 2 ^ 64 = pow-lt h in omega arith
 
-pub high_mask : (word start t : ℕ) → start < 64 → bit_at (bit_and word ((2 ^ 64 - 1) * 2 ^ start % 2 ^ 64)) t ≡ min (bit_at word t) (bit_at (2 ^ 64 - 2 ^ start) t)
+high_mask : (word start t : ℕ) → start < 64 → bit_at (bit_and word ((2 ^ 64 - 1) * 2 ^ start % 2 ^ 64)) t ≡ min (bit_at word t) (bit_at (2 ^ 64 - 2 ^ start) t)
 high_mask word start t h = rw (ones_shl 64 start (omega arith)) (bit_at_and word (2 ^ 64 - 2 ^ start) t)
 
 pub high_bit_kept : (word start t : ℕ) → start < 64 → start ≤ t → t < 64 → bit_at (bit_and word ((2 ^ 64 - 1) * 2 ^ start % 2 ^ 64)) t ≡ bit_at word t

@@ -8,7 +8,7 @@ use Rattle.bitmap_core.proofs.WordStarts.{Stays, Leaves, next_cases, Follows, fo
 
 -- ---- the count of loads
 
-pub counted_more : (n base next end loads total : ℕ) → base < next → next < end → starts_word n next ≡ true →
+counted_more : (n base next end loads total : ℕ) → base < next → next < end → starts_word n next ≡ true →
     loads + length (ones_between (starts_word n) (base + 1) end) ≤ total → loads + 1 + length (ones_between (starts_word n) (next + 1) end) ≤ total
 counted_more n base next end loads total h i s c =
     let p : ℕ → Bool = starts_word n in
@@ -18,7 +18,7 @@ counted_more n base next end loads total h i s c =
     let four : length (ones_between p next end) ≡ suc (length (ones_between p (next + 1) end)) = ap length two in
     omega arith
 
-pub words_between-le : (n lo hi : ℕ) → words_between n lo hi ≤ hi
+words_between-le : (n lo hi : ℕ) → words_between n lo hi ≤ hi
 words_between-le n lo hi =
     ⊎_elim
     (λ (lt : lo < hi). let e = lt-ltb lo hi lt in rw e (omega (arith, ones_between-length (starts_word n) (word_start n lo) hi)))
@@ -28,30 +28,30 @@ words_between-le n lo hi =
 -- ---- one step on
 
 module _ (n : ℕ) (m : Meaning) (base end : ℕ) (chunk : List ℕ) (loads first : ℕ) (scan : IsScan n m base end chunk loads first) (next : ℕ) (is : next ≡ next_word n base) (inside : next < end) where
-  pub step_follows : base < end → Follows n base next
+  step_follows : base < end → Follows n base next
   step_follows h = rw is (follows n base scan.lawful.positive (scan.aligned h))
 
-  pub step_after : base < next
+  step_after : base < next
   step_after =
       ⊎_elim
       (λ (s : Stays (8 * n) base (next_word n base)). let r = s.is in omega arith)
       (λ (s : Leaves (8 * n) base (next_word n base)). let r = s.is in let b = mod_below base (8 * n) (omega (arith, scan.lawful.positive)) in omega arith)
       (next_cases n base scan.lawful.positive)
 
-  pub step_before : base < end
+  step_before : base < end
   step_before = omega (arith, step_after)
 
-  pub step_shown : (next % (8 * n) ≡ 0 → ⊥) → ShowsChunk n m (next / (8 * n)) chunk
+  step_shown : (next % (8 * n) ≡ 0 → ⊥) → ShowsChunk n m (next / (8 * n)) chunk
   step_shown ne =
       ⊎_elim
       (λ (s : Stays (8 * n) base (next_word n base)). let e : next / (8 * n) ≡ base / (8 * n) = ap (λ (k : ℕ). k / (8 * n)) is ∙ s.chunk in rw e (scan.shown step_before))
       (λ (s : Leaves (8 * n) base (next_word n base)). absurd (ne (ap (λ (k : ℕ). k % (8 * n)) is ∙ s.within)))
       (next_cases n base scan.lawful.positive)
 
-  pub step_counted : loads + 1 + length (ones_between (starts_word n) (next + 1) end) ≤ words_between n first end
+  step_counted : loads + 1 + length (ones_between (starts_word n) (next + 1) end) ≤ words_between n first end
   step_counted = counted_more n base next end loads (words_between n first end) step_after inside (step_follows step_before).starts scan.counted
 
-  pub step_scan : (bytes : List ℕ) → ShowsChunk n m (next / (8 * n)) bytes → IsScan n m next end bytes (loads + 1) first
+  step_scan : (bytes : List ℕ) → ShowsChunk n m (next / (8 * n)) bytes → IsScan n m next end bytes (loads + 1) first
   step_scan bytes shown = record {
     lawful = scan.lawful;
     within = scan.within;

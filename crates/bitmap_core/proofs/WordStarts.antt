@@ -6,7 +6,7 @@ use Rattle.std.proofs.Math.Nat.{mul-le-mul_left}
 use Rattle.std.proofs.Math.Arith.{digits_div}
 use Rattle.bitmap_core.specs.Meaning.{starts_word, next_word, word_start}
 
-pub start_aligned : (n k : ℕ) → starts_word n k ≡ true → (k % (8 * n)) % 64 ≡ 0
+start_aligned : (n k : ℕ) → starts_word n k ≡ true → (k % (8 * n)) % 64 ≡ 0
 start_aligned n k h = eqb-true ((k % (8 * n)) % 64) 0 h
 
 pub start_bytes : (n k : ℕ) → starts_word n k ≡ true → 8 * (k % (8 * n) / 8) ≡ k % (8 * n)
@@ -102,7 +102,7 @@ start_chunk n k p =
     let e : word_start n k ≡ k / (8 * n) * (8 * n) + (k % (8 * n) - k % (8 * n) % 64) = omega (arith, div-add-mod' k (8 * n)) in
     ap (λ (x : ℕ). x / (8 * n)) e ∙ digits_div (k / (8 * n)) c
 
-pub start_within : (n k : ℕ) → 0 < n → word_start n k % (8 * n) ≡ k % (8 * n) - k % (8 * n) % 64
+start_within : (n k : ℕ) → 0 < n → word_start n k % (8 * n) ≡ k % (8 * n) - k % (8 * n) % 64
 start_within n k p =
     let b : k % (8 * n) < 8 * n = mod_below k (8 * n) (omega arith) in
     let c : k % (8 * n) - k % (8 * n) % 64 < 8 * n = omega arith in
