@@ -5,7 +5,7 @@ use Rattle.std.specs.Int.{bit_at}
 use Rattle.std.specs.Simd.{first_chunks}
 use Rattle.std.proofs.Math.Nat.{mod-eq_of_lt, div-add-mod, div-lt_iff_lt-mul, mul-add, div-div-eq-div-mul}
 use Rattle.std.proofs.lemmas.Nat.{mod_below, div-mul-add, mod-mul-add}
-use Rattle.std.proofs.lemmas.List.{get_or-take, get_or-drop, get_or_read, length-drop, length-append, take-append-drop}
+use Rattle.std.proofs.lemmas.List.{get_or-take, get_or-drop, get_or_read, length-drop, take-append-drop}
 use Rattle.std.proofs.lemmas.List.FromFn.{length-range_with_len, length-map-range_with_len, get_or-map-range_with_len}
 use Rattle.std.proofs.lemmas.List.Folds.{flat_map-map}
 use Rattle.bitmap_core.specs.Chunk.{chunk_bit, chunk_of, bit_in}
@@ -14,7 +14,7 @@ use Rattle.bitmap_core.proofs.Places.{full_len, open_last}
 use Rattle.bitmap_core.proofs.ChunkBits.{chunk_bit-mod}
 use Rattle.bitmap_core.proofs.ChunkBytes.{chunk_of-bit, length-chunk_of}
 use Rattle.bitmap_core.proofs.WordBits.{get_or-first_chunks}
-use Rattle.bitmap_core.proofs.FrontChunks.{length_pieces}
+use Rattle.bitmap_core.proofs.FrontChunks.{length-pieces}
 use Rattle.bitmap_core.proofs.PlaceTests.{any_range-moved}
 use Rattle.bitmap_core.proofs.Runs.{bit_in-flat, bit_in-left}
 
@@ -47,8 +47,8 @@ chunks-exact n k xs p l =
 
 -- ---- chunks of bits, as bytes
 
-pub length-pieces : (n : ℕ) (f : ℕ → List ℕ) (a k : ℕ) → ((i : ℕ) → length (f i) ≡ n) → length (flat_map f (range_with_len a k)) ≡ n * k
-length-pieces n f a k h = length_pieces f n (range_with_len a k) h ∙ ap (λ m. n * m) (length-range_with_len a k)
+pub length-range_pieces : (n : ℕ) (f : ℕ → List ℕ) (a k : ℕ) → ((i : ℕ) → length (f i) ≡ n) → length (flat_map f (range_with_len a k)) ≡ n * k
+length-range_pieces n f a k h = length-pieces f n (range_with_len a k) h ∙ ap (λ m. n * m) (length-range_with_len a k)
 
 -- bit i of the bytes of the chunks is bit i of the list, and past its end there is none
 pub bit_in-chunks : (n : ℕ) (v : List Bool) (k i : ℕ) (rest : List ℕ) → 0 < n → i < 8 * (n * k) → bit_in (flat_map (chunk_of n v) (range_with_len 0 k) ++ rest) i ≡ get_or v i false
@@ -58,7 +58,7 @@ bit_in-chunks n v k i rest p h =
     let c : i / (8 * n) < k = (div-lt_iff_lt-mul {k = 8 * n} {x = i} {y = k} (omega arith)).1 (grind arith) in
     let m = length-map-range_with_len (chunk_of n v) 0 k in
     let wide : (j : ℕ) → j < length xs → length (get_or xs j []) ≡ n = λ j s. ap length (get_or-map-range_with_len (chunk_of n v) 0 k j j [] (omega arith) (omega arith)) ∙ length-chunk_of n v j in
-    bit_in-left (flat_map (chunk_of n v) (range_with_len 0 k)) rest i (omega (arith, length-pieces n (chunk_of n v) 0 k (length-chunk_of n v)))
+    bit_in-left (flat_map (chunk_of n v) (range_with_len 0 k)) rest i (omega (arith, length-range_pieces n (chunk_of n v) 0 k (length-chunk_of n v)))
     ∙ ap (λ x. bit_in x i) (sym flat) ∙ bit_in-flat n xs p wide i
     ∙ ap (λ x. chunk_bit n x i) (get_or-map-range_with_len (chunk_of n v) 0 k (i / (8 * n)) (i / (8 * n)) [] c (omega arith))
     ∙ chunk_of-bit n v (i / (8 * n)) i p ∙ ap (λ x. get_or v x false) (div-add-mod i (8 * n))

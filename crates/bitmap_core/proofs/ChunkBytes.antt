@@ -1,47 +1,18 @@
 -- Chunks as bytes, and what a hash is fed.
-use Rattle.std.proofs.Common.{◌≡◌, ℕ, suc, zero, ◌+◌, ◌*◌, ◌/◌, ◌%◌, ◌^◌, ◌<◌, Bool, false, List, [], length, get_or, map, eqb, refl, sym, ap, ◌∙◌, inl, inr, arith}
+use Rattle.std.proofs.Common.{◌≡◌, ℕ, ◌+◌, ◌*◌, ◌/◌, ◌%◌, ◌<◌, Bool, false, List, [], length, get_or, map, eqb, sym, ap, ◌∙◌, inl, inr, arith}
 use Rattle.std.specs.Int.{bit_at, div_ceil}
 use Rattle.std.specs.List.{range_with_len}
-use Rattle.std.proofs.Math.Nat.{mod-one, mod-eq_of_lt}
-use Rattle.std.proofs.lemmas.Nat.{mod-pow-add, mod_below, div-mul-add, mod-mul-add}
+use Rattle.std.proofs.Math.Nat.{mod-eq_of_lt}
+use Rattle.std.proofs.lemmas.Nat.{mod_below, div-mul-add, mod-mul-add}
 use Rattle.std.proofs.lemmas.List.{get_or_read, get_or_default, get_or_past}
 use Rattle.std.proofs.lemmas.List.FromFn.{fill_by_all, length-map-range_with_len, get_or-map-range_with_len}
 use Rattle.std.proofs.lemmas.Bool.{cases_lt}
-use Rattle.bitmap_core.specs.Chunk.{chunk_bit, bit_value, byte_of, chunk_of}
+use Rattle.bitmap_core.specs.Chunk.{chunk_bit, byte_of, chunk_of}
 use Rattle.bitmap_core.specs.Bits.{bit_of, bits, IsChunkCount, IsZeroFrom, AreChunks}
 use Rattle.bitmap_core.proofs.Places.{IsChunkCount-ceil, count_unique}
 use Rattle.bitmap_core.proofs.ChunkBits.{chunk_bit-mod, mod_parts}
 use Rattle.bitmap_core.proofs.BitLists.{get_or-bits, len_is}
-use Rattle.bitmap_core.proofs.MadeBytes.{byte_bit, digit_is}
-
--- the number below 2 ^ k whose bit t is f t
-number_of : (ℕ → Bool) → ℕ → ℕ
-number_of f zero = 0
-number_of f (suc k) = number_of f k + bit_value (f k) * 2 ^ k
-
-digit_value : (m : ℕ) → m < 2 → m ≡ bit_value (eqb m 1)
-digit_value zero h = refl
-digit_value (suc zero) h = refl
-digit_value (suc (suc m)) h = absurd (omega arith)
-
-number_of_bits : (b k : ℕ) → b % 2 ^ k ≡ number_of (λ t. eqb (bit_at b t) 1) k
-unfolding number_of
-number_of_bits b zero = mod-one b
-number_of_bits b (suc k) =
-    let e : 1 + k ≡ suc k = omega arith in
-    let w : (b / 2 ^ k % 2) * 2 ^ k ≡ bit_value (eqb (bit_at b k) 1) * 2 ^ k = ap (λ x. x * 2 ^ k) (digit_value (b / 2 ^ k % 2) (mod_below (b / 2 ^ k) 2 (omega arith))) in
-    let i = number_of_bits b k in
-    let m = mod-pow-add b 1 k in
-    ap (λ x. b % 2 ^ x) (sym e) ∙ m ∙ omega arith
-
-number_of-same : (f g : ℕ → Bool) (k : ℕ) → ((t : ℕ) → t < k → f t ≡ g t) → number_of f k ≡ number_of g k
-unfolding number_of
-number_of-same f g zero h = refl
-number_of-same f g (suc k) h = ap (λ x. x + bit_value (f k) * 2 ^ k) (number_of-same f g k (λ t s. h t (omega arith))) ∙ ap (λ b. number_of g k + bit_value b * 2 ^ k) (h k (omega arith))
-
-number_of_byte : (f : ℕ → Bool) → number_of f 8 ≡ byte_of f
-unfolding number_of
-number_of_byte f = omega arith
+use Rattle.bitmap_core.proofs.MadeBytes.{byte_bit, byte_is, byte_same, digit_is}
 
 -- a bit of a byte made from its bits
 byte_of-bit : (f : ℕ → Bool) (t : ℕ) → t < 8 → eqb (bit_at (byte_of f) t) 1 ≡ f t
@@ -59,13 +30,9 @@ chunk_of-bit n v q i p =
 pub length-chunk_of : (n : ℕ) (v : List Bool) (i : ℕ) → length (chunk_of n v i) ≡ n
 length-chunk_of n v i = length-map-range_with_len (λ j. byte_of (λ t. get_or v (8 * n * i + 8 * j + t) false)) 0 n
 
--- a byte is the number that its bits make
-pub byte_is : (b : ℕ) (f : ℕ → Bool) → b < 256 → ((t : ℕ) → t < 8 → eqb (bit_at b t) 1 ≡ f t) → b ≡ byte_of f
-byte_is b f h e = sym (mod-eq_of_lt {n = b} {m = 2 ^ 8} h) ∙ number_of_bits b 8 ∙ number_of-same _ f 8 e ∙ number_of_byte f
-
 -- a byte of a chunk by the chunk's bits
 chunk_byte : (n : ℕ) (chunk : List ℕ) (j : ℕ) (f : ℕ → Bool) → j < n → get_or chunk j 0 < 256 → ((t : ℕ) → t < 8 → chunk_bit n chunk (8 * j + t) ≡ f t) → get_or chunk j 0 ≡ byte_of f
-chunk_byte n chunk j f s h e = byte_is (get_or chunk j 0) f h (λ t w.
+chunk_byte n chunk j f s h e = sym (byte_is (get_or chunk j 0) h) ∙ byte_same (λ t. eqb (bit_at (get_or chunk j 0) t) 1) f (λ t w.
     let q : (8 * j + t) / 8 ≡ j = omega arith in
     let r : t ≡ (8 * j + t) % 8 = omega arith in
     let m : j ≡ (8 * j + t) / 8 % n = sym (ap (λ x. x % n) q ∙ mod-eq_of_lt {n = j} {m = n} s) in

@@ -1,3 +1,4 @@
+-- Chunks dropped from the front, and chunks put back there.
 use Rattle.std.proofs.Common.{◌≡◌, ℕ, suc, ◌+◌, ◌-◌, ◌*◌, ◌/◌, ◌%◌, ◌<◌, ◌≤◌, Bool, false, List, [], ◌∷◌, ◌++◌, length, get_or, take, drop, refl, sym, ap, ◌∙◌, inl, inr, arith}
 use Rattle.std.specs.List.{flat_map}
 use Rattle.std.proofs.Math.Nat.{div-add-mod, mul-add, mul-add-div, mul-add-mod_self_left, mod-mod}
@@ -52,15 +53,15 @@ bit_of-behind n cs xs i p h =
     ap (λ j. bit_of n (cs ++ xs) j) (sym e) ∙ sym (bit_of-drop n (cs ++ xs) (length cs) (i - 8 * n * length cs) p) ∙ ap (λ ys. bit_of n ys (i - 8 * n * length cs)) (drop-append cs xs)
 
 -- lists of one length w, joined
-pub length_pieces : {X A : Type 0} (f : X → List A) (w : ℕ) (xs : List X) → ((x : X) → length (f x) ≡ w) → length (flat_map f xs) ≡ w * length xs
-length_pieces f w [] h = omega arith
-length_pieces f w (x ∷ xs) h = omega (arith, length-append (f x) (flat_map f xs), h x, length_pieces f w xs h)
+pub length-pieces : {X A : Type 0} (f : X → List A) (w : ℕ) (xs : List X) → ((x : X) → length (f x) ≡ w) → length (flat_map f xs) ≡ w * length xs
+length-pieces f w [] h = omega arith
+length-pieces f w (x ∷ xs) h = omega (arith, length-append (f x) (flat_map f xs), h x, length-pieces f w xs h)
 
 in_piece : {X A : Type 0} (f : X → List A) (w : ℕ) (xs : List X) (k : ℕ) (e : X) (d : A) → 0 < w → ((x : X) → length (f x) ≡ w) → k < w * length xs → get_or (flat_map f xs) k d ≡ get_or (f (get_or xs (k / w) e)) (k % w) d
 in_piece f w xs k e d pos h l =
     let i : k / w < length xs = div_below k w (length xs) pos (omega arith) in
     let place = div-add-mod k w in
-    let before_it : length (flat_map f (take (k / w) xs)) + k % w ≡ k = omega (arith, length_pieces f w (take (k / w) xs) h, ap (λ m. w * m) (length-take-le (k / w) xs (omega arith))) in
+    let before_it : length (flat_map f (take (k / w) xs)) + k % w ≡ k = omega (arith, length-pieces f w (take (k / w) xs) h, ap (λ m. w * m) (length-take-le (k / w) xs (omega arith))) in
     let inside : k % w < length (f (get_or xs (k / w) e)) = omega (arith, h (get_or xs (k / w) e), mod_below k w pos) in
     ap (λ m. get_or (flat_map f xs) m d) (sym before_it) ∙ get_or-flat_map f xs (k / w) (k % w) e d i inside
 
@@ -68,7 +69,7 @@ length-chunk_bits : (n : ℕ) (c : List ℕ) → length (chunk_bits n c) ≡ 8 *
 length-chunk_bits n c = length-map-range_with_len (chunk_bit n c) 0 (8 * n)
 
 pub length-front_bits : (n : ℕ) (cs : List (List ℕ)) → length (flat_map (chunk_bits n) cs) ≡ 8 * n * length cs
-length-front_bits n cs = length_pieces (chunk_bits n) (8 * n) cs (length-chunk_bits n)
+length-front_bits n cs = length-pieces (chunk_bits n) (8 * n) cs (length-chunk_bits n)
 
 pub get_or-front_bits : (n : ℕ) (cs : List (List ℕ)) (i : ℕ) → 0 < n → i < 8 * n * length cs → get_or (flat_map (chunk_bits n) cs) i false ≡ bit_of n cs i
 get_or-front_bits n cs i p h =

@@ -17,6 +17,7 @@ pub mod Pairs
 pub mod PairEdits
 pub mod Packing
 pub mod PlaceCounts
+pub mod WordBytes
 pub mod WordBits
 pub mod ByteRanges
 pub mod FlatBits

@@ -1,3 +1,4 @@
+-- The length, the bits and the chunks of an edited bitmap with a pruned front.
 use Rattle.std.proofs.Common.{◌≡◌, ℕ, ◌+◌, ◌-◌, ◌*◌, ◌/◌, ◌%◌, ◌^◌, ◌<◌, ◌≤◌, Bool, false, cond, List, [], ◌∷◌, ◌++◌, length, get_or, map, take, replicate, refl, sym, ap, ◌∙◌, inl, inr, eqb, ltb, Result, Ok, Err, OnOk, OnErr, arith}
 use Rattle.std.proofs.Math.Nat.{mod-mod, mul-add, mul-add-div, mul-add-mod_self_left}
 use Rattle.std.proofs.lemmas.Nat.{div_below, mod_below}

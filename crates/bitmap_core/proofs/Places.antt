@@ -1,3 +1,4 @@
+-- Which chunk a bit stands in, and how many chunks a length fills.
 use Rattle.std.proofs.Common.{◌≡◌, ℕ, ◌+◌, ◌-◌, ◌*◌, ◌/◌, ◌%◌, ◌<◌, ◌≤◌, ap, inl, inr, arith}
 use Rattle.std.specs.Int.{div_ceil}
 use Rattle.std.proofs.Math.Nat.{div-add-mod, div-lt_iff_lt-mul, lt_of_mul-lt-mul_left, mul-add}

@@ -86,8 +86,8 @@ read_is n range text len xs rest p h e el ex er =
 -- ---- a write
 
 -- the size of the pieces
-pub length_pieces : (n : ℕ) (a b : List (List ℕ)) (v : List Bool) → a ++ b ≡ map (chunk_of n v) (range_with_len 0 (chunk_count n (length v))) → length (spelling n v) ≡ 8 + (length a * n + length b * n)
-length_pieces n a b v e =
+pub spelling_pieces : (n : ℕ) (a b : List (List ℕ)) (v : List Bool) → a ++ b ≡ map (chunk_of n v) (range_with_len 0 (chunk_count n (length v))) → length (spelling n v) ≡ 8 + (length a * n + length b * n)
+spelling_pieces n a b v e =
     let s = length-spelling n v in
     let l : length a + length b ≡ chunk_count n (length v) = sym (length-append a b) ∙ ap length e ∙ length-map-range_with_len (chunk_of n v) 0 (chunk_count n (length v)) in
     let m = ap (λ x. n * x) l in

@@ -19,7 +19,7 @@ use Rattle.bitmap_core.proofs.ChunkLists.{bit_of_past}
 use Rattle.bitmap_core.proofs.ChunkBytes.{chunk_is, length-chunk_of}
 use Rattle.bitmap_core.proofs.WordBits.{get_or-first_chunks}
 use Rattle.bitmap_core.proofs.PlaceTests.{any_range_at, any_range_none, any_range-same}
-use Rattle.bitmap_core.proofs.ByteChunks.{length-first_chunks, first_chunks-all, bit_of-first_chunks, length-pieces, bit_in-chunks}
+use Rattle.bitmap_core.proofs.ByteChunks.{length-first_chunks, first_chunks-all, bit_of-first_chunks, length-range_pieces, bit_in-chunks}
 
 -- each is a byte
 abbrev pub AreBytes : List ℕ → Type 0
@@ -133,7 +133,7 @@ text-spells n text p h l e =
 
 pub length-spelling : (n : ℕ) (v : List Bool) → length (spelling n v) ≡ 8 + n * chunk_count n (length v)
 unfolding spelling
-length-spelling n v = length-append (to_be_bytes w64 (length v)) (flat_map (chunk_of n v) (range_with_len 0 (chunk_count n (length v)))) ∙ ap (λ x. 8 + x) (length-pieces n (chunk_of n v) 0 (chunk_count n (length v)) (length-chunk_of n v))
+length-spelling n v = length-append (to_be_bytes w64 (length v)) (flat_map (chunk_of n v) (range_with_len 0 (chunk_count n (length v)))) ∙ ap (λ x. 8 + x) (length-range_pieces n (chunk_of n v) 0 (chunk_count n (length v)) (length-chunk_of n v))
 
 pub spelling-number : (n : ℕ) (v : List Bool) (rest : List ℕ) → length v < 2 ^ 64 → number (spelling n v ++ rest) ≡ length v
 unfolding spelling

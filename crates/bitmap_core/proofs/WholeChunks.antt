@@ -1,3 +1,4 @@
+-- The chunks of a bitmap, read, removed and replaced whole.
 use Rattle.std.proofs.Common.{◌≡◌, ℕ, ◌+◌, ◌-◌, ◌*◌, ◌/◌, ◌%◌, ◌<◌, ◌≤◌, Bool, false, List, [], length, get_or, set, take, cond, eqb, map, sym, ap, ◌∙◌, inl, inr, arith}
 use Rattle.std.specs.List.{range_with_len}
 use Rattle.std.proofs.Math.Nat.{lt_of_mul-lt-mul_left, mul-add, mul-div_right, mod-eq_of_lt}

@@ -1,18 +1,16 @@
 -- The bits of bytes, and of the words that they make.
-use Rattle.std.proofs.Common.{◌≡◌, ℕ, suc, zero, count_ones, ◌+◌, ◌-◌, ◌*◌, ◌/◌, ◌%◌, ◌^◌, ◌<◌, ◌≤◌, List, get_or, take, drop, eqb, Bool, true, false, not, length, [], sym, ap, ◌∙◌, refl, inl, inr, w64, arith}
-use Rattle.std.specs.Int.{bit_at, sum_through, byte_worth, from_le_bytes}
+use Rattle.std.proofs.Common.{◌≡◌, ℕ, suc, zero, count_ones, ◌+◌, ◌-◌, ◌*◌, ◌/◌, ◌%◌, ◌^◌, ◌<◌, ◌≤◌, List, get_or, take, drop, eqb, true, false, not, length, [], sym, ap, ◌∙◌, refl, w64, arith}
+use Rattle.std.specs.Int.{bit_at, from_le_bytes}
 use Rattle.std.specs.List.{count_by, list_all, slice_range}
 use Rattle.std.specs.Simd.{first_chunks}
-use Rattle.std.proofs.Math.Nat.{mod-eq_of_lt, mul-add, pow-suc}
-use Rattle.std.proofs.lemmas.Nat.{mul-add-lt, pow-add}
-use Rattle.std.proofs.lemmas.Nat.Bits.{bit_at_cat_low, bit_at_cat_high}
+use Rattle.std.proofs.Math.Nat.{mod-eq_of_lt, mul-add}
 use Rattle.std.proofs.lemmas.List.{get_or_default, get_or-drop, get_or-take, drop-drop}
 use Rattle.std.proofs.lemmas.List.FromFn.{length-map-range_with_len, get_or-map-range_with_len}
-use Rattle.std.proofs.lemmas.Bool.{cases_lt}
 use Rattle.bitmap_core.specs.Chunk.{chunk_bit, chunk_bits, bit_in}
 use Rattle.bitmap_core.specs.Bits.{bit_of, bits}
 use Rattle.bitmap_core.proofs.ChunkBits.{chunk_bit-mod}
 use Rattle.bitmap_core.proofs.Counts.{ones_from, ones_from_add, ones_from_same, count-bits}
+use Rattle.bitmap_core.proofs.WordBytes.{word_bit}
 use Rattle.bitmap_core.proofs.PlaceCounts.{none_map, count_map, none_slice, none_bits, found, more_ones, ones_of_zero, ones_of_other, rest_zero, some_left}
 
 chunk_bit-within : (n : ℕ) (c : List ℕ) (i : ℕ) → i < 8 * n → chunk_bit n c i ≡ bit_in c i
@@ -78,52 +76,11 @@ other_word words j d w l h f e s =
 
 -- ---- eight bytes as a word
 
-worth_pow : (i : ℕ) → 256 ^ i ≡ 2 ^ (8 * i)
-worth_pow zero = refl
-worth_pow (suc i) =
-    let e : 8 * i + 8 ≡ 8 * suc i = omega arith in
-    pow-suc 256 i ∙ ap (λ x. x * 256) (worth_pow i) ∙ sym (pow-add 2 (8 * i) 8) ∙ ap (λ k. 2 ^ k) e
-
-low_bytes : List ℕ → ℕ → ℕ
-low_bytes bs m = sum_through (λ i. byte_worth i (get_or bs i 0)) m
-
-low_bytes-suc : (bs : List ℕ) (m : ℕ) → low_bytes bs (suc m) ≡ get_or bs (suc m) 0 * 2 ^ (8 * suc m) + low_bytes bs m
-unfolding low_bytes
-low_bytes-suc bs m = let e = ap (λ x. get_or bs (suc m) 0 * x) (worth_pow (suc m)) in omega arith
-
-low_bytes-lt : (bs : List ℕ) (m : ℕ) → ((i : ℕ) → get_or bs i 0 < 256) → low_bytes bs m < 2 ^ (8 * suc m)
-unfolding low_bytes
-low_bytes-lt bs zero h = h 0
-low_bytes-lt bs (suc m) h =
-    let s = low_bytes-suc bs m in
-    let l = low_bytes-lt bs m h in
-    let b = h (suc m) in
-    let e : 8 * suc m + 8 ≡ 8 * suc (suc m) = omega arith in
-    let p : 2 ^ (8 * suc (suc m)) ≡ 2 ^ (8 * suc m) * 256 = ap (λ k. 2 ^ k) (sym e) ∙ pow-add 2 (8 * suc m) 8 in
-    rw (s, p) (mul-add-lt _ _ _ _ b l)
-
-low_bytes-bit : (bs : List ℕ) (m t : ℕ) → ((i : ℕ) → get_or bs i 0 < 256) → t < 8 * suc m → bit_at (low_bytes bs m) t ≡ bit_at (get_or bs (t / 8) 0) (t % 8)
-unfolding low_bytes
-low_bytes-bit bs zero t h s =
-    let q : t / 8 ≡ 0 = omega arith in
-    let r : t % 8 ≡ t = omega arith in
-    ap (λ x. bit_at (get_or bs 0 0) x) (sym r) ∙ ap (λ x. bit_at (get_or bs x 0) (t % 8)) (sym q)
-low_bytes-bit bs (suc m) t h s =
-    let e = low_bytes-suc bs m in
-    elim (cases_lt t (8 * suc m)) [
-      | inl w ↦ ap (λ x. bit_at x t) e ∙ bit_at_cat_low (get_or bs (suc m) 0) (8 * suc m) (low_bytes bs m) t w ∙ low_bytes-bit bs m t h w
-      | inr w ↦
-          let q : t / 8 ≡ suc m = omega arith in
-          let r : t - 8 * suc m ≡ t % 8 = omega arith in
-          ap (λ x. bit_at x t) e ∙ bit_at_cat_high (get_or bs (suc m) 0) (8 * suc m) (low_bytes bs m) t (low_bytes-lt bs m h) w ∙ ap (λ x. bit_at (get_or bs (suc m) 0) x) r ∙ ap (λ x. bit_at (get_or bs x 0) (t % 8)) (sym q)
-    ]
-
--- bit t of a word read from eight bytes
-pub word_bit : (bs : List ℕ) (t : ℕ) → ((i : ℕ) → get_or bs i 0 < 256) → t < 64 → eqb (bit_at (from_le_bytes w64 bs) t) 1 ≡ chunk_bit 8 bs t
-unfolding low_bytes
-word_bit bs t h s =
+-- bit t of a word read from eight bytes, as a chunk's
+pub word_chunk_bit : (bytes : List ℕ) (t : ℕ) → ((i : ℕ) → get_or bytes i 0 < 256) → t < 64 → eqb (bit_at (from_le_bytes w64 bytes) t) 1 ≡ chunk_bit 8 bytes t
+word_chunk_bit bytes t h s =
     let m : t / 8 ≡ t / 8 % 8 = omega arith in
-    ap (λ x. eqb x 1) (low_bytes-bit bs 7 t h s) ∙ ap (λ x. eqb (bit_at (get_or bs x 0) (t % 8)) 1) m
+    ap (λ x. eqb x 1) (word_bit bytes t h s) ∙ ap (λ x. eqb (bit_at (get_or bytes x 0) (t % 8)) 1) m
 
 -- ---- bytes as words and a rest
 

@@ -1,55 +1,14 @@
--- The bits of a word: read out of bytes, masked, and without its lowest one.
-use Rattle.std.proofs.Common.{◌≡◌, ◌≢◌, ℕ, zero, suc, ◌+◌, ◌-◌, ◌*◌, ◌/◌, ◌%◌, ◌^◌, ◌<◌, ◌≤◌, eqb, List, get_or, drop, min, refl, ap, sym, ◌∙◌, inl, inr, arith}
-use Rattle.std.specs.Int.{bit_at, w64, trailing_zeros, sum_through, byte_worth, from_le_bytes}
+-- The bits of a word of a chunk, masked, and without its lowest one.
+use Rattle.std.proofs.Common.{◌≡◌, ◌≢◌, ℕ, ◌+◌, ◌-◌, ◌*◌, ◌/◌, ◌%◌, ◌^◌, ◌<◌, ◌≤◌, eqb, List, get_or, drop, min, ap, sym, ◌∙◌, inl, inr, arith}
+use Rattle.std.specs.Int.{bit_at, w64, trailing_zeros}
 use Rattle.std.specs.Prelude.{bit_and}
-use Rattle.std.proofs.lemmas.Nat.{mul-add-lt, mod_below, div-add-mod', pow_pos}
+use Rattle.std.proofs.lemmas.Nat.{mod_below, div-add-mod', pow_pos}
 use Rattle.std.proofs.lemmas.Nat.Bits.{bit_at-trailing_zeros, bit_at-pow_same, bit_at-pow_other, same_from_bits_below, bit_at_cat_low, bit_at_cat_high, bit_at_and, bit_at-lt, bit_at_ones_above, ones_shl, bit_at_mask_inside, bit_at_mask_below}
 use Rattle.std.proofs.lemmas.List.{get_or-drop}
 use Rattle.std.proofs.Math.Pow.{pow-add, pow-lt}
-use Rattle.std.proofs.Math.Nat.{pow-suc, mod-eq_of_lt}
+use Rattle.std.proofs.Math.Nat.{mod-eq_of_lt}
 use Rattle.std.proofs.lemmas.Bool.{cases_eq, cases_lt}
 use Rattle.bitmap_core.specs.Chunk.{chunk_bit}
-
--- ---- bytes as a number, the lowest first
-
-worth_pow : (k : ℕ) → 256 ^ k ≡ 2 ^ (8 * k)
-worth_pow zero = refl
-worth_pow (suc k) =
-    let e : 8 * k + 8 ≡ 8 * suc k = omega arith in
-    pow-suc 256 k ∙ ap (λ x. x * 256) (worth_pow k) ∙ sym (pow-add 2 (8 * k) 8) ∙ ap (λ x. 2 ^ x) e
-
-spelled : (ℕ → ℕ) → ℕ → ℕ
-spelled f k = sum_through (λ i. byte_worth i (f i)) k
-
-spelled-suc : (f : ℕ → ℕ) (k : ℕ) → spelled f (suc k) ≡ f (suc k) * 2 ^ (8 * suc k) + spelled f k
-unfolding spelled
-spelled-suc f k = let e = ap (λ x. f (suc k) * x) (worth_pow (suc k)) in omega arith
-
-spelled-lt : (f : ℕ → ℕ) (k : ℕ) → ((i : ℕ) → i ≤ k → f i < 256) → spelled f k < 2 ^ (8 * suc k)
-unfolding spelled
-spelled-lt f zero h = omega (arith, h 0 (omega arith))
-spelled-lt f (suc k) h =
-    let l = spelled-lt f k (λ i s. h i (omega arith)) in
-    let e : 8 * suc k + 8 ≡ 8 * suc (suc k) = omega arith in
-    let p : 2 ^ (8 * suc (suc k)) ≡ 2 ^ (8 * suc k) * 256 = ap (λ x. 2 ^ x) (sym e) ∙ pow-add 2 (8 * suc k) 8 in
-    rw (spelled-suc f k, p) (mul-add-lt _ _ _ _ (h (suc k) (omega arith)) l)
-
-bit_at-spelled : (f : ℕ → ℕ) (k : ℕ) → ((i : ℕ) → i ≤ k → f i < 256) → (t : ℕ) → t < 8 * suc k → bit_at (spelled f k) t ≡ bit_at (f (t / 8)) (t % 8)
-unfolding spelled
-bit_at-spelled f zero h t s = let q : t / 8 ≡ 0 = omega arith in let r : t % 8 ≡ t = omega arith in rw (q, r)
-bit_at-spelled f (suc k) h t s = ap (λ x. bit_at x t) (spelled-suc f k) ∙ elim (cases_lt t (8 * suc k)) [
-  | inl l ↦ bit_at_cat_low (f (suc k)) (8 * suc k) (spelled f k) t l ∙ bit_at-spelled f k (λ i m. h i (omega arith)) t l
-  | inr l ↦
-      let q : t / 8 ≡ suc k = omega arith in
-      let r : t % 8 ≡ t - 8 * suc k = omega arith in
-      bit_at_cat_high (f (suc k)) (8 * suc k) (spelled f k) t (spelled-lt f k (λ i m. h i (omega arith))) l ∙ rw (q, r)
-]
-
--- a word of eight bytes has the bits of the bytes that it was made of
-pub word_bits : (bytes word : List ℕ) → ((i : ℕ) → get_or bytes i 0 < 256) → ((k : ℕ) → k < 8 → get_or word k 0 ≡ get_or bytes k 0) → (t : ℕ) → t < 64 → bit_at (from_le_bytes w64 word) t ≡ bit_at (get_or bytes (t / 8) 0) (t % 8)
-unfolding spelled
-word_bits bytes word h same t s =
-    bit_at-spelled (λ k. get_or word k 0) 7 (λ k m. let e = same k (omega arith) in let b = h k in omega arith) t s ∙ ap (λ b. bit_at b (t % 8)) (same (t / 8) (omega arith))
 
 -- ---- a word of a chunk
 

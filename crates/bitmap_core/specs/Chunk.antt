@@ -45,7 +45,6 @@ chunk_from n bit i = map (λ j. byte_of (λ t. bit (8 * n * i + 8 * j + t))) (ra
 abbrev pub chunk_of : ℕ → List Bool → ℕ → List ℕ
 chunk_of n v i = chunk_from n (λ k. slice_index_or v k false) i
 
--- the chunk has the bits of a byte in the byte of bit i, and each bit of another byte as the old one has it
 -- the chunk has byte where bit i stands, and each bit of another byte as the old one has it
 pub record IsByteWritten (n : ℕ) (old new : List ℕ) (i byte : ℕ) : Type 0 where
   pub here : (j : ℕ) → j / 8 % n ≡ i / 8 % n → chunk_bit n new j ≡ (bit_at byte (j % 8) == 1)

@@ -5,7 +5,7 @@ use Rattle.bitmap_core.specs.Spelling.{chunk_count}
 use Rattle.bitmap_core.proofs.BitLists.{len_is}
 use Rattle.bitmap_core.proofs.ChunkBytes.{chunks_are}
 use Rattle.bitmap_core.proofs.Texts.{length-spelling}
-use Rattle.bitmap_core.proofs.TextParts.{length_pieces, written}
+use Rattle.bitmap_core.proofs.TextParts.{spelling_pieces, written}
 use Rattle.bitmap_core.proofs.bitmap.BitMap.append_spelling.Goals as goal
 
 pub unwrap-requires : goal.unwrap-requires
@@ -15,14 +15,14 @@ pub unwrap-requires-2 : goal.unwrap-requires-2
 unwrap-requires-2 g c =
     let e : c.slices.result.0.now ++ c.slices.result.1.now ≡ map (chunk_of g.row.N c.args.self.now) (range_with_len 0 (chunk_count g.row.N (length c.args.self.now))) =
     c.slices.ensures.items ∙ chunks_are g.row.N c.self.inside.chunks.items c.self.inside.len c.args.self.now c.self.invariant.0 c.self.invariant.2 c.self.invariant.3 c.self.view_is c.slices.ensures.known in
-    let r = length_pieces g.row.N c.slices.result.0.now c.slices.result.1.now c.args.self.now e in
+    let r = spelling_pieces g.row.N c.slices.result.0.now c.slices.result.1.now c.args.self.now e in
     c.extend_from_slice-2.ensures.succeeds (grind arith)
 
 pub unwrap-requires-3 : goal.unwrap-requires-3
 unwrap-requires-3 g c =
     let e : c.slices.result.0.now ++ c.slices.result.1.now ≡ map (chunk_of g.row.N c.args.self.now) (range_with_len 0 (chunk_count g.row.N (length c.args.self.now))) =
     c.slices.ensures.items ∙ chunks_are g.row.N c.self.inside.chunks.items c.self.inside.len c.args.self.now c.self.invariant.0 c.self.invariant.2 c.self.invariant.3 c.self.view_is c.slices.ensures.known in
-    let r = length_pieces g.row.N c.slices.result.0.now c.slices.result.1.now c.args.self.now e in
+    let r = spelling_pieces g.row.N c.slices.result.0.now c.slices.result.1.now c.args.self.now e in
     c.extend_from_slice-3.ensures.succeeds (grind arith)
 
 pub returns : goal.returns
