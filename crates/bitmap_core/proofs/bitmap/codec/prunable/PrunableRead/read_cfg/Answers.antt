@@ -26,7 +26,7 @@ returns-clause-found g c =
     pair_read g.row.N c.args.from.now.now (bits g.row.N c.in_ok-pruned_chunks.chunks.now c.in_ok-pruned_chunks.len) c.in_ok-pruned_chunks.rest.now c.from_parts.result c.pair_parts.ensures.bytes e.long r.spelled (ap (λ x. x.pruned) c.from_parts.ensures ∙ e.pruned) (ap (λ x. x.bits) c.from_parts.ensures ∙ v)
 
 pub returns-clause-value : goal.returns-clause-value
-returns-clause-value g c = 
+returns-clause-value g c =
     let v : c.in_ok-bits.bits ≡ bits g.row.N c.in_ok-pruned_chunks.chunks.now c.in_ok-pruned_chunks.len = search rules in
     let l : length c.in_ok-bits.bits ≡ c.in_ok-pruned_chunks.len = ap length v ∙ length-bits g.row.N c.in_ok-pruned_chunks.chunks.now c.in_ok-pruned_chunks.len in
     pair_in_spelled g.row.N c.args.from.now.now c.from_parts.result c.in_ok-pruned_chunks.rest.now c.requires.0 (omega (arith, l, ap (λ x. length x.bits) c.from_parts.ensures, c.in_ok-pruned_chunks.ensures.total)) (omega (arith, ap (λ x. x.pruned) c.from_parts.ensures, c.in_ok-pruned_chunks.ensures.pruned, number-lt c.args.from.now.now c.pair_parts.ensures.bytes)) (returns-clause-found g c)
