@@ -48,6 +48,7 @@ pub const DEFAULT_CHUNK_SIZE: usize = 8;
 ///
 /// The length is at most `u64::MAX`. A chunk is held for every `8N` bits begun.
 /// Bit `i` stands in byte `(i / 8) mod N` of chunk `i / 8N`, the lowest place of a byte first. Past the length a chunk is zero.
+/// Whole chunks are read by the trait `Readable`.
 #[derive(Drop)]
 pub struct BitMap<const N: usize> {
     chunks: VecDeque<[u8; N]>,
@@ -131,7 +132,7 @@ impl<const N: usize> BitMap<N> {
 
     /// Appends a bit. The length is below `u64::MAX`.
     ///
-    /// Where the length is a multiple of `8N` it wants room for one chunk more, and takes memory where there is none.
+    /// Where the length is a multiple of `8N` it needs room for one chunk more, and takes memory where there is none.
     /// Elsewhere it takes none, and succeeds. Refused, the bitmap is as it was.
     pub fn push(&mut self, bit: bool) -> Result<(), AllocError>
         requires { length self.old + 1 < 2 ^ 64 }
@@ -274,7 +275,7 @@ impl<const N: usize> BitMap<N> {
 
     /// Appends the bits of a chunk to a bitmap whose length is a multiple of `8N`, with room for `8N` more in `u64`.
     ///
-    /// It wants room for the chunk, and takes memory where there is none. Refused, the bitmap is as it was.
+    /// It needs room for the chunk, and takes memory where there is none. Refused, the bitmap is as it was.
     pub fn push_chunk(&mut self, chunk: &[u8; N]) -> Result<(), AllocError>
         requires aligned { length self.old % (8 * N) ≡ 0 }
         requires room { length self.old + 8 * N < 2 ^ 64 }

@@ -34,6 +34,7 @@ use std::marker::Model;
 /// A position is retained where it is neither pruned nor past the end; a chunk is retained where one of its positions is.
 ///
 /// The length, pruned bits counted, is at most `u64::MAX`. A chunk is held for every `8N` retained bits begun.
+/// It implements the trait `Readable` too. Calls of the same name are those here, whose chunks are borrowed and not copied.
 #[derive(Debug, Drop)]
 pub struct Prunable<const N: usize> {
     bitmap: BitMap<N>,
@@ -281,7 +282,7 @@ impl<const N: usize> Prunable<N> {
 
     /// Appends a bit. The length is below `u64::MAX`.
     ///
-    /// Where the length is a multiple of `8N` it wants room for one chunk more, and takes memory where there is none.
+    /// Where the length is a multiple of `8N` it needs room for one chunk more, and takes memory where there is none.
     /// Elsewhere it takes none, and succeeds. Refused, the bitmap is as it was.
     pub fn push(&mut self, bit: bool) -> Result<(), AllocError>
         requires { bit_len N self.old + 1 < 2 ^ 64 }
@@ -294,7 +295,7 @@ impl<const N: usize> Prunable<N> {
 
     /// Appends the eight bits of a byte, the lowest first. The length is a multiple of 8, and 8 more fit `u64`.
     ///
-    /// Where the length is a multiple of `8N` it wants room for one chunk more, and takes memory where there is none.
+    /// Where the length is a multiple of `8N` it needs room for one chunk more, and takes memory where there is none.
     /// Elsewhere it takes none, and succeeds. Refused, the bitmap is as it was.
     pub fn push_byte(&mut self, byte: u8) -> Result<(), AllocError>
         requires aligned { bit_len N self.old % 8 ≡ 0 }
@@ -308,7 +309,7 @@ impl<const N: usize> Prunable<N> {
 
     /// Appends the bits of a chunk to a bitmap whose length is a multiple of `8N`, with room for `8N` more in `u64`.
     ///
-    /// It wants room for the chunk, and takes memory where there is none. Refused, the bitmap is as it was.
+    /// It needs room for the chunk, and takes memory where there is none. Refused, the bitmap is as it was.
     pub fn push_chunk(&mut self, chunk: &[u8; N]) -> Result<(), AllocError>
         requires aligned { bit_len N self.old % (8 * N) ≡ 0 }
         requires room { bit_len N self.old + 8 * N < 2 ^ 64 }
