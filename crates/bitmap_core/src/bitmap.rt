@@ -1,4 +1,16 @@
-//! Dense bitmaps.
+//! Dense bitmaps. Beneath them stand bitmaps with a pruned front, what both are to their readers, and their byte forms.
+//!
+//! The slots that are taken, which are 3, 64 and 100:
+//!
+//! ```
+//! fn taken_slots(alloc: Global) -> Result<Vec<u64>, AllocError> {
+//!     let mut taken = BitMap::<DEFAULT_CHUNK_SIZE>::zeroes(alloc, 100)?;
+//!     taken.set(3, true);
+//!     taken.set(64, true);
+//!     taken.push(true)?;
+//!     taken.ones_iter().collect(alloc)
+//! }
+//! ```
 
 ghost use Rattle.std.specs.Prelude.{◌≡◌, ℕ, ◌+◌, ◌-◌, ◌*◌, ◌/◌, ◌%◌, ◌^◌, ◌<◌, ◌≤◌, [], ◌∷◌, ◌++◌, length, false, slice_index_or, slice_set, replicate, take, true, not, IfOk, OnOk, OnErr, IsOk, ◌==◌};
 ghost use Rattle.std.specs.Int.{div_ceil};
@@ -29,12 +41,14 @@ use std::alloc::{AllocError, Global};
 use std::collections::VecDeque;
 use std::marker::Model;
 
-/// The chunk size in bytes that fits most users.
+/// The chunk size in bytes that fits most users. It is nobody's default: the width is always written.
 pub const DEFAULT_CHUNK_SIZE: usize = 8;
 
 /// A list of bits, packed into chunks of `N` bytes. Positions and lengths count bits.
 ///
-/// It takes one chunk of memory for every `8N` bits begun.
+/// The length is at most `u64::MAX`. A chunk is held for every `8N` bits begun.
+/// Bit `i` stands in byte `(i / 8) mod N` of chunk `i / 8N`, the lowest place of a byte first. Past the length a chunk is zero.
+/// Whole chunks are read by the trait `Readable`.
 #[derive(Drop)]
 pub struct BitMap<const N: usize> {
     chunks: VecDeque<[u8; N]>,
@@ -53,13 +67,13 @@ impl<const N: usize> Model for BitMap<N> {
 }
 
 impl<const N: usize> BitMap<N> {
-    /// The width of a chunk in bits. Nothing is promised of it where that passes `u64`.
+    /// The width of a chunk in bits, `8N`. Nothing is promised of it where that passes `u64`, and no bitmap is so wide.
     pub const CHUNK_SIZE_BITS: u64 = (N as u64).wrapping_mul(8);
 
-    /// A chunk of zeros.
+    /// A chunk of zeros: `N` bytes of 0.
     pub const EMPTY_CHUNK: [u8; N] = [0; N];
 
-    /// A chunk of ones.
+    /// A chunk of ones: `N` bytes of 255.
     pub const FULL_CHUNK: [u8; N] = [u8::MAX; N];
 
     /// An empty bitmap. `N` is at least 1, and `8N` fits `u64`. No memory.
@@ -74,7 +88,7 @@ impl<const N: usize> BitMap<N> {
         }
     }
 
-    /// The same as `new`.
+    /// The same as `new`, on the same conditions.
     pub fn default(alloc: Global) -> Self
         requires positive { 0 < N }
         requires fits { 8 * N < 2 ^ 64 }
@@ -118,8 +132,8 @@ impl<const N: usize> BitMap<N> {
 
     /// Appends a bit. The length is below `u64::MAX`.
     ///
-    /// Takes memory for a chunk where the length is a multiple of `8N`, and none elsewhere: there it succeeds.
-    /// Refused, the bitmap is as it was.
+    /// Where the length is a multiple of `8N` it needs room for one chunk more, and takes memory where there is none.
+    /// Elsewhere it takes none, and succeeds. Refused, the bitmap is as it was.
     pub fn push(&mut self, bit: bool) -> Result<(), AllocError>
         requires { length self.old + 1 < 2 ^ 64 }
         ensures ok { OnOk result (self.new ≡ self.old ++ bit ∷ []) }
@@ -148,9 +162,9 @@ impl<const N: usize> BitMap<N> {
         bit
     }
 
-    /// An empty bitmap with memory for `size` bits. A test alone shows that pushes up to there take no more.
+    /// An empty bitmap with room for the chunks of `size` bits. A test alone shows that pushes up to there take no memory.
     ///
-    /// Takes memory once, for the chunks of `size` bits, and errs where that is refused.
+    /// Takes memory once, for these chunks, and errs where that is refused.
     pub fn with_capacity(alloc: Global, size: u64) -> Result<Self, AllocError>
         requires positive { 0 < N }
         requires fits { 8 * N < 2 ^ 64 }
@@ -203,7 +217,7 @@ impl<const N: usize> BitMap<N> {
 
     /// The bits in order, one boolean each.
     ///
-    /// Takes memory once, for the booleans, and errs where that is refused.
+    /// Takes memory once, for the booleans, from the bitmap's allocator, and errs where that is refused.
     pub fn to_bools(&self) -> Result<Vec<bool>, AllocError>
         ensures { IfOk result (λ v. v.items ≡ self.now) }
     {
@@ -213,16 +227,16 @@ impl<const N: usize> BitMap<N> {
         Ok(bools)
     }
 
-    /// Whether the length is a multiple of `8N`. No memory.
+    /// Whether the length is a multiple of `8N`, as 0 is. No memory.
     pub fn is_chunk_aligned(&self) -> bool
         ensures { result ≡ (length self.now % (8 * N) == 0) }
     {
         self.len % chunk_bits::<N>() == 0
     }
 
-    /// The most bytes that the byte form of a bitmap of `bits` bits has: a length, and whole chunks.
+    /// How many bytes the byte form of a bitmap of `bits` bits has: eight for the length, and its chunks. A shorter bitmap has no more.
     ///
-    /// That number fits `usize`. No memory.
+    /// `N` is at least 1, `8N` fits `u64`, and the answer fits `usize`. No memory.
     pub fn max_encode_size(bits: u64) -> usize
         requires positive { 0 < N }
         requires fits { 8 * N < 2 ^ 64 }
@@ -232,7 +246,9 @@ impl<const N: usize> BitMap<N> {
         chunk_count::<N>(bits) * N + 8
     }
 
-    /// Bit `bit mod 8N` of a chunk. No memory.
+    /// Bit `bit mod 8N` of a chunk, so the bit at position `bit` where the chunk is that of the position.
+    ///
+    /// `N` is at least 1. No memory.
     pub fn get_bit_from_chunk(chunk: &[u8; N], bit: u64) -> bool
         requires positive { 0 < N }
         ensures { result ≡ chunk_bit N chunk.now bit }
@@ -240,9 +256,9 @@ impl<const N: usize> BitMap<N> {
         chunk::get_bit(chunk, bit)
     }
 
-    /// Appends false bits up to a length of `n` bits. A bitmap that is as long already stays as it is.
+    /// Appends false bits up to a length of `n` bits. A bitmap of `n` bits or more stays as it is.
     ///
-    /// Takes memory once, for the chunks that are missing, and none where none is: there it succeeds.
+    /// Takes memory at most once, for the chunks that are missing. Where none is, it takes none and succeeds.
     /// Refused, the bitmap is as it was.
     pub fn extend_to(&mut self, n: u64) -> Result<(), AllocError>
         ensures ok { OnOk result (self.new ≡ self.old ++ replicate (n - length self.old) false) }
@@ -259,7 +275,7 @@ impl<const N: usize> BitMap<N> {
 
     /// Appends the bits of a chunk to a bitmap whose length is a multiple of `8N`, with room for `8N` more in `u64`.
     ///
-    /// Takes memory for that chunk. Refused, the bitmap is as it was.
+    /// It needs room for the chunk, and takes memory where there is none. Refused, the bitmap is as it was.
     pub fn push_chunk(&mut self, chunk: &[u8; N]) -> Result<(), AllocError>
         requires aligned { length self.old % (8 * N) ≡ 0 }
         requires room { length self.old + 8 * N < 2 ^ 64 }
@@ -272,7 +288,7 @@ impl<const N: usize> BitMap<N> {
         Ok(())
     }
 
-    /// Keeps the first `n` bits, of at least as many. No memory.
+    /// Keeps the first `n` bits. `n` is at most the length. No memory.
     pub fn truncate(&mut self, n: u64)
         requires { n ≤ length self.old }
         ensures { self.new ≡ take n self.old }
@@ -293,7 +309,7 @@ impl<const N: usize> BitMap<N> {
 impl<const N: usize> Clone for BitMap<N> {
     ghost is_clone = { λ a b. b ≡ a };
 
-    /// An equal bitmap, or the refusal of its memory.
+    /// An equal bitmap. Takes memory for its chunks, and errs where that is refused.
     fn clone(&self) -> Result<Self, AllocError> {
         Ok(BitMap {
             chunks: self.chunks.clone()?,

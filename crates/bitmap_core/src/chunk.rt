@@ -1,4 +1,19 @@
-//! The bits of one chunk. Masks and bytes are touched here and nowhere else.
+//! The bits of one chunk, a `[u8; N]`. Masks and bytes are touched here and nowhere else.
+//!
+//! A chunk has `8N` bits. Bit `i` stands in byte `i / 8` of it, at place `i mod 8`, the lowest place first.
+//! A position in a whole bitmap can be given as it is: it names bit `bit mod 8N`.
+//! `N` is at least 1, and `8N` fits `u64`. Each function asks for as much of that as it needs.
+//!
+//! The chunk 8, 0, 0, 0, and whether its bit 3 is set, which it is:
+//!
+//! ```
+//! fn marked() -> ([u8; 4], bool) {
+//!     let mut marks = [0; 4];
+//!     chunk::set_bit(&mut marks, 3, true);
+//!     let is_set = chunk::get_bit(&marks, 3);
+//!     (marks, is_set)
+//! }
+//! ```
 
 ghost use Rattle.std.specs.Prelude.{◌≡◌, ℕ, ◌+◌, ◌-◌, ◌*◌, ◌/◌, ◌%◌, ◌^◌, ◌<◌, ◌≤◌, ◌++◌, ◌==◌, Bool, false, not, length, map, slice_index, slice_index_or, vec_len, vec_capacity};
 ghost use Rattle.std.specs.List.{list_any, range_with_len};
@@ -10,7 +25,7 @@ pub mod load;
 pub mod whole;
 pub mod words;
 
-/// The byte of a chunk in which bit `bit mod 8N` stands. No memory.
+/// The index of the byte in which bit `bit mod 8N` of a chunk stands. No memory.
 pub fn byte_index<const N: usize>(bit: u64) -> usize
     requires { 0 < N }
     ensures value { result ≡ bit / 8 % N }
@@ -19,7 +34,7 @@ pub fn byte_index<const N: usize>(bit: u64) -> usize
     ((bit / 8) % (N as u64)) as usize
 }
 
-/// The mask of a bit in its byte. No memory.
+/// The mask of a bit in its byte: `1 << (bit mod 8)`. No memory.
 pub fn bit_mask(bit: u64) -> u8
     ensures value { result ≡ 2 ^ (bit % 8) }
     ensures fits { result < 256 }
@@ -62,7 +77,7 @@ pub fn set_bit<const N: usize>(chunk: &mut [u8; N], bit: u64, value: bool)
     }
 }
 
-/// Writes the byte in which bit `bit mod 8N` of a chunk stands, and no other. No memory.
+/// Writes the whole byte in which bit `bit mod 8N` of a chunk stands, and no other. No memory.
 pub fn set_byte<const N: usize>(chunk: &mut [u8; N], bit: u64, byte: u8)
     requires { 0 < N }
     ensures { IsByteWritten N chunk.old chunk.new bit byte }
@@ -70,7 +85,7 @@ pub fn set_byte<const N: usize>(chunk: &mut [u8; N], bit: u64, byte: u8)
     chunk[byte_index::<N>(bit)] = byte;
 }
 
-/// The chunk itself, whose bytes are those that its bits make. No memory.
+/// The chunk itself. It tells a proof that the bytes are those that the bits make. No memory.
 pub fn from_own_bits<const N: usize>(chunk: &[u8; N]) -> &[u8; N]
     ensures same { result.now ≡ chunk.now }
     ensures bytes { chunk.now ≡ map (λ j. byte_from_bits (λ t. chunk_bit N chunk.now (8 * j + t))) (range_with_len 0 N) }
@@ -88,7 +103,7 @@ pub fn flip_bit<const N: usize>(chunk: &mut [u8; N], bit: u64)
     chunk[byte_index::<N>(bit)] ^= bit_mask(bit);
 }
 
-/// Clears the bits of a chunk from a position below `8N` on. No memory.
+/// Clears the bits of a chunk from bit `from` on, which is below `8N`. No memory.
 pub fn clear_from<const N: usize>(chunk: &mut [u8; N], from: u64)
     requires positive { 0 < N }
     requires fits { 8 * N < 2 ^ 64 }
@@ -103,7 +118,7 @@ pub fn clear_from<const N: usize>(chunk: &mut [u8; N], from: u64)
     }
 }
 
-/// Whether a bit of a chunk from a position on is set. No memory.
+/// Whether a bit of a chunk from bit `from` on is set. From `8N` on none is. No memory.
 pub fn is_set_from<const N: usize>(chunk: &[u8; N], from: u64) -> bool
     requires { 8 * N < 2 ^ 64 }
     ensures { result ≡ list_any (chunk_bit N chunk.now) (range_with_len from (8 * N - from)) }
@@ -138,7 +153,7 @@ pub fn from_bools<const N: usize>(bools: &[bool]) -> [u8; N]
     chunk
 }
 
-/// Appends the first bits of a chunk to booleans that have room for them. No memory.
+/// Appends the first `count` bits of a chunk, at most `8N`, to booleans that have room for them. No memory.
 pub fn append_bools<const N: usize>(chunk: &[u8; N], count: u64, bools: &mut Vec<bool>)
     requires positive { 0 < N }
     requires fits { 8 * N < 2 ^ 64 }

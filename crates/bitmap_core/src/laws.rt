@@ -1,6 +1,18 @@
-//! Laws that users of bitmaps may rest on.
+//! Laws that users of bitmaps may rest on. Each is the contract of a function.
 //!
 //! The body of a law makes the calls that it is about. Where it has none, the law is about the words of their contracts.
+//! Who needs a law calls its function: in place of the calls, or, where it makes none, beside them.
+//!
+//! A function that changes nothing, by the law of `push_then_pop`:
+//!
+//! ```
+//! fn tried<const N: usize>(bitmap: &mut BitMap<N>) -> Result<bool, AllocError>
+//!     requires { length bitmap.old + 1 < 2 ^ 64 }
+//!     ensures { bitmap.new ≡ bitmap.old }
+//! {
+//!     push_then_pop(bitmap, true)
+//! }
+//! ```
 
 pub mod codec;
 pub mod fronts;

@@ -11,7 +11,7 @@ use std::collections::VecDeque;
 use std::ops::Range;
 
 impl<const N: usize> BitMap<N> {
-    /// The number of ones. No memory.
+    /// The number of bits that are true. No memory.
     pub fn count_ones(&self) -> u64
         ensures { result ≡ count_by (λ b. b) self.now }
     {
@@ -19,14 +19,14 @@ impl<const N: usize> BitMap<N> {
         chunk_ones(&self.chunks)
     }
 
-    /// The number of zeros. No memory.
+    /// The number of bits that are false. No memory.
     pub fn count_zeros(&self) -> u64
         ensures { result ≡ count_by not self.now }
     {
         self.len() - self.count_ones()
     }
 
-    /// Whether no bit of a range of positions is set. The range ends within the length. No memory.
+    /// Whether no bit of a range of positions is set. The end of the range, which is not in it, is at most the length. No memory.
     ///
     /// An empty range has none, and so has one that ends before it starts: the answer is true.
     pub fn is_unset(&self, range: Range<u64>) -> bool

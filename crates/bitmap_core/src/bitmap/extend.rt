@@ -77,9 +77,9 @@ fn append<const N: usize>(
 }
 
 impl<const N: usize> BitMap<N> {
-    /// Appends the bits of another bitmap, whose chunks may have another width. The lengths add up to less than `2 ^ 64`.
+    /// Appends the bits of another bitmap, in order. Its chunks may have another width. The sum of the lengths fits `u64`.
     ///
-    /// Takes memory for the chunks that the length comes to fill, all at once. Refused, the bitmap is as it was.
+    /// Takes memory at most once, for the chunks that are missing. Refused, the bitmap is as it was.
     pub fn extend_from_bitmap<const M: usize>(
         &mut self,
         other: &BitMap<M>,

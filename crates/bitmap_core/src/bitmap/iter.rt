@@ -8,7 +8,7 @@ use crate::bitmap::BitMap;
 use std::iter;
 use std::marker::Model;
 
-/// The bits of a bitmap in order, seen as the list of those that are left.
+/// The bits of a bitmap in order, as `iter` gives them. It is the list of those that are left.
 ///
 /// After the last bit it answers `None`, and goes on so. No step takes memory.
 #[derive(Drop)]
@@ -28,7 +28,7 @@ impl<'a, const N: usize> Model for Iterator<'a, N> {
 }
 
 impl<const N: usize> BitMap<N> {
-    /// The bits from position 0 on, up to the length. No memory.
+    /// The bits in order, from position 0 up to the length. No memory.
     pub fn iter(&self) -> Iterator<'_, N>
         ensures { result ≡ self.now }
     {

@@ -41,7 +41,7 @@ impl<const N: usize> BitMap<N> {
         every_chunk::combine::<G, N>(&mut self.chunks, &other.chunks);
     }
 
-    /// Leaves a bit set where it is set in both bitmaps, which have the same length. No memory.
+    /// Leaves a bit set where it is set in both bitmaps, which have the same length. The other one is not changed. No memory.
     pub fn and(&mut self, other: &BitMap<N>)
         requires { length self.old ≡ length other.now }
         ensures { self.new ≡ map (λ p. p.0 && p.1) (zip self.old other.now) }
@@ -49,7 +49,7 @@ impl<const N: usize> BitMap<N> {
         self.combine::<And>(other);
     }
 
-    /// Leaves a bit set where it is set in either bitmap; they have the same length. No memory.
+    /// Sets a bit where it is set in either bitmap; they have the same length. The other one is not changed. No memory.
     pub fn or(&mut self, other: &BitMap<N>)
         requires { length self.old ≡ length other.now }
         ensures { self.new ≡ map (λ p. p.0 || p.1) (zip self.old other.now) }
@@ -57,7 +57,7 @@ impl<const N: usize> BitMap<N> {
         self.combine::<Or>(other);
     }
 
-    /// Leaves a bit set where the two bitmaps, which have the same length, differ. No memory.
+    /// Leaves a bit set where the two bitmaps, which have the same length, differ. The other one is not changed. No memory.
     pub fn xor(&mut self, other: &BitMap<N>)
         requires { length self.old ≡ length other.now }
         ensures { self.new ≡ map (λ p. xor p.0 p.1) (zip self.old other.now) }
@@ -71,7 +71,7 @@ impl<const N: usize> PartialEq for BitMap<N> {
 
     ghost laws = { Prim.search (comparing, rules) };
 
-    /// Whether the bits are the same. No memory.
+    /// Whether the bits are the same, and so the lengths. No memory.
     fn eq(&self, other: &Self) -> bool {
         self.len == other.len && every_chunk::are_equal(&self.chunks, &other.chunks)
     }
@@ -88,7 +88,7 @@ impl<const N: usize> Hash for BitMap<N> {
 
     ghost respects_eq = { fed_bits-alike N };
 
-    /// Feeds the length, and then the bytes of each chunk.
+    /// Feeds the length, and then the bytes of each chunk. Equal bitmaps hash alike. No memory.
     fn hash<H: Hasher>(&self, state: &mut H) {
         let len = self.len;
         state.write_u64(len);
@@ -103,7 +103,9 @@ impl<const N: usize> BitAnd<&BitMap<N>> for &BitMap<N> {
 
     ghost bitand_gives = { λ a b r. IfOk r (λ c. c ≡ map (λ p. p.0 && p.1) (zip a.now b.now)) };
 
-    /// A new bitmap of the bits that both have, or the refusal of its memory. The lengths are the same.
+    /// A new bitmap whose bit is set where both have it. The lengths are the same.
+    ///
+    /// Takes memory for its chunks, from the allocator of the left one, and errs where that is refused.
     fn bitand(self, other: &BitMap<N>) -> Result<BitMap<N>, AllocError> {
         let mut both = self.clone()?;
         both.and(other);
@@ -118,7 +120,9 @@ impl<const N: usize> BitOr<&BitMap<N>> for &BitMap<N> {
 
     ghost bitor_gives = { λ a b r. IfOk r (λ c. c ≡ map (λ p. p.0 || p.1) (zip a.now b.now)) };
 
-    /// A new bitmap of the bits that either has, or the refusal of its memory. The lengths are the same.
+    /// A new bitmap whose bit is set where either has it. The lengths are the same.
+    ///
+    /// Takes memory for its chunks, from the allocator of the left one, and errs where that is refused.
     fn bitor(self, other: &BitMap<N>) -> Result<BitMap<N>, AllocError> {
         let mut either = self.clone()?;
         either.or(other);
@@ -133,7 +137,9 @@ impl<const N: usize> BitXor<&BitMap<N>> for &BitMap<N> {
 
     ghost bitxor_gives = { λ a b r. IfOk r (λ c. c ≡ map (λ p. xor p.0 p.1) (zip a.now b.now)) };
 
-    /// A new bitmap of the bits that differ, or the refusal of its memory. The lengths are the same.
+    /// A new bitmap whose bit is set where the two differ. The lengths are the same.
+    ///
+    /// Takes memory for its chunks, from the allocator of the left one, and errs where that is refused.
     fn bitxor(self, other: &BitMap<N>) -> Result<BitMap<N>, AllocError> {
         let mut difference = self.clone()?;
         difference.xor(other);

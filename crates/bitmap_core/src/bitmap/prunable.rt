@@ -1,4 +1,18 @@
-//! Bitmaps with a pruned front.
+//! Bitmaps with a pruned front: its bits are gone, and the others keep their positions.
+//!
+//! A log that forgets its first chunk. Its length is still 34, and its first retained position is 32:
+//!
+//! ```
+//! fn recent(alloc: Global) -> Result<Prunable<4>, AllocError> {
+//!     let mut log = Prunable::<4>::new(alloc);
+//!     log.push_chunk(&[1, 2, 3, 4])?;
+//!     log.push(true)?;
+//!     log.push(true)?;
+//!     log.prune_to_bit(33);
+//!     log.set_bit(32, false);
+//!     Ok(log)
+//! }
+//! ```
 
 ghost use Rattle.std.specs.Prelude.{◌≡◌, ℕ, ◌+◌, ◌-◌, ◌*◌, ◌/◌, ◌%◌, ◌^◌, ◌<◌, ◌≤◌, ◌↔◌, [], false, length, IfOk, OnOk, OnErr, IsOk, ◌==◌};
 ghost use Rattle.std.specs.Int.{div_ceil};
@@ -16,7 +30,11 @@ use std::marker::Model;
 
 /// A bitmap whose front may be pruned, by whole chunks of `N` bytes.
 ///
-/// Positions are absolute: pruned bits keep theirs. It takes one chunk of memory for every `8N` retained bits begun.
+/// Positions and indices of chunks are absolute: they count from the first bit and chunk that the bitmap ever had, pruned ones included.
+/// A position is retained where it is neither pruned nor past the end; a chunk is retained where one of its positions is.
+///
+/// The length, pruned bits counted, is at most `u64::MAX`. A chunk is held for every `8N` retained bits begun.
+/// It implements the trait `Readable` too. Calls of the same name are those here, whose chunks are borrowed and not copied.
 #[derive(Debug, Drop)]
 pub struct Prunable<const N: usize> {
     bitmap: BitMap<N>,
@@ -35,7 +53,7 @@ impl<const N: usize> Model for Prunable<N> {
 }
 
 impl<const N: usize> Prunable<N> {
-    /// The width of a chunk in bits. Nothing is promised of it where that passes `u64`.
+    /// The width of a chunk in bits, `8N`. Nothing is promised of it where that passes `u64`, and no bitmap is so wide.
     pub const CHUNK_SIZE_BITS: u64 = (N as u64).wrapping_mul(8);
 
     /// A bitmap without bits, nothing pruned. `N` is at least 1, and `8N` fits `u64`. No memory.
@@ -50,7 +68,7 @@ impl<const N: usize> Prunable<N> {
         }
     }
 
-    /// The same as `new`.
+    /// The same as `new`, on the same conditions.
     pub fn default(alloc: Global) -> Self
         requires positive { 0 < N }
         requires fits { 8 * N < 2 ^ 64 }
@@ -59,9 +77,9 @@ impl<const N: usize> Prunable<N> {
         Prunable::new(alloc)
     }
 
-    /// A bitmap without bits, of which the first `pruned_chunks` chunks are pruned. No memory.
+    /// A bitmap whose first `pruned_chunks` chunks are pruned, with no bit behind them. Its length is `8N` times their number.
     ///
-    /// It errs exactly where the pruned bits pass `u64`.
+    /// It errs with `PrunedChunksOverflow` exactly where that passes `u64`. `N` is at least 1, and `8N` fits `u64`. No memory.
     pub fn new_with_pruned_chunks(alloc: Global, pruned_chunks: usize) -> Result<Self, Error>
         requires positive { 0 < N }
         requires fits { 8 * N < 2 ^ 64 }
@@ -118,7 +136,7 @@ impl<const N: usize> Prunable<N> {
         self.len() == 0
     }
 
-    /// Whether the length is a multiple of `8N`. No memory.
+    /// Whether the length is a multiple of `8N`, as 0 is. No memory.
     pub fn is_chunk_aligned(&self) -> bool
         ensures { result ≡ (bit_len N self.now % (8 * N) == 0) }
     {
@@ -148,7 +166,7 @@ impl<const N: usize> Prunable<N> {
         self.len().div_ceil(chunk_bits::<N>()) as usize
     }
 
-    /// The number of full chunks, pruned ones counted. No memory.
+    /// The number of full chunks, pruned ones counted, without a partial last one. No memory.
     pub fn complete_chunks(&self) -> usize
         ensures { result ≡ bit_len N self.now / (8 * N) }
     {
@@ -183,7 +201,7 @@ impl<const N: usize> Prunable<N> {
         self.bitmap.chunk_at(index - self.pruned_chunks)
     }
 
-    /// The last chunk of a bitmap that has a retained bit, and how many of its bits are in use: `8N` where it is full.
+    /// The last chunk, and how many of its bits are in use: `8N` where it is full. Some bit is retained.
     ///
     /// Its bits past the length are zero. No memory.
     pub fn last_chunk(&self) -> (&[u8; N], u64)
@@ -205,7 +223,7 @@ impl<const N: usize> Prunable<N> {
         self.bitmap.set(bit - pruned, value);
     }
 
-    /// Removes and answers the last bit, which is retained. No memory.
+    /// Removes and answers the last bit. Some bit is retained. No memory.
     pub fn pop(&mut self) -> bool
         requires { 0 < length self.old.bits }
         ensures value { result ≡ last_bit self.old }
@@ -214,7 +232,7 @@ impl<const N: usize> Prunable<N> {
         self.bitmap.pop()
     }
 
-    /// Keeps the positions below `n`, which is at least the first retained one and at most the length. No memory.
+    /// Keeps the positions below `n`, which is the new length. `n` is at least `pruned_bits` and at most the length. No memory.
     pub fn truncate(&mut self, n: u64)
         requires from { pruned_bits N self.old ≤ n }
         requires to { n ≤ bit_len N self.old }
@@ -224,7 +242,7 @@ impl<const N: usize> Prunable<N> {
         self.bitmap.truncate(n - pruned);
     }
 
-    /// Removes and answers the last chunk, which is retained and full. No memory.
+    /// Removes and answers the last chunk. The length is a multiple of `8N`, and some bit is retained. No memory.
     pub fn pop_chunk(&mut self) -> [u8; N]
         requires aligned { bit_len N self.old % (8 * N) ≡ 0 }
         requires filled { 0 < length self.old.bits }
@@ -234,9 +252,10 @@ impl<const N: usize> Prunable<N> {
         self.bitmap.remove_last_chunk()
     }
 
-    /// Prunes every chunk before that of position `bit`, which is at most the length. No memory.
+    /// Prunes every chunk before chunk `bit / 8N`, that of position `bit`. `bit` is at most the length. No memory.
     ///
-    /// The bits that stay are not moved. Where those chunks are pruned already nothing changes.
+    /// The length stays, and so does the position of each bit. The chunks that stay are not moved in memory.
+    /// Where those before are pruned already nothing changes.
     pub fn prune_to_bit(&mut self, bit: u64)
         requires { bit ≤ bit_len N self.old }
         ensures { self.new ≡ pruned_to N self.old (bit / (8 * N)) }
@@ -249,7 +268,9 @@ impl<const N: usize> Prunable<N> {
         }
     }
 
-    /// Replaces the bits of a retained chunk by those of `chunk`, which are zero past the length. No memory.
+    /// Replaces the bits of the chunk at an index, which is at least the pruned count and below `chunks_len`. The length stays.
+    ///
+    /// The bits of `chunk` past the length are zero. No memory.
     pub fn set_chunk_by_index(&mut self, index: usize, chunk: &[u8; N])
         requires retained { HasChunk N self.old index }
         requires zero { (k : ℕ) → bit_len N self.old ≤ k → k / (8 * N) ≡ index → chunk_bit N chunk.now k ≡ false }
@@ -261,8 +282,8 @@ impl<const N: usize> Prunable<N> {
 
     /// Appends a bit. The length is below `u64::MAX`.
     ///
-    /// Takes memory for a chunk where the length is a multiple of `8N`, and none elsewhere: there it succeeds.
-    /// Refused, the bitmap is as it was.
+    /// Where the length is a multiple of `8N` it needs room for one chunk more, and takes memory where there is none.
+    /// Elsewhere it takes none, and succeeds. Refused, the bitmap is as it was.
     pub fn push(&mut self, bit: bool) -> Result<(), AllocError>
         requires { bit_len N self.old + 1 < 2 ^ 64 }
         ensures ok { OnOk result (self.new ≡ pushed self.old bit) }
@@ -274,8 +295,8 @@ impl<const N: usize> Prunable<N> {
 
     /// Appends the eight bits of a byte, the lowest first. The length is a multiple of 8, and 8 more fit `u64`.
     ///
-    /// Takes memory for a chunk where the length is a multiple of `8N`, and none elsewhere: there it succeeds.
-    /// Refused, the bitmap is as it was.
+    /// Where the length is a multiple of `8N` it needs room for one chunk more, and takes memory where there is none.
+    /// Elsewhere it takes none, and succeeds. Refused, the bitmap is as it was.
     pub fn push_byte(&mut self, byte: u8) -> Result<(), AllocError>
         requires aligned { bit_len N self.old % 8 ≡ 0 }
         requires room { bit_len N self.old + 8 < 2 ^ 64 }
@@ -288,7 +309,7 @@ impl<const N: usize> Prunable<N> {
 
     /// Appends the bits of a chunk to a bitmap whose length is a multiple of `8N`, with room for `8N` more in `u64`.
     ///
-    /// Takes memory for that chunk. Refused, the bitmap is as it was.
+    /// It needs room for the chunk, and takes memory where there is none. Refused, the bitmap is as it was.
     pub fn push_chunk(&mut self, chunk: &[u8; N]) -> Result<(), AllocError>
         requires aligned { bit_len N self.old % (8 * N) ≡ 0 }
         requires room { bit_len N self.old + 8 * N < 2 ^ 64 }
@@ -298,9 +319,9 @@ impl<const N: usize> Prunable<N> {
         self.bitmap.push_chunk(chunk)
     }
 
-    /// Appends false bits up to a length of `n` bits. A bitmap that is as long already stays as it is.
+    /// Appends false bits up to a length of `n` bits, pruned ones counted. A bitmap of that length or more stays as it is.
     ///
-    /// Takes memory once, for the chunks that are missing, and none where none is: there it succeeds.
+    /// Takes memory at most once, for the chunks that are missing. Where none is, it takes none and succeeds.
     /// Refused, the bitmap is as it was.
     pub fn extend_to(&mut self, n: u64) -> Result<(), AllocError>
         ensures ok { OnOk result (self.new ≡ extended N self.old n) }
@@ -311,9 +332,9 @@ impl<const N: usize> Prunable<N> {
         self.bitmap.extend_to(n.saturating_sub(pruned))
     }
 
-    /// Appends the bits of a dense bitmap, whose chunks may have another width. The lengths add up to less than `2 ^ 64`.
+    /// Appends the bits of a dense bitmap, in order. Its chunks may have another width. The sum of the lengths fits `u64`.
     ///
-    /// Takes memory for the chunks that the length comes to fill, all at once. Refused, the bitmap is as it was.
+    /// Takes memory at most once, for the chunks that are missing. Refused, the bitmap is as it was.
     pub fn extend_from_bitmap<const M: usize>(
         &mut self,
         other: &BitMap<M>,
@@ -325,10 +346,11 @@ impl<const N: usize> Prunable<N> {
         self.bitmap.extend_from_bitmap(other)
     }
 
-    /// Puts chunks back in front of the retained bits, in order: at most as many as are pruned.
+    /// Puts chunks back in front of the retained bits, in order, so that the last one comes to stand right before them.
+    /// They are at most as many as are pruned. The length stays, and so does the position of each bit.
     ///
-    /// Takes memory for them at once, and none for no chunks: there it succeeds. The bits that stand there are not
-    /// copied, except where memory is taken. Refused, the bitmap is as it was.
+    /// Takes memory at most once, for these chunks; the others are copied only then. Of no chunks it takes none, and succeeds.
+    /// Refused, the bitmap is as it was.
     pub fn unprune(&mut self, chunks: &[[u8; N]]) -> Result<(), AllocError>
         requires { length chunks.now ≤ self.old.pruned }
         ensures ok { OnOk result (self.new ≡ unpruned N self.old chunks.now) }
@@ -341,14 +363,16 @@ impl<const N: usize> Prunable<N> {
         Ok(())
     }
 
-    /// The mask of a bit in its byte. No memory.
+    /// The mask of the bit at position `bit` in its byte: `1 << (bit mod 8)`. No memory.
     pub fn chunk_byte_bitmask(bit: u64) -> u8
         ensures { result ≡ 2 ^ (bit % 8) }
     {
         chunk::bit_mask(bit)
     }
 
-    /// The byte of its chunk in which a bit stands. No memory.
+    /// The index of the byte of its chunk in which the bit at position `bit` stands: `(bit / 8) mod N`.
+    ///
+    /// `N` is at least 1. No memory.
     pub fn chunk_byte_offset(bit: u64) -> usize
         requires { 0 < N }
         ensures { result ≡ bit / 8 % N }
@@ -356,7 +380,9 @@ impl<const N: usize> Prunable<N> {
         chunk::byte_index::<N>(bit)
     }
 
-    /// The index of the chunk in which a bit stands. No memory.
+    /// The absolute index of the chunk in which the bit at position `bit` stands: `bit / 8N`.
+    ///
+    /// `N` is at least 1, and `8N` fits `u64`. No memory.
     pub fn to_chunk_index(bit: u64) -> usize
         requires positive { 0 < N }
         requires fits { 8 * N < 2 ^ 64 }
@@ -365,7 +391,9 @@ impl<const N: usize> Prunable<N> {
         chunk_index::<N>(bit)
     }
 
-    /// Bit `bit mod 8N` of a chunk. No memory.
+    /// Bit `bit mod 8N` of a chunk, so the bit at position `bit` where the chunk is that of the position.
+    ///
+    /// `N` is at least 1. No memory.
     pub fn get_bit_from_chunk(chunk: &[u8; N], bit: u64) -> bool
         requires { 0 < N }
         ensures { result ≡ chunk_bit N chunk.now bit }
@@ -377,7 +405,7 @@ impl<const N: usize> Prunable<N> {
 impl<const N: usize> Clone for Prunable<N> {
     ghost is_clone = { λ a b. b ≡ a };
 
-    /// An equal bitmap, or the refusal of its memory.
+    /// An equal bitmap. Takes memory for its retained chunks, and errs where that is refused.
     fn clone(&self) -> Result<Self, AllocError> {
         Ok(Prunable {
             bitmap: self.bitmap.clone()?,

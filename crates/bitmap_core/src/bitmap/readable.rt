@@ -1,4 +1,14 @@
-//! What all bitmaps share for their readers: chunks, bits and set positions.
+//! What all bitmaps share for their readers: chunks, bits and set positions. The trait `Readable` has to be in scope.
+//!
+//! Where the next bit is set, in any bitmap of any width:
+//!
+//! ```
+//! fn next_set<B: Readable<N>, const N: usize>(bitmap: &B, from: u64) -> Option<u64> {
+//!     // Tells the proof how large `N` may be.
+//!     let _ = bitmap.len();
+//!     bitmap.ones_iter_from(from).next()
+//! }
+//! ```
 
 ghost use Rattle.std.specs.Prelude.{◌≡◌, ◌≢◌, ℕ, ◌+◌, ◌-◌, ◌*◌, ◌/◌, ◌%◌, ◌^◌, ◌<◌, ◌≤◌, ◌==◌, ⊤, true, false, [], length, MatchOption, MatchBool};
 ghost use Rattle.std.specs.Int.{bit_at};
@@ -23,7 +33,8 @@ use std::ops::Range;
 /// It promises that `N` is at least 1, that `8N` and the length fit `u64`, and that no more is pruned than the length.
 /// The answers are of the same bitmap as long as the value is borrowed.
 /// The bits of a chunk at or past the length may be any: no reader looks at them.
-/// The other five functions follow, and cannot be replaced.
+/// The other five functions follow, and cannot be replaced. They take no memory of their own.
+/// Over `BitMap` and `Prunable` no function takes any.
 ///
 /// A caller for any `N` asks for `len()` before it goes over set positions: that tells its proof how large `N` may be.
 ///
@@ -66,12 +77,12 @@ pub trait Readable<const N: usize> {
     fn complete_chunks(&self) -> usize
         ensures { result ≡ (meaning self.now).len / (8 * N) };
 
-    /// A copy of the chunk at an index at which a bit is retained.
+    /// A copy of the chunk at an index. One of its bits is retained; those at or past the length may be any.
     fn get_chunk(&self, chunk: usize) -> [u8; N]
         requires { IsRetainedChunk N (meaning self.now) chunk }
         ensures { ShowsChunk N (meaning self.now) chunk result };
 
-    /// A copy of the last chunk, and the number of its bits below the length: `8N` where it is full.
+    /// A copy of the last chunk, and the number of its bits below the length: `8N` where it is full. The other bits may be any.
     ///
     /// Some bit is retained.
     fn last_chunk(&self) -> ([u8; N], u64)
@@ -114,9 +125,9 @@ pub trait Readable<const N: usize> {
         chunk::get_bit(&chunk, bit)
     }
 
-    /// The set positions among the retained ones in `range`, ascending. No memory.
+    /// The set positions among the retained ones in `range`, ascending. An empty range has none, nor has one that ends before it starts.
     ///
-    /// It asks for the length once, and for each chunk at most once.
+    /// It asks for the length once, here, and for each chunk at most once.
     final fn ones_iter_range(&self, range: Range<u64>) -> OnesIter<'_, Self, N>
     where
         Self: Sized,
@@ -158,7 +169,7 @@ pub trait Readable<const N: usize> {
         }
     }
 
-    /// The set positions among the retained ones from `pos` on, ascending. No memory.
+    /// The set positions among the retained ones from `pos` on, ascending. It asks as `ones_iter_range` does.
     final fn ones_iter_from(&self, pos: u64) -> OnesIter<'_, Self, N>
     where
         Self: Sized,
@@ -171,9 +182,9 @@ pub trait Readable<const N: usize> {
     }
 }
 
-/// The set positions of a range, ascending. It goes by words of 64 bits, and loads each at most once. No memory.
+/// The set positions of a range, ascending, each once. It goes by words of 64 bits, and loads each at most once.
 ///
-/// After the last position it answers `None`, and goes on so.
+/// After the last position it answers `None`, and goes on so. It takes no memory of its own.
 #[derive(Drop)]
 pub struct OnesIter<'a, B: Readable<N>, const N: usize> {
     readable: &'a B,

@@ -1,4 +1,6 @@
-//! Chunks filled from a run of bytes that begins at any bit. The run stands in two pieces, `front` and then `back`; past it every bit is zero.
+//! Chunks filled from a run of bytes, from any of its bits on.
+//!
+//! The run stands in two pieces, `front` and then `back`. Its bit `i` stands in byte `i / 8`, at place `i mod 8`; past its bytes every bit is zero.
 
 ghost use Rattle.std.specs.Prelude.{◌≡◌, ℕ, ◌+◌, ◌-◌, ◌*◌, ◌/◌, ◌%◌, ◌^◌, ◌<◌, ◌≤◌, ◌++◌, length, ◌==◌, slice_index_or};
 ghost use Rattle.std.specs.Int.{bit_at};
@@ -116,7 +118,7 @@ fn chunk_within<const N: usize>(bytes: &[u8], skip: u64) -> [u8; N]
     chunk
 }
 
-/// The chunk of the run from bit `bit` on. No memory.
+/// The chunk of the `8N` bits of the run from bit `bit` on. No memory.
 pub fn chunk_from<const N: usize>(front: &[u8], back: &[u8], bit: u64) -> [u8; N]
     requires positive { 0 < N }
     requires fits { 8 * N < 2 ^ 64 }
@@ -134,7 +136,7 @@ pub fn chunk_from<const N: usize>(front: &[u8], back: &[u8], bit: u64) -> [u8; N
     chunk
 }
 
-/// Writes the run from bit `len mod 8N` of a chunk on, and keeps the bits before it. No memory.
+/// Writes the run, from its first bit on, to the bits of a chunk from bit `len mod 8N` on, and keeps those before. No memory.
 pub fn join<const N: usize>(chunk: &mut [u8; N], len: u64, front: &[u8], back: &[u8])
     requires positive { 0 < N }
     requires fits { 8 * N < 2 ^ 64 }

@@ -4,7 +4,7 @@ ghost use Rattle.std.specs.Prelude.{◌≡◌, ◌≢◌, ℕ, ◌+◌, ◌*◌,
 ghost use Rattle.std.specs.Int.{bit_at};
 ghost use Rattle.bitmap_core.specs.Chunk.{chunk_bit};
 
-/// The 64 bits of a chunk from byte `byte` on, with zeros past the end of the chunk. No memory.
+/// The 64 bits of a chunk from byte `byte` on, which is at most `N`, with zeros past the end of the chunk. No memory.
 pub fn word_at<const N: usize>(chunk: &[u8; N], byte: usize) -> u64
     requires { byte ≤ N }
     ensures inside { (t : ℕ) → t < 64 → 8 * byte + t < 8 * N → (bit_at result t == 1) ≡ chunk_bit N chunk.now (8 * byte + t) }
@@ -36,7 +36,7 @@ fn short_word(bytes: &[u8]) -> u64
     u64::from_le_bytes(word)
 }
 
-/// A word with zeros in place of its bits from `count` on. No memory.
+/// A word with zeros in place of its bits from `count` on: all of it where `count` is 64 or more. No memory.
 pub fn low_bits(word: u64, count: u64) -> u64
     ensures kept { (t : ℕ) → t < 64 → t < count → (bit_at result t == 1) ≡ (bit_at word t == 1) }
     ensures cut { (t : ℕ) → t < 64 → count ≤ t → (bit_at result t == 1) ≡ false }
@@ -48,7 +48,7 @@ pub fn low_bits(word: u64, count: u64) -> u64
     }
 }
 
-/// A word with zeros in place of its bits below `start`. No memory.
+/// A word with zeros in place of its bits below `start`, which is below 64. No memory.
 pub fn high_bits(word: u64, start: u64) -> u64
     requires { start < 64 }
     ensures kept { (t : ℕ) → t < 64 → start ≤ t → (bit_at result t == 1) ≡ (bit_at word t == 1) }

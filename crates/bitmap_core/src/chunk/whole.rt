@@ -9,7 +9,7 @@ ghost use Rattle.bitmap_core.specs.Gates.{xor_zeros};
 
 use super::fit;
 
-/// What the type of a chunk says of it.
+/// Tells a proof what the type of a chunk says of it: it is a list of `N` bytes. No memory.
 pub fn known<const N: usize>(chunk: &[u8; N])
     ensures { IsChunk N chunk.now }
 {
@@ -37,10 +37,13 @@ pub fn fill<const N: usize>(chunk: &mut [u8; N], value: bool)
 
 /// What two bits make of one another, for eight bits at a time. Two zeros make a zero.
 pub trait Gate {
+    // What two bits make.
     ghost gives: { Bool → Bool → Bool };
 
+    // Past the length of a bitmap both bits are zero, and have to stay so.
     ghost keeps_zeros: { gives false false ≡ false };
 
+    /// Joins each bit of a byte with that of its place in another. No memory.
     fn join(a: u8, b: u8) -> u8
         ensures { (k : ℕ) → (bit_at result k == 1) ≡ gives (bit_at a k == 1) (bit_at b k == 1) };
 }
@@ -84,7 +87,7 @@ impl Gate for Xor {
     }
 }
 
-/// Joins every bit of a chunk with that of another. No memory.
+/// Joins every bit of a chunk with that of its place in another, which is not changed. No memory.
 pub fn combine<G: Gate, const N: usize>(chunk: &mut [u8; N], other: &[u8; N])
     requires { 0 < N }
     ensures { (i : ℕ) → chunk_bit N chunk.new i ≡ G.gives (chunk_bit N chunk.old i) (chunk_bit N other.now i) }

@@ -1,4 +1,4 @@
-//! Bytes, gone through in words of 64 bits. Bit `i` of a slice stands in byte `i / 8`, at place `i mod 8`.
+//! Bits of any number of bytes, gone through in words of 64 bits. Bit `i` of a slice stands in byte `i / 8`, at place `i mod 8`.
 
 ghost use Rattle.std.specs.Prelude.{◌≡◌, ℕ, ◌+◌, ◌-◌, ◌*◌, ◌^◌, ◌<◌, ◌≤◌, length, not, ◌==◌};
 ghost use Rattle.std.specs.Int.{bit_at};
@@ -6,7 +6,7 @@ ghost use Rattle.std.specs.List.{count_by, list_all, range_with_len, slice_range
 ghost use Rattle.bitmap_core.specs.Chunk.{chunk_bit, chunk_bits};
 ghost use Rattle.bitmap_core.specs.Bits.{bits};
 
-/// The number of ones in some bytes, which fits `u64`. No memory.
+/// The number of set bits in some bytes. It fits `u64`. No memory.
 pub fn count_ones(bytes: &[u8]) -> u64
     requires { count_by (λ b. b) (chunk_bits (length bytes.now) bytes.now) < 2 ^ 64 }
     ensures { result ≡ count_by (λ b. b) (chunk_bits (length bytes.now) bytes.now) }
@@ -15,7 +15,9 @@ pub fn count_ones(bytes: &[u8]) -> u64
     word_ones(words) + byte_ones(rest)
 }
 
-/// Whether no bit from `from` on and below `to` is set. No memory.
+/// Whether no bit from `from` on and below `to` is set. `to` is at most the number of bits. No memory.
+///
+/// Where `from` is not below `to` there is no such bit: the answer is true.
 pub fn is_unset(bytes: &[u8], from: u64, to: u64) -> bool
     requires { to ≤ 8 * length bytes.now }
     ensures { result ≡ list_all not (slice_range (chunk_bits (length bytes.now) bytes.now) from to) }

@@ -1,4 +1,4 @@
-//! Laws of the byte forms.
+//! Laws of the byte forms: which texts are accepted, that each value has one spelling, and that what is written is read again.
 
 ghost use Rattle.std.specs.Prelude.{◌≡◌, ℕ, ◌+◌, ◌*◌, ◌^◌, ◌<◌, ◌≤◌, ◌↔◌, ◌++◌, Bool, true, List, None, length, slice_index, IfErr, IfOk, IsTrue, OnErr, OnOk};
 ghost use Rattle.std.specs.Int.{div_ceil};
@@ -41,7 +41,7 @@ pub fn equal_where_spelled_alike<const N: usize>(a: &BitMap<N>, b: &BitMap<N>) -
     a == b
 }
 
-/// What spells the bits of a bitmap is read as these bits, and what follows stays.
+/// What spells the bits of a bitmap is read as these bits, and what follows stays. Where the range admits them only memory can be missing.
 pub fn bits_are_read_again<const N: usize>(
     alloc: Global,
     map: &BitMap<N>,
@@ -56,7 +56,7 @@ pub fn bits_are_read_again<const N: usize>(
     BitMap::read_cfg(alloc, from, range)
 }
 
-/// What spells a bitmap with a pruned front is read as it, and what follows stays.
+/// What spells a bitmap with a pruned front is read as it, and what follows stays. Where the range admits its bits only memory can be missing.
 pub fn pairs_are_read_again<const N: usize>(
     alloc: Global,
     map: &Prunable<N>,
@@ -72,7 +72,7 @@ pub fn pairs_are_read_again<const N: usize>(
     Prunable::read_cfg(alloc, from, range)
 }
 
-/// What is written is read again, whole.
+/// What is written is read again, whole. Only memory can be missing, for the bytes or for the bitmap.
 pub fn written_bits_are_read<const N: usize>(
     alloc: Global,
     map: &BitMap<N>,
@@ -87,7 +87,7 @@ pub fn written_bits_are_read<const N: usize>(
     BitMap::read_cfg(alloc, &mut from, &RangeCfg::any())
 }
 
-/// What is read from the front of a text is written as it stood there.
+/// What is read from the front of a text is written as it stood there. It errs as the read does, and with `OutOfMemory`, after the read, where there is none to write.
 pub fn read_bits_are_written<const N: usize>(
     alloc: Global,
     from: &mut &[u8],
@@ -103,7 +103,7 @@ pub fn read_bits_are_written<const N: usize>(
     Ok(out)
 }
 
-/// The size of a bitmap is the number of bytes by which a write grows the vector.
+/// The size of a bitmap, which it answers, is the number of bytes by which a write grows the vector. Refused, nothing is written.
 pub fn size_is_written<const N: usize>(
     map: &BitMap<N>,
     out: &mut Vec<u8>,
@@ -115,7 +115,7 @@ pub fn size_is_written<const N: usize>(
     Ok(map.encode_size())
 }
 
-/// No bitmap of at most so many bits takes more bytes than `max_encode_size`, and one of as many takes as many.
+/// No bitmap of at most `bits` bits takes more bytes than `max_encode_size`, which it answers, and one of as many takes as many.
 pub fn longest_form<const N: usize>(map: &BitMap<N>, bits: u64) -> usize
     requires { div_ceil bits (8 * N) * N + 8 < 2 ^ 64 }
     ensures most { length map.now ≤ bits → length (spelling N map.now) ≤ result }

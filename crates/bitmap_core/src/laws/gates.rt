@@ -1,4 +1,4 @@
-//! `and`, `or` and `xor`, position by position.
+//! `and`, `or` and `xor` and their operators, position by position. The two bitmaps have the same length.
 
 ghost use Rattle.std.specs.Prelude.{◌≡◌, ℕ, ◌<◌, ◌&&◌, ◌||◌, false, length, slice_index_or, IfOk};
 ghost use Rattle.std.proofs.Math.Bool.{xor};

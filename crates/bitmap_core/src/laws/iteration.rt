@@ -8,7 +8,7 @@ use crate::bitmap::readable::{OnesIter, Readable};
 use crate::bitmap::{BitMap, Iterator};
 use std::alloc::{AllocError, Global};
 
-/// Collected, the bits are the bitmap.
+/// Collected, the bits are the bitmap. It errs where memory for them is refused, as the other laws do that collect or loop.
 pub fn bits_collected<const N: usize>(
     alloc: Global,
     bitmap: &BitMap<N>,
@@ -32,7 +32,7 @@ pub fn bits_looped<const N: usize>(
     Ok(bits)
 }
 
-/// `next` answers as many bits as there are, and then ends.
+/// `next` answers as many bits as there are, and then ends. No memory.
 pub fn bits_counted<const N: usize>(bitmap: &BitMap<N>) -> u64
     ensures { result ≡ length bitmap.now }
 {
@@ -118,7 +118,7 @@ pub fn last_positions_collected<B: Readable<N>, const N: usize>(
     readable.ones_iter_from(from).collect(alloc)
 }
 
-/// The first `next` answers the first set position from `from` up to `to`, and `None` where there is none.
+/// The first `next` answers the first set position from `from` up to `to`, `to` not included, and `None` where there is none.
 pub fn first_position<B: Readable<N>, const N: usize>(
     readable: &B,
     from: u64,

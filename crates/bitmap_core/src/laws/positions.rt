@@ -14,7 +14,7 @@ pub fn set_positions()
     ensures exact { (n : ℕ) (m : Meaning) (a b k : ℕ) → Contains (ones n m a b) k ↔ ((a ≤ k) × (k < b) × IsRetained n m k × (m.bit k ≡ true)) }
 {}
 
-/// The set positions of a bitmap ascend, each once: they are those whose bit is true, and as many as its ones.
+/// The set positions of a bitmap ascend, each once: they are those whose bit is true, and as many as its ones. It errs where memory for them is refused.
 pub fn set_positions_of_a_bitmap<const N: usize>(
     alloc: Global,
     bitmap: &BitMap<N>,

@@ -8,7 +8,7 @@ use crate::bitmap::BitMap;
 use std::alloc::AllocError;
 use std::hash::{Hash, Hasher};
 
-/// The ones and the zeros of a bitmap are together as many as its bits.
+/// The ones and the zeros of a bitmap, which it answers, are together as many as its bits.
 pub fn counts_add_up<const N: usize>(bitmap: &BitMap<N>) -> (u64, u64)
     ensures ones { result.0 ≡ count_by (λ b. b) bitmap.now }
     ensures zeros { result.1 ≡ count_by not bitmap.now }
@@ -26,7 +26,7 @@ pub fn flip_all_twice<const N: usize>(bitmap: &mut BitMap<N>)
     bitmap.flip_all();
 }
 
-/// A bit that is pushed is the one that is popped next, and the bitmap is then as it was. So it is where the push is refused.
+/// A bit that is pushed is the one that is popped next, and the bitmap is then as it was. So it is where the push is refused. The length is below `u64::MAX`.
 pub fn push_then_pop<const N: usize>(bitmap: &mut BitMap<N>, bit: bool) -> Result<bool, AllocError>
     requires room { length bitmap.old + 1 < 2 ^ 64 }
     ensures ok { IfOk result (λ b. b ≡ bit) }
@@ -44,7 +44,7 @@ pub fn equal<const N: usize>(a: &BitMap<N>, b: &BitMap<N>) -> bool
     a == b
 }
 
-/// Equal bitmaps hash alike: two hashers in one state are in one state afterwards.
+/// Equal bitmaps hash alike: two hashers in the same state are in the same state afterwards.
 pub fn hashes_alike<const N: usize, H: Hasher>(
     a: &BitMap<N>,
     b: &BitMap<N>,

@@ -3,7 +3,7 @@
 ghost use Rattle.std.specs.Prelude.{◌≡◌, ℕ, ◌^◌, ◌<◌, ◌==◌, ◌&&◌, true, nat_le};
 ghost use Rattle.bitmap_core.specs.Reading.{admits};
 
-/// The lengths that a read admits, in bits.
+/// The lengths that a read admits. They count bits, of a bitmap with a pruned front the retained ones alone.
 #[derive(Clone, Copy, Debug, PartialEq, Eq, Drop)]
 pub struct RangeCfg {
     low: u64,

@@ -39,7 +39,7 @@ impl<const N: usize> Readable<N> for BitMap<N> {
 }
 
 impl<const N: usize> BitMap<N> {
-    /// The positions of the bits that are set, ascending. No memory.
+    /// The positions of the bits that are set, ascending, from position 0 on. No memory.
     pub fn ones_iter(&self) -> OnesIter<'_, BitMap<N>, N>
         ensures positions { result.left ≡ filter (λ k. slice_index_or self.now k false) (range_with_len 0 (length self.now)) }
         ensures words { result.words ≡ words_between N 0 (length self.now) }
