@@ -164,11 +164,12 @@ impl<const N: usize> BitMap<N> {
 
     /// An empty bitmap with room for the chunks of `size` bits. A test alone shows that pushes up to there take no memory.
     ///
-    /// Takes memory once, for these chunks, and errs where that is refused.
+    /// Takes memory once, for these chunks, and errs where that is refused. No bits take none.
     pub fn with_capacity(alloc: Global, size: u64) -> Result<Self, AllocError>
         requires positive { 0 < N }
         requires fits { 8 * N < 2 ^ 64 }
-        ensures { IfOk result (λ b. b ≡ []) }
+        ensures ok { IfOk result (λ b. b ≡ []) }
+        ensures none { size ≡ 0 → IsOk result }
     {
         let chunks = VecDeque::with_capacity(alloc, chunk_count::<N>(size))?;
         Ok(BitMap { chunks, len: 0 })
@@ -176,11 +177,12 @@ impl<const N: usize> BitMap<N> {
 
     /// `size` bits that are all false.
     ///
-    /// Takes memory once, for the chunks of `size` bits, and errs where that is refused.
+    /// Takes memory once, for the chunks of `size` bits, and errs where that is refused. No bits take none.
     pub fn zeroes(alloc: Global, size: u64) -> Result<Self, AllocError>
         requires positive { 0 < N }
         requires fits { 8 * N < 2 ^ 64 }
-        ensures { IfOk result (λ b. b ≡ replicate size false) }
+        ensures ok { IfOk result (λ b. b ≡ replicate size false) }
+        ensures none { size ≡ 0 → IsOk result }
     {
         let mut map = BitMap::new(alloc);
         map.extend_to(size)?;
@@ -189,11 +191,12 @@ impl<const N: usize> BitMap<N> {
 
     /// `size` bits that are all true.
     ///
-    /// Takes memory once, for the chunks of `size` bits, and errs where that is refused.
+    /// Takes memory once, for the chunks of `size` bits, and errs where that is refused. No bits take none.
     pub fn ones(alloc: Global, size: u64) -> Result<Self, AllocError>
         requires positive { 0 < N }
         requires fits { 8 * N < 2 ^ 64 }
-        ensures { IfOk result (λ b. b ≡ replicate size true) }
+        ensures ok { IfOk result (λ b. b ≡ replicate size true) }
+        ensures none { size ≡ 0 → IsOk result }
     {
         let mut chunks = VecDeque::new(alloc);
         append_copies(&mut chunks, chunk_count::<N>(size), [u8::MAX; N])?;
@@ -203,11 +206,12 @@ impl<const N: usize> BitMap<N> {
 
     /// The bits that are given, in order.
     ///
-    /// Takes memory once, for their chunks, and errs where that is refused.
+    /// Takes memory once, for their chunks, and errs where that is refused. No bits take none.
     pub fn from_bools(alloc: Global, bools: &[bool]) -> Result<Self, AllocError>
         requires positive { 0 < N }
         requires fits { 8 * N < 2 ^ 64 }
-        ensures { IfOk result (λ b. b ≡ bools.now) }
+        ensures ok { IfOk result (λ b. b ≡ bools.now) }
+        ensures none { length bools.now ≡ 0 → IsOk result }
     {
         Ok(BitMap {
             chunks: from_bools(alloc, bools)?,
@@ -217,9 +221,10 @@ impl<const N: usize> BitMap<N> {
 
     /// The bits in order, one boolean each.
     ///
-    /// Takes memory once, for the booleans, from the bitmap's allocator, and errs where that is refused.
+    /// Takes memory once, for the booleans, from the bitmap's allocator, and errs where that is refused. No bits take none.
     pub fn to_bools(&self) -> Result<Vec<bool>, AllocError>
-        ensures { IfOk result (λ v. v.items ≡ self.now) }
+        ensures ok { IfOk result (λ v. v.items ≡ self.now) }
+        ensures none { length self.now ≡ 0 → IsOk result }
     {
         let len = self.len;
         let mut bools = Vec::with_capacity(*self.chunks.allocator(), len as usize)?;

@@ -66,6 +66,7 @@ pub fn from_bools<const N: usize>(
     requires fits { 8 * N < 2 ^ 64 }
     ensures count { IfOk result (λ q. IsChunkCount N (length q.items) (length bools.now)) }
     ensures bits { IfOk result (λ q. (i : ℕ) → bit_of N q.items i ≡ slice_index_or bools.now i false) }
+    ensures none { length bools.now ≡ 0 → IsOk result }
 {
     let width = chunk_bits::<N>() as usize;
     let count = chunk_count::<N>(bools.len() as u64);

@@ -15,7 +15,7 @@ invariant_of-result g c =
     let k = IsChunkCount-ceil g.row.N c.args.size c.requires.positive in
     (c.requires.positive, c.requires.fits, rw (c.clear_tail.ensures.count, c.in_ok-append_copies.ensures.ok, c.new-chunks.ensures.items, c.chunk_count.ensures, length-replicate) k, c.clear_tail.ensures.zero)
 
-pub returns : goal.returns
-returns g c =
+pub returns-clause-ok : goal.returns-clause-ok
+returns-clause-ok g c =
     let k = IsChunkCount-ceil g.row.N c.args.size c.requires.positive in
     bits-replicate _ _ _ true (λ i s. c.clear_tail.ensures.below i s ∙ rw (c.in_ok-append_copies.ensures.ok, c.new-chunks.ensures.items, c.chunk_count.ensures) (bit_of-ones _ _ i c.requires.positive (index_below _ _ _ _ c.requires.positive s k)))
