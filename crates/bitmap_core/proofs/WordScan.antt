@@ -1,20 +1,22 @@
 -- The words of a range that were loaded, and how many there are.
-use Rattle.std.proofs.Common.{◌≡◌, ℕ, suc, ◌+◌, ◌*◌, ◌/◌, ◌%◌, ◌^◌, ◌<◌, ◌≤◌, ⊎_elim, Bool, true, List, ◌∷◌, ◌++◌, length, length-append, arith, ap, ◌∙◌}
+use Rattle.std.proofs.Common.{◌≡◌, ℕ, suc, ◌+◌, ◌*◌, ◌/◌, ◌%◌, ◌^◌, ◌<◌, ◌≤◌, ⊎_elim, Bool, true, List, [], ◌∷◌, ◌++◌, length, refl, arith, ap, ◌∙◌}
 use Rattle.std.proofs.lemmas.Bool.{cases_lt, lt-ltb, le-ltb}
 use Rattle.std.proofs.lemmas.Nat.{mod_below}
 use Rattle.bitmap_core.specs.Meaning.{Meaning, IsLawful, ShowsChunk, starts_word, next_word, word_start, words_between, ones_between, IsScan}
-use Rattle.bitmap_core.proofs.SetPositions.{ones_between-append, ones_between-hit, ones_between-length}
-use Rattle.bitmap_core.proofs.WordStarts.{Stays, Leaves, next_cases, Follows, follows, start_of, start_chunk, retained_start}
+use Rattle.bitmap_core.proofs.SetPositions.{ones_between-append, ones_between-false, ones_between-hit, ones_between-length}
+use Rattle.bitmap_core.proofs.WordStarts.{Stays, Leaves, next_cases, Follows, follows, inside_none, start_of, start_chunk, retained_start}
 
 -- ---- the count of loads
 
-counted_more : (n base next end loads total : ℕ) → base < next → next < end → starts_word n next ≡ true →
-    loads + length (ones_between (starts_word n) (base + 1) end) ≤ total → loads + 1 + length (ones_between (starts_word n) (next + 1) end) ≤ total
-counted_more n base next end loads total h i s c =
+counted_more : (n base next end loads total : ℕ) → starts_word n base ≡ true → Follows n base next → next < end →
+    loads + length (ones_between (starts_word n) (base + 1) end) ≡ total → loads + 1 + length (ones_between (starts_word n) (next + 1) end) ≡ total
+counted_more n base next end loads total s f i c =
     let p : ℕ → Bool = starts_word n in
+    let h : base < next = f.after in
+    let none : ones_between p (base + 1) next ≡ [] = ones_between-false p (base + 1) next (λ k a b. inside_none n base next k s f (omega arith) b) in
     let one : ones_between p (base + 1) end ≡ ones_between p (base + 1) next ++ ones_between p next end = ones_between-append p (base + 1) next end (omega arith) (omega arith) in
-    let two : ones_between p next end ≡ next ∷ ones_between p (next + 1) end = ones_between-hit p next end i s in
-    let three : length (ones_between p (base + 1) end) ≡ length (ones_between p (base + 1) next) + length (ones_between p next end) = ap length one ∙ length-append (ones_between p (base + 1) next) (ones_between p next end) in
+    let two : ones_between p next end ≡ next ∷ ones_between p (next + 1) end = ones_between-hit p next end i f.starts in
+    let three : length (ones_between p (base + 1) end) ≡ length (ones_between p next end) = rw (one, none) refl in
     let four : length (ones_between p next end) ≡ suc (length (ones_between p (next + 1) end)) = ap length two in
     omega arith
 
@@ -48,8 +50,8 @@ module _ (n : ℕ) (m : Meaning) (base end : ℕ) (chunk : List ℕ) (loads firs
       (λ (s : Leaves (8 * n) base (next_word n base)). absurd (ne (ap (λ (k : ℕ). k % (8 * n)) is ∙ s.within)))
       (next_cases n base scan.lawful.positive)
 
-  step_counted : loads + 1 + length (ones_between (starts_word n) (next + 1) end) ≤ words_between n first end
-  step_counted = counted_more n base next end loads (words_between n first end) step_after inside (step_follows step_before).starts scan.counted
+  step_counted : loads + 1 + length (ones_between (starts_word n) (next + 1) end) ≡ words_between n first end
+  step_counted = counted_more n base next end loads (words_between n first end) (scan.aligned step_before) (step_follows step_before) inside scan.counted
 
   step_scan : (bytes : List ℕ) → ShowsChunk n m (next / (8 * n)) bytes → IsScan n m next end bytes (loads + 1) first
   step_scan bytes shown = record {
@@ -91,7 +93,7 @@ step {n} {m} {base} {end} {loads} {first} {next} {chunk} scan is inside fits =
 -- ---- the first word of a range
 
 -- the first load is one of the words of the range
-pub counted_first : (n first end : ℕ) → 0 < n → first < end → 1 + length (ones_between (starts_word n) (word_start n first + 1) end) ≤ words_between n first end
+pub counted_first : (n first end : ℕ) → 0 < n → first < end → 1 + length (ones_between (starts_word n) (word_start n first + 1) end) ≡ words_between n first end
 counted_first n first end p h =
     let e = lt-ltb first end h in
     let hit : ones_between (starts_word n) (word_start n first) end ≡ word_start n first ∷ ones_between (starts_word n) (word_start n first + 1) end = ones_between-hit (starts_word n) (word_start n first) end (omega arith) (start_of n first p) in

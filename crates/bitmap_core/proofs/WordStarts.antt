@@ -1,6 +1,6 @@
 -- Where the words of a chunk begin.
-use Rattle.std.proofs.Common.{◌≡◌, ℕ, ◌+◌, ◌-◌, ◌*◌, ◌/◌, ◌%◌, ◌<◌, ◌≤◌, ◌⊎◌, inl, inr, ⊎_elim, true, refl, arith, ap, ◌∙◌}
-use Rattle.std.proofs.lemmas.Bool.{eqb-true, eq-eqb, cases_lt, lt-ltb, le-ltb}
+use Rattle.std.proofs.Common.{◌≡◌, ℕ, ◌+◌, ◌-◌, ◌*◌, ◌/◌, ◌%◌, ◌<◌, ◌≤◌, ◌⊎◌, inl, inr, ⊎_elim, true, false, refl, arith, ap, ◌∙◌}
+use Rattle.std.proofs.lemmas.Bool.{eqb-true, eq-eqb, ne_eqb, cases_lt, lt-ltb, le-ltb}
 use Rattle.std.proofs.lemmas.Nat.{div-add-mod', mod-mul-add, mod_below}
 use Rattle.std.proofs.Math.Nat.{mul-le-mul_left}
 use Rattle.std.proofs.Math.Arith.{digits_div}
@@ -81,6 +81,16 @@ follows n k p h =
       past = λ i l m. let r = s.is in omega arith;
     })
     (next_cases n k p)
+
+-- no word begins inside of one that begins at k
+pub inside_none : (n k next i : ℕ) → starts_word n k ≡ true → Follows n k next → k < i → i < next → starts_word n i ≡ false
+inside_none n k next i h f a b =
+    let s = start_aligned n k h in
+    let near = f.near in
+    let room = f.in_chunk in
+    let e : i ≡ k / (8 * n) * (8 * n) + (k % (8 * n) + (i - k)) = omega (arith, div-add-mod' k (8 * n)) in
+    let d : i % (8 * n) ≡ k % (8 * n) + (i - k) = ap (λ (x : ℕ). x % (8 * n)) e ∙ mod-mul-add (k / (8 * n)) (8 * n) (k % (8 * n) + (i - k)) (omega arith) in
+    ne_eqb (i % (8 * n) % 64) 0 (rw d (λ z. omega arith))
 
 -- ---- the word of a position
 

@@ -88,7 +88,7 @@ pub record IsScan (n : ℕ) (m : Meaning) (base : ℕ) (end : ℕ) (chunk : List
   pub aligned : base < end → starts_word n base ≡ true
   pub retained : base < end → 8 * n * m.pruned ≤ base
   pub shown : base < end → ShowsChunk n m (base / (8 * n)) chunk
-  pub counted : loads + length (ones_between (starts_word n) (base + 1) end) ≤ words_between n first end
+  pub counted : loads + length (ones_between (starts_word n) (base + 1) end) ≡ words_between n first end
 
 -- a word at base has no bit at or past the end
 abbrev pub IsCut : ℕ → ℕ → ℕ → Type 0

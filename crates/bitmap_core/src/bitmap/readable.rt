@@ -256,6 +256,7 @@ fn advance<B: Readable<N>, const N: usize>(readable: &B, end: u64, cursor: &mut 
     ensures scan { IsScan N (B.meaning readable.now) cursor.new.base end cursor.new.chunk cursor.new.loads cursor.new.first }
     ensures cut { IsCut cursor.new.base cursor.new.word end }
     ensures first { cursor.new.first ≡ cursor.old.first }
+    ensures counted { cursor.old.loads ≤ cursor.new.loads }
     ensures left { left_from N (B.meaning readable.now) cursor.new.base cursor.new.word end ≡ left_from N (B.meaning readable.now) cursor.old.base cursor.old.word end }
     ensures found { MatchBool result (0 < cursor.new.word) (left_from N (B.meaning readable.now) cursor.new.base cursor.new.word end ≡ []) }
 {
@@ -299,6 +300,7 @@ fn load_next<B: Readable<N>, const N: usize>(
     ensures cut { IsCut cursor.new.base cursor.new.word end }
     ensures first { cursor.new.first ≡ cursor.old.first }
     ensures base { cursor.new.base ≡ next }
+    ensures counted { cursor.new.loads ≡ cursor.old.loads + 1 }
     ensures left { left_from N (B.meaning readable.now) cursor.new.base cursor.new.word end ≡ ones_between (B.meaning readable.now).bit next end }
 {
     turn_chunk(readable, next, &mut cursor.chunk);
@@ -316,7 +318,7 @@ impl<'a, B: Readable<N>, const N: usize> Iterator for OnesIter<'a, B, N> {
     fn next(&mut self) -> Option<u64>
         ensures steps { YieldsFirst (λ s. s.left) self.old result self.new }
         ensures goes { MakesProgress (λ _. ⊤) (item_count (λ s. s.left)) self.old result self.new }
-        ensures loads { (self.new.loads ≤ self.new.words) × (self.new.words ≡ self.old.words) }
+        ensures loads { (self.old.loads ≤ self.new.loads) × (self.new.loads ≤ self.new.words) × (self.new.words ≡ self.old.words) }
     {
         if !advance(self.readable, self.end, &mut self.cursor) {
             return None;

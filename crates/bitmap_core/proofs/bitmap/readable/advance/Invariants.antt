@@ -1,4 +1,4 @@
-use Rattle.std.proofs.Common.{◌-◌, ◌≡◌}
+use Rattle.std.proofs.Common.{◌-◌, ◌≡◌, ◌≤◌}
 use Rattle.bitmap_core.specs.Meaning.{Meaning, IsScan, IsCut, left_from}
 use Rattle.bitmap_core.proofs.bitmap.readable.advance.Given as goal
 
@@ -9,6 +9,7 @@ invariant-loop-cursor g l =
       scan : IsScan g.row.N m l.cursor.base l.end l.cursor.chunk l.cursor.loads l.cursor.first;
       cut : IsCut l.cursor.base l.cursor.word l.end;
       first : l.cursor.first ≡ l.initial.cursor.first;
+      counted : l.initial.cursor.loads ≤ l.cursor.loads;
       left : left_from g.row.N m l.cursor.base l.cursor.word l.end ≡ left_from g.row.N m l.initial.cursor.base l.initial.cursor.word l.end;
     }
 
