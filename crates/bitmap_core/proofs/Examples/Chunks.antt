@@ -1,5 +1,5 @@
 -- Bits and bytes of one chunk.
-use Rattle.std.specs.Prelude.{◌≡◌, ℕ, ◌*◌, ◌/◌, ◌%◌, ◌<◌, Bool, true, false, not, ◌==◌, ◌||◌, List, [], ◌∷◌, slice_index, slice_index_or}
+use Rattle.std.specs.Prelude.{◌≡◌, ℕ, ◌/◌, ◌%◌, ◌<◌, true, false, not, ◌==◌, ◌||◌, [], ◌∷◌, slice_index, slice_index_or}
 use Rattle.std.specs.Int.{bit_at}
 use Rattle.std.proofs.Common.{zero, suc, refl, ap, arith}
 use Rattle.std.proofs.lemmas.Nat.{mod_below}

@@ -1,7 +1,7 @@
 -- Two tables compared place by place.
-use Rattle.std.specs.Prelude.{◌≡◌, ℕ, ◌+◌, ◌*◌, ◌/◌, ◌%◌, ◌<◌, ◌≤◌, Bool, true, false, List, map, length, slice_index_or, not, ◌==◌, if◌then◌else◌}
+use Rattle.std.specs.Prelude.{◌≡◌, ℕ, ◌*◌, ◌/◌, ◌%◌, ◌<◌, ◌≤◌, Bool, true, false, List, map, length, slice_index_or, not, ◌==◌, if◌then◌else◌}
 use Rattle.std.specs.List.{range_with_len}
-use Rattle.std.proofs.Common.{refl, ap, sym, ◌≢◌, ◌∙◌, arith, inl, inr}
+use Rattle.std.proofs.Common.{ap, sym, ◌≢◌, ◌∙◌, arith, inl, inr}
 use Rattle.std.proofs.lemmas.List.FromFn.{get_or-map-range_with_len}
 use Rattle.std.proofs.lemmas.Bool.{cases_lt, ne_eqb}
 use Rattle.std.proofs.Math.Nat.{mod-eq_of_lt}

@@ -1,12 +1,10 @@
 -- Texts, what they spell, and what is wrong with them. A number is written in eight bytes.
-use Rattle.std.specs.Prelude.{◌≡◌, ℕ, ◌^◌, ◌<◌, Bool, true, false, ◌==◌, List, [], ◌∷◌, ◌++◌, length, replicate, Option, Some, None, codes, nat_le}
+use Rattle.std.specs.Prelude.{◌≡◌, ℕ, Bool, true, false, ◌==◌, List, [], ◌∷◌, ◌++◌, length, replicate, Some, None, codes}
 use Rattle.std.proofs.Common.{refl, arith, ap}
 use denote.Bor.{Bor}
 use Rattle.bitmap_core.specs.declared.bitmap.codec.error.CodecError.TheVariants as errors
-use Rattle.bitmap_core.specs.declared.bitmap.codec.range.RangeCfg.{RangeCfg}
-use Rattle.bitmap_core.specs.PrunedBits.{PrunedBits}
 use Rattle.bitmap_core.specs.Spelling.{spelling, pair_spelling}
-use Rattle.bitmap_core.specs.Reading.{Fault, fault, admits, number, chunk_bytes, trailing, is_past_64, is_short, is_out_of_range, has_too_many_chunks, lacks_chunks, has_trailing_bit, has_too_many_pruned_bits, has_too_many_pruned_chunks, has_too_many_bits, first_fault, bits_tests, pair_tests, bits_fault, pair_fault, bits_in, pair_in, SpellsBits, SpellsPair}
+use Rattle.bitmap_core.specs.Reading.{fault, admits, number, chunk_bytes, trailing, is_past_64, is_short, is_out_of_range, has_too_many_chunks, lacks_chunks, has_trailing_bit, has_too_many_pruned_bits, has_too_many_pruned_chunks, has_too_many_bits, first_fault, bits_fault, pair_fault, bits_in, pair_in, SpellsBits, SpellsPair}
 use Rattle.bitmap_core.specs.Reading.Fault.{EndOfBuffer, InvalidLength, Invalid}
 
 -- a number up to 255, in eight bytes

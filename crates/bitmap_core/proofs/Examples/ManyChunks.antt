@@ -1,11 +1,11 @@
 -- Lists of chunks, and the bits that they hold.
-use Rattle.std.specs.Prelude.{◌≡◌, ℕ, ◌+◌, ◌*◌, ◌/◌, ◌%◌, ◌<◌, ◌≤◌, Bool, true, false, not, ◌==◌, ◌&&◌, ◌||◌, List, [], ◌∷◌, slice_index, slice_index_or}
+use Rattle.std.specs.Prelude.{◌≡◌, ℕ, ◌/◌, ◌%◌, ◌<◌, Bool, true, false, not, ◌==◌, ◌&&◌, ◌||◌, [], ◌∷◌, slice_index, slice_index_or}
 use Rattle.std.specs.Int.{bit_at}
 use Rattle.std.proofs.Common.{zero, suc, refl, ap, sym, ◌∙◌, arith, inl, inr}
 use Rattle.std.proofs.lemmas.Nat.{mod_below}
 use Rattle.std.proofs.Math.Bool.{xor}
 use Rattle.std.proofs.lemmas.Bool.{false≢true, cases_lt}
-use Rattle.bitmap_core.specs.Chunk.{chunk_bit, IsChunk}
+use Rattle.bitmap_core.specs.Chunk.{chunk_bit}
 use Rattle.bitmap_core.specs.Bits.{bit_of, bits, IsZeroFrom, IsChunkCount, IsBitPut, AreChunks, IsBytePut}
 use Rattle.bitmap_core.specs.Gates.{IsJoined}
 use Rattle.bitmap_core.proofs.ChunkLists.{bit_of_past}
@@ -117,7 +117,7 @@ byte_put : IsBytePut 2 ((1 ∷ 2 ∷ []) ∷ (3 ∷ 4 ∷ []) ∷ []) ((1 ∷ 2 
 byte_put = record {
   here = λ j e. same_at (λ k. k / 8 == 3) (bit_of 2 ((1 ∷ 2 ∷ []) ∷ (3 ∷ 9 ∷ []) ∷ [])) (λ k. bit_at 9 (k % 8) == 1) 32 j refl (omega arith) (ap (λ q. q == 3) e);
   others = λ j d. same_bits 2 32 (λ k. not (k / 8 == 3)) ((1 ∷ 2 ∷ []) ∷ (3 ∷ 4 ∷ []) ∷ []) ((1 ∷ 2 ∷ []) ∷ (3 ∷ 9 ∷ []) ∷ []) j refl (λ h. omega arith) refl (is_other (j / 8) 3 d);
-  count = refl
+  count = refl;
 }
 
 -- where the byte beside it is changed as well, it is not put so

@@ -1,5 +1,5 @@
 -- Bitmaps with a pruned front. Each has chunks of one byte, where no other width is named.
-use Rattle.std.specs.Prelude.{◌≡◌, ℕ, ◌<◌, ◌≤◌, Bool, true, false, List, [], ◌∷◌, ◌==◌}
+use Rattle.std.specs.Prelude.{◌≡◌, Bool, true, false, List, [], ◌∷◌, ◌==◌}
 use Rattle.std.proofs.Common.{refl, arith}
 use Rattle.bitmap_core.specs.PrunedBits.{PrunedBits, unpruned_bits, pruned_bits, bit_len, bit_at, IsRetained, HasChunk, from_bits, chunk, pushed, popped, last_bit, set_at, appended, extended, truncated, pruned_to, unpruned, with_chunk}
 

@@ -1,11 +1,10 @@
 -- What readers see, set positions, and words.
-use Rattle.std.specs.Prelude.{◌≡◌, ℕ, ◌+◌, ◌-◌, ◌*◌, ◌^◌, ◌<◌, ◌≤◌, Bool, true, false, ◌==◌, ◌||◌, List, [], ◌∷◌}
+use Rattle.std.specs.Prelude.{◌≡◌, ◌^◌, true, false, ◌==◌, ◌||◌, [], ◌∷◌}
 use Rattle.std.specs.Int.{bit_at as digit_at}
 use Rattle.std.proofs.Common.{zero, suc, refl, arith}
 use Rattle.std.proofs.lemmas.Bool.{false≢true}
 use Rattle.bitmap_core.proofs.PlaceTests.{any_range_at}
 use Rattle.bitmap_core.specs.PrunedBits.{PrunedBits}
-use Rattle.bitmap_core.specs.Chunk.{chunk_bit}
 use Rattle.bitmap_core.specs.Meaning.{Meaning, plain_meaning, pair_meaning, IsLawful, IsRetainedChunk, IsRetained, ShowsChunk, ones_between, ones, starts_word, word_start, next_word, words_between, words, word_bit, left_from, IsScan, IsCut}
 
 -- two bits, 1 and 0, nothing pruned
@@ -220,7 +219,7 @@ iterator = record {
   aligned = λ h. refl;
   retained = λ h. omega arith;
   shown = λ h. shows;
-  counted = omega arith
+  counted = omega arith;
 }
   where
     shows : ShowsChunk 1 ten 0 (5 ∷ [])

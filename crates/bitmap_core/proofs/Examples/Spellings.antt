@@ -1,7 +1,6 @@
 -- The bytes that spell bitmaps.
-use Rattle.std.specs.Prelude.{◌≡◌, ℕ, Bool, true, false, List, [], ◌∷◌, ◌++◌, replicate}
+use Rattle.std.specs.Prelude.{◌≡◌, true, false, [], ◌∷◌, ◌++◌, replicate}
 use Rattle.std.proofs.Common.{refl}
-use Rattle.bitmap_core.specs.PrunedBits.{PrunedBits}
 use Rattle.bitmap_core.specs.Spelling.{chunk_count, spelling, pair_spelling}
 
 -- chunks of four bytes: none for no bits, one for 1 and for 32, two for 33

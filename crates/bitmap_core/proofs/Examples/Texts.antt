@@ -1,5 +1,5 @@
 -- Bitmaps as text, and what a hash is fed.
-use Rattle.std.specs.Prelude.{◌≡◌, ℕ, Bool, true, false, List, [], ◌∷◌, ◌++◌, replicate, codes}
+use Rattle.std.specs.Prelude.{◌≡◌, true, false, [], ◌∷◌, ◌++◌, replicate, codes}
 use Rattle.std.specs.Hash.{le_bytes}
 use Rattle.std.proofs.Common.{refl}
 use Rattle.bitmap_core.specs.Text.{digit, debug_text}
