@@ -7,7 +7,7 @@ use Rattle.bitmap_core.specs.declared.bitmap.codec.range.RangeCfg.{RangeCfg}
 use Rattle.bitmap_core.specs.Reading.{admits, pair_fault}
 use Rattle.bitmap_core.specs.Reading.Fault.{EndOfBuffer}
 use Rattle.replay.specs.declared.command.Command.TheVariants.{Start, Begin, Push, Pop, Set, Commit, Abort, Len, PrunedChunks, Get, Ones, Encode, At, Decode}
-use Rattle.replay.specs.Machine.{State, no_bits, is_dirty, shown, edited, WrongMode, OutOfBounds, Pruned, TooLong, NoRetainedBit, ReservedCommitNumber, NonMonotonicCommit, PrunedChunksOverflow, Codec, when, first, chunk_at, shown_len, wrong_mode, out_of_bounds, is_pruned, too_long, none_retained, reserved, not_above, overflows, unreadable, refusal_of}
+use Rattle.replay.specs.Machine.{State, start, no_bits, is_dirty, shown, edited, WrongMode, OutOfBounds, Pruned, TooLong, NoRetainedBit, ReservedCommitNumber, NonMonotonicCommit, PrunedChunksOverflow, Codec, when, first, chunk_at, shown_len, wrong_mode, out_of_bounds, is_pruned, too_long, none_retained, reserved, not_above, overflows, unreadable, refusal_of}
 
 -- two bits behind one pruned chunk: positions 8 and 9
 abbrev pub two_bits : PrunedBits
@@ -141,12 +141,24 @@ ten_is_out = refl
 ten_is_in : out_of_bounds 1 dirty (Get 10) ≡ false
 ten_is_in = refl
 
+nine_is_in : out_of_bounds 1 clean (Get 9) ≡ false
+nine_is_in = refl
+
+ten_may_be_set : out_of_bounds 1 dirty (Set 10 true) ≡ false
+ten_may_be_set = refl
+
 eleven_is_out : out_of_bounds 1 dirty (Set 11 true) ≡ true
 eleven_is_out = refl
 
--- 7 is the last pruned position
+-- 7 is the last pruned position, and 8 is retained
 seven_is_pruned : is_pruned 1 clean (Get 7) ≡ true
 seven_is_pruned = refl
+
+seven_is_not_set : is_pruned 1 dirty (Set 7 true) ≡ true
+seven_is_not_set = refl
+
+eight_is_retained : is_pruned 1 clean (Get 8) ≡ false
+eight_is_retained = refl
 
 eight_is_not_pruned : is_pruned 1 dirty (Set 8 true) ≡ false
 eight_is_not_pruned = refl
@@ -203,6 +215,12 @@ no_bytes_unreadable text range e = let f : pair_fault 1 (admits range) text.item
 wrong_mode_first : refusal_of 1 clean (Set 99 true) ≡ Some WrongMode
 wrong_mode_first = refl
 
+commit_outside : refusal_of 1 clean (Commit 5) ≡ Some WrongMode
+commit_outside = refl
+
+pop_outside : refusal_of 1 start.state Pop ≡ Some WrongMode
+pop_outside = refl
+
 out_of_bounds_read : refusal_of 1 clean (Get 10) ≡ Some OutOfBounds
 out_of_bounds_read = refl
 
@@ -241,6 +259,15 @@ decode_nothing text range e = let f : pair_fault 1 (admits range) text.items ≡
 -- and these are accepted
 push_accepted : refusal_of 1 dirty (Push true) ≡ None
 push_accepted = refl
+
+get_accepted : refusal_of 1 clean (Get 8) ≡ None
+get_accepted = refl
+
+pop_accepted : refusal_of 1 dirty Pop ≡ None
+pop_accepted = refl
+
+start_accepted : refusal_of 1 clean (Start 2305843009213693951) ≡ None
+start_accepted = refl
 
 set_accepted : refusal_of 1 dirty (Set 10 false) ≡ None
 set_accepted = refl

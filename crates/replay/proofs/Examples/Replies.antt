@@ -1,5 +1,5 @@
 -- What accepted commands reply, and what they leave. Chunks have one byte.
-use Rattle.std.specs.Prelude.{◌≡◌, ℕ, Bool, true, false, List, [], ◌∷◌, Some, None}
+use Rattle.std.specs.Prelude.{◌≡◌, ℕ, Bool, true, false, List, [], ◌∷◌, replicate, Some, None}
 use Rattle.std.specs.Global.{Vec}
 use Rattle.std.proofs.Common.{refl, ap, ◌∙◌, inl, inr}
 use Rattle.bitmap_core.specs.PrunedBits.{PrunedBits}
@@ -251,6 +251,17 @@ down_within_a_chunk = refl
 
 up_to_two_chunks : popped_to_chunks 1 (pending (true ∷ true ∷ true ∷ true ∷ true ∷ true ∷ true ∷ true ∷ [])) ≡ false
 up_to_two_chunks = refl
+
+-- from 16 down and up to 16 again, which is no fewer
+no_fewer : popped_to_chunks 1 (record { current = behind_one (replicate 8 true); pending = Some (behind_one (replicate 8 false)); history = []; costs = [] }) ≡ false
+no_fewer = refl
+
+-- from 17 down to 16, at width 1; of chunks of two bytes 32 are a whole one, and 24 are not
+down_to_two_chunks : popped_to_chunks 1 (record { current = behind_one (replicate 9 true); pending = Some (behind_one (replicate 8 true)); history = []; costs = [] }) ≡ true
+down_to_two_chunks = refl
+
+down_within_a_wide_chunk : popped_to_chunks 2 (record { current = behind_one (replicate 9 true); pending = Some (behind_one (replicate 8 true)); history = []; costs = [] }) ≡ false
+down_within_a_wide_chunk = refl
 
 -- the chunks 1 and 2 touched, one of them twice
 two_touched : most_cost 1 (touched (true ∷ []) (1 ∷ 2 ∷ 1 ∷ [])) ≡ 2
