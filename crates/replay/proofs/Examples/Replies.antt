@@ -100,6 +100,10 @@ pending_length = refl
 pruned_count : answer_of 1 clean PrunedChunks ≡ Number 1
 pruned_count = refl
 
+-- of a batch whose bitmap has another count, that count
+pending_count : answer_of 1 (record { current = behind_one []; pending = Some no_bits; history = []; costs = [] }) PrunedChunks ≡ Number 0
+pending_count = refl
+
 -- position 9 without a batch, and in one that has set it
 current_bit : answer_of 1 clean (Get 9) ≡ Bit false
 current_bit = refl

@@ -128,6 +128,10 @@ set_in_bounds (inr m) = let e = m.1.0 in cc
 begin_in_a_batch : Step 1 (batch_on_it (true ∷ []) []) Begin Done (batch_on_it (true ∷ false ∷ []) []) → ⊥
 begin_in_a_batch r = let e = r.0 in cc
 
+-- a refused command does not leave another machine
+refused_and_changed : Step 1 one_kept (Push true) (Refused WrongMode) start → ⊥
+refused_and_changed r = let e : ◌≡◌ {A = ℕ} 0 1 = ap (λ (m : Machine). length m.state.history) r.1 in omega (arith, e)
+
 -- one touched chunk may cost one entry, and not two
 dear_commit : Step 1 (batch_on_it (false ∷ []) (0 ∷ [])) (Commit 2) Done (clean (plain (false ∷ [])) ((1, plain (true ∷ false ∷ [])) ∷ (2, plain (false ∷ [])) ∷ []) ((1, 1) ∷ (2, 2) ∷ [])) → ⊥
 dear_commit (inl a) = let e : 2 ≡ a.1.0 = ap (λ (m : Machine). slice_index (map (λ c. c.1) m.state.costs) 1) a.1.2 in omega (arith, a.1.1, e)
