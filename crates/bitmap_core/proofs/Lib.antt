@@ -39,3 +39,4 @@ pub mod JoinedWords
 pub mod BitByBit
 pub mod Members
 pub mod PairMeanings
+pub mod Examples

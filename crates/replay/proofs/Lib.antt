@@ -3,3 +3,4 @@ pub mod Counting
 pub mod Simulates
 pub mod Runs
 pub mod Steps
+pub mod Examples

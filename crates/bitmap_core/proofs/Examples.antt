@@ -1,0 +1,9 @@
+-- Definitions computed on small values whose results were worked out by hand.
+pub mod EachPlace
+pub mod Chunks
+pub mod ManyChunks
+pub mod Pruned
+pub mod Readers
+pub mod Spellings
+pub mod Faults
+pub mod Texts

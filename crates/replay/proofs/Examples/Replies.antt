@@ -1,0 +1,287 @@
+-- What accepted commands reply, and what they leave. Chunks have one byte.
+use Rattle.std.specs.Prelude.{◌≡◌, ℕ, Bool, true, false, List, [], ◌∷◌, replicate, Some, None}
+use Rattle.std.specs.Global.{Vec}
+use Rattle.std.proofs.Common.{refl, ap, ◌∙◌, inl, inr}
+use Rattle.bitmap_core.specs.PrunedBits.{PrunedBits}
+use Rattle.bitmap_core.specs.declared.bitmap.codec.range.RangeCfg.{RangeCfg}
+use Rattle.bitmap_core.specs.Spelling.{spelling, pair_spelling}
+use Rattle.bitmap_core.specs.Reading.{pair_fault, pair_in, bits_in}
+use Rattle.bitmap_core.specs.Reading.Fault.{EndOfBuffer}
+use Rattle.replay.specs.declared.command.Command.TheVariants.{Start, Begin, Push, Pop, Set, Commit, Abort, Len, PrunedChunks, Get, Ones, Encode, At, Decode}
+use Rattle.replay.specs.Machine.{State, Machine, start, no_bits, Done, Bit, Number, Positions, Bytes, Snapshot, Read, Refused, Codec, NoMemory, takes_memory, decoded, IsDecoded, answer_of, state_after, touches, touched_after, popped_to_chunks, most_cost, after}
+
+-- bits behind one pruned chunk
+abbrev pub behind_one : List Bool → PrunedBits
+behind_one v = record { pruned = 1; bits = v }
+
+-- bits 1, 0 at the positions 8 and 9; one commit under 5
+abbrev pub clean : State
+clean = record { current = behind_one (true ∷ false ∷ []); pending = None; history = (5, behind_one (true ∷ false ∷ [])) ∷ []; costs = (5, 1) ∷ [] }
+
+-- in a batch some bits are pending
+abbrev pub pending : List Bool → State
+pending v = record { current = behind_one (true ∷ false ∷ []); pending = Some (behind_one v); history = (5, behind_one (true ∷ false ∷ [])) ∷ []; costs = (5, 1) ∷ [] }
+
+-- the same, with chunks that the batch has touched
+abbrev pub touched : List Bool → List ℕ → Machine
+touched v chunks = record { state = pending v; touched = chunks }
+
+-- the bitmap without bits, and the first machine
+nothing : no_bits ≡ record { pruned = 0; bits = [] }
+nothing = refl
+
+first_machine : start ≡ record { state = record { current = record { pruned = 0; bits = [] }; pending = None; history = []; costs = [] }; touched = [] }
+first_machine = refl
+
+-- ---- memory
+
+-- a push may find none, a pop always finds it
+push_takes_memory : takes_memory 1 (pending []) (Push true) ≡ true
+push_takes_memory = refl
+
+pop_takes_none : takes_memory 1 (pending (true ∷ [])) Pop ≡ false
+pop_takes_none = refl
+
+-- so may these
+begin_takes_memory : takes_memory 1 clean Begin ≡ true
+begin_takes_memory = refl
+
+set_takes_memory : takes_memory 1 (pending (true ∷ [])) (Set 8 true) ≡ true
+set_takes_memory = refl
+
+commit_takes_memory : takes_memory 1 (pending []) (Commit 6) ≡ true
+commit_takes_memory = refl
+
+ones_take_memory : takes_memory 1 clean (Ones 0 9) ≡ true
+ones_take_memory = refl
+
+encode_takes_memory : takes_memory 1 clean Encode ≡ true
+encode_takes_memory = refl
+
+decode_takes_memory : (text : Vec ℕ) (range : RangeCfg) → takes_memory 1 clean (Decode text range) ≡ true
+decode_takes_memory text range = refl
+
+-- a commit that is kept takes memory to be read, and none is taken for one that is not
+kept_takes_memory : takes_memory 1 clean (At 5) ≡ true
+kept_takes_memory = refl
+
+not_kept_takes_none : takes_memory 1 clean (At 6) ≡ false
+not_kept_takes_none = refl
+
+-- and these find it always
+start_takes_none : takes_memory 1 clean (Start 3) ≡ false
+start_takes_none = refl
+
+abort_takes_none : takes_memory 1 (pending []) Abort ≡ false
+abort_takes_none = refl
+
+get_takes_none : takes_memory 1 clean (Get 8) ≡ false
+get_takes_none = refl
+
+len_takes_none : takes_memory 1 clean Len ≡ false
+len_takes_none = refl
+
+pruned_chunks_take_none : takes_memory 1 clean PrunedChunks ≡ false
+pruned_chunks_take_none = refl
+
+-- ---- replies
+
+-- the last bit goes
+popped_bit : answer_of 1 (pending (true ∷ false ∷ true ∷ [])) Pop ≡ Bit true
+popped_bit = refl
+
+-- the length: 8 and two without a batch, 8 and three in it
+current_length : answer_of 1 clean Len ≡ Number 10
+current_length = refl
+
+pending_length : answer_of 1 (pending (true ∷ false ∷ true ∷ [])) Len ≡ Number 11
+pending_length = refl
+
+pruned_count : answer_of 1 clean PrunedChunks ≡ Number 1
+pruned_count = refl
+
+-- of a batch whose bitmap has another count, that count
+pending_count : answer_of 1 (record { current = behind_one []; pending = Some no_bits; history = []; costs = [] }) PrunedChunks ≡ Number 0
+pending_count = refl
+
+-- position 9 without a batch, and in one that has set it
+current_bit : answer_of 1 clean (Get 9) ≡ Bit false
+current_bit = refl
+
+pending_bit : answer_of 1 (pending (true ∷ true ∷ [])) (Get 9) ≡ Bit true
+pending_bit = refl
+
+-- of all positions 8 alone is set
+set_positions : answer_of 1 clean (Ones 0 99) ≡ Positions (Some (8 ∷ []))
+set_positions = refl
+
+-- one pruned chunk, two bits, and the byte 1
+encoded : answer_of 1 clean Encode ≡ Bytes (Some (0 ∷ 0 ∷ 0 ∷ 0 ∷ 0 ∷ 0 ∷ 0 ∷ 1 ∷ 0 ∷ 0 ∷ 0 ∷ 0 ∷ 0 ∷ 0 ∷ 0 ∷ 2 ∷ 1 ∷ []))
+unfolding pair_spelling spelling
+encoded = refl
+
+-- a kept number, and one that is not kept
+kept : answer_of 1 clean (At 5) ≡ Snapshot (Some (behind_one (true ∷ false ∷ [])))
+kept = refl
+
+not_kept : answer_of 1 clean (At 6) ≡ Snapshot None
+not_kept = refl
+
+-- these are done
+pushed : answer_of 1 (pending []) (Push true) ≡ Done
+pushed = refl
+
+committed : answer_of 1 (pending []) (Commit 6) ≡ Done
+committed = refl
+
+-- one pruned chunk and the bits 1, 0, 1 spelled, with two bytes behind them
+abbrev pub text_of_three : List ℕ
+text_of_three = 0 ∷ 0 ∷ 0 ∷ 0 ∷ 0 ∷ 0 ∷ 0 ∷ 1 ∷ 0 ∷ 0 ∷ 0 ∷ 0 ∷ 0 ∷ 0 ∷ 0 ∷ 3 ∷ 5 ∷ 77 ∷ 78 ∷ []
+
+pub read : decoded 1 text_of_three ≡ Read (behind_one (true ∷ false ∷ true ∷ [])) 2
+unfolding pair_spelling spelling pair_in bits_in
+read = refl
+
+-- a read of it may say so, or find no memory, and nothing else
+may_be_read : IsDecoded 1 (λ k. true) text_of_three (Read (behind_one (true ∷ false ∷ true ∷ [])) 2)
+unfolding pair_fault pair_spelling spelling pair_in bits_in
+may_be_read = inl refl
+
+may_find_no_memory : IsDecoded 1 (λ k. true) text_of_three (Refused NoMemory)
+unfolding pair_fault pair_spelling spelling pair_in bits_in
+may_find_no_memory = inr refl
+
+is_not_done : IsDecoded 1 (λ k. true) text_of_three Done → ⊥
+unfolding pair_fault pair_spelling spelling pair_in bits_in
+is_not_done (inl e) = cc
+is_not_done (inr e) = cc
+
+-- a short text is told as such, and never as want of memory
+is_short : IsDecoded 1 (λ k. true) [] (Refused (Codec (Some EndOfBuffer)))
+unfolding pair_fault
+is_short = refl
+
+is_not_want_of_memory : IsDecoded 1 (λ k. true) [] (Refused NoMemory) → ⊥
+unfolding pair_fault
+is_not_want_of_memory e = cc
+
+-- a decode replies so in a batch too
+decode_reply : (text : Vec ℕ) (range : RangeCfg) → text.items ≡ text_of_three → answer_of 1 (pending []) (Decode text range) ≡ Read (behind_one (true ∷ false ∷ true ∷ [])) 2
+decode_reply text range e = ap (decoded 1) e ∙ read
+
+-- ---- states
+
+-- seven chunks pruned, and all else gone
+started : state_after 1 clean (Start 7) 0 ≡ record { current = record { pruned = 7; bits = [] }; pending = None; history = []; costs = [] }
+started = refl
+
+-- a batch begins on the current bits
+begun : state_after 1 clean Begin 0 ≡ pending (true ∷ false ∷ [])
+begun = refl
+
+-- edits are of the pending bits
+push_leaves : state_after 1 (pending (true ∷ false ∷ [])) (Push true) 0 ≡ pending (true ∷ false ∷ true ∷ [])
+push_leaves = refl
+
+pop_leaves : state_after 1 (pending (true ∷ false ∷ [])) Pop 0 ≡ pending (true ∷ [])
+pop_leaves = refl
+
+set_leaves : state_after 1 (pending (true ∷ false ∷ [])) (Set 9 true) 0 ≡ pending (true ∷ true ∷ [])
+set_leaves = refl
+
+-- a commit under 6 at a cost of 2: the pending bits are current, and kept behind what was kept
+commit_leaves : state_after 1 (pending (true ∷ [])) (Commit 6) 2 ≡ record { current = behind_one (true ∷ []); pending = None; history = (5, behind_one (true ∷ false ∷ [])) ∷ (6, behind_one (true ∷ [])) ∷ []; costs = (5, 1) ∷ (6, 2) ∷ [] }
+commit_leaves = refl
+
+-- an abort leaves what was there before the batch
+abort_leaves : state_after 1 (pending (true ∷ [])) Abort 0 ≡ clean
+abort_leaves = refl
+
+-- a read changes nothing
+get_leaves : state_after 1 clean (Get 8) 0 ≡ clean
+get_leaves = refl
+
+at_leaves : state_after 1 clean (At 5) 0 ≡ clean
+at_leaves = refl
+
+decode_leaves : (text : Vec ℕ) (range : RangeCfg) → state_after 1 clean (Decode text range) 0 ≡ clean
+decode_leaves text range = refl
+
+-- ---- touched chunks
+
+-- a push at length 10 touches chunk 1, and at length 16 chunk 2
+push_touches : touches 1 (pending (true ∷ false ∷ [])) (Push true) ≡ 1 ∷ []
+push_touches = refl
+
+push_touches_the_next : touches 1 (pending (true ∷ true ∷ true ∷ true ∷ true ∷ true ∷ true ∷ true ∷ [])) (Push true) ≡ 2 ∷ []
+push_touches_the_next = refl
+
+-- a pop from 16 touches chunk 1, in which the last bit stands, and from 17 chunk 2
+pop_touches : touches 1 (pending (true ∷ true ∷ true ∷ true ∷ true ∷ true ∷ true ∷ true ∷ [])) Pop ≡ 1 ∷ []
+pop_touches = refl
+
+pop_touches_the_last : touches 1 (pending (true ∷ true ∷ true ∷ true ∷ true ∷ true ∷ true ∷ true ∷ true ∷ [])) Pop ≡ 2 ∷ []
+pop_touches_the_last = refl
+
+-- a set touches the chunk of its position, and no read touches one
+set_touches : touches 1 (pending (true ∷ false ∷ [])) (Set 9 true) ≡ 1 ∷ []
+set_touches = refl
+
+get_touches_none : touches 1 (pending (true ∷ false ∷ [])) (Get 9) ≡ []
+get_touches_none = refl
+
+-- a push in a batch that has touched chunk 0
+one_more_touched : touched_after 1 (touched (true ∷ []) (0 ∷ [])) (Push true) ≡ 0 ∷ 1 ∷ []
+one_more_touched = refl
+
+-- a batch begins with nothing touched, and once it has ended nothing is
+none_touched_yet : touched_after 1 (record { state = clean; touched = 4 ∷ [] }) Begin ≡ []
+none_touched_yet = refl
+
+none_touched_after_a_commit : touched_after 1 (touched (true ∷ []) (1 ∷ [])) (Commit 6) ≡ []
+none_touched_after_a_commit = refl
+
+none_touched_after_an_abort : touched_after 1 (touched (true ∷ []) (1 ∷ [])) Abort ≡ []
+none_touched_after_an_abort = refl
+
+-- ---- the most that a commit may cost
+
+-- from length 10 down to 8, which is one chunk; down to 9; up to 16
+down_to_one_chunk : popped_to_chunks 1 (pending []) ≡ true
+down_to_one_chunk = refl
+
+down_within_a_chunk : popped_to_chunks 1 (pending (true ∷ [])) ≡ false
+down_within_a_chunk = refl
+
+up_to_two_chunks : popped_to_chunks 1 (pending (true ∷ true ∷ true ∷ true ∷ true ∷ true ∷ true ∷ true ∷ [])) ≡ false
+up_to_two_chunks = refl
+
+-- from 16 down and up to 16 again, which is no fewer
+no_fewer : popped_to_chunks 1 (record { current = behind_one (replicate 8 true); pending = Some (behind_one (replicate 8 false)); history = []; costs = [] }) ≡ false
+no_fewer = refl
+
+-- from 17 down to 16, at width 1; of chunks of two bytes 32 are a whole one, and 24 are not
+down_to_two_chunks : popped_to_chunks 1 (record { current = behind_one (replicate 9 true); pending = Some (behind_one (replicate 8 true)); history = []; costs = [] }) ≡ true
+down_to_two_chunks = refl
+
+down_within_a_wide_chunk : popped_to_chunks 2 (record { current = behind_one (replicate 9 true); pending = Some (behind_one (replicate 8 true)); history = []; costs = [] }) ≡ false
+down_within_a_wide_chunk = refl
+
+-- the chunks 1 and 2 touched, one of them twice
+two_touched : most_cost 1 (touched (true ∷ []) (1 ∷ 2 ∷ 1 ∷ [])) ≡ 2
+two_touched = refl
+
+-- and one more where the bits have gone down to whole chunks
+one_more : most_cost 1 (touched [] (1 ∷ 2 ∷ 1 ∷ [])) ≡ 3
+one_more = refl
+
+-- an empty batch costs nothing
+none : most_cost 1 (touched (true ∷ false ∷ []) []) ≡ 0
+none = refl
+
+-- the machine after a push, and after a commit at a cost of 1
+after_a_push : after 1 (touched (true ∷ []) (1 ∷ [])) (Push false) 0 ≡ touched (true ∷ false ∷ []) (1 ∷ 1 ∷ [])
+after_a_push = refl
+
+after_an_abort : after 1 (touched (true ∷ []) (1 ∷ [])) Abort 0 ≡ record { state = clean; touched = [] }
+after_an_abort = refl

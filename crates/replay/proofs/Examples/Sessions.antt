@@ -1,0 +1,102 @@
+-- Sessions as machines, and what replies say.
+use Rattle.std.specs.Prelude.{◌≡◌, ℕ, true, [], ◌∷◌, Some, None}
+use Rattle.std.specs.Global.{Vec}
+use Rattle.std.proofs.Common.{refl, inl, inr, arith}
+use Rattle.bitmap_core.specs.PrunedBits.{PrunedBits}
+use Rattle.bitmap_core.specs.declared.bitmap.codec.error.CodecError.TheVariants as errors
+use Rattle.bitmap_core.specs.Reading.Fault.{EndOfBuffer, InvalidLength}
+use Rattle.replay.specs.declared.session.State.TheVariants as state
+use Rattle.replay.specs.declared.command.Refusal.TheVariants as refusal
+use Rattle.replay.specs.declared.command.Reply.TheVariants as reply
+use Rattle.replay.specs.Machine.{Done, Bit, Number, Positions, Bytes, Snapshot, Read, Refused, WrongMode, OutOfBounds, Pruned, TooLong, NoRetainedBit, ReservedCommitNumber, NonMonotonicCommit, PrunedChunksOverflow, Codec, NoMemory}
+use Rattle.replay.specs.Seen.{no_costs, reason, seen, said}
+use Rattle.replay.specs.Width.{IsWidth}
+
+-- a set bit, nothing pruned
+abbrev pub one_bit : PrunedBits
+one_bit = record { pruned = 0; bits = true ∷ [] }
+
+-- no bits
+abbrev pub none : PrunedBits
+none = record { pruned = 0; bits = [] }
+
+-- two commits, each at no cost
+two_costs : no_costs ((3, one_bit) ∷ (7, none) ∷ []) ≡ (3, 0) ∷ (7, 0) ∷ []
+two_costs = refl
+
+-- a session without a batch, and one in a batch
+seen_clean : seen {N = 1} (state.Clean (record { current = one_bit; history = (3, none) ∷ [] })) ≡ record { state = record { current = one_bit; pending = None; history = (3, none) ∷ []; costs = (3, 0) ∷ [] }; touched = [] }
+seen_clean = refl
+
+seen_dirty : seen {N = 1} (state.Dirty (record { current = none; history = (3, none) ∷ []; pending = one_bit })) ≡ record { state = record { current = none; pending = Some one_bit; history = (3, none) ∷ []; costs = (3, 0) ∷ [] }; touched = [] }
+seen_dirty = refl
+
+-- refusals, one by one
+reasons : (reason refusal.WrongMode ≡ WrongMode) × (reason refusal.OutOfBounds ≡ OutOfBounds) × (reason refusal.Pruned ≡ Pruned) × (reason refusal.TooLong ≡ TooLong) × (reason refusal.NoRetainedBit ≡ NoRetainedBit) × (reason refusal.ReservedCommitNumber ≡ ReservedCommitNumber) × (reason refusal.PrunedChunksOverflow ≡ PrunedChunksOverflow) × (reason refusal.NoMemory ≡ NoMemory)
+reasons = (refl, refl, refl, refl, refl, refl, refl, refl)
+
+-- the kept number comes first, and then the one that was tried
+reason_of_a_number : reason (refusal.NonMonotonicCommit 5 3) ≡ NonMonotonicCommit 5 3
+reason_of_a_number = refl
+
+-- an error of a text by its fault; want of memory has none
+reason_of_a_text : reason (refusal.Codec errors.EndOfBuffer) ≡ Codec (Some EndOfBuffer)
+reason_of_a_text = refl
+
+reason_of_a_length : reason (refusal.Codec (errors.InvalidLength 9)) ≡ Codec (Some (InvalidLength 9))
+reason_of_a_length = refl
+
+reason_without_a_fault : reason (refusal.Codec errors.OutOfMemory) ≡ Codec None
+reason_without_a_fault = refl
+
+-- replies
+said_done : said {N = 1} reply.Done ≡ Done
+said_done = refl
+
+said_bit : said {N = 1} (reply.Bit true) ≡ Bit true
+said_bit = refl
+
+said_number : said {N = 1} (reply.Number 7) ≡ Number 7
+said_number = refl
+
+said_positions : (v : Vec ℕ) → v.items ≡ 2 ∷ 5 ∷ [] → said {N = 1} (reply.Positions (Some v)) ≡ Positions (Some (2 ∷ 5 ∷ []))
+said_positions v e = rw e refl
+
+said_no_positions : said {N = 1} (reply.Positions None) ≡ Positions None
+said_no_positions = refl
+
+said_bytes : (v : Vec ℕ) → v.items ≡ 255 ∷ [] → said {N = 1} (reply.Bytes (Some v)) ≡ Bytes (Some (255 ∷ []))
+said_bytes v e = rw e refl
+
+said_snapshot : said {N = 1} (reply.Snapshot (Some one_bit)) ≡ Snapshot (Some one_bit)
+said_snapshot = refl
+
+said_read : said {N = 1} (reply.Read one_bit 3) ≡ Read one_bit 3
+said_read = refl
+
+said_refused : said {N = 1} (reply.Refused refusal.Pruned) ≡ Refused Pruned
+said_refused = refl
+
+-- 1, 3, 4, 8 and 32 are widths
+one : IsWidth 1
+one = inl refl
+
+three : IsWidth 3
+three = inr (inl refl)
+
+four : IsWidth 4
+four = inr (inr (inl refl))
+
+eight : IsWidth 8
+eight = inr (inr (inr (inl refl)))
+
+thirty_two : IsWidth 32
+thirty_two = inr (inr (inr (inr refl)))
+
+-- 2 is none
+not_two : IsWidth 2 → ⊥
+not_two (inl e) = omega (arith, e)
+not_two (inr (inl e)) = omega (arith, e)
+not_two (inr (inr (inl e))) = omega (arith, e)
+not_two (inr (inr (inr (inl e)))) = omega (arith, e)
+not_two (inr (inr (inr (inr e)))) = omega (arith, e)
