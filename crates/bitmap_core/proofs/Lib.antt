@@ -38,3 +38,4 @@ pub mod JoinedWords
 pub mod BitByBit
 pub mod Members
 pub mod PairMeanings
+pub mod Styled
