@@ -40,3 +40,4 @@ pub mod BitByBit
 pub mod Members
 pub mod PairMeanings
 pub mod Examples
+pub mod Styled

@@ -8,7 +8,7 @@ use Rattle.std.proofs.lemmas.List.FromFn.{length-map-range_with_len, get_or-map-
 use Rattle.std.specs.List.{flat_map, range_with_len}
 use Rattle.bitmap_core.specs.Chunk.{chunk_bit, chunk_bits}
 use Rattle.bitmap_core.specs.Bits.{bit_of}
-use Rattle.bitmap_core.specs.PrunedBits.{PrunedBits, pruned_bits, bit_len, bit_at, IsRetained, chunk, pushed, popped, set_at, appended, extended, truncated, pruned_to, unpruned, with_chunk}
+use Rattle.bitmap_core.specs.PrunedBits.{PrunedBits, pruned_bits, bit_len, bit_at, HasBit, chunk, pushed, popped, set_at, appended, extended, truncated, pruned_to, unpruned, with_chunk}
 use Rattle.bitmap_core.proofs.ChunkBits.{chunk_bit-mod}
 use Rattle.bitmap_core.proofs.FrontChunks.{length-front_bits, get_or-front_bits}
 use Rattle.bitmap_core.proofs.Pairs.{same_pair, same_bitmap, bit_past, bit_from_bits, len_from_bits, front_of, place, chunk_bit_of_chunk}
@@ -52,7 +52,7 @@ bit_truncated n b len k h = elim (cases_lt k len) [
 pub popped_is : (n : ℕ) (b : PrunedBits) → popped b ≡ truncated n b (bit_len n b - 1)
 popped_is n b = same_pair (popped b) (truncated n b (bit_len n b - 1)) refl (ap (λ m. take m b.bits) (omega arith))
 
-pub bit_set : (n : ℕ) (b : PrunedBits) (j : ℕ) (x : Bool) (k : ℕ) → IsRetained n b j → pruned_bits n b ≤ k → bit_at n (set_at n b j x) k ≡ cond (eqb k j) x (bit_at n b k)
+pub bit_set : (n : ℕ) (b : PrunedBits) (j : ℕ) (x : Bool) (k : ℕ) → HasBit n b j → pruned_bits n b ≤ k → bit_at n (set_at n b j x) k ≡ cond (eqb k j) x (bit_at n b k)
 bit_set n b j x k ok h = elim (cases_eq k j) [
   | inl e ↦ rw (eq-eqb k j e, e) (get_or-set_same b.bits (j - pruned_bits n b) x false (omega (arith, ok.0, ok.1)))
   | inr ne ↦ rw (ne_eqb k j ne) (get_or-set_other b.bits (j - pruned_bits n b) (k - pruned_bits n b) x false (λ e. ne (omega (arith, ok.0, e))))
@@ -76,7 +76,7 @@ bit_extended n b len k = elim (cases_lt (k - pruned_bits n b) (length b.bits)) [
   | inr l ↦ get_or-append_right b.bits (replicate (len - bit_len n b) false) (length b.bits) (k - pruned_bits n b) false refl l ∙ (zeros (len - bit_len n b) (k - pruned_bits n b - length b.bits) ∙ sym (get_or_past b.bits (k - pruned_bits n b) false l))
 ]
 
-bit_with_chunk : (n : ℕ) (b : PrunedBits) (i : ℕ) (bytes : List ℕ) (k : ℕ) → IsRetained n b k → bit_at n (with_chunk n b i bytes) k ≡ cond (eqb (k / (8 * n)) i) (chunk_bit n bytes k) (bit_at n b k)
+bit_with_chunk : (n : ℕ) (b : PrunedBits) (i : ℕ) (bytes : List ℕ) (k : ℕ) → HasBit n b k → bit_at n (with_chunk n b i bytes) k ≡ cond (eqb (k / (8 * n)) i) (chunk_bit n bytes k) (bit_at n b k)
 bit_with_chunk n b i bytes k h = bit_from_bits n b.pruned (bit_len n b) (λ k. cond (eqb (k / (8 * n)) i) (chunk_bit n bytes k) (bit_at n b k)) k h.0 h.1
 
 -- an unprune puts the chunks' bits before the others, which keep their positions

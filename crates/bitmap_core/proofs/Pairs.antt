@@ -6,7 +6,7 @@ use Rattle.std.proofs.lemmas.List.{ext_get_or, get_or_past}
 use Rattle.std.proofs.lemmas.List.FromFn.{length-map-range_with_len, get_or-map-range_with_len}
 use Rattle.std.proofs.lemmas.Nat.{mul-le}
 use Rattle.bitmap_core.specs.Chunk.{byte_of, chunk_bit}
-use Rattle.bitmap_core.specs.PrunedBits.{PrunedBits, unpruned_bits, pruned_bits, bit_len, bit_at, IsRetained, HasChunk, from_bits, chunk}
+use Rattle.bitmap_core.specs.PrunedBits.{PrunedBits, unpruned_bits, pruned_bits, bit_len, bit_at, HasBit, HasChunk, from_bits, chunk}
 use Rattle.bitmap_core.proofs.Places.{IsChunkCount-ceil, count_unique}
 use Rattle.bitmap_core.proofs.FrontChunks.{IsChunkCount-front}
 use Rattle.bitmap_core.proofs.MadeBytes.{byte_same, chunk_bit_of_bytes, map_range_same}
@@ -54,7 +54,7 @@ pub len_from_bits : (n pruned len : ℕ) (bit : ℕ → Bool) → 8 * n * pruned
 len_from_bits n pruned len bit h = omega (arith, length-map-range_with_len bit (8 * n * pruned) (len - 8 * n * pruned))
 
 -- a bitmap is fixed by its pruned count, its length and its bits by position
-pub same_from_bits : (n : ℕ) (b : PrunedBits) (bit : ℕ → Bool) → ((k : ℕ) → IsRetained n b k → bit k ≡ bit_at n b k) → from_bits n b.pruned (bit_len n b) bit ≡ b
+pub same_from_bits : (n : ℕ) (b : PrunedBits) (bit : ℕ → Bool) → ((k : ℕ) → HasBit n b k → bit k ≡ bit_at n b k) → from_bits n b.pruned (bit_len n b) bit ≡ b
 same_from_bits n b bit h =
     let count : bit_len n b - pruned_bits n b ≡ length b.bits = omega arith in
     let len = length-map-range_with_len bit (pruned_bits n b) (bit_len n b - pruned_bits n b) ∙ count in
@@ -65,7 +65,7 @@ same_from_bits n b bit h =
     ∙ (h (pruned_bits n b + i) (omega arith, omega arith)
     ∙ ap (λ j. get_or b.bits j false) back)))
 
-pub same_bitmap : (n : ℕ) (a b : PrunedBits) → a.pruned ≡ b.pruned → bit_len n a ≡ bit_len n b → ((k : ℕ) → IsRetained n b k → bit_at n a k ≡ bit_at n b k) → a ≡ b
+pub same_bitmap : (n : ℕ) (a b : PrunedBits) → a.pruned ≡ b.pruned → bit_len n a ≡ bit_len n b → ((k : ℕ) → HasBit n b k → bit_at n a k ≡ bit_at n b k) → a ≡ b
 same_bitmap n a b p l h =
     same_pair a b p (ext_get_or false a.bits b.bits (omega (arith, ap (λ m. 8 * n * m) p)) (λ i s.
     let m = ap (λ x. 8 * n * x) p in

@@ -1,17 +1,17 @@
 -- What a hash is fed.
-use Rattle.std.specs.Prelude.{◌≡◌, ℕ, ◌*◌, Bool, true, List, ◌++◌, length, map}
+use Rattle.std.specs.Prelude.{◌≡◌, ℕ, Bool, true, List, ◌++◌, length, map}
 use Rattle.std.specs.List.{range_with_len}
-use Rattle.std.specs.Int.{div_ceil}
 use Rattle.std.specs.Hash as fed
 use Rattle.std.specs.Cmp.{booleans_Decides}
 use Rattle.std.specs.Cmp.Lexicographic.{pointwise, pointwise_decides}
 use Rattle.std.proofs.Math.Bool.{beq}
 use Rattle.std.proofs.Common.{ap}
 use Rattle.bitmap_core.specs.Chunk.{chunk_of}
+use Rattle.bitmap_core.specs.Spelling.{chunk_count}
 
 -- what a hash of the bits v is fed: their number, and their chunks of n bytes
 unfoldable pub fed_bits : ℕ → List Bool → List (List ℕ)
-fed_bits n v = fed.u64 (length v) ++ map (chunk_of n v) (range_with_len 0 (div_ceil (length v) (8 * n)))
+fed_bits n v = fed.u64 (length v) ++ map (chunk_of n v) (range_with_len 0 (chunk_count n (length v)))
 
 -- equal bits feed a hash alike
 pub fed_bits-alike : (n : ℕ) (v w : List Bool) → pointwise beq v w ≡ true → fed_bits n v ≡ fed_bits n w

@@ -25,8 +25,8 @@ abbrev pub bit_at : ℕ → PrunedBits → ℕ → Bool
 bit_at n b k = slice_index_or b.bits (k - pruned_bits n b) false
 
 -- position k is retained
-abbrev pub IsRetained : ℕ → PrunedBits → ℕ → Type 0
-IsRetained n b k = (pruned_bits n b ≤ k) × (k < bit_len n b)
+abbrev pub HasBit : ℕ → PrunedBits → ℕ → Type 0
+HasBit n b k = (pruned_bits n b ≤ k) × (k < bit_len n b)
 
 -- chunk i is retained, whole or in part
 abbrev pub HasChunk : ℕ → PrunedBits → ℕ → Type 0

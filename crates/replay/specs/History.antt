@@ -13,7 +13,7 @@ History = List (ℕ × PrunedBits)
 abbrev pub kept_under : History → ℕ → Option PrunedBits
 kept_under history number = lookup (nat_eq number) history
 
--- the greatest kept number
+-- the last kept number, which is the greatest where they ascend
 abbrev pub latest : History → Option ℕ
 latest history = option_map (λ e. e.0) (slice_get history (length history - 1))
 

@@ -3,7 +3,7 @@
 ghost use Rattle.std.specs.Prelude.{◌≡◌, ℕ, ◌+◌, ◌*◌, ◌^◌, ◌<◌, ◌≤◌, [], ◌∷◌, ◌++◌, length, Some, None, Ok, IfOk, OnOk, OnErr, MatchResult, MatchOption, map};
 ghost use Rattle.std.specs.Ordering.{nat_cmp};
 ghost use Rattle.std.specs.BTreeMap.{IsOrdered};
-ghost use Rattle.bitmap_core.specs.PrunedBits.{IsRetained, PrunedBits, bit_len, pushed, popped, last_bit, set_at};
+ghost use Rattle.bitmap_core.specs.PrunedBits.{HasBit, PrunedBits, bit_len, pushed, popped, last_bit, set_at};
 ghost use Rattle.replay.specs.History.{kept_under, latest};
 
 use bitmap_core::bitmap::Prunable;
@@ -126,7 +126,7 @@ impl<const N: usize> Dirty<N> {
     }
 
     pub fn set(&mut self, bit: u64, value: bool)
-        requires { IsRetained N self.old.pending bit }
+        requires { HasBit N self.old.pending bit }
         ensures { self.new ≡ record self.old { pending = set_at N self.old.pending bit value } }
     {
         self.pending.set_bit(bit, value)

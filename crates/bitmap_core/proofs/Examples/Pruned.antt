@@ -1,7 +1,7 @@
 -- Bitmaps with a pruned front. Each has chunks of one byte, where no other width is named.
 use Rattle.std.specs.Prelude.{◌≡◌, Bool, true, false, List, [], ◌∷◌, ◌==◌}
 use Rattle.std.proofs.Common.{refl, arith}
-use Rattle.bitmap_core.specs.PrunedBits.{PrunedBits, unpruned_bits, pruned_bits, bit_len, bit_at, IsRetained, HasChunk, from_bits, chunk, pushed, popped, last_bit, set_at, appended, extended, truncated, pruned_to, unpruned, with_chunk}
+use Rattle.bitmap_core.specs.PrunedBits.{PrunedBits, unpruned_bits, pruned_bits, bit_len, bit_at, HasBit, HasChunk, from_bits, chunk, pushed, popped, last_bit, set_at, appended, extended, truncated, pruned_to, unpruned, with_chunk}
 
 -- some bits behind two pruned chunks
 abbrev pub behind_two : List Bool → PrunedBits
@@ -44,16 +44,16 @@ second_bit_behind_wide_chunks : bit_at 3 three_bits 49 ≡ true
 second_bit_behind_wide_chunks = refl
 
 -- 16 and 18 are retained, 15 is pruned, 19 is past the length
-first_is_retained : IsRetained 1 three_bits 16
+first_is_retained : HasBit 1 three_bits 16
 first_is_retained = (omega arith, omega arith)
 
-last_is_retained : IsRetained 1 three_bits 18
+last_is_retained : HasBit 1 three_bits 18
 last_is_retained = (omega arith, omega arith)
 
-pruned_is_not_retained : IsRetained 1 three_bits 15 → ⊥
+pruned_is_not_retained : HasBit 1 three_bits 15 → ⊥
 pruned_is_not_retained r = omega (arith, r.0)
 
-length_is_not_retained : IsRetained 1 three_bits 19 → ⊥
+length_is_not_retained : HasBit 1 three_bits 19 → ⊥
 length_is_not_retained r = omega (arith, r.1)
 
 -- chunk 2 is retained in part, chunk 1 is pruned, chunk 3 has not begun

@@ -2,7 +2,7 @@
 
 ghost use Rattle.std.specs.Prelude.{◌≤◌, drop, take, length, Some};
 ghost use Rattle.std.specs.List.{flat_map};
-ghost use Rattle.std.specs.Fmt.{DisplaysOnOk};
+ghost use Rattle.std.specs.Fmt.{DisplaysOnOk, WritesStyledOnOk};
 ghost use Rattle.bitmap_core.specs.Text.{digit};
 
 use crate::bitmap::BitMap;
@@ -23,7 +23,8 @@ fn write_bits<const N: usize, W: fmt::Write>(
 ) -> fmt::Result
     requires order { start ≤ end }
     requires within { end ≤ length bitmap.now }
-    ensures { DisplaysOnOk W.write_str_gives f.old result (Some (flat_map digit (drop start (take end bitmap.now)))) f.new }
+    ensures plain { DisplaysOnOk W.write_str_gives f.old result (Some (flat_map digit (drop start (take end bitmap.now)))) f.new }
+    ensures styled { WritesStyledOnOk W.write_str_gives f.old result (flat_map digit (drop start (take end bitmap.now))) f.new }
 {
     for i in start..end {
         let digit = if bitmap.get(i) { "1" } else { "0" };
@@ -39,8 +40,11 @@ impl<const N: usize> fmt::Debug for BitMap<N> {
 
     /// `BitMap[`, the bits in order as `1` and `0`, and `]`.
     ///
-    /// Of more than 64 bits it shows the first 32, `...` and the last 32.
-    fn fmt<W: fmt::Write>(&self, f: &mut fmt::Formatter<W>) -> fmt::Result {
+    /// Of more than 64 bits it shows the first 32, `...` and the last 32. The formatter's options change nothing.
+    fn fmt<W: fmt::Write>(&self, f: &mut fmt::Formatter<W>) -> fmt::Result
+        ensures writes { DisplaysOnOk W.write_str_gives f.old result (Some (debug_text self.now)) f.new }
+        ensures styled { WritesStyledOnOk W.write_str_gives f.old result (debug_text self.now) f.new }
+    {
         let len = self.len();
         f.write_str("BitMap[")?;
         if len <= SHOWN_WHOLE {

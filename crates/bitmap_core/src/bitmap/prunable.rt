@@ -17,7 +17,7 @@
 ghost use Rattle.std.specs.Prelude.{◌≡◌, ℕ, ◌+◌, ◌-◌, ◌*◌, ◌/◌, ◌%◌, ◌^◌, ◌<◌, ◌≤◌, ◌↔◌, [], false, length, IfOk, OnOk, OnErr, IsOk, ◌==◌};
 ghost use Rattle.std.specs.Int.{div_ceil};
 ghost use Rattle.bitmap_core.specs.Chunk.{byte_bits, chunk_bit, chunk_bits as bits_of_chunk};
-ghost use Rattle.bitmap_core.specs.PrunedBits.{appended, bit_at, bit_len, chunk, extended, HasChunk, IsRetained, last_bit, popped, pruned_bits, pruned_to, pushed, set_at, truncated, unpruned, with_chunk};
+ghost use Rattle.bitmap_core.specs.PrunedBits.{appended, bit_at, bit_len, chunk, extended, HasChunk, HasBit, last_bit, popped, pruned_bits, pruned_to, pushed, set_at, truncated, unpruned, with_chunk};
 
 mod error;
 
@@ -175,7 +175,7 @@ impl<const N: usize> Prunable<N> {
 
     /// The bit at a retained position. No memory.
     pub fn get_bit(&self, bit: u64) -> bool
-        requires { IsRetained N self.now bit }
+        requires { HasBit N self.now bit }
         ensures { result ≡ bit_at N self.now bit }
     {
         self.bitmap.get(bit - self.pruned_bits())
@@ -183,7 +183,7 @@ impl<const N: usize> Prunable<N> {
 
     /// The chunk of a retained position. Its bits past the length are zero. No memory.
     pub fn get_chunk_containing(&self, bit: u64) -> &[u8; N]
-        requires { IsRetained N self.now bit }
+        requires { HasBit N self.now bit }
         ensures { result.now ≡ chunk N self.now (bit / (8 * N)) }
     {
         // Read for what the invariant says of N.
@@ -216,7 +216,7 @@ impl<const N: usize> Prunable<N> {
 
     /// Replaces the bit at a retained position. No memory.
     pub fn set_bit(&mut self, bit: u64, value: bool)
-        requires { IsRetained N self.old bit }
+        requires { HasBit N self.old bit }
         ensures { self.new ≡ set_at N self.old bit value }
     {
         let pruned = self.pruned_bits();

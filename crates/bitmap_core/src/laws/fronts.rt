@@ -2,11 +2,11 @@
 
 ghost use Rattle.std.specs.Prelude.{◌≡◌, ℕ, ◌+◌, ◌-◌, ◌*◌, ◌<◌, ◌≤◌, Bool, false, List, length, map, nat_lt, ◌==◌, if◌then◌else◌};
 ghost use Rattle.std.specs.List.{range_with_len};
-ghost use Rattle.bitmap_core.specs.PrunedBits.{PrunedBits, IsRetained, appended, bit_at, bit_len, chunk, extended, from_bits, popped, pruned_bits, pruned_to, pushed, set_at, truncated, unpruned};
+ghost use Rattle.bitmap_core.specs.PrunedBits.{PrunedBits, HasBit, appended, bit_at, bit_len, chunk, extended, from_bits, popped, pruned_bits, pruned_to, pushed, set_at, truncated, unpruned};
 
 /// A bitmap is fixed by its pruned count, its length and its retained bits by position.
 pub fn fixed_by_positions()
-    ensures { (n : ℕ) (b : PrunedBits) (bit : ℕ → Bool) → ((k : ℕ) → IsRetained n b k → bit k ≡ bit_at n b k) → from_bits n b.pruned (bit_len n b) bit ≡ b }
+    ensures { (n : ℕ) (b : PrunedBits) (bit : ℕ → Bool) → ((k : ℕ) → HasBit n b k → bit k ≡ bit_at n b k) → from_bits n b.pruned (bit_len n b) bit ≡ b }
 {}
 
 /// A push adds its bit behind the others, which stay.
@@ -18,7 +18,7 @@ pub fn push_by_position()
 /// A set replaces the bit at its position, and no other.
 pub fn set_by_position()
     ensures len { (n : ℕ) (b : PrunedBits) (j : ℕ) (x : Bool) → bit_len n (set_at n b j x) ≡ bit_len n b }
-    ensures bits { (n : ℕ) (b : PrunedBits) (j : ℕ) (x : Bool) (k : ℕ) → IsRetained n b j → pruned_bits n b ≤ k → bit_at n (set_at n b j x) k ≡ (if k == j then x else bit_at n b k) }
+    ensures bits { (n : ℕ) (b : PrunedBits) (j : ℕ) (x : Bool) (k : ℕ) → HasBit n b j → pruned_bits n b ≤ k → bit_at n (set_at n b j x) k ≡ (if k == j then x else bit_at n b k) }
 {}
 
 /// A truncation keeps the bits below the new length. A pop is one by one bit.
