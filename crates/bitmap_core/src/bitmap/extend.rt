@@ -1,6 +1,6 @@
 //! A bitmap appended to another.
 
-ghost use Rattle.std.specs.Prelude.{◌≡◌, ℕ, ◌+◌, ◌-◌, ◌*◌, ◌/◌, ◌%◌, ◌^◌, ◌<◌, ◌≤◌, ◌++◌, length, OnOk, OnErr};
+ghost use Rattle.std.specs.Prelude.{◌≡◌, ℕ, ◌+◌, ◌-◌, ◌*◌, ◌/◌, ◌%◌, ◌^◌, ◌<◌, ◌≤◌, ◌++◌, length, IsOk, OnOk, OnErr};
 ghost use Rattle.std.specs.Int.{div_ceil};
 ghost use Rattle.std.specs.VecDeque.{deque_capacity};
 ghost use Rattle.bitmap_core.specs.Chunk.{bit_in};
@@ -68,6 +68,7 @@ fn append<const N: usize>(
     ensures kept { OnOk result ((i : ℕ) → i < len → bit_of N chunks.new.items i ≡ bit_of N chunks.old.items i) }
     ensures joined { OnOk result ((i : ℕ) → len ≤ i → i / (8 * N) < length chunks.new.items → bit_of N chunks.new.items i ≡ bit_in (front.now ++ back.now) (i - len)) }
     ensures err { OnErr result (chunks.new.items ≡ chunks.old.items) }
+    ensures roomy { total ≤ 8 * N * length chunks.old.items → IsOk result }
 {
     let count = total.div_ceil(chunk_bits::<N>()) as usize;
     chunks.reserve(count - chunks.len())?;
@@ -79,7 +80,8 @@ fn append<const N: usize>(
 impl<const N: usize> BitMap<N> {
     /// Appends the bits of another bitmap, in order. Its chunks may have another width. The sum of the lengths fits `u64`.
     ///
-    /// Takes memory at most once, for the chunks that are missing. Refused, the bitmap is as it was.
+    /// Takes memory at most once, for the chunks that are missing. Where none is, it takes none and succeeds.
+    /// Refused, the bitmap is as it was.
     pub fn extend_from_bitmap<const M: usize>(
         &mut self,
         other: &BitMap<M>,
@@ -87,6 +89,7 @@ impl<const N: usize> BitMap<N> {
         requires room { length self.old + length other.now < 2 ^ 64 }
         ensures ok { OnOk result (self.new ≡ self.old ++ other.now) }
         ensures err { OnErr result (self.new ≡ self.old) }
+        ensures roomy { length self.old + length other.now ≤ 8 * N * div_ceil (length self.old) (8 * N) → IsOk result }
     {
         let len = self.len;
         let total = len + other.len();

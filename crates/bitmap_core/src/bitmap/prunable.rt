@@ -334,7 +334,8 @@ impl<const N: usize> Prunable<N> {
 
     /// Appends the bits of a dense bitmap, in order. Its chunks may have another width. The sum of the lengths fits `u64`.
     ///
-    /// Takes memory at most once, for the chunks that are missing. Refused, the bitmap is as it was.
+    /// Takes memory at most once, for the chunks that are missing. Where none is, it takes none and succeeds.
+    /// Refused, the bitmap is as it was.
     pub fn extend_from_bitmap<const M: usize>(
         &mut self,
         other: &BitMap<M>,
@@ -342,6 +343,7 @@ impl<const N: usize> Prunable<N> {
         requires room { bit_len N self.old + length other.now < 2 ^ 64 }
         ensures ok { OnOk result (self.new ≡ appended self.old other.now) }
         ensures err { OnErr result (self.new ≡ self.old) }
+        ensures roomy { bit_len N self.old + length other.now ≤ 8 * N * div_ceil (bit_len N self.old) (8 * N) → IsOk result }
     {
         self.bitmap.extend_from_bitmap(other)
     }

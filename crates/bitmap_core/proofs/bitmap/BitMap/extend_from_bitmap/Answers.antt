@@ -1,5 +1,8 @@
-use Rattle.std.proofs.Common.{◌≡◌, ◌-◌, ◌∙◌, ap, sym, arith}
+use Rattle.std.proofs.Common.{◌≡◌, ◌-◌, ◌*◌, ◌∙◌, length, ap, sym, arith}
 use Rattle.bitmap_core.specs.Chunk.{bit_in}
+use Rattle.std.specs.Int.{div_ceil}
+use Rattle.std.proofs.lemmas.Bool.{false≢true}
+use Rattle.bitmap_core.proofs.Places.{IsChunkCount-ceil, count_unique}
 use Rattle.bitmap_core.proofs.BitLists.{len_is}
 use Rattle.bitmap_core.proofs.BitEdits.{bits-append}
 use Rattle.bitmap_core.proofs.ChunkLists.{IsZeroFrom-append}
@@ -18,3 +21,8 @@ pub returns-clause-ok : goal.returns-clause-ok
 returns-clause-ok g c =
     let o : c.other.inside.len ≡ c.len.result = sym (c.len.ensures.value ∙ len_is _ _ _ _ c.other.view_is) in
     bits-append g.row.N g.row.M c.self.inside.chunks.items _ c.other.inside.chunks.items c.self.inside.len c.len.result _ _ c.self.invariant.0 c.in_ok-append.ensures.count c.self.view_is (rw o at c.other.view_is) c.in_ok-append.ensures.kept (λ i h s. c.in_ok-append.ensures.joined i h s ∙ (ap (λ r. bit_in r (i - c.self.inside.len)) c.bytes.ensures.items ∙ bit_in-flat g.row.M c.other.inside.chunks.items c.other.invariant.0 (λ j l. (c.bytes.ensures.known j l).len) (i - c.self.inside.len)))
+
+pub returns-in_err-append-clause-roomy : goal.returns-in_err-append-clause-roomy
+returns-in_err-append-clause-roomy g c =
+    let e : div_ceil c.self.inside.len (8 * g.row.N) ≡ length c.self.inside.chunks.items = count_unique _ _ _ _ (IsChunkCount-ceil _ _ c.self.invariant.0) c.self.invariant.2 in
+    λ h. absurd (false≢true (c.in_err-append.ensures.roomy (rw (← c.len.ensures.value, len_is _ _ _ _ c.self.view_is, e) at h)))

@@ -1,7 +1,7 @@
-use Rattle.std.proofs.Common.{◌≡◌, ◌≤◌, ◌*◌, ◌∙◌, length, ap, arith}
+use Rattle.std.proofs.Common.{◌≡◌, ◌≤◌, ◌-◌, ◌*◌, ◌∙◌, length, ap, arith}
 use Rattle.std.specs.Int.{div_ceil}
 use Rattle.bitmap_core.specs.Bits.{bit_of}
-use Rattle.bitmap_core.proofs.Places.{more_ceil, index_below, IsChunkCount-ceil}
+use Rattle.bitmap_core.proofs.Places.{more_ceil, none_missing, index_below, IsChunkCount-ceil}
 use Rattle.bitmap_core.proofs.bitmap.extend.append.Goals as goal
 
 pub overflow_sub-count : goal.overflow_sub-count
@@ -23,3 +23,9 @@ pub returns-clause-kept : goal.returns-clause-kept
 returns-clause-kept g c = λ i h.
     let l : length c.fill_open.new.chunks.items ≡ length c.args.chunks.now.items = c.fill_open.ensures.count ∙ ap length c.reserve.ensures.items in
     c.push_whole.ensures.kept i (rw l (index_below g.row.N _ c.args.len i c.requires.positive h c.requires.count)) ∙ c.fill_open.ensures.kept i h ∙ ap (λ x. bit_of g.row.N x i) c.reserve.ensures.items
+
+pub returns-in_err-reserve-clause-roomy : goal.returns-in_err-reserve-clause-roomy
+returns-in_err-reserve-clause-roomy g c = λ h.
+    let m : c.div_ceil-count.result - c.len.result ≡ div_ceil c.args.total (8 * g.row.N) - length c.args.chunks.now.items = rw (c.div_ceil-count.ensures, c.chunk_bits.ensures) (omega (arith, c.args.chunks.now.ok.0)) in
+    let z = m ∙ none_missing g.row.N (length c.args.chunks.now.items) c.args.total c.requires.positive h in
+    absurd (omega (arith, c.in_err-reserve.ensures.full, c.args.chunks.now.ok, z))
