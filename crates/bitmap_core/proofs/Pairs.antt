@@ -6,7 +6,7 @@ use Rattle.std.proofs.lemmas.List.{ext_get_or, get_or_past}
 use Rattle.std.proofs.lemmas.List.FromFn.{length-map-range_with_len, get_or-map-range_with_len}
 use Rattle.std.proofs.lemmas.Nat.{mul-le}
 use Rattle.bitmap_core.specs.Chunk.{byte_of, chunk_bit}
-use Rattle.bitmap_core.specs.PrunedBits.{PrunedBits, unpruned_bits, pruned_bits, bit_len, bit_at, HasBit, HasChunk, from_bits, chunk}
+use Rattle.bitmap_core.specs.PrunedBits.{PrunedBits, plain_bits, pruned_bits, bit_len, bit_at, HasBit, HasChunk, from_bits, chunk}
 use Rattle.bitmap_core.proofs.Places.{IsChunkCount-ceil, count_unique}
 use Rattle.bitmap_core.proofs.FrontChunks.{IsChunkCount-front}
 use Rattle.bitmap_core.proofs.MadeBytes.{byte_same, chunk_bit_of_bytes, map_range_same}
@@ -83,16 +83,16 @@ chunk_same n a b i j h =
     ap (λ k. bit_at n a k) e ∙ h (8 * s + t) (omega arith) ∙ ap (λ k. bit_at n b k) f))
 
 -- a chunk of a bitmap is one of its retained bits, counted from the first retained chunk
-pub chunk_of_bits : (n : ℕ) (b : PrunedBits) (i : ℕ) → b.pruned ≤ i → chunk n (unpruned_bits b.bits) (i - b.pruned) ≡ chunk n b i
+pub chunk_of_bits : (n : ℕ) (b : PrunedBits) (i : ℕ) → b.pruned ≤ i → chunk n (plain_bits b.bits) (i - b.pruned) ≡ chunk n b i
 chunk_of_bits n b i h =
     let f = front_of (8 * n) b.pruned i h in
-    chunk_same n (unpruned_bits b.bits) b (i - b.pruned) i (λ t s. ap (λ k. get_or b.bits k false) (omega arith))
+    chunk_same n (plain_bits b.bits) b (i - b.pruned) i (λ t s. ap (λ k. get_or b.bits k false) (omega arith))
 
-pub last_chunk_of_bits : (n : ℕ) (b : PrunedBits) → 0 < n → length b.bits % (8 * n) ≡ 0 → 0 < length b.bits → chunk n (unpruned_bits b.bits) (length b.bits / (8 * n) - 1) ≡ chunk n b (bit_len n b / (8 * n) - 1)
+pub last_chunk_of_bits : (n : ℕ) (b : PrunedBits) → 0 < n → length b.bits % (8 * n) ≡ 0 → 0 < length b.bits → chunk n (plain_bits b.bits) (length b.bits / (8 * n) - 1) ≡ chunk n b (bit_len n b / (8 * n) - 1)
 last_chunk_of_bits n b p a f =
     let q : bit_len n b / (8 * n) ≡ b.pruned + length b.bits / (8 * n) = mul-add-div (omega arith) b.pruned (length b.bits) in
     let s : 0 < length b.bits / (8 * n) = lt_of_mul-lt-mul_left (8 * n) (omega (arith, place (8 * n) (length b.bits))) in
-    ap (λ i. chunk n (unpruned_bits b.bits) i) (omega arith) ∙ chunk_of_bits n b (bit_len n b / (8 * n) - 1) (omega arith)
+    ap (λ i. chunk n (plain_bits b.bits) i) (omega arith) ∙ chunk_of_bits n b (bit_len n b / (8 * n) - 1) (omega arith)
 
 -- the bits of a chunk's bytes are the chunk's bits
 pub chunk_bit_of_chunk : (n : ℕ) (b : PrunedBits) (i t : ℕ) → 0 < n → t < 8 * n → chunk_bit n (chunk n b i) t ≡ bit_at n b (8 * n * i + t)

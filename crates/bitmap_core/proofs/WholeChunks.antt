@@ -7,7 +7,7 @@ use Rattle.std.proofs.lemmas.List.{get_or_past, length-take-le}
 use Rattle.std.proofs.lemmas.Bool.{cases_lt, cases_eq, eq-eqb, ne_eqb}
 use Rattle.bitmap_core.specs.Chunk.{byte_of, chunk_bit}
 use Rattle.bitmap_core.specs.Bits.{bit_of, bits, IsChunkCount, IsZeroFrom}
-use Rattle.bitmap_core.specs.PrunedBits.{chunk, unpruned_bits}
+use Rattle.bitmap_core.specs.PrunedBits.{chunk, plain_bits}
 use Rattle.bitmap_core.proofs.ChunkBits.{chunk_bit-mod}
 use Rattle.bitmap_core.proofs.MadeBytes.{byte_same, map_range_same}
 use Rattle.bitmap_core.proofs.BitLists.{get_or-bits, bits-same, take-bits, len_is}
@@ -34,7 +34,7 @@ bit_in_chunk n xs i t p h =
     chunk_bit-mod n (get_or xs i []) t (8 * n * i + t) p r ∙ ap (λ j. chunk_bit n (get_or xs j []) (8 * n * i + t)) (sym q)
 
 -- a stored chunk is the list's
-pub stored_chunk : (n : ℕ) (xs : List (List ℕ)) (len : ℕ) (v : List Bool) (i : ℕ) (c : List ℕ) → 0 < n → bits n xs len ≡ v → IsZeroFrom n xs len → c ≡ get_or xs i [] → c ≡ map (λ j. byte_of (λ t. chunk_bit n c (8 * j + t))) (range_with_len 0 n) → c ≡ chunk n (unpruned_bits v) i
+pub stored_chunk : (n : ℕ) (xs : List (List ℕ)) (len : ℕ) (v : List Bool) (i : ℕ) (c : List ℕ) → 0 < n → bits n xs len ≡ v → IsZeroFrom n xs len → c ≡ get_or xs i [] → c ≡ map (λ j. byte_of (λ t. chunk_bit n c (8 * j + t))) (range_with_len 0 n) → c ≡ chunk n (plain_bits v) i
 stored_chunk n xs len v i c p e z r b =
     b ∙ map_range_same (λ j. byte_of (λ t. chunk_bit n c (8 * j + t))) (λ j. byte_of (λ t. get_or v (8 * n * i + 8 * j + t - 8 * n * 0) false)) 0 n (λ j _ h.
     byte_same (λ t. chunk_bit n c (8 * j + t)) (λ t. get_or v (8 * n * i + 8 * j + t - 8 * n * 0) false) (λ t s.

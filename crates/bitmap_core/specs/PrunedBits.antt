@@ -9,8 +9,8 @@ pub record PrunedBits : Type 0 where
   pub bits : List Bool
 
 -- a dense bitmap, as one with nothing pruned
-abbrev pub unpruned_bits : List Bool → PrunedBits
-unpruned_bits v = record { pruned = 0; bits = v }
+abbrev pub plain_bits : List Bool → PrunedBits
+plain_bits v = record { pruned = 0; bits = v }
 
 -- the number of pruned bits, which is the first retained position
 abbrev pub pruned_bits : ℕ → PrunedBits → ℕ

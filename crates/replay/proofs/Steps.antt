@@ -1,13 +1,13 @@
 -- A command that no refusal holds of is accepted.
-use Rattle.std.proofs.Common.{◌≡◌, ◌≢◌, ℕ, ◌+◌, ◌*◌, ◌<◌, ◌≤◌, ◌^◌, List, [], ◌∷◌, ◌++◌, Bool, Some, None, Option, refl, ap, inl, inr, arith, leb, ltb, true, false, length, eqb}
-use Rattle.std.specs.Prelude.{MatchOption, IsTrue, ◌⊎◌}
+use Rattle.std.proofs.Common.{◌≡◌, ◌≢◌, ℕ, ◌+◌, ◌-◌, ◌*◌, ◌<◌, ◌≤◌, ◌^◌, List, [], ◌∷◌, ◌++◌, Bool, Some, None, Option, refl, ap, inl, inr, arith, leb, ltb, true, false, length, eqb}
+use Rattle.std.specs.Prelude.{not, MatchOption, IsTrue, ◌⊎◌}
 use Rattle.std.specs.Option.{option_or, option_map}
 use Rattle.std.specs.Global.{Vec}
-use Rattle.std.proofs.lemmas.Bool.{false≢true, ne_eqb}
+use Rattle.std.proofs.lemmas.Bool.{false≢true, ne_eqb, lt-ltb}
 use Rattle.std.proofs.lemmas.Bool.Decides.{nat_tests}
 use Rattle.bitmap_core.specs.PrunedBits.{PrunedBits, pruned_bits, bit_len, pushed, popped, last_bit, set_at}
 use Rattle.bitmap_core.specs.declared.bitmap.codec.range.RangeCfg.{RangeCfg}
-use Rattle.bitmap_core.specs.Reading.{Fault, admits, pair_fault}
+use Rattle.bitmap_core.specs.Reading.{Fault, admits, is_past_64, pair_fault}
 use Rattle.replay.specs.declared.session.State.{State}
 use Rattle.replay.specs.declared.session.State.TheVariants as state
 use Rattle.replay.specs.declared.command.Command.TheVariants.{Start, Push, Pop, Set, Decode, Commit, Abort}
@@ -22,20 +22,17 @@ clean current history = record { state = record { current = current; pending = N
 abbrev pub dirty : PrunedBits → History → PrunedBits → Machine
 dirty current history pending = record { state = record { current = current; pending = Some pending; history = history; costs = no_costs history }; touched = [] }
 
-not_too_long : (n : ℕ) → n + 1 < 2 ^ 64 → leb (2 ^ 64) (n + 1) ≡ false
-not_too_long n h = grind (arith, nat_tests)
-
 not_past : (len k : ℕ) → k < len → leb len k ≡ false
 not_past len k h = grind (arith, nat_tests)
 
-fits_u64 : (n : ℕ) → n < 2 ^ 64 → leb (2 ^ 64) n ≡ false
-fits_u64 n h = grind (arith, nat_tests)
+fits_u64 : (n : ℕ) → n < 2 ^ 64 → is_past_64 n ≡ false
+fits_u64 n h = ap not (lt-ltb n (2 ^ 64) h)
 
 pub start_accepted : (N chunks : ℕ) (current : PrunedBits) (history : History) → 8 * N * chunks < 2 ^ 64 → StepTo N Agrees (clean current history) (Start chunks) Done (clean (record { pruned = chunks; bits = [] }) [])
 start_accepted N chunks current history h = rw (fits_u64 (8 * N * chunks) h) (inl (refl, (0, omega arith, record { same = refl; within = λ q h. absurd (false≢true h) })))
 
 pub push_accepted : (N : ℕ) (current pending : PrunedBits) (history : History) (value : Bool) → bit_len N pending + 1 < 2 ^ 64 → StepTo N Agrees (dirty current history pending) (Push value) Done (dirty current history (pushed pending value))
-push_accepted N current pending history value bound = rw (not_too_long _ bound) (inl (refl, (0, omega arith, record { same = refl; within = λ q h. absurd (false≢true h) })))
+push_accepted N current pending history value bound = rw (fits_u64 _ bound) (inl (refl, (0, omega arith, record { same = refl; within = λ q h. absurd (false≢true h) })))
 
 pub pop_accepted : (N : ℕ) (current pending : PrunedBits) (history : History) → 0 < length pending.bits → StepTo N Agrees (dirty current history pending) Pop (Bit (last_bit pending)) (dirty current history (popped pending))
 pop_accepted N current pending history some =
@@ -76,11 +73,11 @@ no_costs-more (e ∷ history) number b = ap (λ (xs : List (ℕ × ℕ)). (e.0, 
 kept_more : (current pending : PrunedBits) (history : History) (number : ℕ) → (clean pending (history ++ (number, pending) ∷ [])).state ≡ record { current = pending; pending = None; history = history ++ (number, pending) ∷ []; costs = no_costs history ++ (number, 0) ∷ [] }
 kept_more current pending history number = rw (no_costs-more history number pending) refl
 
-commit_at : (N : ℕ) (current pending : PrunedBits) (history : History) (number : ℕ) (last : Option ℕ) → latest history ≡ last → number ≢ 18446744073709551615 → IsAbove last number → StepTo N Agrees (dirty current history pending) (Commit number) Done (clean pending (history ++ (number, pending) ∷ []))
+commit_at : (N : ℕ) (current pending : PrunedBits) (history : History) (number : ℕ) (last : Option ℕ) → latest history ≡ last → number ≢ (2 ^ 64 - 1) → IsAbove last number → StepTo N Agrees (dirty current history pending) (Commit number) Done (clean pending (history ++ (number, pending) ∷ []))
 commit_at N current pending history number None e m a =
-    rw (ne_eqb number 18446744073709551615 m, e) (inl (refl, (0, omega arith, record { same = kept_more current pending history number; within = λ q h. absurd (false≢true h) })))
+    rw (ne_eqb number (2 ^ 64 - 1) m, e) (inl (refl, (0, omega arith, record { same = kept_more current pending history number; within = λ q h. absurd (false≢true h) })))
 commit_at N current pending history number (Some previous) e m a =
-    rw (ne_eqb number 18446744073709551615 m, e, not_past _ _ a) (inl (refl, (0, omega arith, record { same = kept_more current pending history number; within = λ q h. absurd (false≢true h) })))
+    rw (ne_eqb number (2 ^ 64 - 1) m, e, not_past _ _ a) (inl (refl, (0, omega arith, record { same = kept_more current pending history number; within = λ q h. absurd (false≢true h) })))
 
-pub commit_accepted : (N : ℕ) (current pending : PrunedBits) (history : History) (number : ℕ) → number ≢ 18446744073709551615 → IsAbove (latest history) number → StepTo N Agrees (dirty current history pending) (Commit number) Done (clean pending (history ++ (number, pending) ∷ []))
+pub commit_accepted : (N : ℕ) (current pending : PrunedBits) (history : History) (number : ℕ) → number ≢ (2 ^ 64 - 1) → IsAbove (latest history) number → StepTo N Agrees (dirty current history pending) (Commit number) Done (clean pending (history ++ (number, pending) ∷ []))
 commit_accepted N current pending history number m h = commit_at N current pending history number (latest history) refl m h

@@ -22,12 +22,12 @@ abbrev pub IsWithin : List ℕ → List ℕ → Type 0
 IsWithin xs ys = (q : ℕ) → is_member nat_eq xs q ≡ true → is_member nat_eq ys q ≡ true
 
 -- what a clean store holds
-pub record Kept : Type 0 where
+pub record CleanStore : Type 0 where
   pub current : PrunedBits
   pub history : History
 
 -- what a store with pending edits holds
-pub record Editing : Type 0 where
+pub record DirtyStore : Type 0 where
   pub current : PrunedBits
   pub history : History
   pub pending : PrunedBits

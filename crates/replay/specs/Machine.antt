@@ -5,7 +5,7 @@ use Rattle.std.specs.Set.{distinct_count}
 use Rattle.bitmap_core.specs.PrunedBits.{PrunedBits, pruned_bits, bit_len, bit_at, pushed, popped, last_bit, set_at}
 use Rattle.bitmap_core.specs.Meaning.{ones, pair_meaning}
 use Rattle.bitmap_core.specs.Spelling.{pair_spelling}
-use Rattle.bitmap_core.specs.Reading.{Fault, admits, pair_fault, pair_in}
+use Rattle.bitmap_core.specs.Reading.{Fault, admits, is_past_64, pair_fault, pair_in}
 use Rattle.replay.specs.declared.command.Command.{Command}
 use Rattle.replay.specs.declared.command.Command.TheVariants.{Start, Begin, Push, Pop, Set, Commit, Abort, Len, PrunedChunks, Get, Ones, Encode, At, Decode}
 use Rattle.replay.specs.History.{History, kept_under, latest, IsWithin}
@@ -78,8 +78,8 @@ first (refusal ∷ refusals) = option_or refusal (first refusals)
 -- A chunk has N bytes.
 module _ (N : ℕ) where
   -- the chunk in which a position stands
-  abbrev pub chunk_at : ℕ → ℕ
-  chunk_at position = position / (8 * N)
+  abbrev pub chunk_index : ℕ → ℕ
+  chunk_index position = position / (8 * N)
 
   -- the length of what reads show
   abbrev pub shown_len : State → ℕ
@@ -112,7 +112,7 @@ module _ (N : ℕ) where
 
   -- the new length would pass u64
   abbrev pub too_long : State → Command N → Bool
-  too_long s (Push value) = nat_le (2 ^ 64) (shown_len s + 1)
+  too_long s (Push value) = is_past_64 (shown_len s + 1)
   too_long s _ = false
 
   -- no retained bit is left to pop
@@ -122,7 +122,7 @@ module _ (N : ℕ) where
 
   -- the number is the greatest of u64, which is never kept
   abbrev pub reserved : State → Command N → Bool
-  reserved s (Commit number) = number == 18446744073709551615
+  reserved s (Commit number) = number == 2 ^ 64 - 1
   reserved s _ = false
 
   -- a commit is kept whose number is not below this one
@@ -132,7 +132,7 @@ module _ (N : ℕ) where
 
   -- the pruned bits would pass u64
   abbrev pub overflows : State → Command N → Bool
-  overflows s (Start chunks) = nat_le (2 ^ 64) (8 * N * chunks)
+  overflows s (Start chunks) = is_past_64 (8 * N * chunks)
   overflows s _ = false
 
   -- the text has a fault
@@ -201,9 +201,9 @@ module _ (N : ℕ) where
 
   -- the chunks that an accepted edit touches
   abbrev pub touches : State → Command N → List ℕ
-  touches s (Push value) = chunk_at (shown_len s) ∷ []
-  touches s Pop = chunk_at (shown_len s - 1) ∷ []
-  touches s (Set position value) = chunk_at position ∷ []
+  touches s (Push value) = chunk_index (shown_len s) ∷ []
+  touches s Pop = chunk_index (shown_len s - 1) ∷ []
+  touches s (Set position value) = chunk_index position ∷ []
   touches s _ = []
 
   -- a batch begins with nothing touched, and once it has ended nothing is

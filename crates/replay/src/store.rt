@@ -19,9 +19,9 @@ pub struct Clean<const N: usize> {
 }
 
 impl<const N: usize> Model for Clean<N> {
-    ghost use Rattle.replay.specs.History.{Kept};
+    ghost use Rattle.replay.specs.History.{CleanStore};
 
-    ghost Value = { Kept };
+    ghost Value = { CleanStore };
 
     ghost view = { λ c. record { current = c.current; history = c.history.entries } };
 }
@@ -34,9 +34,9 @@ pub struct Dirty<const N: usize> {
 }
 
 impl<const N: usize> Model for Dirty<N> {
-    ghost use Rattle.replay.specs.History.{Editing};
+    ghost use Rattle.replay.specs.History.{DirtyStore};
 
-    ghost Value = { Editing };
+    ghost Value = { DirtyStore };
 
     ghost view = { λ d. record { current = d.kept.current; history = d.kept.history; pending = d.pending } };
 }

@@ -1,7 +1,7 @@
 -- Bitmaps with a pruned front. Each has chunks of one byte, where no other width is named.
 use Rattle.std.specs.Prelude.{◌≡◌, Bool, true, false, List, [], ◌∷◌, ◌==◌}
 use Rattle.std.proofs.Common.{refl, arith}
-use Rattle.bitmap_core.specs.PrunedBits.{PrunedBits, unpruned_bits, pruned_bits, bit_len, bit_at, HasBit, HasChunk, from_bits, chunk, pushed, popped, last_bit, set_at, appended, extended, truncated, pruned_to, unpruned, with_chunk}
+use Rattle.bitmap_core.specs.PrunedBits.{PrunedBits, plain_bits, pruned_bits, bit_len, bit_at, HasBit, HasChunk, from_bits, chunk, pushed, popped, last_bit, set_at, appended, extended, truncated, pruned_to, unpruned, with_chunk}
 
 -- some bits behind two pruned chunks
 abbrev pub behind_two : List Bool → PrunedBits
@@ -12,7 +12,7 @@ abbrev pub three_bits : PrunedBits
 three_bits = behind_two (false ∷ true ∷ true ∷ [])
 
 -- a list alone has nothing pruned
-nothing_pruned : unpruned_bits (true ∷ []) ≡ record { pruned = 0; bits = true ∷ [] }
+nothing_pruned : plain_bits (true ∷ []) ≡ record { pruned = 0; bits = true ∷ [] }
 nothing_pruned = refl
 
 -- two chunks of one byte are 16 bits, and two of three bytes are 48

@@ -4,7 +4,7 @@ ghost use Rattle.std.specs.Prelude.{◌≡◌, ℕ, ◌+◌, ◌-◌, ◌*◌, �
 ghost use Rattle.std.specs.List.{flat_map, range_with_len};
 ghost use Rattle.bitmap_core.specs.Bits.{IsBytePut};
 ghost use Rattle.bitmap_core.specs.Chunk.{byte_bits, byte_of, chunk_bit, chunk_bits};
-ghost use Rattle.bitmap_core.specs.PrunedBits.{chunk, unpruned_bits};
+ghost use Rattle.bitmap_core.specs.PrunedBits.{chunk, plain_bits};
 
 use crate::bitmap::BitMap;
 use crate::bitmap::chunks::{chunk_bits, chunk_index, make_room};
@@ -65,7 +65,7 @@ impl<const N: usize> BitMap<N> {
     // The chunk at an index.
     pub(crate) fn chunk_at(&self, index: usize) -> &[u8; N]
         requires { 8 * N * index < length self.now }
-        ensures { result.now ≡ chunk N (unpruned_bits self.now) index }
+        ensures { result.now ≡ chunk N (plain_bits self.now) index }
     {
         chunk_at(&self.chunks, index)
     }
@@ -84,7 +84,7 @@ impl<const N: usize> BitMap<N> {
     pub(crate) fn remove_last_chunk(&mut self) -> [u8; N]
         requires aligned { length self.old % (8 * N) ≡ 0 }
         requires filled { 0 < length self.old }
-        ensures value { result ≡ chunk N (unpruned_bits self.old) (length self.old / (8 * N) - 1) }
+        ensures value { result ≡ chunk N (plain_bits self.old) (length self.old / (8 * N) - 1) }
         ensures rest { self.new ≡ take (length self.old - 8 * N) self.old }
     {
         let len = self.len;

@@ -7,7 +7,7 @@ use Rattle.bitmap_core.specs.declared.bitmap.codec.range.RangeCfg.{RangeCfg}
 use Rattle.bitmap_core.specs.Reading.{admits, pair_fault}
 use Rattle.bitmap_core.specs.Reading.Fault.{EndOfBuffer}
 use Rattle.replay.specs.declared.command.Command.TheVariants.{Start, Begin, Push, Pop, Set, Commit, Abort, Len, PrunedChunks, Get, Ones, Encode, At, Decode}
-use Rattle.replay.specs.Machine.{State, start, no_bits, is_dirty, shown, edited, WrongMode, OutOfBounds, Pruned, TooLong, NoRetainedBit, ReservedCommitNumber, NonMonotonicCommit, PrunedChunksOverflow, Codec, when, first, chunk_at, shown_len, wrong_mode, out_of_bounds, is_pruned, too_long, none_retained, reserved, not_above, overflows, unreadable, refusal_of}
+use Rattle.replay.specs.Machine.{State, start, no_bits, is_dirty, shown, edited, WrongMode, OutOfBounds, Pruned, TooLong, NoRetainedBit, ReservedCommitNumber, NonMonotonicCommit, PrunedChunksOverflow, Codec, when, first, chunk_index, shown_len, wrong_mode, out_of_bounds, is_pruned, too_long, none_retained, reserved, not_above, overflows, unreadable, refusal_of}
 
 -- two bits behind one pruned chunk: positions 8 and 9
 abbrev pub two_bits : PrunedBits
@@ -59,10 +59,10 @@ pending_replaced : edited clean three_bits ≡ dirty
 pending_replaced = refl
 
 -- position 17 stands in chunk 2 of one byte, and in chunk 0 of three
-third_chunk : chunk_at 1 17 ≡ 2
+third_chunk : chunk_index 1 17 ≡ 2
 third_chunk = refl
 
-first_chunk : chunk_at 3 17 ≡ 0
+first_chunk : chunk_index 3 17 ≡ 0
 first_chunk = refl
 
 -- a test that holds, one that does not, and the first of three

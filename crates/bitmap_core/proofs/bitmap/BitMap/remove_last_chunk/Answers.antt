@@ -1,5 +1,5 @@
 use Rattle.std.proofs.Common.{◌-◌, ◌*◌, ◌/◌, ◌∙◌, ap, arith, sym, take}
-use Rattle.bitmap_core.specs.PrunedBits.{chunk, unpruned_bits}
+use Rattle.bitmap_core.specs.PrunedBits.{chunk, plain_bits}
 use Rattle.bitmap_core.proofs.BitLists.{len_is}
 use Rattle.bitmap_core.proofs.WholeChunks.{last_whole, IsChunkCount-last, IsZeroFrom-last, bits-last}
 use Rattle.bitmap_core.proofs.bitmap.BitMap.remove_last_chunk.Goals as goal
@@ -25,7 +25,7 @@ invariant_of-self g c =
     rw c.chunk_bits.ensures (c.self.invariant.0, c.self.invariant.1, IsChunkCount-last _ _ _ _ _ c.self.invariant.0 c.self.invariant.2 c.self.view_is c.requires.aligned c.requires.filled y, IsZeroFrom-last _ _ _ _ _ c.self.invariant.0 c.self.invariant.2 c.self.view_is c.requires.aligned c.requires.filled y)
 
 pub returns-clause-value : goal.returns-clause-value
-returns-clause-value g c = c.chunk_at-chunk.ensures ∙ ap (λ i. chunk g.row.N (unpruned_bits c.args.self.now) (i - 1)) (c.chunk_index.ensures ∙ ap (λ x. x / (8 * g.row.N)) (sym (len_is _ _ _ _ c.self.view_is)))
+returns-clause-value g c = c.chunk_at-chunk.ensures ∙ ap (λ i. chunk g.row.N (plain_bits c.args.self.now) (i - 1)) (c.chunk_index.ensures ∙ ap (λ x. x / (8 * g.row.N)) (sym (len_is _ _ _ _ c.self.view_is)))
 
 pub returns-clause-rest : goal.returns-clause-rest
 returns-clause-rest g c =
