@@ -3,7 +3,7 @@
 ghost use Rattle.std.specs.Prelude.{◌≡◌, ℕ, ◌+◌, ◌*◌, ◌^◌, ◌<◌, ◌≤◌, ◌↔◌, ◌++◌, Bool, true, List, None, length, slice_index, IfErr, IfOk, IsTrue, OnErr, OnOk};
 ghost use Rattle.std.specs.Int.{div_ceil};
 ghost use Rattle.bitmap_core.specs.PrunedBits.{PrunedBits, bit_len};
-ghost use Rattle.bitmap_core.specs.Reading.{admits, bits_fault, pair_fault, SpellsBits, SpellsPair};
+ghost use Rattle.bitmap_core.specs.Reading.{admits, bits_fault, bits_in, pair_fault, pair_in, SpellsBits, SpellsPair};
 ghost use Rattle.bitmap_core.specs.Spelling.{pair_spelling, spelling};
 
 use crate::bitmap::BitMap;
@@ -29,6 +29,16 @@ pub fn one_spelling_of_bits()
 /// A text begins with at most one spelling of a pair.
 pub fn one_spelling_of_pairs()
     ensures { (n : ℕ) (b c : PrunedBits) (xs ys : List ℕ) → 0 < n → bit_len n b < 2 ^ 64 → bit_len n c < 2 ^ 64 → b.pruned < 2 ^ 64 → c.pruned < 2 ^ 64 → pair_spelling n b ++ xs ≡ pair_spelling n c ++ ys → (b ≡ c) × (xs ≡ ys) }
+{}
+
+/// The bits that a text begins to spell are read off it.
+pub fn spelled_bits_are_read_off()
+    ensures { (n : ℕ) (text : List ℕ) (v : List Bool) (rest : List ℕ) → 0 < n → length v < 2 ^ 64 → text ≡ spelling n v ++ rest → v ≡ bits_in text }
+{}
+
+/// The pair that a text begins to spell is read off it.
+pub fn spelled_pairs_are_read_off()
+    ensures { (n : ℕ) (text : List ℕ) (b : PrunedBits) (rest : List ℕ) → 0 < n → length b.bits < 2 ^ 64 → b.pruned < 2 ^ 64 → text ≡ pair_spelling n b ++ rest → b ≡ pair_in text }
 {}
 
 /// Bitmaps are equal exactly where their lists are, and exactly where their spellings are.
