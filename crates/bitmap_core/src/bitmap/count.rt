@@ -1,7 +1,7 @@
 //! How many bits are set, and whether any in a range is.
 
-ghost use Rattle.std.specs.Prelude.{◌≡◌, ℕ, ◌+◌, ◌-◌, ◌*◌, ◌^◌, ◌<◌, ◌≤◌, ◌++◌, [], length, not, slice_index_or};
-ghost use Rattle.std.specs.List.{count_by, flat_map, list_all, range_with_len, slice_range};
+ghost use Rattle.std.specs.Prelude.{◌≡◌, ◌+◌, ◌-◌, ◌*◌, ◌^◌, ◌<◌, ◌≤◌, length, not};
+ghost use Rattle.std.specs.List.{count_by, list_all, range_with_len, slice_range};
 ghost use Rattle.bitmap_core.specs.Bits.{bit_of, bits};
 
 use crate::bitmap::BitMap;
