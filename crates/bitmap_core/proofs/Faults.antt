@@ -7,7 +7,7 @@ use Rattle.std.proofs.lemmas.Bool.{ltb-false, ltb-true, le-ltb, lt-ltb}
 use Rattle.std.proofs.lemmas.List.{length-append}
 use Rattle.bitmap_core.specs.Chunk.{bit_in}
 use Rattle.bitmap_core.specs.Spelling.{chunk_count, spelling}
-use Rattle.bitmap_core.specs.Reading.{Fault, number, chunk_bytes, trailing, bits_tests, bits_fault, pair_fault, first_fault, has_too_many_bits, SpellsBits}
+use Rattle.bitmap_core.specs.Reading.{Fault, number, chunk_bytes, trailing, bits_tests, bits_fault, pruned_fault, first_fault, has_too_many_bits, SpellsBits}
 use Rattle.bitmap_core.specs.Reading.Fault.{Invalid}
 use Rattle.bitmap_core.proofs.Places.{IsChunkCount-ceil}
 use Rattle.bitmap_core.proofs.Texts.{AreBytes, number-lt, value, length-value, text-spells, length-spelling, spelling-number, spelling-trailing}
@@ -76,10 +76,10 @@ pub bits_acceptable : (n : ℕ) (range : ℕ → Bool) (text : List ℕ) → 0 <
 bits_acceptable n range text p h =
     (λ e. sound-spells n range text p h (sound n range text e), λ a. sound-none n range text (subst (Sound n range) (sym a.spelled) (spells-sound n range a.bits a.rest p a.len_fits a.admitted)))
 
--- ---- a pair
+-- ---- a bitmap with a pruned front
 
 -- none of the faults
-pub record SoundPair (n : ℕ) (range : ℕ → Bool) (text : List ℕ) : Type 0 where
+pub record SoundPruned (n : ℕ) (range : ℕ → Bool) (text : List ℕ) : Type 0 where
   pub long : 8 ≤ length text
   pub fits : 8 * n * number text < 2 ^ 64
   pub count : number text < 2 ^ 64
@@ -100,7 +100,7 @@ first_fault-append (x ∷ xs) ys = step x.0 x.1 _ _ _ (first_fault-append xs ys)
     step true f r s t e = refl
     step false f r s t e = e
 
--- the last test of a pair
+-- the last test of a bitmap with a pruned front
 abbrev total_tests : ℕ → List ℕ → List (Bool × Fault)
 total_tests n text = (has_too_many_bits n text, Invalid (codes "Prunable") (codes "total bitmap length (pruned + unpruned) would overflow u64")) ∷ []
 
@@ -115,30 +115,30 @@ none_later n range text e =
     let d = none_first _ _ (sym (first_fault-append (bits_tests n range (drop 8 text)) (total_tests n text)) ∙ e) in
     (d.0, within_64 _ (no_fault _ _ _ d.1).0)
 
-pub sound_pair : (n : ℕ) (range : ℕ → Bool) (text : List ℕ) → pair_fault n range text ≡ None → SoundPair n range text
-unfolding pair_fault
-sound_pair n range text e =
+pub sound_pruned : (n : ℕ) (range : ℕ → Bool) (text : List ℕ) → pruned_fault n range text ≡ None → SoundPruned n range text
+unfolding pruned_fault
+sound_pruned n range text e =
     let a = no_fault _ _ _ e in
     let b = no_fault _ _ _ a.1 in
     let c = no_fault _ _ _ b.1 in
     let d = none_later n range text c.1 in
     record { long = ltb-false _ _ a.0; fits = within_64 _ b.0; count = within_64 _ c.0; bits = d.0; total = d.1 }
 
--- a pair whose count is in order has the faults of its bits, and then that of its total
-pair_later : (n : ℕ) (range : ℕ → Bool) (text : List ℕ) → 8 ≤ length text → 8 * n * number text < 2 ^ 64 → number text < 2 ^ 64 → pair_fault n range text ≡ or_else (bits_fault n range (drop 8 text)) (first_fault (total_tests n text))
-unfolding pair_fault bits_fault
-pair_later n range text l w c = rw (le-ltb _ _ l, lt-ltb _ _ w, lt-ltb _ _ c) (first_fault-append (bits_tests n range (drop 8 text)) (total_tests n text))
+-- a bitmap with a pruned front whose count is in order has the faults of its bits, and then that of its total
+pruned_later : (n : ℕ) (range : ℕ → Bool) (text : List ℕ) → 8 ≤ length text → 8 * n * number text < 2 ^ 64 → number text < 2 ^ 64 → pruned_fault n range text ≡ or_else (bits_fault n range (drop 8 text)) (first_fault (total_tests n text))
+unfolding pruned_fault bits_fault
+pruned_later n range text l w c = rw (le-ltb _ _ l, lt-ltb _ _ w, lt-ltb _ _ c) (first_fault-append (bits_tests n range (drop 8 text)) (total_tests n text))
 
-pub pair_bits_fault : (n : ℕ) (range : ℕ → Bool) (text : List ℕ) (f : Option Fault) → 8 ≤ length text → 8 * n * number text < 2 ^ 64 → number text < 2 ^ 64 → bits_fault n range (drop 8 text) ≡ f → IsSome f → pair_fault n range text ≡ f
+pub pruned_bits_fault : (n : ℕ) (range : ℕ → Bool) (text : List ℕ) (f : Option Fault) → 8 ≤ length text → 8 * n * number text < 2 ^ 64 → number text < 2 ^ 64 → bits_fault n range (drop 8 text) ≡ f → IsSome f → pruned_fault n range text ≡ f
 unfolding or_else
-pair_bits_fault n range text None l w c e d = absurd cc
-pair_bits_fault n range text (Some f) l w c e d = pair_later n range text l w c ∙ ap (λ x. or_else x (first_fault (total_tests n text))) e
+pruned_bits_fault n range text None l w c e d = absurd cc
+pruned_bits_fault n range text (Some f) l w c e d = pruned_later n range text l w c ∙ ap (λ x. or_else x (first_fault (total_tests n text))) e
 
-pub pair_total_fault : (n : ℕ) (range : ℕ → Bool) (text : List ℕ) → 8 ≤ length text → 8 * n * number text < 2 ^ 64 → number text < 2 ^ 64 → bits_fault n range (drop 8 text) ≡ None → 2 ^ 64 ≤ 8 * n * number text + number (drop 8 text)
-    → pair_fault n range text ≡ Some (Invalid (codes "Prunable") (codes "total bitmap length (pruned + unpruned) would overflow u64"))
+pub pruned_total_fault : (n : ℕ) (range : ℕ → Bool) (text : List ℕ) → 8 ≤ length text → 8 * n * number text < 2 ^ 64 → number text < 2 ^ 64 → bits_fault n range (drop 8 text) ≡ None → 2 ^ 64 ≤ 8 * n * number text + number (drop 8 text)
+    → pruned_fault n range text ≡ Some (Invalid (codes "Prunable") (codes "total bitmap length (pruned + unpruned) would overflow u64"))
 unfolding or_else
-pair_total_fault n range text l w c e t = pair_later n range text l w c ∙ ap (λ x. or_else x (first_fault (total_tests n text))) e ∙ rw (le-ltb _ _ t) refl
+pruned_total_fault n range text l w c e t = pruned_later n range text l w c ∙ ap (λ x. or_else x (first_fault (total_tests n text))) e ∙ rw (le-ltb _ _ t) refl
 
-pub sound_pair-none : (n : ℕ) (range : ℕ → Bool) (text : List ℕ) → SoundPair n range text → pair_fault n range text ≡ None
+pub sound_pruned-none : (n : ℕ) (range : ℕ → Bool) (text : List ℕ) → SoundPruned n range text → pruned_fault n range text ≡ None
 unfolding or_else
-sound_pair-none n range text s = pair_later n range text s.long s.fits s.count ∙ ap (λ x. or_else x (first_fault (total_tests n text))) s.bits ∙ rw (lt-ltb _ _ s.total) refl
+sound_pruned-none n range text s = pruned_later n range text s.long s.fits s.count ∙ ap (λ x. or_else x (first_fault (total_tests n text))) s.bits ∙ rw (lt-ltb _ _ s.total) refl

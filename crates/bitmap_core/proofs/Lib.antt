@@ -13,8 +13,8 @@ pub mod MadeBytes
 pub mod FrontChunks
 pub mod WholeChunks
 pub mod ByteEdits
-pub mod Pairs
-pub mod PairEdits
+pub mod PrunedBitsFacts
+pub mod PrunedEdits
 pub mod Packing
 pub mod PlaceCounts
 pub mod WordBytes
@@ -32,12 +32,12 @@ pub mod PlaceTests
 pub mod ByteChunks
 pub mod Texts
 pub mod Faults
-pub mod PairTexts
+pub mod PrunedTexts
 pub mod TextParts
 pub mod ReadAgain
 pub mod JoinedWords
 pub mod BitByBit
 pub mod Members
-pub mod PairMeanings
+pub mod PrunedMeanings
 pub mod Examples
 pub mod Styled

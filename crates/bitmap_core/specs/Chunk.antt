@@ -1,7 +1,12 @@
--- The bits of one chunk.
+-- The width of a chunk, and its bits.
 use Rattle.std.specs.Prelude.{◌≡◌, ℕ, cond, ◌+◌, ◌*◌, ◌/◌, ◌%◌, ◌^◌, ◌<◌, Bool, false, List, length, map, ◌==◌, slice_index, slice_index_or}
 use Rattle.std.specs.List.{range_with_len, sum_by}
 use Rattle.std.specs.Int.{bit_at}
+
+-- a chunk may have n bytes: one or more, and so few that 64 bits count its bits
+pub record IsWidth (n : ℕ) : Type 0 where
+  pub positive : 0 < n
+  pub fits : 8 * n < 2 ^ 64
 
 -- bit i of a chunk of n bytes: it stands in byte (i / 8) mod n, at place i mod 8
 abbrev pub chunk_bit : ℕ → List ℕ → ℕ → Bool

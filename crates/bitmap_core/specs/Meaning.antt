@@ -16,8 +16,8 @@ abbrev pub plain_meaning : List Bool → Meaning
 plain_meaning v = record { pruned = 0; len = length v; bit = λ k. slice_index_or v k false }
 
 -- a bitmap that may have a pruned front
-abbrev pub pair_meaning : ℕ → PrunedBits → Meaning
-pair_meaning n b = record { pruned = b.pruned; len = bit_len n b; bit = bit_at n b }
+abbrev pub pruned_meaning : ℕ → PrunedBits → Meaning
+pruned_meaning n b = record { pruned = b.pruned; len = bit_len n b; bit = bit_at n b }
 
 -- what holds of every bitmap
 pub record IsLawful (n : ℕ) (m : Meaning) : Type 0 where

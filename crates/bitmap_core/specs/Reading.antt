@@ -7,7 +7,7 @@ use Rattle.bitmap_core.specs.declared.bitmap.codec.error.CodecError.TheVariants 
 use Rattle.bitmap_core.specs.declared.bitmap.codec.range.RangeCfg.{RangeCfg}
 use Rattle.bitmap_core.specs.Chunk.{bit_in}
 use Rattle.bitmap_core.specs.PrunedBits.{PrunedBits, bit_len}
-use Rattle.bitmap_core.specs.Spelling.{chunk_count, spelling, pair_spelling}
+use Rattle.bitmap_core.specs.Spelling.{chunk_count, spelling, pruned_spelling}
 
 -- what can be wrong with a text
 pub data Fault : Type 0 where
@@ -89,9 +89,9 @@ bits_tests n range text =
     ∷ (has_trailing_bit n text, Invalid (codes "BitMap") (codes "Invalid trailing bits in encoded data"))
     ∷ []
 
--- the tests of a text that is read as a pair, in order
-abbrev pub pair_tests : ℕ → (ℕ → Bool) → List ℕ → List (Bool × Fault)
-pair_tests n range text =
+-- the tests of a text that is read as a bitmap with a pruned front, in order
+abbrev pub pruned_tests : ℕ → (ℕ → Bool) → List ℕ → List (Bool × Fault)
+pruned_tests n range text =
     (is_short text, EndOfBuffer)
     ∷ (has_too_many_pruned_bits n text, Invalid (codes "Prunable") (codes "pruned_chunks would overflow when computing pruned_bits"))
     ∷ (has_too_many_pruned_chunks text, Invalid (codes "Prunable") (codes "pruned_chunks doesn't fit in usize"))
@@ -103,17 +103,17 @@ pair_tests n range text =
 unfoldable pub bits_fault : ℕ → (ℕ → Bool) → List ℕ → Option Fault
 bits_fault n range text = first_fault (bits_tests n range text)
 
--- the first fault of a text that is read as a pair
-unfoldable pub pair_fault : ℕ → (ℕ → Bool) → List ℕ → Option Fault
-pair_fault n range text = first_fault (pair_tests n range text)
+-- the first fault of a text that is read as a bitmap with a pruned front
+unfoldable pub pruned_fault : ℕ → (ℕ → Bool) → List ℕ → Option Fault
+pruned_fault n range text = first_fault (pruned_tests n range text)
 
 -- the bits that a text without fault spells: as many as its number says, from the ninth byte on
 unfoldable pub bits_in : List ℕ → List Bool
 bits_in text = map (bit_in (drop 8 text)) (range_with_len 0 (number text))
 
--- the pair that a text without fault spells: a count, and the bits from the ninth byte on
-unfoldable pub pair_in : List ℕ → PrunedBits
-pair_in text = record { pruned = number text; bits = bits_in (drop 8 text) }
+-- the bitmap with a pruned front that a text without fault spells: a count, and the bits from the ninth byte on
+unfoldable pub pruned_in : List ℕ → PrunedBits
+pruned_in text = record { pruned = number text; bits = bits_in (drop 8 text) }
 
 -- some front of the text spells a list of bits whose length the range admits
 pub record SpellsBits (n : ℕ) (range : ℕ → Bool) (text : List ℕ) : Type 0 where
@@ -124,12 +124,12 @@ pub record SpellsBits (n : ℕ) (range : ℕ → Bool) (text : List ℕ) : Type 
   pub chunks_fit : chunk_count n (length bits) < 2 ^ 64
   pub admitted : range (length bits) ≡ true
 
--- some front of the text spells a pair, and the range admits the number of its retained bits
-pub record SpellsPair (n : ℕ) (range : ℕ → Bool) (text : List ℕ) : Type 0 where
-  pub pair : PrunedBits
+-- some front of the text spells a bitmap with a pruned front, and the range admits the number of its retained bits
+pub record SpellsPruned (n : ℕ) (range : ℕ → Bool) (text : List ℕ) : Type 0 where
+  pub bitmap : PrunedBits
   pub rest : List ℕ
-  pub spelled : text ≡ pair_spelling n pair ++ rest
-  pub len_fits : bit_len n pair < 2 ^ 64
-  pub pruned_fits : pair.pruned < 2 ^ 64
-  pub chunks_fit : chunk_count n (length pair.bits) < 2 ^ 64
-  pub admitted : range (length pair.bits) ≡ true
+  pub spelled : text ≡ pruned_spelling n bitmap ++ rest
+  pub len_fits : bit_len n bitmap < 2 ^ 64
+  pub pruned_fits : bitmap.pruned < 2 ^ 64
+  pub chunks_fit : chunk_count n (length bitmap.bits) < 2 ^ 64
+  pub admitted : range (length bitmap.bits) ≡ true

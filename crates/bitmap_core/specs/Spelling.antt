@@ -13,6 +13,6 @@ chunk_count n len = div_ceil len (8 * n)
 unfoldable pub spelling : ℕ → List Bool → List ℕ
 spelling n v = to_be_bytes w64 (length v) ++ flat_map (chunk_of n v) (range_with_len 0 (chunk_count n (length v)))
 
--- a pair is spelled by its pruned count in eight bytes, most significant first, and the spelling of its bits
-unfoldable pub pair_spelling : ℕ → PrunedBits → List ℕ
-pair_spelling n b = to_be_bytes w64 b.pruned ++ spelling n b.bits
+-- a bitmap with a pruned front is spelled by its pruned count in eight bytes, most significant first, and the spelling of its bits
+unfoldable pub pruned_spelling : ℕ → PrunedBits → List ℕ
+pruned_spelling n b = to_be_bytes w64 b.pruned ++ spelling n b.bits

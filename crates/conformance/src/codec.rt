@@ -68,7 +68,7 @@ fn is_accepted<const N: usize>(alloc: Global, text: &[u8], range: &RangeCfg) -> 
 }
 
 // Whether a text is that of a bitmap with so many pruned chunks and these digits, and is read to its end.
-fn is_pair<const N: usize>(
+fn is_pruned<const N: usize>(
     rt: &impl Abort,
     alloc: Global,
     text: &[u8],
@@ -153,7 +153,7 @@ fn check_bits<const N: usize>(rt: &impl Abort, alloc: Global) -> Result<(), Allo
 }
 
 // The same behind a pruned chunk.
-fn check_pair<const N: usize>(rt: &impl Abort, alloc: Global) -> Result<(), AllocError>
+fn check_pruned<const N: usize>(rt: &impl Abort, alloc: Global) -> Result<(), AllocError>
     requires positive { 0 < N }
     requires fits { 8 * N < 2 ^ 64 }
 {
@@ -166,7 +166,7 @@ fn check_pair<const N: usize>(rt: &impl Abort, alloc: Global) -> Result<(), Allo
     prune_to_bit(rt, &mut map, 8 * N as u64);
     assert_eq!(rt; map.encode_size(), 2 * N + 16);
     assert!(rt; written(alloc, &map)? == text);
-    assert!(rt; is_pair::<N>(rt, alloc, &text, 1, &[b'1'; 513][..8 * N + 1]));
+    assert!(rt; is_pruned::<N>(rt, alloc, &text, 1, &[b'1'; 513][..8 * N + 1]));
     for len in 0..text.len() {
         assert!(rt;
             is_short(pruned_refusal::<N>(alloc, &text[..len], &any)),
@@ -190,7 +190,7 @@ fn check_forms<const N: usize>(rt: &impl Abort, alloc: Global) -> Result<(), All
     requires fits { 8 * N < 2 ^ 64 }
 {
     check_bits::<N>(rt, alloc)?;
-    check_pair::<N>(rt, alloc)
+    check_pruned::<N>(rt, alloc)
 }
 
 fn is_short(error: Option<CodecError>) -> bool {
@@ -400,7 +400,7 @@ fn faults_behind_a_pruned_front(rt: HostRuntime) -> Result<(), Fail> {
 }
 
 #[test]
-fn a_byte_behind_the_pair(rt: HostRuntime) -> Result<(), Fail> {
+fn a_byte_behind_pruned(rt: HostRuntime) -> Result<(), Fail> {
     let mut text = Vec::from_slice(rt.alloc(), &BEHIND_ONE)?;
     text.push(0xaa).map_err(AllocError::from)?;
     let mut from = text.as_slice();
@@ -412,7 +412,7 @@ fn a_byte_behind_the_pair(rt: HostRuntime) -> Result<(), Fail> {
 }
 
 #[test]
-fn pair_cut_short(rt: HostRuntime) -> Result<(), Fail> {
+fn pruned_cut_short(rt: HostRuntime) -> Result<(), Fail> {
     let alloc = rt.alloc();
     for len in 0..20 {
         let error = pruned_refusal::<4>(alloc, &BEHIND_ONE[..len], &RangeCfg::any());
@@ -422,7 +422,7 @@ fn pair_cut_short(rt: HostRuntime) -> Result<(), Fail> {
 }
 
 #[test]
-fn pair_with_a_damaged_byte(rt: HostRuntime) -> Result<(), Fail> {
+fn pruned_with_a_damaged_byte(rt: HostRuntime) -> Result<(), Fail> {
     let alloc = rt.alloc();
     let any = RangeCfg::any();
     let text = damaged(&rt, alloc, &BEHIND_ONE, 0, 255)?;
@@ -430,7 +430,7 @@ fn pair_with_a_damaged_byte(rt: HostRuntime) -> Result<(), Fail> {
     // Elsewhere in the count damage leaves the text of another pair.
     for (at, count) in [(1, 0xff000000000001), (6, 0xff01), (7, 254)] {
         let text = damaged(&rt, alloc, &BEHIND_ONE, at, 255)?;
-        assert!(rt; is_pair::<4>(&rt, alloc, &text, count, b"101"), "at {at}");
+        assert!(rt; is_pruned::<4>(&rt, alloc, &text, count, b"101"), "at {at}");
     }
     for at in 8..16 {
         let text = damaged(&rt, alloc, &BEHIND_ONE, at, 255)?;
@@ -447,7 +447,7 @@ fn pair_with_a_damaged_byte(rt: HostRuntime) -> Result<(), Fail> {
         );
     }
     let other_bit = damaged(&rt, alloc, &BEHIND_ONE, 16, 1)?;
-    assert!(rt; is_pair::<4>(&rt, alloc, &other_bit, 1, b"001"));
+    assert!(rt; is_pruned::<4>(&rt, alloc, &other_bit, 1, b"001"));
     Ok(())
 }
 
@@ -465,7 +465,7 @@ fn total_behind_a_pruned_front(rt: HostRuntime) -> Result<(), Fail> {
     let any = RangeCfg::any();
     let mut text = Vec::from_slice(alloc, &MOST_PRUNED)?;
     text.extend_from_slice(&[31, 0, 0, 0, 0])?;
-    assert!(rt; is_pair::<4>(&rt, alloc, &text, MOST_PRUNED_CHUNKS, &[b'0'; 31]));
+    assert!(rt; is_pruned::<4>(&rt, alloc, &text, MOST_PRUNED_CHUNKS, &[b'0'; 31]));
     text.truncate(15);
     text.extend_from_slice(&[32, 0, 0, 0, 0])?;
     let long = "total bitmap length (pruned + unpruned) would overflow u64";
@@ -555,7 +555,7 @@ fn chunks_of_three_bytes(rt: HostRuntime) -> Result<(), Fail> {
         0, 0, 0, 0, 0, 0, 0, 1, 0, 0, 0, 0, 0, 0, 0, 25, 4, 5, 6, 1, 0, 0,
     ];
     assert_eq!(rt; written(alloc, &map)?.as_slice(), pair.as_slice());
-    assert!(rt; is_pair::<3>(&rt, alloc, &pair, 1, b"0010000010100000011000001"));
+    assert!(rt; is_pruned::<3>(&rt, alloc, &pair, 1, b"0010000010100000011000001"));
     Ok(())
 }
 
@@ -574,7 +574,7 @@ fn chunks_of_nine_bytes(rt: HostRuntime) -> Result<(), Fail> {
         0, 0, 0, 0, 0, 0, 1, 2, 0, 0, 0, 0, 0, 0, 0, 9, 0x4d, 1, 0, 0, 0, 0, 0, 0, 0,
     ];
     assert_eq!(rt; written(alloc, &map)?.as_slice(), pair.as_slice());
-    assert!(rt; is_pair::<9>(&rt, alloc, &pair, 258, b"101100101"));
+    assert!(rt; is_pruned::<9>(&rt, alloc, &pair, 258, b"101100101"));
     Ok(())
 }
 

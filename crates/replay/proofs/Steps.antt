@@ -7,7 +7,7 @@ use Rattle.std.proofs.lemmas.Bool.{false≢true, ne_eqb, lt-ltb}
 use Rattle.std.proofs.lemmas.Bool.Decides.{nat_tests}
 use Rattle.bitmap_core.specs.PrunedBits.{PrunedBits, pruned_bits, bit_len, pushed, popped, last_bit, set_at}
 use Rattle.bitmap_core.specs.declared.bitmap.codec.range.RangeCfg.{RangeCfg}
-use Rattle.bitmap_core.specs.Reading.{Fault, admits, is_past_64, pair_fault}
+use Rattle.bitmap_core.specs.Reading.{Fault, admits, is_past_64, pruned_fault}
 use Rattle.replay.specs.declared.session.State.{State}
 use Rattle.replay.specs.declared.session.State.TheVariants as state
 use Rattle.replay.specs.declared.command.Command.TheVariants.{Start, Push, Pop, Set, Decode, Commit, Abort}
@@ -58,8 +58,8 @@ agrees_with_itself : (m : Machine) → Agrees m m
 agrees_with_itself m = record { same = refl; within = λ q h. h }
 
 pub decode_stepped : {N : ℕ} (s : State N) (text : Vec ℕ) (range : RangeCfg) (answer : Answer) → IsDecoded N (admits range) text.items answer → StepTo N Agrees (seen s) (Decode text range) answer (seen s)
-decode_stepped {N = N} (state.Clean c) text range answer h = decoded_by N (seen {N = N} (state.Clean c)) (pair_fault N (admits range) text.items) (decoded N text.items) answer (agrees_with_itself _) h
-decode_stepped {N = N} (state.Dirty d) text range answer h = decoded_by N (seen {N = N} (state.Dirty d)) (pair_fault N (admits range) text.items) (decoded N text.items) answer (agrees_with_itself _) h
+decode_stepped {N = N} (state.Clean c) text range answer h = decoded_by N (seen {N = N} (state.Clean c)) (pruned_fault N (admits range) text.items) (decoded N text.items) answer (agrees_with_itself _) h
+decode_stepped {N = N} (state.Dirty d) text range answer h = decoded_by N (seen {N = N} (state.Dirty d)) (pruned_fault N (admits range) text.items) (decoded N text.items) answer (agrees_with_itself _) h
 
 -- the commits that are kept are below the number
 abbrev pub IsAbove : Option ℕ → ℕ → Type 0

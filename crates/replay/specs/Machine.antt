@@ -3,9 +3,9 @@ use Rattle.std.specs.Prelude.{◌≡◌, ℕ, ◌+◌, ◌-◌, ◌*◌, ◌/◌
 use Rattle.std.specs.Option.{option_or, option_map}
 use Rattle.std.specs.Set.{distinct_count}
 use Rattle.bitmap_core.specs.PrunedBits.{PrunedBits, pruned_bits, bit_len, bit_at, pushed, popped, last_bit, set_at}
-use Rattle.bitmap_core.specs.Meaning.{ones, pair_meaning}
-use Rattle.bitmap_core.specs.Spelling.{pair_spelling}
-use Rattle.bitmap_core.specs.Reading.{Fault, admits, is_past_64, pair_fault, pair_in}
+use Rattle.bitmap_core.specs.Meaning.{ones, pruned_meaning}
+use Rattle.bitmap_core.specs.Spelling.{pruned_spelling}
+use Rattle.bitmap_core.specs.Reading.{Fault, admits, is_past_64, pruned_fault, pruned_in}
 use Rattle.replay.specs.declared.command.Command.{Command}
 use Rattle.replay.specs.declared.command.Command.TheVariants.{Start, Begin, Push, Pop, Set, Commit, Abort, Len, PrunedChunks, Get, Ones, Encode, At, Decode}
 use Rattle.replay.specs.History.{History, kept_under, latest, IsWithin}
@@ -137,7 +137,7 @@ module _ (N : ℕ) where
 
   -- the text has a fault
   abbrev pub unreadable : State → Command N → Option Refusal
-  unreadable s (Decode text range) = option_map (λ fault. Codec (Some fault)) (pair_fault N (admits range) text.items)
+  unreadable s (Decode text range) = option_map (λ fault. Codec (Some fault)) (pruned_fault N (admits range) text.items)
   unreadable s _ = None
 
   -- the first refusal that holds, in their order
@@ -166,13 +166,13 @@ module _ (N : ℕ) where
   takes_memory s (At number) = is_some (kept_under s.history number)
   takes_memory s _ = false
 
-  -- what a text without fault is read as: its pair, and how many bytes stand behind the spelling of it
+  -- what a text without fault is read as: its bitmap, and how many bytes stand behind the spelling of it
   abbrev pub decoded : List ℕ → Answer
-  decoded text = Read (pair_in text) (length text - length (pair_spelling N (pair_in text)))
+  decoded text = Read (pruned_in text) (length text - length (pruned_spelling N (pruned_in text)))
 
   -- a read of the text may answer so: by its fault, and where it has none by its value or for want of memory
   abbrev pub IsDecoded : (ℕ → Bool) → List ℕ → Answer → Type 0
-  IsDecoded range text answer = MatchOption (pair_fault N range text)
+  IsDecoded range text answer = MatchOption (pruned_fault N range text)
       ((answer ≡ decoded text) ⊎ (answer ≡ Refused NoMemory))
       (λ fault. answer ≡ Refused (Codec (Some fault)))
 
@@ -182,8 +182,8 @@ module _ (N : ℕ) where
   answer_of s Len = Number (shown_len s)
   answer_of s PrunedChunks = Number (shown s).pruned
   answer_of s (Get position) = Bit (bit_at N (shown s) position)
-  answer_of s (Ones from to) = Positions (Some (ones N (pair_meaning N s.current) from to))
-  answer_of s Encode = Bytes (Some (pair_spelling N s.current))
+  answer_of s (Ones from to) = Positions (Some (ones N (pruned_meaning N s.current) from to))
+  answer_of s Encode = Bytes (Some (pruned_spelling N s.current))
   answer_of s (Decode text range) = decoded text.items
   answer_of s (At number) = Snapshot (kept_under s.history number)
   answer_of s _ = Done

@@ -1,8 +1,8 @@
 //! A session: runs commands on a bitmap with its history.
 
 ghost use Rattle.std.specs.Prelude.{◌≡◌, ℕ, ◌+◌, ◌*◌, ◌^◌, ◌<◌, ◌≤◌, List, [], ◌∷◌, ◌++◌, length, map, IfOk, OnErr, OnOk, vec_len, vec_capacity};
-ghost use Rattle.bitmap_core.specs.Meaning.{ones, pair_meaning};
-ghost use Rattle.bitmap_core.specs.Spelling.{pair_spelling};
+ghost use Rattle.bitmap_core.specs.Meaning.{ones, pruned_meaning};
+ghost use Rattle.bitmap_core.specs.Spelling.{pruned_spelling};
 ghost use Rattle.bitmap_core.specs.Reading.{admits};
 ghost use Rattle.replay.specs.Machine.{Agrees, IsDecoded, StepTo, RunsOn, shown, start};
 ghost use Rattle.replay.specs.Seen.{seen, said};
@@ -186,7 +186,7 @@ fn set_positions<const N: usize>(
     from: u64,
     to: u64,
 ) -> Result<Vec<u64>, AllocError>
-    ensures { IfOk result (λ positions. positions.items ≡ ones N (pair_meaning N bitmap.now) from to) }
+    ensures { IfOk result (λ positions. positions.items ≡ ones N (pruned_meaning N bitmap.now) from to) }
 {
     // Tells the proof how large N may be.
     let _ = bitmap.len();
@@ -207,7 +207,7 @@ fn ones_of_current<const N: usize>(state: &State<N>, alloc: Global, from: u64, t
 
 // The bytes that spell a bitmap.
 fn spelled<const N: usize>(bitmap: &Prunable<N>, alloc: Global) -> Result<Vec<u8>, AllocError>
-    ensures { IfOk result (λ bytes. bytes.items ≡ pair_spelling N bitmap.now) }
+    ensures { IfOk result (λ bytes. bytes.items ≡ pruned_spelling N bitmap.now) }
 {
     let mut bytes = Vec::new(alloc);
     bitmap.write(&mut bytes)?;

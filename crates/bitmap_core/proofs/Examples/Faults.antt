@@ -3,8 +3,8 @@ use Rattle.std.specs.Prelude.{◌≡◌, ℕ, Bool, true, false, ◌==◌, List,
 use Rattle.std.proofs.Common.{refl, arith, ap}
 use denote.Bor.{Bor}
 use Rattle.bitmap_core.specs.declared.bitmap.codec.error.CodecError.TheVariants as errors
-use Rattle.bitmap_core.specs.Spelling.{spelling, pair_spelling}
-use Rattle.bitmap_core.specs.Reading.{fault, admits, number, chunk_bytes, trailing, is_past_64, is_short, is_out_of_range, has_too_many_chunks, lacks_chunks, has_trailing_bit, has_too_many_pruned_bits, has_too_many_pruned_chunks, has_too_many_bits, first_fault, bits_fault, pair_fault, bits_in, pair_in, SpellsBits, SpellsPair}
+use Rattle.bitmap_core.specs.Spelling.{spelling, pruned_spelling}
+use Rattle.bitmap_core.specs.Reading.{fault, admits, number, chunk_bytes, trailing, is_past_64, is_short, is_out_of_range, has_too_many_chunks, lacks_chunks, has_trailing_bit, has_too_many_pruned_bits, has_too_many_pruned_chunks, has_too_many_bits, first_fault, bits_fault, pruned_fault, bits_in, pruned_in, SpellsBits, SpellsPruned}
 use Rattle.bitmap_core.specs.Reading.Fault.{EndOfBuffer, InvalidLength, Invalid}
 
 -- a number up to 255, in eight bytes
@@ -182,52 +182,52 @@ bit_past : bits_fault 4 any (eight 1 ++ 2 ∷ 0 ∷ 0 ∷ 0 ∷ []) ≡ Some (In
 unfolding bits_fault
 bit_past = refl
 
--- a pair: three pruned chunks and two bits
-no_fault_of_a_pair : pair_fault 2 any (eight 3 ++ eight 2 ++ 2 ∷ 0 ∷ []) ≡ None
-unfolding pair_fault
-no_fault_of_a_pair = refl
+-- a bitmap with a pruned front: three pruned chunks and two bits
+no_fault_of_pruned : pruned_fault 2 any (eight 3 ++ eight 2 ++ 2 ∷ 0 ∷ []) ≡ None
+unfolding pruned_fault
+no_fault_of_pruned = refl
 
 -- seven bytes, and eight bytes with nothing behind them
-short_count : pair_fault 2 any (replicate 7 0) ≡ Some EndOfBuffer
-unfolding pair_fault
+short_count : pruned_fault 2 any (replicate 7 0) ≡ Some EndOfBuffer
+unfolding pruned_fault
 short_count = refl
 
-count_alone : pair_fault 2 any (eight 3) ≡ Some EndOfBuffer
-unfolding pair_fault
+count_alone : pruned_fault 2 any (eight 3) ≡ Some EndOfBuffer
+unfolding pruned_fault
 count_alone = refl
 
 -- too many pruned bits are told before the bytes that are missing
-pruned_first : pair_fault 4 any (8 ∷ replicate 7 0) ≡ Some (Invalid (codes "Prunable") (codes "pruned_chunks would overflow when computing pruned_bits"))
-unfolding pair_fault
+pruned_first : pruned_fault 4 any (8 ∷ replicate 7 0) ≡ Some (Invalid (codes "Prunable") (codes "pruned_chunks would overflow when computing pruned_bits"))
+unfolding pruned_fault
 pruned_first = refl
 
 -- a count past 64 bits, of chunks without bytes, which alone pass the test before
-count_first : pair_fault 0 any (256 ∷ replicate 7 0) ≡ Some (Invalid (codes "Prunable") (codes "pruned_chunks doesn't fit in usize"))
-unfolding pair_fault
+count_first : pruned_fault 0 any (256 ∷ replicate 7 0) ≡ Some (Invalid (codes "Prunable") (codes "pruned_chunks doesn't fit in usize"))
+unfolding pruned_fault
 count_first = refl
 
 -- the range is that of the retained bits: two, and not the 50 of the whole length
-retained_in_range : pair_fault 2 (λ k. k == 2) (eight 3 ++ eight 2 ++ 2 ∷ 0 ∷ []) ≡ None
-unfolding pair_fault
+retained_in_range : pruned_fault 2 (λ k. k == 2) (eight 3 ++ eight 2 ++ 2 ∷ 0 ∷ []) ≡ None
+unfolding pruned_fault
 retained_in_range = refl
 
-whole_length_out_of_range : pair_fault 2 (λ k. k == 50) (eight 3 ++ eight 2 ++ 2 ∷ 0 ∷ []) ≡ Some (InvalidLength 2)
-unfolding pair_fault
+whole_length_out_of_range : pruned_fault 2 (λ k. k == 50) (eight 3 ++ eight 2 ++ 2 ∷ 0 ∷ []) ≡ Some (InvalidLength 2)
+unfolding pruned_fault
 whole_length_out_of_range = refl
 
 -- a bit past the length of the bits
-bit_past_of_a_pair : pair_fault 4 any (eight 0 ++ eight 1 ++ 2 ∷ 0 ∷ 0 ∷ 0 ∷ []) ≡ Some (Invalid (codes "BitMap") (codes "Invalid trailing bits in encoded data"))
-unfolding pair_fault
-bit_past_of_a_pair = refl
+bit_past_of_pruned : pruned_fault 4 any (eight 0 ++ eight 1 ++ 2 ∷ 0 ∷ 0 ∷ 0 ∷ []) ≡ Some (Invalid (codes "BitMap") (codes "Invalid trailing bits in encoded data"))
+unfolding pruned_fault
+bit_past_of_pruned = refl
 
 -- it is told before the whole length, which passes 64 bits
-bit_past_first : pair_fault 1 any (31 ∷ replicate 7 255 ++ eight 9 ++ 0 ∷ 2 ∷ []) ≡ Some (Invalid (codes "BitMap") (codes "Invalid trailing bits in encoded data"))
-unfolding pair_fault
+bit_past_first : pruned_fault 1 any (31 ∷ replicate 7 255 ++ eight 9 ++ 0 ∷ 2 ∷ []) ≡ Some (Invalid (codes "BitMap") (codes "Invalid trailing bits in encoded data"))
+unfolding pruned_fault
 bit_past_first = refl
 
 -- 2 to the power 64 less eight pruned bits and eight more
-whole_length_past_64 : pair_fault 1 any (31 ∷ replicate 7 255 ++ eight 8 ++ 0 ∷ []) ≡ Some (Invalid (codes "Prunable") (codes "total bitmap length (pruned + unpruned) would overflow u64"))
-unfolding pair_fault
+whole_length_past_64 : pruned_fault 1 any (31 ∷ replicate 7 255 ++ eight 8 ++ 0 ∷ []) ≡ Some (Invalid (codes "Prunable") (codes "total bitmap length (pruned + unpruned) would overflow u64"))
+unfolding pruned_fault
 whole_length_past_64 = refl
 
 -- ---- what a text spells
@@ -238,9 +238,9 @@ unfolding bits_in
 bits_of_a_text = refl
 
 -- three pruned chunks and two bits
-pair_of_a_text : pair_in (eight 3 ++ eight 2 ++ 2 ∷ 0 ∷ []) ≡ record { pruned = 3; bits = false ∷ true ∷ [] }
-unfolding pair_in bits_in
-pair_of_a_text = refl
+pruned_of_a_text : pruned_in (eight 3 ++ eight 2 ++ 2 ∷ 0 ∷ []) ≡ record { pruned = 3; bits = false ∷ true ∷ [] }
+unfolding pruned_in bits_in
+pruned_of_a_text = refl
 
 -- the front of the text, all but its last byte, spells three bits
 spells_bits : SpellsBits 1 (λ k. k == 3) (eight 3 ++ 5 ∷ 77 ∷ [])
@@ -252,12 +252,12 @@ spells_no_bits : SpellsBits 1 any (replicate 7 0) → ⊥
 unfolding spelling
 spells_no_bits s = omega (arith, ap length s.spelled)
 
--- the front of the text spells a pair of which two bits are retained
-spells_pair : SpellsPair 2 (λ k. k == 2) (eight 3 ++ eight 2 ++ 2 ∷ 0 ∷ 9 ∷ [])
-unfolding pair_spelling spelling
-spells_pair = record { pair = record { pruned = 3; bits = false ∷ true ∷ [] }; rest = 9 ∷ []; spelled = refl; len_fits = omega arith; pruned_fits = omega arith; chunks_fit = omega arith; admitted = refl }
+-- the front of the text spells a bitmap with a pruned front of which two bits are retained
+spells_pruned : SpellsPruned 2 (λ k. k == 2) (eight 3 ++ eight 2 ++ 2 ∷ 0 ∷ 9 ∷ [])
+unfolding pruned_spelling spelling
+spells_pruned = record { bitmap = record { pruned = 3; bits = false ∷ true ∷ [] }; rest = 9 ∷ []; spelled = refl; len_fits = omega arith; pruned_fits = omega arith; chunks_fit = omega arith; admitted = refl }
 
--- fifteen bytes spell no pair
-spells_no_pair : SpellsPair 2 any (replicate 15 0) → ⊥
-unfolding pair_spelling spelling
-spells_no_pair s = omega (arith, ap length s.spelled)
+-- fifteen bytes spell no bitmap with a pruned front
+spells_no_pruned : SpellsPruned 2 any (replicate 15 0) → ⊥
+unfolding pruned_spelling spelling
+spells_no_pruned s = omega (arith, ap length s.spelled)

@@ -5,7 +5,7 @@ use Rattle.std.proofs.Common.{zero, suc, refl, arith}
 use Rattle.std.proofs.lemmas.Bool.{false≢true}
 use Rattle.bitmap_core.proofs.PlaceTests.{any_range_at}
 use Rattle.bitmap_core.specs.PrunedBits.{PrunedBits}
-use Rattle.bitmap_core.specs.Meaning.{Meaning, plain_meaning, pair_meaning, IsLawful, IsRetainedChunk, IsRetained, ShowsChunk, ones_between, ones, starts_word, word_start, next_word, words_between, words, word_bit, left_from, IsScan, IsCut}
+use Rattle.bitmap_core.specs.Meaning.{Meaning, plain_meaning, pruned_meaning, IsLawful, IsRetainedChunk, IsRetained, ShowsChunk, ones_between, ones, starts_word, word_start, next_word, words_between, words, word_bit, left_from, IsScan, IsCut}
 
 -- two bits, 1 and 0, nothing pruned
 abbrev pub plain : Meaning
@@ -28,27 +28,27 @@ abbrev pub three_bits : PrunedBits
 three_bits = record { pruned = 2; bits = false ∷ true ∷ true ∷ [] }
 
 -- as chunks of one byte: the length is 19, and 17 is the first position that is set
-abbrev pub pair : Meaning
-pair = pair_meaning 1 three_bits
+abbrev pub bitmap : Meaning
+bitmap = pruned_meaning 1 three_bits
 
-two_chunks_are_pruned : pair.pruned ≡ 2
+two_chunks_are_pruned : bitmap.pruned ≡ 2
 two_chunks_are_pruned = refl
 
-pair_has_nineteen_bits : pair.len ≡ 19
-pair_has_nineteen_bits = refl
+pruned_has_nineteen_bits : bitmap.len ≡ 19
+pruned_has_nineteen_bits = refl
 
-pair_begins_with_zero : pair.bit 16 ≡ false
-pair_begins_with_zero = refl
+pruned_begins_with_zero : bitmap.bit 16 ≡ false
+pruned_begins_with_zero = refl
 
-pair_goes_on_with_one : pair.bit 17 ≡ true
-pair_goes_on_with_one = refl
+pruned_goes_on_with_one : bitmap.bit 17 ≡ true
+pruned_goes_on_with_one = refl
 
 -- it is a bitmap
-pair_is_lawful : IsLawful 1 pair
-pair_is_lawful = record { positive = omega arith; width = omega arith; pruned_within = omega arith; len_fits = omega arith; chunks_fit = omega arith }
+pruned_is_lawful : IsLawful 1 bitmap
+pruned_is_lawful = record { positive = omega arith; width = omega arith; pruned_within = omega arith; len_fits = omega arith; chunks_fit = omega arith }
 
 -- one of chunks without bytes is none, nor is one that is longer than u64, nor one that prunes more than it has
-no_bytes_a_chunk : IsLawful 0 pair → ⊥
+no_bytes_a_chunk : IsLawful 0 bitmap → ⊥
 no_bytes_a_chunk l = omega (arith, l.positive)
 
 too_long : IsLawful 1 (record { pruned = 0; len = 2 ^ 64; bit = λ k. false }) → ⊥
@@ -62,37 +62,37 @@ too_wide : IsLawful 2305843009213693952 plain → ⊥
 too_wide l = omega (arith, l.width)
 
 -- chunk 2 has a retained bit, chunk 1 is pruned, chunk 3 has not begun
-third_chunk_is_retained : IsRetainedChunk 1 pair 2
+third_chunk_is_retained : IsRetainedChunk 1 bitmap 2
 third_chunk_is_retained = (omega arith, omega arith)
 
-second_chunk_is_not : IsRetainedChunk 1 pair 1 → ⊥
+second_chunk_is_not : IsRetainedChunk 1 bitmap 1 → ⊥
 second_chunk_is_not r = omega (arith, r.0)
 
-fourth_chunk_is_not : IsRetainedChunk 1 pair 3 → ⊥
+fourth_chunk_is_not : IsRetainedChunk 1 bitmap 3 → ⊥
 fourth_chunk_is_not r = omega (arith, r.1)
 
 -- 16 and 18 are retained, 15 and 19 are not
-first_is_retained : IsRetained 1 pair 16
+first_is_retained : IsRetained 1 bitmap 16
 first_is_retained = (omega arith, omega arith)
 
-last_is_retained : IsRetained 1 pair 18
+last_is_retained : IsRetained 1 bitmap 18
 last_is_retained = (omega arith, omega arith)
 
-pruned_is_not_retained : IsRetained 1 pair 15 → ⊥
+pruned_is_not_retained : IsRetained 1 bitmap 15 → ⊥
 pruned_is_not_retained r = omega (arith, r.0)
 
-length_is_not_retained : IsRetained 1 pair 19 → ⊥
+length_is_not_retained : IsRetained 1 bitmap 19 → ⊥
 length_is_not_retained r = omega (arith, r.1)
 
 -- 254 shows chunk 2: its lowest bits are 0, 1, 1, and those past the length may be set
-shows_the_third_chunk : ShowsChunk 1 pair 2 (254 ∷ [])
+shows_the_third_chunk : ShowsChunk 1 bitmap 2 (254 ∷ [])
 shows_the_third_chunk zero h s = refl
 shows_the_third_chunk (suc zero) h s = refl
 shows_the_third_chunk (suc (suc zero)) h s = refl
 shows_the_third_chunk (suc (suc (suc k))) h s = absurd (omega arith)
 
 -- 2 does not: its third bit is 0
-does_not_show_it : ShowsChunk 1 pair 2 (2 ∷ []) → ⊥
+does_not_show_it : ShowsChunk 1 bitmap 2 (2 ∷ []) → ⊥
 does_not_show_it s = false≢true (let e = s 2 (omega arith) (omega arith) in cc)
 
 -- from 3 up to 6, of 2, 3, 5 and 6
@@ -103,21 +103,21 @@ two_of_four = refl
 none_of_four : ones_between (λ k. (k == 2) || (k == 3) || (k == 5) || (k == 6)) 6 3 ≡ []
 none_of_four = refl
 
--- the set positions of the pair: all, those from 18 on, those below 18, and none of a range turned round
-ones_of_all : ones 1 pair 0 18446744073709551615 ≡ 17 ∷ 18 ∷ []
+-- the set positions of the bitmap: all, those from 18 on, those below 18, and none of a range turned round
+ones_of_all : ones 1 bitmap 0 18446744073709551615 ≡ 17 ∷ 18 ∷ []
 ones_of_all = refl
 
-ones_from : ones 1 pair 18 100 ≡ 18 ∷ []
+ones_from : ones 1 bitmap 18 100 ≡ 18 ∷ []
 ones_from = refl
 
-ones_up_to : ones 1 pair 3 18 ≡ 17 ∷ []
+ones_up_to : ones 1 bitmap 3 18 ≡ 17 ∷ []
 ones_up_to = refl
 
-ones_of_none : ones 1 pair 18 17 ≡ []
+ones_of_none : ones 1 bitmap 18 17 ≡ []
 ones_of_none = refl
 
 -- at the upper end of u64, behind 288230376151711743 chunks of eight bytes: the first of three bits, and the last
-ones_near_the_end : ones 8 (pair_meaning 8 (record { pruned = 288230376151711743; bits = true ∷ false ∷ true ∷ [] })) 0 18446744073709551615 ≡ 18446744073709551552 ∷ 18446744073709551554 ∷ []
+ones_near_the_end : ones 8 (pruned_meaning 8 (record { pruned = 288230376151711743; bits = true ∷ false ∷ true ∷ [] })) 0 18446744073709551615 ≡ 18446744073709551552 ∷ 18446744073709551554 ∷ []
 ones_near_the_end = refl
 
 -- a chunk of nine bytes has a word of 64 bits and one of 8: words begin at 0, 64, 72 and 136
@@ -186,11 +186,11 @@ two_words : words_between 8 0 65 ≡ 2
 two_words = refl
 
 -- the three retained bits behind two chunks of one byte are one word, and none past the length counts
-word_of_the_pair : words 1 pair 0 100 ≡ 1
-word_of_the_pair = refl
+word_of_pruned : words 1 bitmap 0 100 ≡ 1
+word_of_pruned = refl
 
-no_word_past_the_pair : words 1 pair 19 100 ≡ 0
-no_word_past_the_pair = refl
+no_word_past_pruned : words 1 bitmap 19 100 ≡ 0
+no_word_past_pruned = refl
 
 -- 5 is one and four: in a word at 64 it has the positions 64 and 66
 bit_of_a_word : word_bit 64 5 66 ≡ true

@@ -1,7 +1,7 @@
 -- The bytes that spell bitmaps.
 use Rattle.std.specs.Prelude.{◌≡◌, true, false, [], ◌∷◌, ◌++◌, replicate}
 use Rattle.std.proofs.Common.{refl}
-use Rattle.bitmap_core.specs.Spelling.{chunk_count, spelling, pair_spelling}
+use Rattle.bitmap_core.specs.Spelling.{chunk_count, spelling, pruned_spelling}
 
 -- chunks of four bytes: none for no bits, one for 1 and for 32, two for 33
 chunks_of_none : chunk_count 4 0 ≡ 0
@@ -52,12 +52,12 @@ spelling_of_258 : spelling 64 (replicate 258 false) ≡ 0 ∷ 0 ∷ 0 ∷ 0 ∷ 
 unfolding spelling
 spelling_of_258 = refl
 
--- a pair of three pruned chunks and the bits 0, 1: its count, its number of bits, its chunk
-spelling_of_a_pair : pair_spelling 2 (record { pruned = 3; bits = false ∷ true ∷ [] }) ≡ 0 ∷ 0 ∷ 0 ∷ 0 ∷ 0 ∷ 0 ∷ 0 ∷ 3 ∷ 0 ∷ 0 ∷ 0 ∷ 0 ∷ 0 ∷ 0 ∷ 0 ∷ 2 ∷ 2 ∷ 0 ∷ []
-unfolding pair_spelling spelling
-spelling_of_a_pair = refl
+-- a bitmap of three pruned chunks and the bits 0, 1: its count, its number of bits, its chunk
+spelling_of_pruned : pruned_spelling 2 (record { pruned = 3; bits = false ∷ true ∷ [] }) ≡ 0 ∷ 0 ∷ 0 ∷ 0 ∷ 0 ∷ 0 ∷ 0 ∷ 3 ∷ 0 ∷ 0 ∷ 0 ∷ 0 ∷ 0 ∷ 0 ∷ 0 ∷ 2 ∷ 2 ∷ 0 ∷ []
+unfolding pruned_spelling spelling
+spelling_of_pruned = refl
 
 -- 258 pruned chunks and no bits
-spelling_of_a_pruned_pair : pair_spelling 1 (record { pruned = 258; bits = [] }) ≡ 0 ∷ 0 ∷ 0 ∷ 0 ∷ 0 ∷ 0 ∷ 1 ∷ 2 ∷ 0 ∷ 0 ∷ 0 ∷ 0 ∷ 0 ∷ 0 ∷ 0 ∷ 0 ∷ []
-unfolding pair_spelling spelling
-spelling_of_a_pruned_pair = refl
+spelling_of_a_pruned_front : pruned_spelling 1 (record { pruned = 258; bits = [] }) ≡ 0 ∷ 0 ∷ 0 ∷ 0 ∷ 0 ∷ 0 ∷ 1 ∷ 2 ∷ 0 ∷ 0 ∷ 0 ∷ 0 ∷ 0 ∷ 0 ∷ 0 ∷ 0 ∷ []
+unfolding pruned_spelling spelling
+spelling_of_a_pruned_front = refl

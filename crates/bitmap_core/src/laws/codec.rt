@@ -3,8 +3,8 @@
 ghost use Rattle.std.specs.Prelude.{◌≡◌, ℕ, ◌+◌, ◌*◌, ◌^◌, ◌<◌, ◌≤◌, ◌↔◌, ◌++◌, Bool, true, List, None, length, slice_index, IfErr, IfOk, IsTrue, OnErr, OnOk};
 ghost use Rattle.std.specs.Int.{div_ceil};
 ghost use Rattle.bitmap_core.specs.PrunedBits.{PrunedBits, bit_len};
-ghost use Rattle.bitmap_core.specs.Reading.{admits, bits_fault, bits_in, pair_fault, pair_in, SpellsBits, SpellsPair};
-ghost use Rattle.bitmap_core.specs.Spelling.{pair_spelling, spelling};
+ghost use Rattle.bitmap_core.specs.Reading.{admits, bits_fault, bits_in, pruned_fault, pruned_in, SpellsBits, SpellsPruned};
+ghost use Rattle.bitmap_core.specs.Spelling.{pruned_spelling, spelling};
 
 use crate::bitmap::BitMap;
 use crate::bitmap::codec::{CodecError, EncodeSize, RangeCfg, Read, Write};
@@ -16,9 +16,9 @@ pub fn bits_are_accepted_where_spelled()
     ensures { (n : ℕ) (range : ℕ → Bool) (text : List ℕ) → 0 < n → ((k : ℕ) → slice_index text k < 256) → (bits_fault n range text ≡ None) ↔ SpellsBits n range text }
 {}
 
-/// A text has no fault exactly where some front of it spells a pair whose bits the range admits.
-pub fn pairs_are_accepted_where_spelled()
-    ensures { (n : ℕ) (range : ℕ → Bool) (text : List ℕ) → 0 < n → ((k : ℕ) → slice_index text k < 256) → (pair_fault n range text ≡ None) ↔ SpellsPair n range text }
+/// A text has no fault exactly where some front of it spells a bitmap with a pruned front whose retained bits the range admits.
+pub fn pruned_bits_are_accepted_where_spelled()
+    ensures { (n : ℕ) (range : ℕ → Bool) (text : List ℕ) → 0 < n → ((k : ℕ) → slice_index text k < 256) → (pruned_fault n range text ≡ None) ↔ SpellsPruned n range text }
 {}
 
 /// A text begins with at most one spelling of bits.
@@ -26,9 +26,9 @@ pub fn one_spelling_of_bits()
     ensures { (n : ℕ) (v w : List Bool) (xs ys : List ℕ) → 0 < n → length v < 2 ^ 64 → length w < 2 ^ 64 → spelling n v ++ xs ≡ spelling n w ++ ys → (v ≡ w) × (xs ≡ ys) }
 {}
 
-/// A text begins with at most one spelling of a pair.
-pub fn one_spelling_of_pairs()
-    ensures { (n : ℕ) (b c : PrunedBits) (xs ys : List ℕ) → 0 < n → bit_len n b < 2 ^ 64 → bit_len n c < 2 ^ 64 → b.pruned < 2 ^ 64 → c.pruned < 2 ^ 64 → pair_spelling n b ++ xs ≡ pair_spelling n c ++ ys → (b ≡ c) × (xs ≡ ys) }
+/// A text begins with at most one spelling of a bitmap with a pruned front.
+pub fn one_spelling_of_pruned_bits()
+    ensures { (n : ℕ) (b c : PrunedBits) (xs ys : List ℕ) → 0 < n → bit_len n b < 2 ^ 64 → bit_len n c < 2 ^ 64 → b.pruned < 2 ^ 64 → c.pruned < 2 ^ 64 → pruned_spelling n b ++ xs ≡ pruned_spelling n c ++ ys → (b ≡ c) × (xs ≡ ys) }
 {}
 
 /// The bits that a text begins to spell are read off it.
@@ -36,9 +36,9 @@ pub fn spelled_bits_are_read_off()
     ensures { (n : ℕ) (text : List ℕ) (v : List Bool) (rest : List ℕ) → 0 < n → length v < 2 ^ 64 → text ≡ spelling n v ++ rest → v ≡ bits_in text }
 {}
 
-/// The pair that a text begins to spell is read off it.
-pub fn spelled_pairs_are_read_off()
-    ensures { (n : ℕ) (text : List ℕ) (b : PrunedBits) (rest : List ℕ) → 0 < n → length b.bits < 2 ^ 64 → b.pruned < 2 ^ 64 → text ≡ pair_spelling n b ++ rest → b ≡ pair_in text }
+/// The bitmap with a pruned front that a text begins to spell is read off it.
+pub fn spelled_pruned_bits_are_read_off()
+    ensures { (n : ℕ) (text : List ℕ) (b : PrunedBits) (rest : List ℕ) → 0 < n → length b.bits < 2 ^ 64 → b.pruned < 2 ^ 64 → text ≡ pruned_spelling n b ++ rest → b ≡ pruned_in text }
 {}
 
 /// Bitmaps are equal exactly where their lists are, and exactly where their spellings are.
@@ -67,14 +67,14 @@ pub fn bits_are_read_again<const N: usize>(
 }
 
 /// What spells a bitmap with a pruned front is read as it, and what follows stays. Where the range admits its bits only memory can be missing.
-pub fn pairs_are_read_again<const N: usize>(
+pub fn pruned_bits_are_read_again<const N: usize>(
     alloc: Global,
     map: &Prunable<N>,
     from: &mut &[u8],
     range: &RangeCfg,
 ) -> Result<Prunable<N>, CodecError>
-    ensures found { (rest : List ℕ) → from.old.now ≡ pair_spelling N map.now ++ rest → IfOk result (λ b. (b ≡ map.now) × (from.new.now ≡ rest)) }
-    ensures refused { (rest : List ℕ) → from.old.now ≡ pair_spelling N map.now ++ rest → admits range.now (length map.now.bits) ≡ true → IfErr result (λ e. e ≡ CodecError.OutOfMemory) }
+    ensures found { (rest : List ℕ) → from.old.now ≡ pruned_spelling N map.now ++ rest → IfOk result (λ b. (b ≡ map.now) × (from.new.now ≡ rest)) }
+    ensures refused { (rest : List ℕ) → from.old.now ≡ pruned_spelling N map.now ++ rest → admits range.now (length map.now.bits) ≡ true → IfErr result (λ e. e ≡ CodecError.OutOfMemory) }
     ensures unmoved { OnErr result (from.new ≡ from.old) }
 {
     let _ = map.len();

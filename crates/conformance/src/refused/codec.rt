@@ -41,7 +41,7 @@ fn read_bits(rt: &impl Abort, alloc: Global, from: &mut &[u8]) -> bool {
 }
 
 // Reads the three bits behind the pruned chunk, and answers whether it was refused.
-fn read_pair(rt: &impl Abort, alloc: Global, from: &mut &[u8]) -> bool {
+fn read_pruned(rt: &impl Abort, alloc: Global, from: &mut &[u8]) -> bool {
     match Prunable::<4>::read_cfg(alloc, from, &RangeCfg::exact(3)) {
         Ok(map) => {
             assert!(rt; shows(rt, &map, 1, b"101"));
@@ -55,7 +55,7 @@ fn read_pair(rt: &impl Abort, alloc: Global, from: &mut &[u8]) -> bool {
 }
 
 // Three bits behind one pruned chunk, unless their memory is refused.
-fn set_up_pair(rt: &impl Abort, alloc: Global) -> Option<Prunable<4>> {
+fn set_up_pruned(rt: &impl Abort, alloc: Global) -> Option<Prunable<4>> {
     let mut map = Prunable::<4>::new_with_pruned_chunks(alloc, 1).ok()?;
     push_digits(rt, &mut map, b"101").ok()?;
     Some(map)
@@ -73,7 +73,7 @@ fn faulty_bits(rt: HostRuntime) {
 }
 
 #[test]
-fn faulty_pair(rt: HostRuntime) {
+fn faulty_pruned(rt: HostRuntime) {
     let text = [0, 0, 0, 0, 0, 0, 0, 1, 0, 0, 0, 0, 0, 0, 0, 3, 13, 0, 0, 0];
     let mut from = text.as_slice();
     for _ in 0..2 {
@@ -96,12 +96,12 @@ fn bits_read(rt: HostRuntime) {
 }
 
 #[test]
-fn pair_read(rt: HostRuntime) {
+fn pruned_read(rt: HostRuntime) {
     let mut from = BEHIND_ONE.as_slice();
-    let refused = read_pair(&rt, rt.alloc(), &mut from)
+    let refused = read_pruned(&rt, rt.alloc(), &mut from)
         && {
             assert_eq!(rt; from, BEHIND_ONE.as_slice());
-            read_pair(&rt, rt.alloc(), &mut from)
+            read_pruned(&rt, rt.alloc(), &mut from)
         };
     let after: &[u8] = if refused { &BEHIND_ONE } else { &[0xaa] };
     assert_eq!(rt; from, after);
@@ -126,8 +126,8 @@ fn bits_written(rt: HostRuntime) {
 }
 
 #[test]
-fn pair_written(rt: HostRuntime) {
-    let Some(map) = set_up_pair(&rt, rt.alloc()) else {
+fn pruned_written(rt: HostRuntime) {
+    let Some(map) = set_up_pruned(&rt, rt.alloc()) else {
         return;
     };
     let Ok(mut out) = Vec::from_slice(rt.alloc(), BEFORE) else {
@@ -148,7 +148,7 @@ fn written_where_there_is_room(rt: HostRuntime) {
     let Ok(bits) = BitMap::<4>::from_bools(rt.alloc(), &[true, false, true]) else {
         return;
     };
-    let Some(pair) = set_up_pair(&rt, rt.alloc()) else {
+    let Some(pair) = set_up_pruned(&rt, rt.alloc()) else {
         return;
     };
     let Ok(mut out) = Vec::with_capacity(rt.alloc(), 32) else {

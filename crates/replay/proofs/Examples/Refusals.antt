@@ -4,7 +4,7 @@ use Rattle.std.specs.Global.{Vec}
 use Rattle.std.proofs.Common.{refl, ap, ◌∙◌}
 use Rattle.bitmap_core.specs.PrunedBits.{PrunedBits}
 use Rattle.bitmap_core.specs.declared.bitmap.codec.range.RangeCfg.{RangeCfg}
-use Rattle.bitmap_core.specs.Reading.{admits, pair_fault}
+use Rattle.bitmap_core.specs.Reading.{admits, pruned_fault}
 use Rattle.bitmap_core.specs.Reading.Fault.{EndOfBuffer}
 use Rattle.replay.specs.declared.command.Command.TheVariants.{Start, Begin, Push, Pop, Set, Commit, Abort, Len, PrunedChunks, Get, Ones, Encode, At, Decode}
 use Rattle.replay.specs.Machine.{State, start, no_bits, is_dirty, shown, edited, WrongMode, OutOfBounds, Pruned, TooLong, NoRetainedBit, ReservedCommitNumber, NonMonotonicCommit, PrunedChunksOverflow, Codec, when, first, chunk_index, shown_len, wrong_mode, out_of_bounds, is_pruned, too_long, none_retained, reserved, not_above, overflows, unreadable, refusal_of}
@@ -203,12 +203,12 @@ pruned_within_64 : overflows 1 clean (Start 2305843009213693951) ≡ false
 pruned_within_64 = refl
 
 -- no bytes are no bitmap
-pub no_bytes : (range : RangeCfg) → pair_fault 1 (admits range) [] ≡ Some EndOfBuffer
-unfolding pair_fault
+pub no_bytes : (range : RangeCfg) → pruned_fault 1 (admits range) [] ≡ Some EndOfBuffer
+unfolding pruned_fault
 no_bytes range = refl
 
 no_bytes_unreadable : (text : Vec ℕ) (range : RangeCfg) → text.items ≡ [] → unreadable 1 clean (Decode text range) ≡ Some (Codec (Some EndOfBuffer))
-no_bytes_unreadable text range e = let f : pair_fault 1 (admits range) text.items ≡ Some EndOfBuffer = ap (pair_fault 1 (admits range)) e ∙ no_bytes range in rw f refl
+no_bytes_unreadable text range e = let f : pruned_fault 1 (admits range) text.items ≡ Some EndOfBuffer = ap (pruned_fault 1 (admits range)) e ∙ no_bytes range in rw f refl
 
 -- ---- the first refusal
 
@@ -254,7 +254,7 @@ start_in_a_batch : refusal_of 1 dirty (Start 2305843009213693952) ≡ Some Wrong
 start_in_a_batch = refl
 
 decode_nothing : (text : Vec ℕ) (range : RangeCfg) → text.items ≡ [] → refusal_of 1 dirty (Decode text range) ≡ Some (Codec (Some EndOfBuffer))
-decode_nothing text range e = let f : pair_fault 1 (admits range) text.items ≡ Some EndOfBuffer = ap (pair_fault 1 (admits range)) e ∙ no_bytes range in rw f refl
+decode_nothing text range e = let f : pruned_fault 1 (admits range) text.items ≡ Some EndOfBuffer = ap (pruned_fault 1 (admits range)) e ∙ no_bytes range in rw f refl
 
 -- and these are accepted
 push_accepted : refusal_of 1 dirty (Push true) ≡ None

@@ -4,8 +4,8 @@ use Rattle.std.specs.Global.{Vec}
 use Rattle.std.proofs.Common.{refl, ap, ◌∙◌, inl, inr}
 use Rattle.bitmap_core.specs.PrunedBits.{PrunedBits}
 use Rattle.bitmap_core.specs.declared.bitmap.codec.range.RangeCfg.{RangeCfg}
-use Rattle.bitmap_core.specs.Spelling.{spelling, pair_spelling}
-use Rattle.bitmap_core.specs.Reading.{pair_fault, pair_in, bits_in}
+use Rattle.bitmap_core.specs.Spelling.{spelling, pruned_spelling}
+use Rattle.bitmap_core.specs.Reading.{pruned_fault, pruned_in, bits_in}
 use Rattle.bitmap_core.specs.Reading.Fault.{EndOfBuffer}
 use Rattle.replay.specs.declared.command.Command.TheVariants.{Start, Begin, Push, Pop, Set, Commit, Abort, Len, PrunedChunks, Get, Ones, Encode, At, Decode}
 use Rattle.replay.specs.Machine.{State, Machine, start, no_bits, Done, Bit, Number, Positions, Bytes, Snapshot, Read, Refused, Codec, NoMemory, takes_memory, decoded, IsDecoded, answer_of, state_after, touches, touched_after, popped_to_chunks, most_cost, after}
@@ -117,7 +117,7 @@ set_positions = refl
 
 -- one pruned chunk, two bits, and the byte 1
 encoded : answer_of 1 clean Encode ≡ Bytes (Some (0 ∷ 0 ∷ 0 ∷ 0 ∷ 0 ∷ 0 ∷ 0 ∷ 1 ∷ 0 ∷ 0 ∷ 0 ∷ 0 ∷ 0 ∷ 0 ∷ 0 ∷ 2 ∷ 1 ∷ []))
-unfolding pair_spelling spelling
+unfolding pruned_spelling spelling
 encoded = refl
 
 -- a kept number, and one that is not kept
@@ -139,30 +139,30 @@ abbrev pub text_of_three : List ℕ
 text_of_three = 0 ∷ 0 ∷ 0 ∷ 0 ∷ 0 ∷ 0 ∷ 0 ∷ 1 ∷ 0 ∷ 0 ∷ 0 ∷ 0 ∷ 0 ∷ 0 ∷ 0 ∷ 3 ∷ 5 ∷ 77 ∷ 78 ∷ []
 
 pub read : decoded 1 text_of_three ≡ Read (behind_one (true ∷ false ∷ true ∷ [])) 2
-unfolding pair_spelling spelling pair_in bits_in
+unfolding pruned_spelling spelling pruned_in bits_in
 read = refl
 
 -- a read of it may say so, or find no memory, and nothing else
 may_be_read : IsDecoded 1 (λ k. true) text_of_three (Read (behind_one (true ∷ false ∷ true ∷ [])) 2)
-unfolding pair_fault pair_spelling spelling pair_in bits_in
+unfolding pruned_fault pruned_spelling spelling pruned_in bits_in
 may_be_read = inl refl
 
 may_find_no_memory : IsDecoded 1 (λ k. true) text_of_three (Refused NoMemory)
-unfolding pair_fault pair_spelling spelling pair_in bits_in
+unfolding pruned_fault pruned_spelling spelling pruned_in bits_in
 may_find_no_memory = inr refl
 
 is_not_done : IsDecoded 1 (λ k. true) text_of_three Done → ⊥
-unfolding pair_fault pair_spelling spelling pair_in bits_in
+unfolding pruned_fault pruned_spelling spelling pruned_in bits_in
 is_not_done (inl e) = cc
 is_not_done (inr e) = cc
 
 -- a short text is told as such, and never as want of memory
 is_short : IsDecoded 1 (λ k. true) [] (Refused (Codec (Some EndOfBuffer)))
-unfolding pair_fault
+unfolding pruned_fault
 is_short = refl
 
 is_not_want_of_memory : IsDecoded 1 (λ k. true) [] (Refused NoMemory) → ⊥
-unfolding pair_fault
+unfolding pruned_fault
 is_not_want_of_memory e = cc
 
 -- a decode replies so in a batch too

@@ -5,7 +5,7 @@ use Rattle.std.proofs.Common.{refl, ap, sym, ◌∙◌, inl, inr, arith}
 use Rattle.std.proofs.lemmas.Bool.{false≢true}
 use Rattle.bitmap_core.specs.PrunedBits.{PrunedBits}
 use Rattle.bitmap_core.specs.declared.bitmap.codec.range.RangeCfg.{RangeCfg}
-use Rattle.bitmap_core.specs.Reading.{admits, pair_fault}
+use Rattle.bitmap_core.specs.Reading.{admits, pruned_fault}
 use Rattle.bitmap_core.specs.Reading.Fault.{EndOfBuffer}
 use Rattle.replay.specs.declared.command.Command.{Command}
 use Rattle.replay.specs.declared.command.Command.TheVariants.{Begin, Push, Pop, Set, Commit, Len, Ones, At, Decode}
@@ -142,16 +142,16 @@ plus_one : Step 1 (batch_on_it [] (0 ∷ 0 ∷ [])) (Commit 2) Done (clean (plai
 plus_one = inl (refl, (2, omega arith, refl))
 
 -- its number of bits is 3, which the range admits
-sound : pair_fault 1 (admits (record { low = 3; high = 3 })) text_of_three ≡ None
-unfolding pair_fault
+sound : pruned_fault 1 (admits (record { low = 3; high = 3 })) text_of_three ≡ None
+unfolding pruned_fault
 sound = refl
 
 -- a text without fault is read, its last two bytes left, and one without bytes is refused
 three_are_read : (text : Vec ℕ) → text.items ≡ text_of_three → Step 1 one_kept (Decode text (record { low = 3; high = 3 })) (Read (behind_one (true ∷ false ∷ true ∷ [])) 2) one_kept
-three_are_read text e = let f : pair_fault 1 (admits (record { low = 3; high = 3 })) text.items ≡ None = ap (pair_fault 1 (admits (record { low = 3; high = 3 }))) e ∙ sound in rw f (inl (sym (ap (decoded 1) e ∙ read), (0, omega arith, refl)))
+three_are_read text e = let f : pruned_fault 1 (admits (record { low = 3; high = 3 })) text.items ≡ None = ap (pruned_fault 1 (admits (record { low = 3; high = 3 }))) e ∙ sound in rw f (inl (sym (ap (decoded 1) e ∙ read), (0, omega arith, refl)))
 
 nothing_is_read : (text : Vec ℕ) (range : RangeCfg) → text.items ≡ [] → Step 1 one_kept (Decode text range) (Refused (Codec (Some EndOfBuffer))) one_kept
-nothing_is_read text range e = let f : pair_fault 1 (admits range) text.items ≡ Some EndOfBuffer = ap (pair_fault 1 (admits range)) e ∙ no_bytes range in rw f (refl, refl)
+nothing_is_read text range e = let f : pruned_fault 1 (admits range) text.items ≡ Some EndOfBuffer = ap (pruned_fault 1 (admits range)) e ∙ no_bytes range in rw f (refl, refl)
 
 -- there is one answer a command
 missing_answer : Run 1 start (Begin ∷ []) [] start → ⊥

@@ -3,8 +3,8 @@
 ghost use Rattle.std.specs.Prelude.{◌≡◌, ℕ, ◌+◌, ◌*◌, ◌^◌, ◌<◌, ◌≤◌, Bool, None, drop, length, slice_index, take, IfErr, IfOk, OnOk};
 ghost use Rattle.std.specs.Simd.{first_chunks};
 ghost use Rattle.bitmap_core.specs.PrunedBits.{bit_len};
-ghost use Rattle.bitmap_core.specs.Spelling.{chunk_count, pair_spelling};
-ghost use Rattle.bitmap_core.specs.Reading.{admits, bits_fault, chunk_bytes, fault, number, pair_fault, pair_in};
+ghost use Rattle.bitmap_core.specs.Spelling.{chunk_count, pruned_spelling};
+ghost use Rattle.bitmap_core.specs.Reading.{admits, bits_fault, chunk_bytes, fault, number, pruned_fault, pruned_in};
 
 use crate::bitmap::BitMap;
 use crate::bitmap::chunks::chunk_bits;
@@ -14,15 +14,15 @@ use crate::bitmap::prunable::Prunable;
 use std::alloc::{AllocError, Global};
 
 // The pruned chunk count of a text, the number of pruned bits, and what follows the count.
-#[tactic(auto, unfolding(crate::specs::Reading::pair_fault))]
-fn pruned_part<const N: usize>(text: &[u8]) -> Result<(usize, u64, &[u8]), CodecError>
+#[tactic(auto, unfolding(crate::specs::Reading::pruned_fault))]
+fn count_part<const N: usize>(text: &[u8]) -> Result<(usize, u64, &[u8]), CodecError>
     requires { 8 * N < 2 ^ 64 }
     ensures long { OnOk result (8 ≤ length text.now) }
     ensures count { IfOk result (λ p. p.0 ≡ number text.now) }
     ensures pruned { IfOk result (λ p. p.1 ≡ 8 * N * number text.now) }
     ensures fits { OnOk result (8 * N * number text.now < 2 ^ 64) }
     ensures body { IfOk result (λ p. p.2.now ≡ drop 8 text.now) }
-    ensures refused { IfErr result (λ e. (range : ℕ → Bool) → pair_fault N range text.now ≡ fault e) }
+    ensures refused { IfErr result (λ e. (range : ℕ → Bool) → pruned_fault N range text.now ≡ fault e) }
     ensures bytes { (k : ℕ) → slice_index text.now k < 256 }
 {
     let (front, body) = text
@@ -43,13 +43,13 @@ fn pruned_part<const N: usize>(text: &[u8]) -> Result<(usize, u64, &[u8]), Codec
 }
 
 // The pruned chunk count of a text, the length of its retained bits, their chunks, and what follows them.
-fn pair_parts<'a, const N: usize>(
+fn pruned_parts<'a, const N: usize>(
     text: &'a [u8],
     range: &RangeCfg,
 ) -> Result<(usize, u64, &'a [[u8; N]], &'a [u8]), CodecError>
     requires positive { 0 < N }
     requires fits { 8 * N < 2 ^ 64 }
-    ensures accepted { OnOk result (pair_fault N (admits range.now) text.now ≡ None) }
+    ensures accepted { OnOk result (pruned_fault N (admits range.now) text.now ≡ None) }
     ensures bits_accepted { OnOk result (bits_fault N (admits range.now) (drop 8 text.now) ≡ None) }
     ensures long { OnOk result (8 ≤ length text.now) }
     ensures pruned { IfOk result (λ p. p.0 ≡ number text.now) }
@@ -57,10 +57,10 @@ fn pair_parts<'a, const N: usize>(
     ensures chunks { IfOk result (λ p. p.2.now ≡ first_chunks N (chunk_count N (number (drop 8 text.now))) (take (chunk_bytes N (drop 8 text.now)) (drop 8 (drop 8 text.now)))) }
     ensures rest { IfOk result (λ p. p.3.now ≡ drop (8 + chunk_bytes N (drop 8 text.now)) (drop 8 text.now)) }
     ensures total { IfOk result (λ p. 8 * N * p.0 + p.1 < 2 ^ 64) }
-    ensures refused { IfErr result (λ e. pair_fault N (admits range.now) text.now ≡ fault e) }
+    ensures refused { IfErr result (λ e. pruned_fault N (admits range.now) text.now ≡ fault e) }
     ensures bytes { (k : ℕ) → slice_index text.now k < 256 }
 {
-    let (pruned_chunks, pruned_bits, body) = pruned_part::<N>(text)?;
+    let (pruned_chunks, pruned_bits, body) = count_part::<N>(text)?;
     let (len, chunks, rest) = parts::<N>(body, range)?;
     if pruned_bits.checked_add(len).is_none() {
         return Err(CodecError::Invalid(
@@ -72,12 +72,12 @@ fn pair_parts<'a, const N: usize>(
 }
 
 impl<const N: usize> EncodeSize for Prunable<N> {
-    ghost spelled = { pair_spelling N };
+    ghost spelled = { pruned_spelling N };
 
     ghost IsSized = { λ b. (bit_len N b < 2 ^ 64) × (b.pruned < 2 ^ 64) };
 
     fn encode_size(&self) -> usize
-        ensures { result ≡ length (pair_spelling N self.now) }
+        ensures { result ≡ length (pruned_spelling N self.now) }
     {
         8 + self.retained().encode_size()
     }
@@ -96,12 +96,12 @@ impl<const N: usize> Write for Prunable<N> {
 impl<const N: usize> Read for Prunable<N> {
     ghost can_read = { (0 < N) × (8 * N < 2 ^ 64) };
 
-    ghost value_in = { pair_in };
+    ghost value_in = { pruned_in };
 
-    ghost fault_of = { pair_fault N };
+    ghost fault_of = { pruned_fault N };
 
     fn read_cfg(alloc: Global, from: &mut &[u8], range: &RangeCfg) -> Result<Self, CodecError> {
-        let (pruned_chunks, len, chunks, rest) = pair_parts::<N>(*from, range)?;
+        let (pruned_chunks, len, chunks, rest) = pruned_parts::<N>(*from, range)?;
         let bits = BitMap::from_chunks(alloc, chunks, len).map_err(|_| CodecError::OutOfMemory)?;
         *from = rest;
         Ok(Prunable::from_parts(bits, pruned_chunks))

@@ -4,9 +4,9 @@ use crate::bitmap::prunable::Prunable;
 use crate::bitmap::readable::Readable;
 
 impl<const N: usize> Readable<N> for Prunable<N> {
-    ghost use Rattle.bitmap_core.specs.Meaning.{pair_meaning};
+    ghost use Rattle.bitmap_core.specs.Meaning.{pruned_meaning};
 
-    ghost meaning = { pair_meaning N };
+    ghost meaning = { pruned_meaning N };
 
     fn complete_chunks(&self) -> usize {
         Prunable::complete_chunks(self)

@@ -1,4 +1,4 @@
-use Rattle.bitmap_core.proofs.Pairs.{same_from_bits}
+use Rattle.bitmap_core.proofs.PrunedBitsFacts.{same_from_bits}
 use Rattle.bitmap_core.proofs.laws.fronts.fixed_by_positions.Goals as goal
 
 pub returns : goal.returns

@@ -1,6 +1,6 @@
 use Rattle.std.proofs.Common.{arith, ap, length}
 use Rattle.bitmap_core.specs.Spelling.{spelling}
-use Rattle.bitmap_core.proofs.PairTexts.{length-pair}
+use Rattle.bitmap_core.proofs.PrunedTexts.{length-pruned}
 use Rattle.bitmap_core.proofs.TextParts.{spelling-lt}
 use Rattle.bitmap_core.proofs.bitmap.codec.prunable.PrunableEncodeSize.encode_size.Goals as goal
 
@@ -8,4 +8,4 @@ pub overflow_add-result : goal.overflow_add-result
 overflow_add-result g c = omega (arith, c.encode_size.ensures, spelling-lt g.row.N c.retained.result.now c.retained.ensures.positive c.retained.ensures.fits (omega (arith, ap length c.retained.ensures.value, c.retained.ensures.bound)))
 
 pub returns : goal.returns
-returns g c = omega (arith, length-pair g.row.N c.args.self.now, c.encode_size.ensures, ap (λ x. length (spelling g.row.N x)) c.retained.ensures.value)
+returns g c = omega (arith, length-pruned g.row.N c.args.self.now, c.encode_size.ensures, ap (λ x. length (spelling g.row.N x)) c.retained.ensures.value)

@@ -11,8 +11,8 @@ use Rattle.bitmap_core.proofs.Places.{IsChunkCount-ceil, count_unique}
 use Rattle.bitmap_core.proofs.FrontChunks.{IsChunkCount-front}
 use Rattle.bitmap_core.proofs.MadeBytes.{byte_same, chunk_bit_of_bytes, map_range_same}
 
-pub same_pair : (a b : PrunedBits) → a.pruned ≡ b.pruned → a.bits ≡ b.bits → a ≡ b
-same_pair a b p q i = record { pruned = p i; bits = q i }
+pub same_pruned : (a b : PrunedBits) → a.pruned ≡ b.pruned → a.bits ≡ b.bits → a ≡ b
+same_pruned a b p q i = record { pruned = p i; bits = q i }
 
 -- a position by its chunk and its place there
 pub place : (w k : ℕ) → w * (k / w) + k % w ≡ k
@@ -58,7 +58,7 @@ pub same_from_bits : (n : ℕ) (b : PrunedBits) (bit : ℕ → Bool) → ((k : �
 same_from_bits n b bit h =
     let count : bit_len n b - pruned_bits n b ≡ length b.bits = omega arith in
     let len = length-map-range_with_len bit (pruned_bits n b) (bit_len n b - pruned_bits n b) ∙ count in
-    same_pair (from_bits n b.pruned (bit_len n b) bit) b refl (ext_get_or false _ b.bits len (λ i l.
+    same_pruned (from_bits n b.pruned (bit_len n b) bit) b refl (ext_get_or false _ b.bits len (λ i l.
     let within : i < bit_len n b - pruned_bits n b = omega arith in
     let back : pruned_bits n b + i - pruned_bits n b ≡ i = omega arith in
     get_or-map-range_with_len bit (pruned_bits n b) (bit_len n b - pruned_bits n b) i (pruned_bits n b + i) false within refl
@@ -67,7 +67,7 @@ same_from_bits n b bit h =
 
 pub same_bitmap : (n : ℕ) (a b : PrunedBits) → a.pruned ≡ b.pruned → bit_len n a ≡ bit_len n b → ((k : ℕ) → HasBit n b k → bit_at n a k ≡ bit_at n b k) → a ≡ b
 same_bitmap n a b p l h =
-    same_pair a b p (ext_get_or false a.bits b.bits (omega (arith, ap (λ m. 8 * n * m) p)) (λ i s.
+    same_pruned a b p (ext_get_or false a.bits b.bits (omega (arith, ap (λ m. 8 * n * m) p)) (λ i s.
     let m = ap (λ x. 8 * n * x) p in
     let e : pruned_bits n b + i - pruned_bits n a ≡ i = omega arith in
     let f : pruned_bits n b + i - pruned_bits n b ≡ i = omega arith in

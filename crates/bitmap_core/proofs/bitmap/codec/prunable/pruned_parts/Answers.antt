@@ -1,9 +1,9 @@
 use Rattle.std.proofs.Common.{◌≡◌, ◌≤◌, ◌+◌, ◌∙◌, ◌^◌, drop, not, true, Option, None, Some, arith, rules, sym, ap}
 use Rattle.std.specs.Prelude.{SomeIff, is_some}
-use Rattle.bitmap_core.specs.Reading.{number, admits, bits_fault, pair_fault, fault}
+use Rattle.bitmap_core.specs.Reading.{number, admits, bits_fault, pruned_fault, fault}
 use Rattle.bitmap_core.proofs.Texts.{number-lt}
-use Rattle.bitmap_core.proofs.Faults.{sound_pair-none, pair_bits_fault, pair_total_fault}
-use Rattle.bitmap_core.proofs.bitmap.codec.prunable.pair_parts.Goals as goal
+use Rattle.bitmap_core.proofs.Faults.{sound_pruned-none, pruned_bits_fault, pruned_total_fault}
+use Rattle.bitmap_core.proofs.bitmap.codec.prunable.pruned_parts.Goals as goal
 
 some_holds : {T P : Type 0} (o : Option T) (v : T) → SomeIff o P v → is_some o ≡ true → P
 some_holds None v s e = absurd cc
@@ -13,8 +13,8 @@ pub returns-in_err-len-clause-refused : goal.returns-in_err-len-clause-refused
 returns-in_err-len-clause-refused g c =
     let p = c.in_ok-pruned_chunks.ensures in
     let bits : bits_fault g.row.N (admits c.args.range.now) (drop 8 c.args.text.now) ≡ fault c.in_err-len.field-0.0 = ap (bits_fault g.row.N (admits c.args.range.now)) (sym p.body) ∙ c.in_err-len.ensures.refused in
-    let q : pair_fault g.row.N (admits c.args.range.now) c.args.text.now ≡ fault c.in_err-len.field-0.0 =
-    pair_bits_fault g.row.N (admits c.args.range.now) c.args.text.now _ p.long p.fits (number-lt c.args.text.now c.pruned_part.ensures.bytes) bits c.in_err-len.ensures.named in
+    let q : pruned_fault g.row.N (admits c.args.range.now) c.args.text.now ≡ fault c.in_err-len.field-0.0 =
+    pruned_bits_fault g.row.N (admits c.args.range.now) c.args.text.now _ p.long p.fits (number-lt c.args.text.now c.count_part.ensures.bytes) bits c.in_err-len.ensures.named in
     search rules
 
 pub returns-then-is_none-clause-refused : goal.returns-then-is_none-clause-refused
@@ -22,17 +22,17 @@ returns-then-is_none-clause-refused g c =
     let p = c.in_ok-pruned_chunks.ensures in
     let many : 2 ^ 64 ≤ c.in_ok-pruned_chunks.pruned_bits + c.in_ok-len.len = search rules in
     let len = c.in_ok-len.ensures.len ∙ ap number p.body in
-    pair_total_fault g.row.N (admits c.args.range.now) c.args.text.now p.long p.fits (number-lt c.args.text.now c.pruned_part.ensures.bytes) (ap (bits_fault g.row.N (admits c.args.range.now)) (sym p.body) ∙ c.in_ok-len.ensures.accepted) (omega (arith, p.pruned, len, many))
+    pruned_total_fault g.row.N (admits c.args.range.now) c.args.text.now p.long p.fits (number-lt c.args.text.now c.count_part.ensures.bytes) (ap (bits_fault g.row.N (admits c.args.range.now)) (sym p.body) ∙ c.in_ok-len.ensures.accepted) (omega (arith, p.pruned, len, many))
 
 pub returns-clause-accepted : goal.returns-clause-accepted
 returns-clause-accepted g c =
     let p = c.in_ok-pruned_chunks.ensures in
     let few = some_holds c.checked_add.result _ c.checked_add.ensures (c.is_none.ensures ∙ ap not c.if-is_none.false) in
     let len = c.in_ok-len.ensures.len ∙ ap number p.body in
-    sound_pair-none g.row.N (admits c.args.range.now) c.args.text.now (record {
+    sound_pruned-none g.row.N (admits c.args.range.now) c.args.text.now (record {
       long = p.long;
       fits = p.fits;
-      count = number-lt c.args.text.now c.pruned_part.ensures.bytes;
+      count = number-lt c.args.text.now c.count_part.ensures.bytes;
       bits = ap (bits_fault g.row.N (admits c.args.range.now)) (sym p.body) ∙ c.in_ok-len.ensures.accepted;
       total = omega (arith, p.pruned, len, few);
     })

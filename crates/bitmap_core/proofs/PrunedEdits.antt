@@ -11,7 +11,7 @@ use Rattle.bitmap_core.specs.Bits.{bit_of}
 use Rattle.bitmap_core.specs.PrunedBits.{PrunedBits, pruned_bits, bit_len, bit_at, HasBit, chunk, pushed, popped, set_at, appended, extended, truncated, pruned_to, unpruned, with_chunk}
 use Rattle.bitmap_core.proofs.ChunkBits.{chunk_bit-mod}
 use Rattle.bitmap_core.proofs.FrontChunks.{length-front_bits, get_or-front_bits}
-use Rattle.bitmap_core.proofs.Pairs.{same_pair, same_bitmap, bit_past, bit_from_bits, len_from_bits, front_of, place, chunk_bit_of_chunk}
+use Rattle.bitmap_core.proofs.PrunedBitsFacts.{same_pruned, same_bitmap, bit_past, bit_from_bits, len_from_bits, front_of, place, chunk_bit_of_chunk}
 
 -- lengths
 pub len_pushed : (n : ℕ) (b : PrunedBits) (x : Bool) → bit_len n (pushed b x) ≡ bit_len n b + 1
@@ -50,7 +50,7 @@ bit_truncated n b len k h = elim (cases_lt k len) [
 ]
 
 pub popped_is : (n : ℕ) (b : PrunedBits) → popped b ≡ truncated n b (bit_len n b - 1)
-popped_is n b = same_pair (popped b) (truncated n b (bit_len n b - 1)) refl (ap (λ m. take m b.bits) (omega arith))
+popped_is n b = same_pruned (popped b) (truncated n b (bit_len n b - 1)) refl (ap (λ m. take m b.bits) (omega arith))
 
 pub bit_set : (n : ℕ) (b : PrunedBits) (j : ℕ) (x : Bool) (k : ℕ) → HasBit n b j → pruned_bits n b ≤ k → bit_at n (set_at n b j x) k ≡ cond (eqb k j) x (bit_at n b k)
 bit_set n b j x k ok h = elim (cases_eq k j) [
