@@ -1,0 +1,57 @@
+-- Old states: what was committed, by number. A chunk has n bytes.
+use Rattle.std.specs.Prelude.{ℕ, ◌-◌, List, [], ◌∷◌, length, map, Option, slice_get, nat_eq, nat_lt, nat_le}
+use Rattle.std.specs.List.{filter}
+use Rattle.std.specs.List.Sorted.{IsStrictlySortedBy}
+use Rattle.std.specs.Map.{lookup, keys_of}
+use Rattle.std.specs.Option.{option_map}
+use Rattle.std.specs.Ordering.{nat_cmp}
+use Rattle.bitmap_core.specs.PrunedBits.{PrunedBits}
+use Rattle.historical_bitmap.specs.Record.{Reverse, before}
+use Rattle.historical_bitmap.specs.Undo.{CanUndo}
+
+-- what is kept under a number, where it is kept
+abbrev pub kept_under : {X : Type 0} → List (ℕ × X) → ℕ → Option X
+kept_under history number = lookup (nat_eq number) history
+
+-- the last kept number, which is the greatest where they rise
+abbrev pub latest : {X : Type 0} → List (ℕ × X) → Option ℕ
+latest history = option_map (λ e. e.0) (slice_get history (length history - 1))
+
+-- the first kept number, which is the least where they rise
+abbrev pub earliest : {X : Type 0} → List (ℕ × X) → Option ℕ
+earliest history = option_map (λ e. e.0) (slice_get history 0)
+
+-- the kept numbers rise
+abbrev pub RiseInNumber : {X : Type 0} → List (ℕ × X) → Type 0
+RiseInNumber history = IsStrictlySortedBy nat_cmp (keys_of history)
+
+-- what is kept under the numbers from this one on
+abbrev pub from_number : {X : Type 0} → ℕ → List (ℕ × X) → List (ℕ × X)
+from_number number history = filter (λ e. nat_le number e.0) history
+
+-- what is kept under the numbers up to this one
+abbrev pub up_to_number : {X : Type 0} → ℕ → List (ℕ × X) → List (ℕ × X)
+up_to_number number history = filter (λ e. nat_le e.0 number) history
+
+-- what is kept under the numbers past this one
+abbrev pub past_number : {X : Type 0} → ℕ → List (ℕ × X) → List (ℕ × X)
+past_number number history = filter (λ e. nat_lt number e.0) history
+
+-- the current bitmap with the records of some commits undone, the last of them first
+abbrev pub undone : ℕ → List (ℕ × Reverse) → PrunedBits → PrunedBits
+undone n [] current = current
+undone n (commit ∷ later) current = before n commit.1 (undone n later current)
+
+-- the number of each commit and what it left: the current bitmap with the later records undone
+abbrev pub snapshots : ℕ → List (ℕ × Reverse) → PrunedBits → List (ℕ × PrunedBits)
+snapshots n [] current = []
+snapshots n (commit ∷ later) current = (commit.0, undone n later current) ∷ snapshots n later current
+
+-- the number of each commit and how many entries its record has
+abbrev pub costs : List (ℕ × Reverse) → List (ℕ × ℕ)
+costs commits = map (λ commit. (commit.0, length commit.1.entries)) commits
+
+-- the record of each commit can be undone in steps from what the commit left
+abbrev pub AllCanUndo : ℕ → List (ℕ × Reverse) → PrunedBits → Type 0
+AllCanUndo n [] current = Unit {0}
+AllCanUndo n (commit ∷ later) current = CanUndo n commit.1 (undone n later current) × AllCanUndo n later current

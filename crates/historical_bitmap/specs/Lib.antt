@@ -1,0 +1,6 @@
+pub mod Edits
+pub mod Record
+pub mod Undo
+pub mod History
+pub mod Pending
+pub mod View

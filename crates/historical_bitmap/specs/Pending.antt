@@ -1,0 +1,157 @@
+-- The edits that a batch has pending. A chunk has n bytes.
+use Rattle.std.specs.Prelude.{◌≡◌, ℕ, ◌+◌, ◌-◌, ◌*◌, ◌/◌, ◌%◌, ◌<◌, ◌≤◌, max, Bool, true, false, List, [], ◌∷◌, ◌++◌, length, map, if◌then◌else◌, ◌⊎◌, slice_index_or, nat_lt, nat_eq, Option, Some, None, MatchOption, unwrap_or}
+use Rattle.std.specs.List.Sorted.{IsStrictlySortedBy}
+use Rattle.std.specs.Map.{lookup, keys_of}
+use Rattle.std.specs.Ordering.{nat_cmp}
+use Rattle.std.specs.Set.{is_member}
+use Rattle.bitmap_core.specs.Chunk.{chunk_bit, IsBitWritten}
+use Rattle.bitmap_core.specs.PrunedBits.{PrunedBits, bit_len, from_bits, chunk, truncated, pruned_to}
+use Rattle.historical_bitmap.specs.Edits.{Edit, from_to}
+use Rattle.historical_bitmap.specs.Edits.Edit.{Push, Pop, Set, Prune}
+use Rattle.historical_bitmap.specs.Record.{ChunkDiff, Reverse, bit_from}
+use Rattle.historical_bitmap.specs.Record.ChunkDiff.{Modified, Removed, Added, Pruned}
+use Rattle.historical_bitmap.specs.Undo.{resized, put_back}
+
+-- the length and the number of pruned chunks that a batch will leave, the bytes of the chunks that it has edited, by their index, and the old bytes of those that it has pruned, from the first of them on
+pub record Layer : Type 0 where
+  pub len : ℕ
+  pub pruned : ℕ
+  pub edited : List (ℕ × List ℕ)
+  pub captured : List (List ℕ)
+
+-- no edit is pending
+abbrev pub unedited : ℕ → PrunedBits → Layer
+unedited n b = record { len = bit_len n b; pruned = b.pruned; edited = []; captured = [] }
+
+-- the bytes of chunk i, where it is edited
+abbrev pub edited_chunk : Layer → ℕ → Option (List ℕ)
+edited_chunk l i = lookup (nat_eq i) l.edited
+
+-- bit k: that of its chunk where it is edited, else that of the current bitmap
+abbrev pub layer_bit : ℕ → PrunedBits → Layer → ℕ → Bool
+layer_bit n b l k = bit_from n (edited_chunk l (k / (8 * n))) b k
+
+-- the bitmap that a commit will leave
+abbrev pub pending_bits : ℕ → PrunedBits → Layer → PrunedBits
+pending_bits n b l = from_bits n l.pruned l.len (layer_bit n b l)
+
+-- the bytes of chunk i with the pending edits: of one that is not edited those of the current bitmap, cut to the pending length
+abbrev pub pending_chunk : ℕ → PrunedBits → Layer → ℕ → List ℕ
+pending_chunk n b l i = unwrap_or (edited_chunk l i) (chunk n (truncated n b l.len) i)
+
+-- the bytes that a prune captures of chunk i: those of the current bitmap, or, where it has none, those that the batch appended
+abbrev pub old_chunk : ℕ → PrunedBits → Layer → ℕ → List ℕ
+old_chunk n b l i = if nat_lt (8 * n * i) (bit_len n b) then chunk n b i else pending_chunk n b l i
+
+-- the chunks that the pending edits name: edited, cut off or pruned
+abbrev pub layer_marks : ℕ → PrunedBits → Layer → List ℕ
+layer_marks n b l = keys_of l.edited ++ map (λ k. k / (8 * n)) (from_to l.len (bit_len n b)) ++ from_to b.pruned l.pruned
+
+-- the edited chunk i has n bytes, is retained, and its bits past the pending length are zero
+pub record IsEdited (n : ℕ) (b : PrunedBits) (l : Layer) (i : ℕ) (bytes : List ℕ) : Type 0 where
+  pub low : b.pruned ≤ i
+  pub high : 8 * n * i < l.len
+  pub size : length bytes ≡ n
+  pub clear : (k : ℕ) → k / (8 * n) ≡ i → l.len ≤ k → chunk_bit n bytes k ≡ false
+
+-- the captured chunk i has n bytes, which are those of the current bitmap where it has that chunk
+pub record IsCaptured (n : ℕ) (b : PrunedBits) (i : ℕ) (bytes : List ℕ) : Type 0 where
+  pub size : length bytes ≡ n
+  pub old : 8 * n * i < bit_len n b → bytes ≡ chunk n b i
+
+-- what holds of pending edits: the pruned front is within the length and not before the current one, a retained bit whose chunk is not edited is in the current bitmap, and the edited and the captured chunks are right
+pub record LayerFits (n : ℕ) (b : PrunedBits) (l : Layer) : Type 0 where
+  pub front : 8 * n * l.pruned ≤ l.len
+  pub rises : b.pruned ≤ l.pruned
+  pub covered : (k : ℕ) → 8 * n * l.pruned ≤ k → k < l.len → edited_chunk l (k / (8 * n)) ≡ None → k < bit_len n b
+  pub edited : (i : ℕ) → MatchOption (edited_chunk l i) (Unit {0}) (IsEdited n b l i)
+  pub count : length l.captured ≡ l.pruned - b.pruned
+  pub captured : (i : ℕ) → b.pruned ≤ i → i < l.pruned → IsCaptured n b i (slice_index_or l.captured (i - b.pruned) [])
+
+-- n bytes, which are the old ones but that bit k is value
+pub record IsWritten (n : ℕ) (old : List ℕ) (k : ℕ) (value : Bool) (new : List ℕ) : Type 0 where
+  pub size : length new ≡ n
+  pub bits : IsBitWritten n old new k value
+
+-- the new entries have o under i, and under other keys what the old ones have
+abbrev pub Puts : {X : Type 0} → List (ℕ × X) → List (ℕ × X) → ℕ → Option X → Type 0
+Puts old new i o = (q : ℕ) → lookup (nat_eq q) new ≡ (if nat_eq q i then o else lookup (nat_eq q) old)
+
+-- m is l with bit k written in its chunk, and of length total
+pub record Writes (n : ℕ) (b : PrunedBits) (l : Layer) (k : ℕ) (value : Bool) (total : ℕ) (m : Layer) : Type 0 where
+  pub len : m.len ≡ total
+  pub pruned : m.pruned ≡ l.pruned
+  pub captured : m.captured ≡ l.captured
+  pub bytes : List ℕ
+  pub written : IsWritten n (pending_chunk n b l (k / (8 * n))) k value bytes
+  pub edited : Puts l.edited m.edited (k / (8 * n)) (Some bytes)
+
+-- what is left of the edited chunk of bit k where that bit goes: nothing where it was the chunk's first bit or the chunk is not edited, else the chunk with that bit cleared
+abbrev pub Clears : ℕ → Layer → ℕ → Option (List ℕ) → Type 0
+Clears n l k left = MatchOption left
+    ((k % (8 * n) ≡ 0) ⊎ (edited_chunk l (k / (8 * n)) ≡ None))
+    (λ bytes. (0 < k % (8 * n)) × MatchOption (edited_chunk l (k / (8 * n))) ⊥ (λ old. IsWritten n old k false bytes))
+
+-- m is l without the last bit
+pub record Pops (n : ℕ) (l m : Layer) : Type 0 where
+  pub len : m.len ≡ l.len - 1
+  pub pruned : m.pruned ≡ l.pruned
+  pub captured : m.captured ≡ l.captured
+  pub left : Option (List ℕ)
+  pub clears : Clears n l (l.len - 1) left
+  pub edited : Puts l.edited m.edited ((l.len - 1) / (8 * n)) left
+
+-- m is l without the chunks before chunk q, whose old bytes are captured
+pub record Prunes (n : ℕ) (b : PrunedBits) (l : Layer) (q : ℕ) (m : Layer) : Type 0 where
+  pub len : m.len ≡ l.len
+  pub pruned : m.pruned ≡ max l.pruned q
+  pub edited : m.edited ≡ l.edited
+  pub captured : m.captured ≡ l.captured ++ map (old_chunk n b l) (from_to l.pruned q)
+
+-- m is l after an edit
+abbrev pub Follows : ℕ → PrunedBits → Layer → Edit → Layer → Type 0
+Follows n b l (Push value) m = Writes n b l l.len value (l.len + 1) m
+Follows n b l Pop m = Pops n l m
+Follows n b l (Set position value) m = Writes n b l position value l.len m
+Follows n b l (Prune position) m = Prunes n b l (position / (8 * n)) m
+
+-- n bytes for chunk i: below the length its pending bits, then the appended values, then zeros
+pub record HasAppended (n : ℕ) (b : PrunedBits) (l : Layer) (values : List Bool) (i : ℕ) (bytes : List ℕ) : Type 0 where
+  pub size : length bytes ≡ n
+  pub bits : (k : ℕ) → k / (8 * n) ≡ i → chunk_bit n bytes k ≡ (if nat_lt k l.len then chunk_bit n (pending_chunk n b l i) k else slice_index_or values (k - l.len) false)
+
+-- m is l with some values appended at once: the chunks that take some of them are edited, and no other
+pub record Appends (n : ℕ) (b : PrunedBits) (l : Layer) (values : List Bool) (m : Layer) : Type 0 where
+  pub len : m.len ≡ l.len + length values
+  pub pruned : m.pruned ≡ l.pruned
+  pub captured : m.captured ≡ l.captured
+  pub taken : (i : ℕ) → l.len < 8 * n * i + 8 * n → 8 * n * i < l.len + length values → MatchOption (edited_chunk m i) ⊥ (HasAppended n b l values i)
+  pub others : (i : ℕ) → (8 * n * i + 8 * n ≤ l.len) ⊎ (l.len + length values ≤ 8 * n * i) → edited_chunk m i ≡ edited_chunk l i
+
+-- what a commit does to a chunk that the pending edits name, with its old bytes
+abbrev pub diff_of : ℕ → PrunedBits → Layer → ℕ → ChunkDiff
+diff_of n b l i =
+    if nat_lt i l.pruned then Pruned (slice_index_or l.captured (i - b.pruned) [])
+    else if nat_lt (8 * n * i) (bit_len n b) then (if nat_lt (8 * n * i) l.len then Modified (chunk n b i) else Removed (chunk n b i))
+    else Added
+
+-- a record of the pending edits: one entry for each chunk that they name, strictly ascending, and no other
+pub record ReversesLayer (n : ℕ) (b : PrunedBits) (l : Layer) (r : Reverse) : Type 0 where
+  pub len : r.len ≡ bit_len n b
+  pub pruned : r.pruned ≡ b.pruned
+  pub sorted : IsStrictlySortedBy nat_cmp (keys_of r.entries)
+  pub entries : (i : ℕ) → lookup (nat_eq i) r.entries ≡ (if is_member nat_eq (layer_marks n b l) i then Some (diff_of n b l i) else None)
+
+-- the first number from `from` on that is in xs, where there is one
+abbrev pub IsNextMember : List ℕ → ℕ → Option ℕ → Type 0
+IsNextMember xs from next = MatchOption next
+    ((j : ℕ) → from ≤ j → is_member nat_eq xs j ≡ false)
+    (λ i. (from ≤ i) × (is_member nat_eq xs i ≡ true) × ((j : ℕ) → from ≤ j → j < i → is_member nat_eq xs j ≡ false))
+
+-- edited chunks, as entries that keep their bytes
+abbrev pub edits_of : List (ℕ × List ℕ) → List (ℕ × ChunkDiff)
+edits_of edited = map (λ e. (e.0, Modified e.1)) edited
+
+-- the pending edits made in steps: the length, the edited chunks, the prune
+abbrev pub applied_in_steps : ℕ → PrunedBits → Layer → PrunedBits
+applied_in_steps n b l = pruned_to n (put_back n (resized n b l.len) (edits_of l.edited)) l.pruned

@@ -1,0 +1,38 @@
+-- A record undone step by step. A chunk has n bytes.
+use Rattle.std.specs.Prelude.{◌≡◌, ℕ, ◌-◌, ◌*◌, ◌<◌, ◌≤◌, List, [], ◌∷◌, length, map, if◌then◌else◌, nat_lt, nat_le, Option, Some, None, MatchOption, unwrap_or}
+use Rattle.std.specs.List.{filter}
+use Rattle.std.specs.List.Sorted.{IsStrictlySortedBy}
+use Rattle.std.specs.Ordering.{nat_cmp}
+use Rattle.std.specs.Map.{keys_of}
+use Rattle.bitmap_core.specs.PrunedBits.{PrunedBits, bit_len, truncated, extended, unpruned, with_chunk}
+use Rattle.historical_bitmap.specs.Edits.{from_to}
+use Rattle.historical_bitmap.specs.Record.{ChunkDiff, Reverse, kept_bytes, kept}
+
+-- cut, or filled with zeros, to a length
+abbrev pub resized : ℕ → PrunedBits → ℕ → PrunedBits
+resized n b len = if nat_lt (bit_len n b) len then extended n b len else truncated n b len
+
+-- the bits of chunk i replaced by those of some bytes, where there are some
+abbrev pub put_back_one : ℕ → PrunedBits → ℕ → Option (List ℕ) → PrunedBits
+put_back_one n b i None = b
+put_back_one n b i (Some bytes) = with_chunk n b i bytes
+
+-- the bits of chunks replaced by those of the bytes that their entries keep, one entry after the other
+abbrev pub put_back : ℕ → PrunedBits → List (ℕ × ChunkDiff) → PrunedBits
+put_back n b [] = b
+put_back n b (entry ∷ entries) = put_back n (put_back_one n b entry.0 (kept_bytes entry.1)) entries
+
+-- the old bytes of the chunks that a commit pruned, in order, where it left so many pruned
+abbrev pub pruned_chunks : Reverse → ℕ → List (List ℕ)
+pruned_chunks r pruned = map (λ i. unwrap_or (kept r i) []) (from_to r.pruned pruned)
+
+-- a record undone in steps: pruned chunks put back in front, the length restored, and the old bytes of the other chunks put in place
+abbrev pub undone_in_steps : ℕ → Reverse → PrunedBits → PrunedBits
+undone_in_steps n r newer = put_back n (resized n (unpruned n newer (pruned_chunks r newer.pruned)) r.len) (filter (λ entry. nat_le newer.pruned entry.0) r.entries)
+
+-- a record can be undone in steps: it keeps n bytes of each chunk that the commit pruned
+pub record CanUndo (n : ℕ) (r : Reverse) (newer : PrunedBits) : Type 0 where
+  pub rises : r.pruned ≤ newer.pruned
+  pub fits : 8 * n * r.pruned ≤ r.len
+  pub pruned : (i : ℕ) → r.pruned ≤ i → i < newer.pruned → MatchOption (kept r i) ⊥ (λ bytes. length bytes ≡ n)
+  pub sorted : IsStrictlySortedBy nat_cmp (keys_of r.entries)

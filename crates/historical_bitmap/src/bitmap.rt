@@ -1,0 +1,3 @@
+//! Bitmaps that keep their history.
+
+pub mod historical;

@@ -1,0 +1,3 @@
+//! A bitmap with a history of commits.
+
+pub mod error;
