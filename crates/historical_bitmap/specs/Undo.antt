@@ -1,5 +1,5 @@
 -- A record undone step by step. A chunk has n bytes.
-use Rattle.std.specs.Prelude.{◌≡◌, ℕ, ◌-◌, ◌*◌, ◌<◌, ◌≤◌, List, [], ◌∷◌, length, map, if◌then◌else◌, nat_lt, nat_le, Option, Some, None, MatchOption, unwrap_or}
+use Rattle.std.specs.Prelude.{◌≡◌, ℕ, ◌*◌, ◌<◌, ◌≤◌, List, [], ◌∷◌, length, map, if◌then◌else◌, nat_lt, nat_le, Option, Some, None, MatchOption, unwrap_or}
 use Rattle.std.specs.List.{filter}
 use Rattle.std.specs.List.Sorted.{IsStrictlySortedBy}
 use Rattle.std.specs.Ordering.{nat_cmp}
