@@ -1,1 +1,4 @@
+pub mod Restored
+pub mod OldStates
+pub mod Counting
 pub mod Examples
