@@ -1,4 +1,5 @@
 pub mod Restored
 pub mod OldStates
+pub mod UndoSteps
 pub mod Counting
 pub mod Examples

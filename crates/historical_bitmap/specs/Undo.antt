@@ -1,9 +1,10 @@
 -- A record undone step by step. A chunk has n bytes.
-use Rattle.std.specs.Prelude.{◌≡◌, ℕ, ◌*◌, ◌<◌, ◌≤◌, List, [], ◌∷◌, length, map, if◌then◌else◌, nat_lt, nat_le, Option, Some, None, MatchOption, unwrap_or}
+use Rattle.std.specs.Prelude.{◌≡◌, ℕ, ◌*◌, ◌/◌, ◌<◌, ◌≤◌, false, List, [], ◌∷◌, map, if◌then◌else◌, nat_lt, nat_le, Option, Some, None, MatchOption, unwrap_or, IsSome}
 use Rattle.std.specs.List.{filter}
 use Rattle.std.specs.List.Sorted.{IsStrictlySortedBy}
 use Rattle.std.specs.Ordering.{nat_cmp}
 use Rattle.std.specs.Map.{keys_of}
+use Rattle.bitmap_core.specs.Chunk.{chunk_bit}
 use Rattle.bitmap_core.specs.PrunedBits.{PrunedBits, bit_len, truncated, extended, unpruned, with_chunk}
 use Rattle.historical_bitmap.specs.Edits.{from_to}
 use Rattle.historical_bitmap.specs.Record.{ChunkDiff, Reverse, kept_bytes, kept}
@@ -30,9 +31,15 @@ pruned_chunks r pruned = map (λ i. unwrap_or (kept r i) []) (from_to r.pruned p
 abbrev pub undone_in_steps : ℕ → Reverse → PrunedBits → PrunedBits
 undone_in_steps n r newer = put_back n (resized n (unpruned n newer (pruned_chunks r newer.pruned)) r.len) (filter (λ entry. nat_le newer.pruned entry.0) r.entries)
 
--- a record can be undone in steps: it keeps n bytes of each chunk that the commit pruned
+-- the old bytes of chunk i may be put in place where the length is restored: it is retained, and their bits past the length are zero
+pub record IsOldChunk (n : ℕ) (len : ℕ) (i : ℕ) (bytes : List ℕ) : Type 0 where
+  pub high : 8 * n * i < len
+  pub clear : (k : ℕ) → k / (8 * n) ≡ i → len ≤ k → chunk_bit n bytes k ≡ false
+
+-- a record can be undone in steps: it keeps the bytes of each chunk that the commit pruned, and the other bytes that it keeps may be put in place
 pub record CanUndo (n : ℕ) (r : Reverse) (newer : PrunedBits) : Type 0 where
   pub rises : r.pruned ≤ newer.pruned
   pub fits : 8 * n * r.pruned ≤ r.len
-  pub pruned : (i : ℕ) → r.pruned ≤ i → i < newer.pruned → MatchOption (kept r i) ⊥ (λ bytes. length bytes ≡ n)
+  pub pruned : (i : ℕ) → r.pruned ≤ i → i < newer.pruned → IsSome (kept r i)
+  pub others : (i : ℕ) → newer.pruned ≤ i → MatchOption (kept r i) (Unit {0}) (IsOldChunk n r.len i)
   pub sorted : IsStrictlySortedBy nat_cmp (keys_of r.entries)
