@@ -5,4 +5,6 @@ pub mod Counting
 pub mod Members
 pub mod TouchedChunks
 pub mod PendingEdits
+pub mod PendingMarks
+pub mod PendingRecords
 pub mod Examples
