@@ -7,4 +7,6 @@ pub mod TouchedChunks
 pub mod PendingEdits
 pub mod PendingMarks
 pub mod PendingRecords
+pub mod PendingApplied
+pub mod PendingAppends
 pub mod Examples
