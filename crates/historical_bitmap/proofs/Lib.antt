@@ -6,6 +6,7 @@ pub mod Members
 pub mod TouchedChunks
 pub mod PendingEdits
 pub mod PendingMarks
+pub mod PendingChunks
 pub mod PendingRecords
 pub mod PendingApplied
 pub mod PendingAppends
