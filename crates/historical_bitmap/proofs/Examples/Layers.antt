@@ -1,13 +1,15 @@
 -- Pending edits. Each chunk has one byte.
-use Rattle.std.specs.Prelude.{◌≡◌, true, false, [], ◌∷◌, ◌++◌, Some, None, replicate}
+use Rattle.std.specs.Prelude.{◌≡◌, true, false, [], ◌∷◌, ◌++◌, Some, None, nat_eq, replicate}
 use Rattle.std.proofs.Common.{refl}
+use Rattle.std.proofs.lemmas.Bool.{cases_Bool}
+use mathlib.Core.Logic.{inl, inr}
 use Rattle.bitmap_core.specs.PrunedBits.{PrunedBits}
 use Rattle.historical_bitmap.specs.Edits.{after_all, pushes}
-use Rattle.historical_bitmap.specs.Edits.Edit.{Set, Prune}
+use Rattle.historical_bitmap.specs.Edits.Edit.{Pop, Set, Prune}
 use Rattle.historical_bitmap.specs.Record.{Reverse, before}
 use Rattle.historical_bitmap.specs.Record.ChunkDiff.{Modified, Removed, Added, Pruned}
 use Rattle.historical_bitmap.specs.Undo.{undone_in_steps}
-use Rattle.historical_bitmap.specs.Pending.{Layer, unedited, edited_chunk, layer_bit, pending_bits, pending_chunk, old_chunk, layer_marks, diff_of, edits_of, applied_in_steps}
+use Rattle.historical_bitmap.specs.Pending.{Layer, unedited, edited_chunk, layer_bit, pending_bits, pending_chunk, old_chunk, layer_marks, diff_of, edits_of, Follows, applied_in_steps}
 
 -- twenty true bits: the bytes FF, FF and 0F
 abbrev base : PrunedBits
@@ -137,3 +139,21 @@ appended_and_pruned_restored = refl
 
 appended_and_pruned_restored_in_steps : undone_in_steps 1 back_to_four (pending_bits 1 four appended_and_pruned) ≡ four
 appended_and_pruned_restored_in_steps = refl
+
+-- the prune to 8 of an edited chunk captures its current byte and leaves the edited one
+abbrev edited_first : Layer
+edited_first = record { len = 12; pruned = 0; edited = (0, 254 ∷ []) ∷ []; captured = [] }
+
+prune_of_edited : Follows 1 twelve edited_first (Prune 8) set_and_pruned
+prune_of_edited = record { len = refl; pruned = refl; edited = refl; captured = refl }
+
+-- without an edited chunk a pop changes the length alone
+pop_of_unedited : Follows 1 twelve (unedited 1 twelve) Pop (record { len = 11; pruned = 0; edited = []; captured = [] })
+pop_of_unedited = record {
+  len = refl;
+  pruned = refl;
+  captured = refl;
+  left = None;
+  clears = inr refl;
+  edited = λ q. elim (cases_Bool (nat_eq q 1)) [ inl e ↦ rw e refl | inr e ↦ rw e refl ];
+}

@@ -2,8 +2,9 @@
 use Rattle.std.specs.Prelude.{◌≡◌, ◌^◌, ◌-◌, true, false, ℕ, [], ◌∷◌, ◌++◌, Some, None, ⊤, replicate}
 use Rattle.std.proofs.Common.{refl}
 use Rattle.historical_bitmap.specs.declared.bitmap.historical.error.Error.TheVariants.{NonMonotonicCommit, ReservedCommitNumber}
+use Rattle.historical_bitmap.specs.Edits.Edit.{Pop}
 use Rattle.historical_bitmap.specs.Pending.{Layer}
-use Rattle.historical_bitmap.specs.View.{View, history_of, costs_of, pending_of, marks_of, refusal_of, popped_to_chunks, most_cost}
+use Rattle.historical_bitmap.specs.View.{View, history_of, costs_of, pending_of, marks_of, IsEditOf, IsRunOf, refusal_of, popped_to_chunks, most_cost}
 use Rattle.historical_bitmap.proofs.Examples.Histories.{current, commits}
 
 -- a clean bitmap with three commits, the last of them 3
@@ -60,3 +61,10 @@ cost_of_nine = refl
 -- sixteen are whole chunks, and more than twelve
 pushed_to_chunks : popped_to_chunks 1 (record { current = record { pruned = 0; bits = replicate 12 true }; commits = []; last = None; state = record { len = 16; pruned = 0; edited = (1, 255 ∷ []) ∷ []; captured = [] } }) ≡ false
 pushed_to_chunks = refl
+
+-- a pop of the twelfth bit: the pending bitmap has eleven, and the chunk of the new length is marked
+popped_once : IsEditOf 1 (popped_to 12) Pop (popped_to 11)
+popped_once = record { current = refl; commits = refl; last = refl; pending = refl; marks = λ q h. h }
+
+popped_twice : IsRunOf 1 (popped_to 12) (Pop ∷ Pop ∷ []) (popped_to 10)
+popped_twice = record { current = refl; commits = refl; last = refl; pending = refl; marks = λ q h. h }
