@@ -68,11 +68,11 @@ module _ (n : ℕ) (b : PrunedBits) (l m : Layer) (xs : List Bool) (pos : 0 < n)
       let old = pending_len n b l pos fits in
       let len : m.len ≡ bit_len n (appended (pending_bits n b l) xs) = w.len ∙ omega (arith, pending_len n b l pos fits, length-append (pending_bits n b l).bits xs) in
       same_pending n b m (appended (pending_bits n b l) xs) w.pruned len (λ k h.
-        let within : k < l.len + length xs = omega (arith, h.1, len, w.len) in
-        bit_appended k h.0 within ∙ elim (cases_lt k l.len) [
-          | inl s ↦ rw (lt-ltb k l.len s) (sym (get_or_append_left bits xs false (k - 8 * n * l.pruned) (omega (arith, old, s, h.0)) ∙ pending_at n b l pos fits k h.0 s))
-          | inr s ↦ rw (le-ltb k l.len s) (sym (get_or-append_right bits xs (length bits) (k - 8 * n * l.pruned) false refl (omega (arith, old, s, h.0)) ∙ ap (λ (j : ℕ). get_or xs j false) (omega (arith, old, s, h.0))))
-        ])
+      let within : k < l.len + length xs = omega (arith, h.1, len, w.len) in
+      bit_appended k h.0 within ∙ elim (cases_lt k l.len) [
+        | inl s ↦ rw (lt-ltb k l.len s) (sym (get_or_append_left bits xs false (k - 8 * n * l.pruned) (omega (arith, old, s, h.0)) ∙ pending_at n b l pos fits k h.0 s))
+        | inr s ↦ rw (le-ltb k l.len s) (sym (get_or-append_right bits xs (length bits) (k - 8 * n * l.pruned) false refl (omega (arith, old, s, h.0)) ∙ ap (λ (j : ℕ). get_or xs j false) (omega (arith, old, s, h.0))))
+      ])
 
   new_edited : (i : ℕ) → b.pruned ≤ i → 8 * n * i < l.len + length xs → (o : Option (List ℕ)) → MatchOption o ⊥ (HasAppended n b l xs i) → MatchOption o (Unit {0}) (IsEdited n b m i)
   new_edited i low z None h = absurd h

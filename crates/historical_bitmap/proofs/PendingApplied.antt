@@ -33,7 +33,7 @@ bytes_edits (e ∷ es) i = elim (cases_eq i e.0) [
   | inr ne ↦ rw (ne_eqb i e.0 ne) (bytes_edits es i)
 ]
 
--- the pending edits carried out give the pending pair
+-- the pending edits carried out give the pending bitmap
 module _ (n : ℕ) (b : PrunedBits) (l : Layer) (pos : 0 < n) (fits : LayerFits n b l) (sorted : IsStrictlySortedBy nat_cmp (keys_of l.edited)) where
   abbrev sized : PrunedBits
   sized = resized n b l.len
@@ -65,8 +65,8 @@ module _ (n : ℕ) (b : PrunedBits) (l : Layer) (pos : 0 < n) (fits : LayerFits 
         let count = ap (λ y. y.pruned) cut in
         let len : l.len ≡ bit_len n (pruned_to n whole l.pruned) = sym (ap (λ y. bit_len n y) cut ∙ omega (arith, whole_len, e, fits.front, length-drop (8 * n * (l.pruned - whole.pruned)) whole.bits)) in
         sym (same_pending n b l (pruned_to n whole l.pruned) (sym count) len (λ k s.
-          let low : 8 * n * l.pruned ≤ k = omega (arith, s.0, ap (λ y. 8 * n * y) count) in
-          sym (bit_pruned n whole l.pruned k (omega arith) low ∙ whole_bit k (omega (arith, low, mul-le (8 * n) b.pruned (8 * n) l.pruned (omega arith) fits.rises)) (omega (arith, s.1, len)))))
+        let low : 8 * n * l.pruned ≤ k = omega (arith, s.0, ap (λ y. 8 * n * y) count) in
+        sym (bit_pruned n whole l.pruned k (omega arith) low ∙ whole_bit k (omega (arith, low, mul-le (8 * n) b.pruned (8 * n) l.pruned (omega arith) fits.rises)) (omega (arith, s.1, len)))))
     | inr h ↦
         let same : l.pruned ≡ whole.pruned = omega (arith, h, fits.rises, whole_pruned) in
         rw (le-ltb whole.pruned l.pruned h) (sym (same_pending n b l whole same (sym whole_len) (λ k s. sym (whole_bit k (omega (arith, s.0, ap (λ y. 8 * n * y) whole_pruned)) (omega (arith, s.1, whole_len))))))

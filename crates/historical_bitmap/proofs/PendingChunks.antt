@@ -16,9 +16,9 @@ use Rattle.historical_bitmap.proofs.PendingEdits.{pending_len, pending_at, chunk
 chunk_with_bits : (n : ℕ) (b : PrunedBits) (i : ℕ) (bytes : List ℕ) → 0 < n → IsChunk n bytes → ((k : ℕ) → k / (8 * n) ≡ i → chunk_bit n bytes k ≡ bit_at n b k) → bytes ≡ chunk n b i
 chunk_with_bits n b i bytes pos is same =
     bytes_are n bytes (λ t. bit_at n b (8 * n * i + t)) is.len is.bytes (λ t h.
-      chunk_bit-mod n bytes t (8 * n * i + t) pos (sym (mul-add-mod_self_left (8 * n) i t)) ∙ same (8 * n * i + t) (index t h))
+    chunk_bit-mod n bytes t (8 * n * i + t) pos (sym (mul-add-mod_self_left (8 * n) i t)) ∙ same (8 * n * i + t) (index t h))
     ∙ map_range_same (λ j. byte_of (λ t. bit_at n b (8 * n * i + (8 * j + t)))) (λ j. byte_of (λ t. bit_at n b (8 * n * i + 8 * j + t))) 0 n (λ j l h.
-      byte_same (λ t. bit_at n b (8 * n * i + (8 * j + t))) (λ t. bit_at n b (8 * n * i + 8 * j + t)) (λ t s. ap (λ k. bit_at n b k) (omega arith)))
+    byte_same (λ t. bit_at n b (8 * n * i + (8 * j + t))) (λ t. bit_at n b (8 * n * i + 8 * j + t)) (λ t s. ap (λ k. bit_at n b k) (omega arith)))
   where
     index : (t : ℕ) → t < 8 * n → (8 * n * i + t) / (8 * n) ≡ i
     index t h = let e : 8 * n * i + t ≡ i * (8 * n) + t = omega arith in ap (λ k. k / (8 * n)) e ∙ div-mul-add i (8 * n) t h

@@ -18,11 +18,11 @@ use Rattle.historical_bitmap.specs.Record.{bit_from}
 use Rattle.historical_bitmap.specs.Pending.{Layer, unedited, edited_chunk, layer_bit, pending_bits, pending_chunk, old_chunk, IsWritten, Writes, Pops, Prunes, Follows, IsEdited, IsCaptured, LayerFits}
 use Rattle.historical_bitmap.proofs.Restored.{bit_in_chunk}
 
--- a pair is the pending one where its bits are
+-- a bitmap is the pending one where its bits are
 pub same_pending : (n : ℕ) (b : PrunedBits) (l : Layer) (c : PrunedBits) → l.pruned ≡ c.pruned → l.len ≡ bit_len n c → ((k : ℕ) → HasBit n c k → layer_bit n b l k ≡ bit_at n c k) → pending_bits n b l ≡ c
 same_pending n b l c e m h = ap (λ (q : ℕ). from_bits n q l.len (layer_bit n b l)) e ∙ (ap (λ (j : ℕ). from_bits n c.pruned j (layer_bit n b l)) m ∙ same_from_bits n c (layer_bit n b l) h)
 
--- at the start of a batch the pending pair is the current one
+-- at the start of a batch the pending bitmap is the current one
 pub unedited_pending : (n : ℕ) (b : PrunedBits) → pending_bits n b (unedited n b) ≡ b
 unedited_pending n b = same_from_bits n b (layer_bit n b (unedited n b)) (λ k h. refl)
 
@@ -114,19 +114,21 @@ module _ (n : ℕ) (b : PrunedBits) (l : Layer) (pos : 0 < n) (fits : LayerFits 
   pub set_follows : (k : ℕ) (x : Bool) (m : Layer) → Writes n b l k x l.len m → HasBit n (pending_bits n b l) k → (pending_bits n b m ≡ set_at n (pending_bits n b l) k x) × LayerFits n b m
   set_follows k x m w ok =
       let inside : k < l.len = omega (arith, ok.1, pending_len) in
-      let len : m.len ≡ bit_len n (set_at n (pending_bits n b l) k x) = w.len ∙ omega (arith, pending_len, length-set (pending_bits n b l).bits (k - 8 * n * l.pruned) x) in
-      (same_pending n b m (set_at n (pending_bits n b l) k x) w.pruned len (λ j h.
-          let within : j < l.len = omega (arith, h.1, len, w.len) in
-          bit_written k x l.len m w ok.0 j h.0 (inl within) ∙ (ap (λ y. cond (j == k) x y) (sym (pending_at j h.0 within)) ∙ sym (bit_set n (pending_bits n b l) k x j ok h.0))),
-       write_fits k x l.len m w ok.0 inside (omega arith) (λ j h. inl h))
+      let len : m.len ≡ bit_len n (set_at n (pending_bits n b l) k x) = w.len ∙ omega (arith, pending_len, length-set (pending_bits n b l).bits (k - 8 * n * l.pruned) x) in (
+        same_pending n b m (set_at n (pending_bits n b l) k x) w.pruned len (λ j h.
+            let within : j < l.len = omega (arith, h.1, len, w.len) in
+            bit_written k x l.len m w ok.0 j h.0 (inl within) ∙ (ap (λ y. cond (j == k) x y) (sym (pending_at j h.0 within)) ∙ sym (bit_set n (pending_bits n b l) k x j ok h.0))),
+        write_fits k x l.len m w ok.0 inside (omega arith) (λ j h. inl h),
+      )
 
   pub push_follows : (x : Bool) (m : Layer) → Writes n b l l.len x (l.len + 1) m → (pending_bits n b m ≡ pushed (pending_bits n b l) x) × LayerFits n b m
   push_follows x m w =
-      let len : m.len ≡ bit_len n (pushed (pending_bits n b l) x) = w.len ∙ omega (arith, pending_len, length-append (pending_bits n b l).bits (x ∷ [])) in
-      (same_pending n b m (pushed (pending_bits n b l) x) w.pruned len (λ j h.
-          let within : j < l.len + 1 = omega (arith, h.1, len, w.len) in
-          bits j h.0 within ∙ sym (bit_pushed n (pending_bits n b l) x j h.0)),
-       write_fits l.len x (l.len + 1) m w fits.front (omega arith) (omega arith) (λ j h. or_last j h))
+      let len : m.len ≡ bit_len n (pushed (pending_bits n b l) x) = w.len ∙ omega (arith, pending_len, length-append (pending_bits n b l).bits (x ∷ [])) in (
+        same_pending n b m (pushed (pending_bits n b l) x) w.pruned len (λ j h.
+            let within : j < l.len + 1 = omega (arith, h.1, len, w.len) in
+            bits j h.0 within ∙ sym (bit_pushed n (pending_bits n b l) x j h.0)),
+        write_fits l.len x (l.len + 1) m w fits.front (omega arith) (omega arith) (λ j h. or_last j h),
+      )
     where
       or_last : (j : ℕ) → j < l.len + 1 → (j < l.len) ⊎ (j ≡ l.len)
       or_last j h = elim (cases_lt j l.len) [ inl s ↦ inl s | inr s ↦ inr (omega arith) ]
@@ -157,12 +159,12 @@ module _ (n : ℕ) (b : PrunedBits) (l : Layer) (pos : 0 < n) (fits : LayerFits 
       | inr ne ↦ rw (w.edited (j / (8 * n)), ne_eqb (j / (8 * n)) (last / (8 * n)) ne) refl
     ]
 
-    pop_pair : pending_bits n b m ≡ popped (pending_bits n b l)
-    pop_pair =
+    popped_bits : pending_bits n b m ≡ popped (pending_bits n b l)
+    popped_bits =
         let len : m.len ≡ bit_len n (popped (pending_bits n b l)) = w.len ∙ omega (arith, pending_len, some, length-take-le (length (pending_bits n b l).bits - 1) (pending_bits n b l).bits (omega arith)) in
         same_pending n b m (popped (pending_bits n b l)) w.pruned len (λ j h.
-          let within : j < last = omega (arith, h.1, len, w.len) in
-          bit_popped j within ∙ (sym (pending_at j h.0 (omega arith)) ∙ (sym (short j within h.0) ∙ ap (λ c. bit_at n c j) (sym (popped_is n (pending_bits n b l))))))
+        let within : j < last = omega (arith, h.1, len, w.len) in
+        bit_popped j within ∙ (sym (pending_at j h.0 (omega arith)) ∙ (sym (short j within h.0) ∙ ap (λ c. bit_at n c j) (sym (popped_is n (pending_bits n b l))))))
       where
         short : (j : ℕ) → j < last → 8 * n * l.pruned ≤ j → bit_at n (truncated n (pending_bits n b l) (bit_len n (pending_bits n b l) - 1)) j ≡ bit_at n (pending_bits n b l) j
         short j h p = bit_truncated n (pending_bits n b l) (bit_len n (pending_bits n b l) - 1) j p ∙ rw (lt-ltb j (bit_len n (pending_bits n b l) - 1) (omega (arith, pending_len))) refl
@@ -229,7 +231,7 @@ module _ (n : ℕ) (b : PrunedBits) (l : Layer) (pos : 0 < n) (fits : LayerFits 
     }
 
   pub pop_follows : (m : Layer) → Pops n l m → 8 * n * l.pruned < l.len → (pending_bits n b m ≡ popped (pending_bits n b l)) × LayerFits n b m
-  pop_follows m w some = (pop_pair m w some, pop_fits m w some)
+  pop_follows m w some = (popped_bits m w some, pop_fits m w some)
 
   -- ---- a prune
   pub old_captured : (i : ℕ) → IsCaptured n b i (old_chunk n b l i)
@@ -246,20 +248,20 @@ module _ (n : ℕ) (b : PrunedBits) (l : Layer) (pos : 0 < n) (fits : LayerFits 
     same_bits : (k : ℕ) → layer_bit n b m k ≡ layer_bit n b l k
     same_bits k = rw w.edited refl
 
-    cut_pair : l.pruned < q → pending_bits n b m ≡ pruned_to n (pending_bits n b l) q
-    cut_pair h =
+    cut_bits : l.pruned < q → pending_bits n b m ≡ pruned_to n (pending_bits n b l) q
+    cut_bits h =
         let e = front_of (8 * n) l.pruned q (omega arith) in
         let c = pruned_to n (pending_bits n b l) q in
         let pruned : pruned_to n (pending_bits n b l) q ≡ record { pruned = q; bits = drop (8 * n * (q - l.pruned)) (pending_bits n b l).bits } = rw (lt-ltb l.pruned q h) refl in
         let count : c.pruned ≡ q = ap (λ y. y.pruned) pruned in
         let len : l.len ≡ bit_len n c = sym (ap (λ y. bit_len n y) pruned ∙ omega (arith, pending_len, e, within, length-drop (8 * n * (q - l.pruned)) (pending_bits n b l).bits)) in
         same_pending n b m c (w.pruned ∙ (omega (arith, h, count))) (w.len ∙ len) (λ k s.
-          let low : 8 * n * q ≤ k = omega (arith, s.0, ap (λ y. 8 * n * y) count) in
-          same_bits k ∙ (sym (pending_at k (omega (arith, low, e)) (omega (arith, s.1, len))) ∙ sym (bit_pruned n (pending_bits n b l) q k (omega arith) low)))
+        let low : 8 * n * q ≤ k = omega (arith, s.0, ap (λ y. 8 * n * y) count) in
+        same_bits k ∙ (sym (pending_at k (omega (arith, low, e)) (omega (arith, s.1, len))) ∙ sym (bit_pruned n (pending_bits n b l) q k (omega arith) low)))
 
-    prune_pair : pending_bits n b m ≡ pruned_to n (pending_bits n b l) q
-    prune_pair = elim (cases_lt l.pruned q) [
-      | inl h ↦ cut_pair h
+    pruned_bits_are : pending_bits n b m ≡ pruned_to n (pending_bits n b l) q
+    pruned_bits_are = elim (cases_lt l.pruned q) [
+      | inl h ↦ cut_bits h
       | inr h ↦ rw (le-ltb l.pruned q h) (same_pending n b m (pending_bits n b l) (w.pruned ∙ omega (arith, h)) (w.len ∙ sym pending_len) (λ k s. same_bits k ∙ sym (pending_at k s.0 (omega (arith, s.1, pending_len)))))
     ]
 
@@ -280,8 +282,10 @@ module _ (n : ℕ) (b : PrunedBits) (l : Layer) (pos : 0 < n) (fits : LayerFits 
         | inl s ↦ rw (get_or_append_left l.captured taken [] (i - b.pruned) (omega (arith, fits.count, s, p))) (fits.captured i p s)
         | inr s ↦
             let below : i < q = omega (arith, (let y : i < max l.pruned q = rw w.pruned at h in y), s) in
-            rw (get_or-append_right l.captured taken (length l.captured) (i - b.pruned) [] refl (omega (arith, fits.count, s)),
-              get_or-map-range_with_len (old_chunk n b l) l.pruned (q - l.pruned) (i - b.pruned - length l.captured) i [] (omega (arith, fits.count, s, below, p, fits.rises)) (omega (arith, fits.count, s, p, fits.rises))) (old_captured i)
+            rw (
+              get_or-append_right l.captured taken (length l.captured) (i - b.pruned) [] refl (omega (arith, fits.count, s)),
+              get_or-map-range_with_len (old_chunk n b l) l.pruned (q - l.pruned) (i - b.pruned - length l.captured) i [] (omega (arith, fits.count, s, below, p, fits.rises)) (omega (arith, fits.count, s, p, fits.rises)),
+            ) (old_captured i)
       ]);
     }
       where
@@ -293,9 +297,9 @@ module _ (n : ℕ) (b : PrunedBits) (l : Layer) (pos : 0 < n) (fits : LayerFits 
         same_fits i (Some bytes) f = record { low = f.low; high = rw w.len f.high; size = f.size; clear = λ j s past. f.clear j s (rw w.len at past) }
 
   pub prune_follows : (q : ℕ) (m : Layer) → Prunes n b l q m → 8 * n * q ≤ l.len → (pending_bits n b m ≡ pruned_to n (pending_bits n b l) q) × LayerFits n b m
-  prune_follows q m w within = (prune_pair q m w within, prune_fits q m w within)
+  prune_follows q m w within = (pruned_bits_are q m w within, prune_fits q m w within)
 
--- each accepted edit of the layer is that edit of the pending pair, and the layer fits again
+-- each accepted edit of the layer is that edit of the pending bitmap, and the layer fits again
 pub edit_follows : (n : ℕ) (b : PrunedBits) (l m : Layer) (e : Edit) → 0 < n → LayerFits n b l → IsAccepted n (pending_bits n b l) e → Follows n b l e m → (pending_bits n b m ≡ after n (pending_bits n b l) e) × LayerFits n b m
 edit_follows n b l m (Push x) pos fits ok w = push_follows n b l pos fits x m w
 edit_follows n b l m Pop pos fits ok w = pop_follows n b l pos fits m w (omega (arith, pending_len n b l pos fits, ok))

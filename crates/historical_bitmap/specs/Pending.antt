@@ -12,7 +12,7 @@ use Rattle.historical_bitmap.specs.Record.{ChunkDiff, Reverse, bit_from}
 use Rattle.historical_bitmap.specs.Record.ChunkDiff.{Modified, Removed, Added, Pruned}
 use Rattle.historical_bitmap.specs.Undo.{resized, put_back}
 
--- the length and the number of pruned chunks that a batch will leave, the bytes of the chunks that it has edited, by their index, and the old bytes of those that it has pruned, from the first of them on
+-- the length and the pruned count that a batch will leave, its edited chunks by index, and the old bytes of the chunks that it prunes, in order
 pub record Layer : Type 0 where
   pub len : ℕ
   pub pruned : ℕ
@@ -59,7 +59,7 @@ pub record IsCaptured (n : ℕ) (b : PrunedBits) (i : ℕ) (bytes : List ℕ) : 
   pub size : length bytes ≡ n
   pub old : 8 * n * i < bit_len n b → bytes ≡ chunk n b i
 
--- what holds of pending edits: the pruned front is within the length and not before the current one, a retained bit whose chunk is not edited is in the current bitmap, and the edited and the captured chunks are right
+-- what holds of pending edits: a retained bit whose chunk is not edited is in the current bitmap, and edited and captured chunks are right
 pub record LayerFits (n : ℕ) (b : PrunedBits) (l : Layer) : Type 0 where
   pub front : 8 * n * l.pruned ≤ l.len
   pub rises : b.pruned ≤ l.pruned
@@ -86,7 +86,7 @@ pub record Writes (n : ℕ) (b : PrunedBits) (l : Layer) (k : ℕ) (value : Bool
   pub written : IsWritten n (pending_chunk n b l (k / (8 * n))) k value bytes
   pub edited : Puts l.edited m.edited (k / (8 * n)) (Some bytes)
 
--- what is left of the edited chunk of bit k where that bit goes: nothing where it was the chunk's first bit or the chunk is not edited, else the chunk with that bit cleared
+-- what is left edited of the chunk of bit k where that bit goes: nothing where it was its first bit or it was not edited, else it with the bit cleared
 abbrev pub Clears : ℕ → Layer → ℕ → Option (List ℕ) → Type 0
 Clears n l k left = MatchOption left
     ((k % (8 * n) ≡ 0) ⊎ (edited_chunk l (k / (8 * n)) ≡ None))
