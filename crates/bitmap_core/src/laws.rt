@@ -15,8 +15,8 @@
 //! ```
 
 pub mod codec;
-pub mod fronts;
-pub mod gates;
+pub mod prunable;
+pub mod bitwise;
 pub mod iteration;
 pub mod positions;
 pub mod whole;

@@ -13,11 +13,11 @@
 ghost use Rattle.std.specs.Prelude.{◌≡◌, ◌≢◌, ℕ, ◌+◌, ◌-◌, ◌*◌, ◌/◌, ◌%◌, ◌^◌, ◌<◌, ◌≤◌, ◌==◌, ⊤, true, false, [], length, MatchOption, MatchBool};
 ghost use Rattle.std.specs.Int.{bit_at};
 ghost use Rattle.std.specs.Iterator.{YieldsFirst, item_count, MakesProgress};
-ghost use Rattle.bitmap_core.specs.Chunk.{chunk_bit};
+ghost use Rattle.bitmap_core.specs.Chunk.{chunk_bit, IsWidth};
 ghost use Rattle.bitmap_core.specs.Meaning.{starts_word, next_word, left_from, IsScan, IsCut, ones_between, IsLawful, IsRetained, ShowsChunk};
 
 mod dense;
-mod pruned;
+mod prunable;
 
 use crate::chunk;
 use crate::chunk::load::{high_bits, low_bits, take_lowest, word_at};
@@ -223,8 +223,7 @@ impl<'a, B: Readable<N>, const N: usize> Model for OnesIter<'a, B, N> {
 
 // The word at `base` of its chunk, with zeros from the end of the chunk and from `end` on. Each call counts as one load.
 fn load_word<const N: usize>(chunk: &[u8; N], base: u64, end: u64, loads: &mut u64) -> u64
-    requires positive { 0 < N }
-    requires width { 8 * N < 2 ^ 64 }
+    requires width { IsWidth N }
     requires start { starts_word N base ≡ true }
     requires below { base < end }
     requires room { loads.old + 1 < 2 ^ 64 }
@@ -240,8 +239,7 @@ fn load_word<const N: usize>(chunk: &[u8; N], base: u64, end: u64, loads: &mut u
 
 // Where the next word begins, unless that is past `u64`.
 fn following_word<const N: usize>(base: u64) -> Option<u64>
-    requires positive { 0 < N }
-    requires width { 8 * N < 2 ^ 64 }
+    requires width { IsWidth N }
     ensures { MatchOption result (2 ^ 64 ≤ next_word N base) (λ k. k ≡ next_word N base) }
 {
     let width = 8 * N as u64;

@@ -5,6 +5,7 @@ ghost use Rattle.std.specs.Int.{div_ceil};
 ghost use Rattle.bitmap_core.specs.PrunedBits.{PrunedBits, bit_len};
 ghost use Rattle.bitmap_core.specs.Reading.{admits, bits_fault, bits_in, pruned_fault, pruned_in, SpellsBits, SpellsPruned};
 ghost use Rattle.bitmap_core.specs.Spelling.{pruned_spelling, spelling};
+ghost use Rattle.bitmap_core.specs.Chunk.{IsWidth};
 
 use crate::bitmap::BitMap;
 use crate::bitmap::codec::{CodecError, EncodeSize, RangeCfg, Read, Write};
@@ -103,8 +104,7 @@ pub fn read_bits_are_written<const N: usize>(
     from: &mut &[u8],
     range: &RangeCfg,
 ) -> Result<Vec<u8>, CodecError>
-    requires positive { 0 < N }
-    requires fits { 8 * N < 2 ^ 64 }
+    requires width { IsWidth N }
     ensures { IfOk result (λ out. from.old.now ≡ out.items ++ from.new.now) }
 {
     let map = BitMap::<N>::read_cfg(alloc, from, range)?;

@@ -5,7 +5,7 @@ ghost use Rattle.std.specs.List.{filter, range_with_len};
 ghost use Rattle.bitmap_core.specs.Meaning.{words_between};
 
 use crate::bitmap::BitMap;
-use crate::bitmap::chunks::{chunk_bits, chunk_index};
+use crate::chunk::{chunk_index, chunk_width};
 use crate::bitmap::readable::{OnesIter, Readable};
 
 impl<const N: usize> Readable<N> for BitMap<N> {
@@ -23,7 +23,7 @@ impl<const N: usize> Readable<N> for BitMap<N> {
 
     fn last_chunk(&self) -> ([u8; N], u64) {
         let last = self.len() - 1;
-        let used = last % chunk_bits::<N>() + 1;
+        let used = last % chunk_width::<N>() + 1;
         (self.chunks[chunk_index::<N>(last)], used)
     }
 
@@ -35,16 +35,5 @@ impl<const N: usize> Readable<N> for BitMap<N> {
 
     fn len(&self) -> u64 {
         BitMap::len(self)
-    }
-}
-
-impl<const N: usize> BitMap<N> {
-    /// The positions of the bits that are set, ascending, from position 0 on. No memory.
-    pub fn ones_iter(&self) -> OnesIter<'_, BitMap<N>, N>
-        ensures positions { result.left ≡ filter (λ k. slice_index_or self.now k false) (range_with_len 0 (length self.now)) }
-        ensures words { result.words ≡ words_between N 0 (length self.now) }
-        ensures loads { result.loads ≤ result.words }
-    {
-        self.ones_iter_range(0..self.len())
     }
 }

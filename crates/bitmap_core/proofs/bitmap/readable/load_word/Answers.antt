@@ -6,7 +6,7 @@ use Rattle.bitmap_core.proofs.WordStarts.{start_bytes}
 use Rattle.bitmap_core.proofs.bitmap.readable.load_word.Goals as goal
 
 pub word_at-requires : goal.word_at-requires
-word_at-requires g c = (omega (arith, c.requires.width), omega (arith, c.requires.positive, mod_below c.args.base (8 * g.row.N)))
+word_at-requires g c = (omega (arith, c.requires.width), omega (arith, c.requires.width.positive, mod_below c.args.base (8 * g.row.N)))
 
 pub returns-clause-inside : goal.returns-clause-inside
 returns-clause-inside g c i h l s =

@@ -11,15 +11,14 @@ use Rattle.bitmap_core.proofs.bitmap.readable.Readable.ones_iter_range.Goals.{Af
 pub returns-then-position-end-clause-positions : goal.returns-then-position-end-clause-positions
 returns-then-position-end-clause-positions g c =
     let m : Meaning = g.Self.Readable.meaning c.args.self.now in
-    let p = c.len.ensures.lawful.positive in
+    let p = c.len.ensures.lawful.width.positive in
     left_none g.row.N m c.min-end.result 0 c.min-end.result refl (omega (arith, end_near g.row.N c.min-end.result p))
     ∙ sym (ones_between-none m.bit (max c.args.range.start (8 * g.row.N * m.pruned)) (min c.args.range.end m.len) (omega (arith, c.if-position-end.true, c.max-position.ensures, c.min-end.ensures, c.pruned_bits.ensures, c.len.ensures.value)))
 
 pub load_word-word-requires : goal.load_word-word-requires
 load_word-word-requires g c =
-    let p = c.len.ensures.lawful.positive in
-    let w = c.len.ensures.lawful.width in
-    (omega arith, (p, (w, (start_of g.row.N c.max-position.result p, (omega (arith, c.if-position-end.false), omega arith)))))
+    let p = c.len.ensures.lawful.width.positive in
+    (omega arith, (c.len.ensures.lawful.width, (start_of g.row.N c.max-position.result p, (omega (arith, c.if-position-end.false), omega arith))))
 
 masked : (g : Over) (c : After-high_bits g) → IsMasked c.load_word-word.result c.high_bits.result (c.max-position.result - word_start g.row.N c.max-position.result)
 masked g c = record { kept = c.high_bits.ensures.kept; cut = c.high_bits.ensures.cut }
@@ -35,7 +34,7 @@ invariant_of-result-2 g c =
 pub returns-clause-positions : goal.returns-clause-positions
 returns-clause-positions g c =
     let m : Meaning = g.Self.Readable.meaning c.args.self.now in
-    let p = c.len.ensures.lawful.positive in
+    let p = c.len.ensures.lawful.width.positive in
     left_loaded g.row.N m (word_start g.row.N c.max-position.result) c.max-position.result c.min-end.result c.get_chunk-chunk.result c.high_bits.result
     p (start_of g.row.N c.max-position.result p) (omega arith) c.if-position-end.false (omega (arith, c.len.ensures.value)) (start_near g.row.N c.max-position.result p)
     (rw (start_chunk g.row.N c.max-position.result p) c.get_chunk-chunk.ensures)
@@ -45,4 +44,4 @@ returns-clause-positions g c =
     (c.min-end.ensures ∙ ap (λ (k : ℕ). min c.args.range.end k) c.len.ensures.value)
 
 pub returns-clause-loads : goal.returns-clause-loads
-returns-clause-loads g c = rw c.load_word-word.ensures.counted (omega (arith, counted_first g.row.N c.max-position.result c.min-end.result c.len.ensures.lawful.positive c.if-position-end.false))
+returns-clause-loads g c = rw c.load_word-word.ensures.counted (omega (arith, counted_first g.row.N c.max-position.result c.min-end.result c.len.ensures.lawful.width.positive c.if-position-end.false))
