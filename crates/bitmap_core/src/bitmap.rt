@@ -92,7 +92,7 @@ impl<const N: usize> BitMap<N> {
         requires width { IsWidth N }
         ensures { result ≡ [] }
     {
-        BitMap::new(alloc)
+        Self::new(alloc)
     }
 
     /// An empty bitmap with room for the chunks of `size` bits. A test alone shows that pushes up to there take no memory.

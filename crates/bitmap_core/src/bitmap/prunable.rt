@@ -22,7 +22,7 @@ ghost use Rattle.bitmap_core.specs.PrunedBits.{appended, bit_at, bit_len, chunk,
 mod error;
 
 use crate::bitmap::BitMap;
-use crate::chunk::{chunk_index, chunk_width};
+use crate::chunk::{chunk_count, chunk_index, chunk_width};
 pub use crate::bitmap::prunable::error::Error;
 use crate::chunk;
 use std::alloc::{AllocError, Global};
@@ -156,7 +156,7 @@ impl<const N: usize> Prunable<N> {
         ensures value { result ≡ div_ceil (bit_len N self.now) (8 * N) }
         ensures holds { (i : ℕ) → (i < result) ↔ (8 * N * i < bit_len N self.now) }
     {
-        self.len().div_ceil(chunk_width::<N>()) as usize
+        chunk_count::<N>(self.len())
     }
 
     /// The number of full chunks, pruned ones counted, without a partial last one. No memory.

@@ -9,7 +9,7 @@ ghost use Rattle.bitmap_core.specs.Reading.{admits, bits_fault, bits_in, chunk_b
 ghost use Rattle.bitmap_core.specs.Chunk.{IsWidth};
 
 use crate::bitmap::BitMap;
-use crate::chunk::{chunk_index, chunk_width};
+use crate::chunk::{chunk_count, chunk_index, chunk_width};
 use crate::bitmap::codec::{CodecError, EncodeSize, RangeCfg, Read, Write};
 use crate::bitmap::deque;
 use crate::chunk;
@@ -60,7 +60,7 @@ pub fn parts<'a, const N: usize>(
     if !range.contains(len) {
         return Err(CodecError::InvalidLength(len));
     }
-    let count = len.div_ceil(chunk_width::<N>()) as usize;
+    let count = chunk_count::<N>(len);
     let (bytes, rest) = body
         .split_at_checked(N * count)
         .ok_or(CodecError::EndOfBuffer)?;

@@ -7,7 +7,7 @@ ghost use Rattle.bitmap_core.specs.Chunk.{bit_in, IsWidth};
 ghost use Rattle.bitmap_core.specs.Bits.{bit_of, IsChunkCount};
 
 use crate::chunk::join::{chunk_from, join};
-use crate::chunk::{chunk_index, chunk_width};
+use crate::chunk::{chunk_count, chunk_index, chunk_width};
 use std::alloc::AllocError;
 use std::collections::VecDeque;
 
@@ -41,7 +41,7 @@ fn push_whole<const N: usize>(
     ensures kept { (i : ℕ) → i / (8 * N) < length chunks.old.items → bit_of N chunks.new.items i ≡ bit_of N chunks.old.items i }
     ensures joined { (i : ℕ) → length chunks.old.items ≤ i / (8 * N) → i / (8 * N) < length chunks.new.items → bit_of N chunks.new.items i ≡ bit_in (front.now ++ back.now) (i - len) }
 {
-    let count = total.div_ceil(chunk_width::<N>()) as usize;
+    let count = chunk_count::<N>(total);
     while chunks.len() < count {
         let bit = chunk_width::<N>() * (chunks.len() as u64) - len;
         chunks.push_back_reserved(chunk_from(front, back, bit));
@@ -65,7 +65,7 @@ pub fn append_run<const N: usize>(
     ensures err { OnErr result (chunks.new.items ≡ chunks.old.items) }
     ensures roomy { total ≤ 8 * N * length chunks.old.items → IsOk result }
 {
-    let count = total.div_ceil(chunk_width::<N>()) as usize;
+    let count = chunk_count::<N>(total);
     chunks.reserve(count - chunks.len())?;
     fill_open(chunks, len, front, back);
     push_whole(chunks, len, total, front, back);
