@@ -1,6 +1,6 @@
 use Rattle.std.proofs.Common.{◌-◌, ◌≡◌, ◌≤◌}
 use Rattle.bitmap_core.specs.Meaning.{Meaning, IsScan, IsCut, left_from}
-use Rattle.bitmap_core.proofs.bitmap.readable.advance.Given as goal
+use Rattle.bitmap_core.proofs.bitmap.readable.ones.advance.Given as goal
 
 abbrev pub invariant-loop-cursor : goal.invariant-loop-cursor
 invariant-loop-cursor g l =

@@ -1,7 +1,7 @@
 use Rattle.std.proofs.Common.{arith}
 use Rattle.bitmap_core.proofs.LoadedWords.{left_loaded}
 use Rattle.bitmap_core.proofs.WordScan.{step}
-use Rattle.bitmap_core.proofs.bitmap.readable.load_next.Goals as goal
+use Rattle.bitmap_core.proofs.bitmap.readable.ones.load_next.Goals as goal
 
 pub turn_chunk-requires : goal.turn_chunk-requires
 turn_chunk-requires g c =

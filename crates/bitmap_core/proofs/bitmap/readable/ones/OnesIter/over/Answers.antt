@@ -4,13 +4,13 @@ use Rattle.bitmap_core.proofs.SetPositions.{ones_between-none, ones_between-at}
 use Rattle.bitmap_core.proofs.WordStarts.{start_of, start_near, start_chunk, end_near}
 use Rattle.bitmap_core.proofs.LoadedWords.{IsMasked, masked_cut, left_none, left_loaded, first_loaded}
 use Rattle.bitmap_core.proofs.WordScan.{first_scan, counted_first}
-use Rattle.bitmap_core.proofs.bitmap.readable.Readable.ones_iter_range.Goals as goal
-use Rattle.bitmap_core.proofs.bitmap.readable.Readable.ones_iter_range.Given.{Over}
-use Rattle.bitmap_core.proofs.bitmap.readable.Readable.ones_iter_range.Goals.{After-high_bits}
+use Rattle.bitmap_core.proofs.bitmap.readable.ones.OnesIter.over.Goals as goal
+use Rattle.bitmap_core.proofs.bitmap.readable.ones.OnesIter.over.Given.{Over}
+use Rattle.bitmap_core.proofs.bitmap.readable.ones.OnesIter.over.Goals.{After-high_bits}
 
 pub returns-then-position-end-clause-positions : goal.returns-then-position-end-clause-positions
 returns-then-position-end-clause-positions g c =
-    let m : Meaning = g.Self.Readable.meaning c.args.self.now in
+    let m : Meaning = g.B.Readable.meaning c.args.readable.now in
     let p = c.len.ensures.lawful.width.positive in
     left_none g.row.N m c.min-end.result 0 c.min-end.result refl (omega (arith, end_near g.row.N c.min-end.result p))
     ∙ sym (ones_between-none m.bit (max c.args.range.start (8 * g.row.N * m.pruned)) (min c.args.range.end m.len) (omega (arith, c.if-position-end.true, c.max-position.ensures, c.min-end.ensures, c.pruned_bits.ensures, c.len.ensures.value)))
@@ -25,7 +25,7 @@ masked g c = record { kept = c.high_bits.ensures.kept; cut = c.high_bits.ensures
 
 pub invariant_of-result-2 : goal.invariant_of-result-2
 invariant_of-result-2 g c =
-    let m : Meaning = g.Self.Readable.meaning c.args.self.now in (
+    let m : Meaning = g.B.Readable.meaning c.args.readable.now in (
       rw c.load_word-word.ensures.counted (first_scan g.row.N m c.max-position.result c.min-end.result c.get_chunk-chunk.result c.len.ensures.lawful
           (omega (arith, c.len.ensures.value)) c.if-position-end.false (omega (arith, c.pruned_bits.ensures)) c.get_chunk-chunk.ensures),
       masked_cut c.load_word-word.result c.high_bits.result _ _ c.min-end.result (masked g c) c.load_word-word.ensures.past_end,
@@ -33,7 +33,7 @@ invariant_of-result-2 g c =
 
 pub returns-clause-positions : goal.returns-clause-positions
 returns-clause-positions g c =
-    let m : Meaning = g.Self.Readable.meaning c.args.self.now in
+    let m : Meaning = g.B.Readable.meaning c.args.readable.now in
     let p = c.len.ensures.lawful.width.positive in
     left_loaded g.row.N m (word_start g.row.N c.max-position.result) c.max-position.result c.min-end.result c.get_chunk-chunk.result c.high_bits.result
     p (start_of g.row.N c.max-position.result p) (omega arith) c.if-position-end.false (omega (arith, c.len.ensures.value)) (start_near g.row.N c.max-position.result p)

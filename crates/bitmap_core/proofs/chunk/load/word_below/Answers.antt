@@ -3,7 +3,7 @@ use Rattle.std.proofs.lemmas.Bool.{cases_lt}
 use Rattle.std.proofs.lemmas.Nat.{mod_below}
 use Rattle.bitmap_core.specs.Chunk.{chunk_bit}
 use Rattle.bitmap_core.proofs.WordStarts.{start_bytes}
-use Rattle.bitmap_core.proofs.bitmap.readable.load_word.Goals as goal
+use Rattle.bitmap_core.proofs.chunk.load.word_below.Goals as goal
 
 pub word_at-requires : goal.word_at-requires
 word_at-requires g c = (omega (arith, c.requires.width), omega (arith, c.requires.width.positive, mod_below c.args.base (8 * g.row.N)))
