@@ -14,9 +14,9 @@
 //! }
 //! ```
 
-pub mod codec;
-pub mod prunable;
 pub mod bitwise;
+pub mod codec;
 pub mod iteration;
 pub mod positions;
+pub mod prunable;
 pub mod whole;

@@ -17,5 +17,7 @@ pub use crate::bitmap::deque::bools::{append_bools, from_bools};
 pub use crate::bitmap::deque::counts::{count_ones, is_unset};
 pub use crate::bitmap::deque::every::{are_equal, combine, feed, fill, flip};
 pub use crate::bitmap::deque::front::{chunk_at, drop_front, put_front, set_chunk};
-pub use crate::bitmap::deque::growth::{append_copies, drop_room, extend_zeros, make_room, shorten};
+pub use crate::bitmap::deque::growth::{
+    append_copies, drop_room, extend_zeros, make_room, shorten,
+};
 pub use crate::bitmap::deque::runs::{bytes, slices};

@@ -22,9 +22,9 @@ ghost use Rattle.bitmap_core.specs.PrunedBits.{appended, bit_at, bit_len, chunk,
 mod error;
 
 use crate::bitmap::BitMap;
-use crate::chunk::{chunk_count, chunk_index, chunk_width};
 pub use crate::bitmap::prunable::error::Error;
 use crate::chunk;
+use crate::chunk::{chunk_count, chunk_index, chunk_width};
 use std::alloc::{AllocError, Global};
 use std::marker::Model;
 

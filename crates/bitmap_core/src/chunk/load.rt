@@ -5,8 +5,6 @@ ghost use Rattle.std.specs.Int.{bit_at};
 ghost use Rattle.bitmap_core.specs.Chunk.{chunk_bit, IsWidth};
 ghost use Rattle.bitmap_core.specs.Meaning.{IsCut, next_word, starts_word, word_start};
 
-use crate::chunk::chunk_width;
-
 /// The 64 bits of a chunk from byte `byte` on, which is at most `N`, with zeros past the end of the chunk. No memory.
 pub fn word_at<const N: usize>(chunk: &[u8; N], byte: usize) -> u64
     requires { byte ≤ N }
@@ -79,7 +77,7 @@ pub fn word_base<const N: usize>(position: u64) -> u64
     requires width { IsWidth N }
     ensures { result ≡ word_start N position }
 {
-    position - position % chunk_width::<N>() % 64
+    position - position % (8 * N as u64) % 64
 }
 
 /// Where the next word begins after one that begins at `base`, unless that is past `u64`. No memory.
@@ -87,7 +85,7 @@ pub fn following_word<const N: usize>(base: u64) -> Option<u64>
     requires width { IsWidth N }
     ensures { MatchOption result (2 ^ 64 ≤ next_word N base) (λ k. k ≡ next_word N base) }
 {
-    let width = chunk_width::<N>();
+    let width = 8 * N as u64;
     let stride = (width - base % width).min(64);
     base.checked_add(stride)
 }
@@ -101,6 +99,6 @@ pub fn word_below<const N: usize>(chunk: &[u8; N], base: u64, end: u64) -> u64
     ensures past_chunk { (i : ℕ) → i < 64 → 8 * N ≤ base % (8 * N) + i → (bit_at result i == 1) ≡ false }
     ensures past_end { IsCut base result end }
 {
-    let byte = (base % chunk_width::<N>() / 8) as usize;
+    let byte = (base % (8 * N as u64) / 8) as usize;
     low_bits(word_at(chunk, byte), end - base)
 }

@@ -8,11 +8,10 @@ ghost use Rattle.bitmap_core.specs.Spelling.{chunk_count, spelling};
 ghost use Rattle.bitmap_core.specs.Reading.{admits, bits_fault, bits_in, chunk_bytes, fault, number};
 ghost use Rattle.bitmap_core.specs.Chunk.{IsWidth};
 
-use crate::bitmap::BitMap;
-use crate::chunk::{chunk_count, chunk_index, chunk_width};
 use crate::bitmap::codec::{CodecError, EncodeSize, RangeCfg, Read, Write};
-use crate::bitmap::deque;
+use crate::bitmap::{BitMap, deque};
 use crate::chunk;
+use crate::chunk::{chunk_count, chunk_index, chunk_width};
 use std::alloc::{AllocError, Global};
 use std::collections::VecDeque;
 

@@ -8,10 +8,10 @@ ghost use Rattle.bitmap_core.specs.Reading.{admits, bits_fault, chunk_bytes, fau
 ghost use Rattle.bitmap_core.specs.Chunk.{IsWidth};
 
 use crate::bitmap::BitMap;
-use crate::chunk::chunk_width;
 use crate::bitmap::codec::dense::parts;
 use crate::bitmap::codec::{CodecError, EncodeSize, RangeCfg, Read, Write};
 use crate::bitmap::prunable::Prunable;
+use crate::chunk::chunk_width;
 use std::alloc::{AllocError, Global};
 
 // The pruned chunk count of a text, the number of pruned bits, and what follows the count.

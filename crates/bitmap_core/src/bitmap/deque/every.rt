@@ -35,7 +35,10 @@ pub fn fill<const N: usize>(chunks: &mut VecDeque<[u8; N]>, value: bool)
 }
 
 // Combines each bit with the other of its place.
-pub fn combine<B: Bitwise, const N: usize>(chunks: &mut VecDeque<[u8; N]>, others: &VecDeque<[u8; N]>)
+pub fn combine<B: Bitwise, const N: usize>(
+    chunks: &mut VecDeque<[u8; N]>,
+    others: &VecDeque<[u8; N]>,
+)
     requires positive { 0 < N }
     requires same { length chunks.old.items ≡ length others.now.items }
     ensures { IsCombined N B.gives chunks.old.items others.now.items chunks.new.items }

@@ -5,8 +5,8 @@ ghost use Rattle.std.specs.List.{filter, range_with_len};
 ghost use Rattle.bitmap_core.specs.Meaning.{words_between};
 
 use crate::bitmap::BitMap;
-use crate::chunk::{chunk_index, chunk_width};
 use crate::bitmap::readable::{OnesIter, Readable};
+use crate::chunk::{chunk_index, chunk_width};
 
 impl<const N: usize> Readable<N> for BitMap<N> {
     ghost use Rattle.bitmap_core.specs.Meaning.{plain_meaning};

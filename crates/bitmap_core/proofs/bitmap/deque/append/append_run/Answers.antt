@@ -7,13 +7,13 @@ use Rattle.bitmap_core.proofs.bitmap.deque.append.append_run.Goals as goal
 pub overflow_sub-count : goal.overflow_sub-count
 overflow_sub-count g c =
     let f : length c.args.chunks.now.items ≤ div_ceil c.args.total (8 * g.row.N) = more_ceil g.row.N _ _ _ c.requires.width.positive c.requires.count c.requires.order in
-    rw (c.div_ceil-count.ensures, c.chunk_width.ensures) (omega (arith, c.args.chunks.now.ok.0))
+    rw c.chunk_count-count.ensures (omega (arith, c.args.chunks.now.ok.0))
 
 pub push_whole-requires : goal.push_whole-requires
 push_whole-requires g c =
     let f : length c.args.chunks.now.items ≤ div_ceil c.args.total (8 * g.row.N) = more_ceil g.row.N _ _ _ c.requires.width.positive c.requires.count c.requires.order in
     let l : length c.fill_open.new.chunks.items ≡ length c.args.chunks.now.items = c.fill_open.ensures.count ∙ ap length c.reserve.ensures.items in
-    let e = c.div_ceil-count.ensures ∙ ap (div_ceil c.args.total) c.chunk_width.ensures in
+    let e = c.chunk_count-count.ensures in
     (omega (arith, c.requires.width.fits), (c.requires.width, (rw l c.requires.count.0, (rw l f, rw (c.fill_open.ensures.capacity, ← e) (omega (arith, c.args.chunks.now.ok.0, c.in_ok-reserve.ensures.ok, c.reserve.ensures.len))))))
 
 pub returns-clause-count : goal.returns-clause-count
@@ -26,6 +26,6 @@ returns-clause-kept g c = λ i h.
 
 pub returns-in_err-reserve-clause-roomy : goal.returns-in_err-reserve-clause-roomy
 returns-in_err-reserve-clause-roomy g c = λ h.
-    let m : c.div_ceil-count.result - c.len.result ≡ div_ceil c.args.total (8 * g.row.N) - length c.args.chunks.now.items = rw (c.div_ceil-count.ensures, c.chunk_width.ensures) (omega (arith, c.args.chunks.now.ok.0)) in
+    let m : c.chunk_count-count.result - c.len.result ≡ div_ceil c.args.total (8 * g.row.N) - length c.args.chunks.now.items = rw c.chunk_count-count.ensures (omega (arith, c.args.chunks.now.ok.0)) in
     let z = m ∙ none_missing g.row.N (length c.args.chunks.now.items) c.args.total c.requires.width.positive h in
     absurd (omega (arith, c.in_err-reserve.ensures.full, c.args.chunks.now.ok, z))
