@@ -12,10 +12,11 @@
 //! }
 //! ```
 
-ghost use Rattle.std.specs.Prelude.{◌≡◌, ℕ, ◌+◌, ◌-◌, ◌*◌, ◌/◌, ◌%◌, ◌^◌, ◌<◌, ◌≤◌, [], ◌∷◌, ◌++◌, length, false, slice_index_or, slice_set, replicate, take, true, not, IfOk, OnOk, OnErr, IsOk, ◌==◌, map, ◌&&◌, ◌||◌};
+ghost use Rattle.std.specs.Prelude.{◌≡◌, ℕ, Bool, List, ◌+◌, ◌-◌, ◌*◌, ◌/◌, ◌%◌, ◌^◌, ◌<◌, ◌≤◌, [], ◌∷◌, ◌++◌, length, false, slice_index_or, slice_set, replicate, take, true, not, IfOk, OnOk, OnErr, IsOk, ◌==◌, map, ◌&&◌, ◌||◌};
 ghost use Rattle.std.specs.List.{count_by, filter, list_all, range_with_len, slice_range, zip};
 ghost use Rattle.std.proofs.Math.Bool.{xor};
 ghost use Rattle.bitmap_core.specs.Meaning.{words_between};
+ghost use Rattle.bitmap_core.specs.Spelling.{spelling};
 ghost use Rattle.std.specs.Int.{div_ceil};
 ghost use Rattle.bitmap_core.specs.Chunk.{chunk_bit, chunk_bits, IsWidth};
 
@@ -179,7 +180,9 @@ impl<const N: usize> BitMap<N> {
     pub fn max_encode_size(bits: u64) -> usize
         requires width { IsWidth N }
         requires room { div_ceil bits (8 * N) * N + 8 < 2 ^ 64 }
-        ensures { result ≡ div_ceil bits (8 * N) * N + 8 }
+        ensures value { result ≡ div_ceil bits (8 * N) * N + 8 }
+        ensures reached { (v : List Bool) → length v ≡ bits → length (spelling N v) ≡ result }
+        ensures most { (v : List Bool) → length v ≤ bits → length (spelling N v) ≤ result }
     {
         chunk_count::<N>(bits) * N + 8
     }

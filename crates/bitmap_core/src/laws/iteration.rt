@@ -18,34 +18,6 @@ pub fn bits_collected<const N: usize>(
     bitmap.iter().collect(alloc)
 }
 
-/// A loop meets each bit of the bitmap, in order.
-pub fn bits_looped<const N: usize>(
-    alloc: Global,
-    bitmap: &BitMap<N>,
-) -> Result<Vec<bool>, AllocError>
-    ensures { IfOk result (λ v. v.items ≡ bitmap.now) }
-{
-    let mut bits = Vec::new(alloc);
-    for bit in bitmap.iter() {
-        bits.push(bit)?;
-    }
-    Ok(bits)
-}
-
-/// `next` answers as many bits as there are, and then ends. No memory.
-pub fn bits_counted<const N: usize>(bitmap: &BitMap<N>) -> u64
-    ensures { result ≡ length bitmap.now }
-{
-    // Tells the proof that the count fits.
-    let _ = bitmap.len();
-    let mut bits = bitmap.iter();
-    let mut count = 0;
-    while let Some(_) = bits.next() {
-        count += 1;
-    }
-    count
-}
-
 /// Where `next` has answered `None`, no bit was left, and it answers `None` again.
 pub fn bits_stay_ended<const N: usize>(bits: &mut Iterator<'_, N>) -> (Option<bool>, Option<bool>)
     ensures ends { result.0 ≡ None → (bits.old ≡ []) × (result.1 ≡ None) × (bits.new ≡ []) }
@@ -66,43 +38,6 @@ pub fn positions_collected<B: Readable<N>, const N: usize>(
     // Tells the proof how large `N` may be.
     let _ = readable.len();
     readable.ones_iter_range(from..to).collect(alloc)
-}
-
-/// A loop meets each set position from `from` up to `to`, in order.
-pub fn positions_looped<B: Readable<N>, const N: usize>(
-    alloc: Global,
-    readable: &B,
-    from: u64,
-    to: u64,
-) -> Result<Vec<u64>, AllocError>
-    ensures { IfOk result (λ v. v.items ≡ ones N (B.meaning readable.now) from to) }
-{
-    // Tells the proof how large `N` may be.
-    let _ = readable.len();
-    let mut positions = Vec::new(alloc);
-    for position in readable.ones_iter_range(from..to) {
-        positions.push(position)?;
-    }
-    Ok(positions)
-}
-
-/// `next` answers each set position from `from` up to `to`, in order, and then ends.
-pub fn positions_by_next<B: Readable<N>, const N: usize>(
-    alloc: Global,
-    readable: &B,
-    from: u64,
-    to: u64,
-) -> Result<Vec<u64>, AllocError>
-    ensures { IfOk result (λ v. v.items ≡ ones N (B.meaning readable.now) from to) }
-{
-    // Tells the proof how large `N` may be.
-    let _ = readable.len();
-    let mut positions = Vec::new(alloc);
-    let mut left = readable.ones_iter_range(from..to);
-    while let Some(position) = left.next() {
-        positions.push(position)?;
-    }
-    Ok(positions)
 }
 
 /// Collected, the set positions from `from` on are those of the meaning up to its length.

@@ -9,4 +9,4 @@ max_encode_size-requires-clause-room g c =
     rw e.value (omega (arith, all_bytes g.row.N (length c.args.self.now) c.args.self.now refl))
 
 pub returns : goal.returns
-returns g c = rw c.len.ensures.value at c.max_encode_size.ensures ∙ sym (all_bytes g.row.N (length c.args.self.now) c.args.self.now refl)
+returns g c = rw c.len.ensures.value at c.max_encode_size.ensures.value ∙ sym (all_bytes g.row.N (length c.args.self.now) c.args.self.now refl)
