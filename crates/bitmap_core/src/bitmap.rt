@@ -222,7 +222,7 @@ impl<const N: usize> BitMap<N> {
     pub fn count_ones(&self) -> u64
         ensures { result ≡ count_by (λ b. b) self.now }
     {
-        let _len = self.len;
+        let _ = self.len();
         deque::count_ones(&self.chunks)
     }
 
@@ -240,7 +240,7 @@ impl<const N: usize> BitMap<N> {
         requires { range.end ≤ length self.now }
         ensures { result ≡ list_all not (slice_range self.now range.start range.end) }
     {
-        let _len = self.len;
+        let _ = self.len();
         deque::is_unset(&self.chunks, range.start, range.end)
     }
 

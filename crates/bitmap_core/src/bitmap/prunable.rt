@@ -179,8 +179,7 @@ impl<const N: usize> Prunable<N> {
         requires { HasBit N self.now bit }
         ensures { result.now ≡ chunk N self.now (bit / (8 * N)) }
     {
-        // Read for what the invariant says of N.
-        let _pruned = self.pruned_chunks;
+        let _ = self.len();
         self.get_chunk(Self::to_chunk_index(bit))
     }
 

@@ -4,8 +4,7 @@
 //!
 //! ```
 //! fn next_set<B: Readable<N>, const N: usize>(bitmap: &B, from: u64) -> Option<u64> {
-//!     // Tells the proof how large `N` may be.
-//!     let _ = bitmap.len();
+//! //!     let _ = bitmap.len();
 //!     bitmap.ones_iter_from(from).next()
 //! }
 //! ```
@@ -115,7 +114,6 @@ pub trait Readable<const N: usize> {
         requires { IsRetained N (meaning self.now) bit }
         ensures { result ≡ (meaning self.now).bit bit }
     {
-        // Tells the proof that `N` is not 0.
         let _ = self.len();
         let chunk = self.get_chunk((bit / (8 * N as u64)) as usize);
         chunk::get_bit(&chunk, bit)

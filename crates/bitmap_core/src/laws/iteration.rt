@@ -35,7 +35,6 @@ pub fn positions_collected<B: Readable<N>, const N: usize>(
 ) -> Result<Vec<u64>, AllocError>
     ensures { IfOk result (λ v. v.items ≡ ones N (B.meaning readable.now) from to) }
 {
-    // Tells the proof how large `N` may be.
     let _ = readable.len();
     readable.ones_iter_range(from..to).collect(alloc)
 }
@@ -48,7 +47,6 @@ pub fn last_positions_collected<B: Readable<N>, const N: usize>(
 ) -> Result<Vec<u64>, AllocError>
     ensures { IfOk result (λ v. v.items ≡ ones N (B.meaning readable.now) from (B.meaning readable.now).len) }
 {
-    // Tells the proof how large `N` may be.
     let _ = readable.len();
     readable.ones_iter_from(from).collect(alloc)
 }
@@ -61,7 +59,6 @@ pub fn first_position<B: Readable<N>, const N: usize>(
 ) -> Option<u64>
     ensures { MatchOption result (ones N (B.meaning readable.now) from to ≡ []) (λ k. (rest : List ℕ) × (ones N (B.meaning readable.now) from to ≡ k ∷ rest)) }
 {
-    // Tells the proof how large `N` may be.
     let _ = readable.len();
     readable.ones_iter_range(from..to).next()
 }

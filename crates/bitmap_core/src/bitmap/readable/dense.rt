@@ -28,7 +28,6 @@ impl<const N: usize> Readable<N> for BitMap<N> {
     }
 
     fn pruned_chunks(&self) -> usize {
-        // Tells the proof what holds of the value.
         let _ = self.len();
         0
     }

@@ -13,7 +13,6 @@ impl<const N: usize> Readable<N> for Prunable<N> {
     }
 
     fn get_chunk(&self, chunk: usize) -> [u8; N] {
-        // Tells the proof what holds of the value.
         let _ = Prunable::len(self);
         *Prunable::get_chunk(self, chunk)
     }

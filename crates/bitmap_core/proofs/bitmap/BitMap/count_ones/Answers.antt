@@ -1,5 +1,6 @@
 use Rattle.std.proofs.Common.{◌*◌, ◌∙◌, length, arith}
 use Rattle.bitmap_core.specs.Bits.{bit_of}
+use Rattle.bitmap_core.proofs.BitLists.{len_is}
 use Rattle.bitmap_core.proofs.Counts.{count-bits, ones_from_bound}
 use Rattle.bitmap_core.proofs.PlaceCounts.{count-whole}
 use Rattle.bitmap_core.proofs.bitmap.BitMap.count_ones.Goals as goal
@@ -8,6 +9,7 @@ pub count_ones-requires : goal.count_ones-requires
 count_ones-requires g c =
     let e = count-bits g.row.N c.self.inside.chunks.items (8 * g.row.N * length c.self.inside.chunks.items) in
     let b = ones_from_bound (bit_of g.row.N c.self.inside.chunks.items) c.self.inside.len (8 * g.row.N * length c.self.inside.chunks.items) c.self.invariant.zero in
+    let l = len_is _ _ _ _ c.self.view_is in
     (omega (arith, c.self.invariant.width.fits), (c.self.invariant.width.positive, omega arith))
 
 pub returns : goal.returns
