@@ -65,16 +65,16 @@ in_piece f w xs k e d pos h l =
     let inside : k % w < length (f (get_or xs (k / w) e)) = omega (arith, h (get_or xs (k / w) e), mod_below k w pos) in
     ap (λ m. get_or (flat_map f xs) m d) (sym before_it) ∙ get_or-flat_map f xs (k / w) (k % w) e d i inside
 
-length-chunk_bits : (n : ℕ) (c : List ℕ) → length (chunk_bits n c) ≡ 8 * n
-length-chunk_bits n c = length-map-range_with_len (chunk_bit n c) 0 (8 * n)
+length-chunk_width : (n : ℕ) (c : List ℕ) → length (chunk_bits n c) ≡ 8 * n
+length-chunk_width n c = length-map-range_with_len (chunk_bit n c) 0 (8 * n)
 
 pub length-front_bits : (n : ℕ) (cs : List (List ℕ)) → length (flat_map (chunk_bits n) cs) ≡ 8 * n * length cs
-length-front_bits n cs = length-pieces (chunk_bits n) (8 * n) cs (length-chunk_bits n)
+length-front_bits n cs = length-pieces (chunk_bits n) (8 * n) cs (length-chunk_width n)
 
 pub get_or-front_bits : (n : ℕ) (cs : List (List ℕ)) (i : ℕ) → 0 < n → i < 8 * n * length cs → get_or (flat_map (chunk_bits n) cs) i false ≡ bit_of n cs i
 get_or-front_bits n cs i p h =
     let r = mod_below i (8 * n) (omega arith) in
-    in_piece (chunk_bits n) (8 * n) cs i [] false (omega arith) (length-chunk_bits n) h
+    in_piece (chunk_bits n) (8 * n) cs i [] false (omega arith) (length-chunk_width n) h
     ∙ get_or-map-range_with_len (chunk_bit n (get_or cs (i / (8 * n)) [])) 0 (8 * n) (i % (8 * n)) (i % (8 * n)) false r (omega arith)
     ∙ chunk_bit-mod n (get_or cs (i / (8 * n)) []) (i % (8 * n)) i p (mod-mod i (8 * n))
 

@@ -19,8 +19,7 @@ shown_bit n m bytes k p h shows =
 
 pub plain_lawful : (n : ℕ) (v : List Bool) → 0 < n → 8 * n < 2 ^ 64 → length v < 2 ^ 64 → IsLawful n (plain_meaning v)
 plain_lawful n v p w h = record {
-  positive = p;
-  width = w;
+  width = record { positive = p; fits = w };
   pruned_within = omega arith;
   len_fits = h;
   chunks_fit = omega (arith, div-le_self (length v) (8 * n));

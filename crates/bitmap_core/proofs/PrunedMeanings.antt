@@ -8,8 +8,7 @@ use Rattle.bitmap_core.proofs.PrunedBitsFacts.{chunk_bit_of_chunk}
 
 pub pruned_lawful : (n : ℕ) (b : PrunedBits) → 0 < n → 8 * n < 2 ^ 64 → bit_len n b < 2 ^ 64 → IsLawful n (pruned_meaning n b)
 pruned_lawful n b p w h = record {
-  positive = p;
-  width = w;
+  width = record { positive = p; fits = w };
   pruned_within = omega arith;
   len_fits = h;
   chunks_fit = omega (arith, div-le_self (bit_len n b) (8 * n));

@@ -6,7 +6,7 @@ use Rattle.std.proofs.lemmas.List.{get_or_append_left, get_or-append_right, get_
 use Rattle.std.proofs.lemmas.Bool.{cases_lt}
 use Rattle.bitmap_core.specs.Chunk.{chunk_bit}
 use Rattle.bitmap_core.specs.Bits.{bit_of, bits, IsChunkCount, IsZeroFrom}
-use Rattle.bitmap_core.specs.Gates.{IsJoined}
+use Rattle.bitmap_core.specs.Combined.{IsCombined}
 use Rattle.bitmap_core.proofs.Places.{index_below}
 use Rattle.bitmap_core.proofs.BitLists.{get_or-bits, bits_are, len_is}
 use Rattle.bitmap_core.proofs.ChunkLists.{bit_of_past}
@@ -21,10 +21,10 @@ bits-fill n xs zs len b v e f =
     bits_are n zs len (replicate (length v) b) (length-replicate (length v) b ∙ l) (λ i s. f i s ∙ sym (get_or-replicate (length v) i b false (omega arith)))
 
 -- one bit of chunks that were joined
-pub joined_bit : (n : ℕ) (f : Bool → Bool → Bool) (xs os ys : List (List ℕ)) (i : ℕ) → IsJoined n f xs os ys → i / (8 * n) < length xs → bit_of n ys i ≡ f (bit_of n xs i) (bit_of n os i)
+pub joined_bit : (n : ℕ) (f : Bool → Bool → Bool) (xs os ys : List (List ℕ)) (i : ℕ) → IsCombined n f xs os ys → i / (8 * n) < length xs → bit_of n ys i ≡ f (bit_of n xs i) (bit_of n os i)
 joined_bit n f xs os ys i j s = j.bits (i / (8 * n)) s i
 
-pub bits-zip : (n : ℕ) (f : Bool → Bool → Bool) (xs os ys : List (List ℕ)) (len : ℕ) (v w : List Bool) → 0 < n → IsChunkCount n (length xs) len → IsJoined n f xs os ys → bits n xs len ≡ v → bits n os len ≡ w → bits n ys len ≡ map (λ (p : Bool × Bool). f p.0 p.1) (zip v w)
+pub bits-zip : (n : ℕ) (f : Bool → Bool → Bool) (xs os ys : List (List ℕ)) (len : ℕ) (v w : List Bool) → 0 < n → IsChunkCount n (length xs) len → IsCombined n f xs os ys → bits n xs len ≡ v → bits n os len ≡ w → bits n ys len ≡ map (λ (p : Bool × Bool). f p.0 p.1) (zip v w)
 bits-zip n f xs os ys len v w p k j e g =
     let l = len_is n xs len v e in
     let m = len_is n os len w g in
@@ -35,15 +35,15 @@ bits-zip n f xs os ys len v w p k j e g =
     joined_bit n f xs os ys i j (index_below n (length xs) len i p s k) ∙ ap (λ x. f x (bit_of n os i)) a ∙ ap (λ x. f (get_or v i false) x) b ∙ sym (get_or-map (λ (p : Bool × Bool). f p.0 p.1) (zip v w) i (false, false) false (omega arith) ∙ ap (λ (p : Bool × Bool). f p.0 p.1) (get_or-zip v w i (false, false) (omega arith) (omega arith))))
 
 -- where both end in zeros, so do the chunks that they make
-pub IsZeroFrom-zip : (n : ℕ) (f : Bool → Bool → Bool) (xs os ys : List (List ℕ)) (len : ℕ) → f false false ≡ false → IsJoined n f xs os ys → IsZeroFrom n xs len → IsZeroFrom n os len → IsZeroFrom n ys len
+pub IsZeroFrom-zip : (n : ℕ) (f : Bool → Bool → Bool) (xs os ys : List (List ℕ)) (len : ℕ) → f false false ≡ false → IsCombined n f xs os ys → IsZeroFrom n xs len → IsZeroFrom n os len → IsZeroFrom n ys len
 IsZeroFrom-zip n f xs os ys len o j y z i h = elim (cases_lt (i / (8 * n)) (length xs)) [
   | inl s ↦ joined_bit n f xs os ys i j s ∙ ap (λ x. f x (bit_of n os i)) (y i h) ∙ ap (λ x. f false x) (z i h) ∙ o
   | inr s ↦ bit_of_past n ys i (omega (arith, j.count))
 ]
 
 -- two runs of chunks, each joined with its own
-IsJoined-append : (n : ℕ) (f : Bool → Bool → Bool) (fs gs os ps xs ys : List (List ℕ)) → length fs ≡ length os → IsJoined n f fs os xs → IsJoined n f gs ps ys → IsJoined n f (fs ++ gs) (os ++ ps) (xs ++ ys)
-IsJoined-append n f fs gs os ps xs ys e j k = record {
+IsCombined-append : (n : ℕ) (f : Bool → Bool → Bool) (fs gs os ps xs ys : List (List ℕ)) → length fs ≡ length os → IsCombined n f fs os xs → IsCombined n f gs ps ys → IsCombined n f (fs ++ gs) (os ++ ps) (xs ++ ys)
+IsCombined-append n f fs gs os ps xs ys e j k = record {
   count = omega (arith, j.count, k.count, length-append xs ys, length-append fs gs);
   bits = λ i h t. elim (cases_lt i (length fs)) [
     | inl s ↦
@@ -60,6 +60,6 @@ IsJoined-append n f fs gs os ps xs ys e j k = record {
 }
 
 -- the same, of whole lists that are those runs
-pub joined_runs : (n : ℕ) (f : Bool → Bool → Bool) (fs gs os ps xs ys olds others news : List (List ℕ)) → olds ≡ fs ++ gs → os ++ ps ≡ others → news ≡ xs ++ ys → length fs ≡ length os → IsJoined n f fs os xs → IsJoined n f gs ps ys → IsJoined n f olds others news
+pub joined_runs : (n : ℕ) (f : Bool → Bool → Bool) (fs gs os ps xs ys olds others news : List (List ℕ)) → olds ≡ fs ++ gs → os ++ ps ≡ others → news ≡ xs ++ ys → length fs ≡ length os → IsCombined n f fs os xs → IsCombined n f gs ps ys → IsCombined n f olds others news
 joined_runs n f fs gs os ps xs ys olds others news a b c e j k =
-    subst (λ zs. IsJoined n f zs others news) (sym a) (subst (λ zs. IsJoined n f (fs ++ gs) zs news) b (subst (λ zs. IsJoined n f (fs ++ gs) (os ++ ps) zs) (sym c) (IsJoined-append n f fs gs os ps xs ys e j k)))
+    subst (λ zs. IsCombined n f zs others news) (sym a) (subst (λ zs. IsCombined n f (fs ++ gs) zs news) b (subst (λ zs. IsCombined n f (fs ++ gs) (os ++ ps) zs) (sym c) (IsCombined-append n f fs gs os ps xs ys e j k)))

@@ -31,14 +31,14 @@ words_between-le n lo hi =
 
 module _ (n : ℕ) (m : Meaning) (base end : ℕ) (chunk : List ℕ) (loads first : ℕ) (scan : IsScan n m base end chunk loads first) (next : ℕ) (is : next ≡ next_word n base) (inside : next < end) where
   step_follows : base < end → Follows n base next
-  step_follows h = rw is (follows n base scan.lawful.positive (scan.aligned h))
+  step_follows h = rw is (follows n base scan.lawful.width.positive (scan.aligned h))
 
   step_after : base < next
   step_after =
       ⊎_elim
       (λ (s : Stays (8 * n) base (next_word n base)). let r = s.is in omega arith)
-      (λ (s : Leaves (8 * n) base (next_word n base)). let r = s.is in let b = mod_below base (8 * n) (omega (arith, scan.lawful.positive)) in omega arith)
-      (next_cases n base scan.lawful.positive)
+      (λ (s : Leaves (8 * n) base (next_word n base)). let r = s.is in let b = mod_below base (8 * n) (omega (arith, scan.lawful.width.positive)) in omega arith)
+      (next_cases n base scan.lawful.width.positive)
 
   step_before : base < end
   step_before = omega (arith, step_after)
@@ -48,7 +48,7 @@ module _ (n : ℕ) (m : Meaning) (base end : ℕ) (chunk : List ℕ) (loads firs
       ⊎_elim
       (λ (s : Stays (8 * n) base (next_word n base)). let e : next / (8 * n) ≡ base / (8 * n) = ap (λ (k : ℕ). k / (8 * n)) is ∙ s.chunk in rw e (scan.shown step_before))
       (λ (s : Leaves (8 * n) base (next_word n base)). absurd (ne (ap (λ (k : ℕ). k % (8 * n)) is ∙ s.within)))
-      (next_cases n base scan.lawful.positive)
+      (next_cases n base scan.lawful.width.positive)
 
   step_counted : loads + 1 + length (ones_between (starts_word n) (next + 1) end) ≡ words_between n first end
   step_counted = counted_more n base next end loads (words_between n first end) (scan.aligned step_before) (step_follows step_before) inside scan.counted
@@ -78,7 +78,7 @@ pub step : {n : ℕ} {m : Meaning} {base end loads first next : ℕ} {chunk : Li
 step {n} {m} {base} {end} {loads} {first} {next} {chunk} scan is inside fits =
     let after : base < next = step_after n m base end chunk loads first scan next is inside in
     let f : Follows n base next = step_follows n m base end chunk loads first scan next is inside (omega arith) in
-    let g : Follows n next (next_word n next) = follows n next scan.lawful.positive f.starts in
+    let g : Follows n next (next_word n next) = follows n next scan.lawful.width.positive f.starts in
     record {
       after = after;
       starts = f.starts;
@@ -103,8 +103,8 @@ pub first_scan : (n : ℕ) (m : Meaning) (first end : ℕ) (bytes : List ℕ) �
 first_scan n m first end bytes lawful within h from shown = record {
   lawful = lawful;
   within = within;
-  aligned = λ _. start_of n first lawful.positive;
-  retained = λ _. retained_start n m.pruned first lawful.positive from;
-  shown = λ _. rw (start_chunk n first lawful.positive) shown;
-  counted = counted_first n first end lawful.positive h;
+  aligned = λ _. start_of n first lawful.width.positive;
+  retained = λ _. retained_start n m.pruned first lawful.width.positive from;
+  shown = λ _. rw (start_chunk n first lawful.width.positive) shown;
+  counted = counted_first n first end lawful.width.positive h;
 }

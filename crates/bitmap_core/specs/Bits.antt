@@ -2,7 +2,7 @@
 use Rattle.std.specs.Prelude.{◌≡◌, ℕ, ◌+◌, ◌*◌, ◌/◌, ◌%◌, ◌<◌, ◌≤◌, Bool, false, List, [], length, map, ◌==◌, slice_index_or}
 use Rattle.std.specs.List.{range_with_len}
 use Rattle.std.specs.Int.{bit_at}
-use Rattle.bitmap_core.specs.Chunk.{chunk_bit, IsChunk}
+use Rattle.bitmap_core.specs.Chunk.{chunk_bit, IsChunk, IsWidth}
 
 -- bit i of chunks of n bytes: bit i of chunk i / 8n
 abbrev pub bit_of : ℕ → List (List ℕ) → ℕ → Bool
@@ -19,6 +19,12 @@ IsZeroFrom n chunks len = (i : ℕ) → len ≤ i → bit_of n chunks i ≡ fals
 -- k chunks of n bytes are those that len bits fill, the last one perhaps in part
 abbrev pub IsChunkCount : ℕ → ℕ → ℕ → Type 0
 IsChunkCount n k len = (len ≤ 8 * n * k) × (8 * n * k < len + 8 * n)
+
+-- chunks of n bytes hold len bits and no other: as many chunks as the bits fill, with zeros behind the bits
+pub record IsPacked (n : ℕ) (chunks : List (List ℕ)) (len : ℕ) : Type 0 where
+  pub width : IsWidth n
+  pub count : IsChunkCount n (length chunks) len
+  pub zero : IsZeroFrom n chunks len
 
 -- the new chunks have the bits of the old ones, but that bit i is value
 pub record IsBitPut (n : ℕ) (old new : List (List ℕ)) (i : ℕ) (value : Bool) : Type 0 where

@@ -1,6 +1,6 @@
 pub mod Chunk
 pub mod Bits
-pub mod Gates
+pub mod Combined
 pub mod Fed
 pub mod PrunedBits
 pub mod Text

@@ -2,7 +2,7 @@
 use Rattle.std.specs.Prelude.{◌≡◌, ℕ, ◌+◌, ◌-◌, ◌*◌, ◌/◌, ◌%◌, ◌^◌, ◌<◌, ◌≤◌, min, max, Bool, true, false, List, ◌++◌, length, slice_index_or, ◌==◌, nat_lt, if◌then◌else◌}
 use Rattle.std.specs.Int.{bit_at as digit_at}
 use Rattle.std.specs.List.{filter, range_with_len}
-use Rattle.bitmap_core.specs.Chunk.{chunk_bit}
+use Rattle.bitmap_core.specs.Chunk.{chunk_bit, IsWidth}
 use Rattle.bitmap_core.specs.PrunedBits.{PrunedBits, bit_len, bit_at}
 
 -- how many chunks are pruned at the front, how many bits there are (the pruned ones counted), and the bit at each position
@@ -21,8 +21,7 @@ pruned_meaning n b = record { pruned = b.pruned; len = bit_len n b; bit = bit_at
 
 -- what holds of every bitmap
 pub record IsLawful (n : ℕ) (m : Meaning) : Type 0 where
-  pub positive : 0 < n
-  pub width : 8 * n < 2 ^ 64
+  pub width : IsWidth n
   pub pruned_within : 8 * n * m.pruned ≤ m.len
   pub len_fits : m.len < 2 ^ 64
   pub chunks_fit : m.len / (8 * n) < 2 ^ 64

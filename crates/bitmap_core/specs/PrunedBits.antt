@@ -1,7 +1,7 @@
 -- A bitmap whose front may be pruned, by whole chunks. Positions are absolute. A chunk has n bytes.
-use Rattle.std.specs.Prelude.{ℕ, ◌+◌, ◌-◌, ◌*◌, ◌/◌, ◌<◌, ◌≤◌, Bool, false, List, ◌∷◌, [], ◌++◌, length, map, take, drop, replicate, ◌==◌, nat_lt, if◌then◌else◌, slice_index_or, slice_set}
+use Rattle.std.specs.Prelude.{ℕ, ◌+◌, ◌-◌, ◌*◌, ◌/◌, ◌^◌, ◌<◌, ◌≤◌, Bool, false, List, ◌∷◌, [], ◌++◌, length, map, take, drop, replicate, ◌==◌, nat_lt, if◌then◌else◌, slice_index_or, slice_set}
 use Rattle.std.specs.List.{range_with_len, flat_map}
-use Rattle.bitmap_core.specs.Chunk.{chunk_from, chunk_bit, chunk_bits}
+use Rattle.bitmap_core.specs.Chunk.{chunk_from, chunk_bit, chunk_bits, IsWidth}
 
 -- a bitmap: the number of chunks pruned at its front, and the bits after them
 pub record PrunedBits : Type 0 where
@@ -19,6 +19,11 @@ pruned_bits n b = 8 * n * b.pruned
 -- the length, pruned bits counted
 abbrev pub bit_len : ℕ → PrunedBits → ℕ
 bit_len n b = pruned_bits n b + length b.bits
+
+-- 64 bits count the positions of the bitmap, and those of a chunk
+pub record IsCounted (n : ℕ) (b : PrunedBits) : Type 0 where
+  pub width : IsWidth n
+  pub len : bit_len n b < 2 ^ 64
 
 -- the bit at a retained position; past the length it is false
 abbrev pub bit_at : ℕ → PrunedBits → ℕ → Bool

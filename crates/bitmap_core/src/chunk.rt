@@ -17,13 +17,38 @@
 
 ghost use Rattle.std.specs.Prelude.{◌≡◌, ℕ, ◌+◌, ◌-◌, ◌*◌, ◌/◌, ◌%◌, ◌^◌, ◌<◌, ◌≤◌, ◌++◌, ◌==◌, Bool, false, not, length, map, slice_index, slice_index_or, vec_len, vec_capacity};
 ghost use Rattle.std.specs.List.{list_any, range_with_len};
-ghost use Rattle.std.specs.Int.{bit_at};
-ghost use Rattle.bitmap_core.specs.Chunk.{byte_of as byte_from_bits, chunk_bit, IsBitWritten, IsByteWritten};
+ghost use Rattle.std.specs.Int.{bit_at, div_ceil};
+ghost use Rattle.bitmap_core.specs.Chunk.{byte_of as byte_from_bits, chunk_bit, IsBitWritten, IsByteWritten, IsWidth};
 
+pub(crate) mod facts;
 pub mod join;
 pub mod load;
 pub mod whole;
 pub mod words;
+
+/// The width of a chunk in bits, `8N`. No memory.
+pub fn chunk_width<const N: usize>() -> u64
+    requires { 8 * N < 2 ^ 64 }
+    ensures { result ≡ 8 * N }
+{
+    8 * (N as u64)
+}
+
+/// The index of the chunk of a whole bitmap in which bit `bit` stands: `bit / 8N`. No memory.
+pub fn chunk_index<const N: usize>(bit: u64) -> usize
+    requires width { IsWidth N }
+    ensures { result ≡ bit / (8 * N) }
+{
+    (bit / chunk_width::<N>()) as usize
+}
+
+/// The number of chunks that `len` bits fill, the last one perhaps in part. No memory.
+pub fn chunk_count<const N: usize>(len: u64) -> usize
+    requires width { IsWidth N }
+    ensures { result ≡ div_ceil len (8 * N) }
+{
+    len.div_ceil(chunk_width::<N>()) as usize
+}
 
 /// The index of the byte in which bit `bit mod 8N` of a chunk stands. No memory.
 pub fn byte_index<const N: usize>(bit: u64) -> usize
@@ -49,11 +74,6 @@ fn low_mask(bit: u64) -> u8
     (1 << (bit % 8)) - 1
 }
 
-// What the type of bytes says of them.
-fn fit(bytes: &[u8])
-    ensures { (k : ℕ) → slice_index bytes.now k < 256 }
-{}
-
 /// Bit `bit mod 8N` of a chunk. No memory.
 pub fn get_bit<const N: usize>(chunk: &[u8; N], bit: u64) -> bool
     requires { 0 < N }
@@ -64,8 +84,7 @@ pub fn get_bit<const N: usize>(chunk: &[u8; N], bit: u64) -> bool
 
 /// Writes bit `bit mod 8N` of a chunk, and no other. No memory.
 pub fn set_bit<const N: usize>(chunk: &mut [u8; N], bit: u64, value: bool)
-    requires positive { 0 < N }
-    requires fits { 8 * N < 2 ^ 64 }
+    requires width { IsWidth N }
     ensures { IsBitWritten N chunk.old chunk.new bit value }
 {
     let byte = byte_index::<N>(bit);
@@ -85,19 +104,9 @@ pub fn set_byte<const N: usize>(chunk: &mut [u8; N], bit: u64, byte: u8)
     chunk[byte_index::<N>(bit)] = byte;
 }
 
-/// The chunk itself. It tells a proof that the bytes are those that the bits make. No memory.
-pub fn from_own_bits<const N: usize>(chunk: &[u8; N]) -> &[u8; N]
-    ensures same { result.now ≡ chunk.now }
-    ensures bytes { chunk.now ≡ map (λ j. byte_from_bits (λ t. chunk_bit N chunk.now (8 * j + t))) (range_with_len 0 N) }
-{
-    fit(chunk);
-    chunk
-}
-
 /// Inverts bit `bit mod 8N` of a chunk, and no other. No memory.
 pub fn flip_bit<const N: usize>(chunk: &mut [u8; N], bit: u64)
-    requires positive { 0 < N }
-    requires fits { 8 * N < 2 ^ 64 }
+    requires width { IsWidth N }
     ensures { IsBitWritten N chunk.old chunk.new bit (not (chunk_bit N chunk.old bit)) }
 {
     chunk[byte_index::<N>(bit)] ^= bit_mask(bit);
@@ -105,8 +114,7 @@ pub fn flip_bit<const N: usize>(chunk: &mut [u8; N], bit: u64)
 
 /// Clears the bits of a chunk from bit `from` on, which is below `8N`. No memory.
 pub fn clear_from<const N: usize>(chunk: &mut [u8; N], from: u64)
-    requires positive { 0 < N }
-    requires fits { 8 * N < 2 ^ 64 }
+    requires width { IsWidth N }
     requires within { from < 8 * N }
     ensures below { (i : ℕ) → i % (8 * N) < from → chunk_bit N chunk.new i ≡ chunk_bit N chunk.old i }
     ensures above { (i : ℕ) → from ≤ i % (8 * N) → chunk_bit N chunk.new i ≡ false }
@@ -140,8 +148,7 @@ fn byte_of(bools: &[bool]) -> u8
 
 /// The chunk of the first `8N` booleans, with zeros where there are fewer. No memory.
 pub fn from_bools<const N: usize>(bools: &[bool]) -> [u8; N]
-    requires positive { 0 < N }
-    requires fits { 8 * N < 2 ^ 64 }
+    requires width { IsWidth N }
     ensures { (i : ℕ) → i < 8 * N → chunk_bit N result i ≡ slice_index_or bools.now i false }
 {
     let mut chunk = [0; N];
@@ -155,8 +162,7 @@ pub fn from_bools<const N: usize>(bools: &[bool]) -> [u8; N]
 
 /// Appends the first `count` bits of a chunk, at most `8N`, to booleans that have room for them. No memory.
 pub fn append_bools<const N: usize>(chunk: &[u8; N], count: u64, bools: &mut Vec<bool>)
-    requires positive { 0 < N }
-    requires fits { 8 * N < 2 ^ 64 }
+    requires width { IsWidth N }
     requires within { count ≤ 8 * N }
     requires room { vec_len bools.old + count ≤ vec_capacity bools.old }
     ensures items { bools.new.items ≡ bools.old.items ++ map (chunk_bit N chunk.now) (range_with_len 0 count) }

@@ -14,9 +14,9 @@
 //! }
 //! ```
 
+pub mod bitwise;
 pub mod codec;
-pub mod fronts;
-pub mod gates;
 pub mod iteration;
 pub mod positions;
+pub mod prunable;
 pub mod whole;

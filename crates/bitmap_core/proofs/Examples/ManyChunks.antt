@@ -7,7 +7,7 @@ use Rattle.std.proofs.Math.Bool.{xor}
 use Rattle.std.proofs.lemmas.Bool.{false≢true, cases_lt}
 use Rattle.bitmap_core.specs.Chunk.{chunk_bit}
 use Rattle.bitmap_core.specs.Bits.{bit_of, bits, IsZeroFrom, IsChunkCount, IsBitPut, AreChunks, IsBytePut}
-use Rattle.bitmap_core.specs.Gates.{IsJoined}
+use Rattle.bitmap_core.specs.Combined.{IsCombined}
 use Rattle.bitmap_core.proofs.ChunkLists.{bit_of_past}
 use Rattle.bitmap_core.proofs.PlaceTests.{any_range_at}
 use Rattle.bitmap_core.proofs.Examples.EachPlace.{table, same_at, same_bits, is_other}
@@ -132,16 +132,16 @@ joined_byte f a b c e zero h t =
     m c ∙ same_at (λ _. true) (chunk_bit 1 (c ∷ [])) (λ k. f (chunk_bit 1 (a ∷ []) k) (chunk_bit 1 (b ∷ []) k)) 8 (t % 8) e w refl ∙ ap (λ x. f x (chunk_bit 1 (b ∷ []) (t % 8))) (sym (m a)) ∙ ap (λ y. f (chunk_bit 1 (a ∷ []) t) y) (sym (m b))
 
 -- one chunk of one byte joined with another by 12 and 10: both have 8, either has 14, one of them alone has 6
-joined_by_and : IsJoined 1 (λ x y. x && y) ((12 ∷ []) ∷ []) ((10 ∷ []) ∷ []) ((8 ∷ []) ∷ [])
+joined_by_and : IsCombined 1 (λ x y. x && y) ((12 ∷ []) ∷ []) ((10 ∷ []) ∷ []) ((8 ∷ []) ∷ [])
 joined_by_and = record { count = refl; bits = joined_byte (λ x y. x && y) 12 10 8 refl }
 
-joined_by_or : IsJoined 1 (λ x y. x || y) ((12 ∷ []) ∷ []) ((10 ∷ []) ∷ []) ((14 ∷ []) ∷ [])
+joined_by_or : IsCombined 1 (λ x y. x || y) ((12 ∷ []) ∷ []) ((10 ∷ []) ∷ []) ((14 ∷ []) ∷ [])
 joined_by_or = record { count = refl; bits = joined_byte (λ x y. x || y) 12 10 14 refl }
 
-joined_by_xor : IsJoined 1 xor ((12 ∷ []) ∷ []) ((10 ∷ []) ∷ []) ((6 ∷ []) ∷ [])
+joined_by_xor : IsCombined 1 xor ((12 ∷ []) ∷ []) ((10 ∷ []) ∷ []) ((6 ∷ []) ∷ [])
 unfolding xor
 joined_by_xor = record { count = refl; bits = joined_byte xor 12 10 6 refl }
 
 -- 14 is not what both have
-not_joined : IsJoined 1 (λ x y. x && y) ((12 ∷ []) ∷ []) ((10 ∷ []) ∷ []) ((14 ∷ []) ∷ []) → ⊥
+not_joined : IsCombined 1 (λ x y. x && y) ((12 ∷ []) ∷ []) ((10 ∷ []) ∷ []) ((14 ∷ []) ∷ []) → ⊥
 not_joined j = false≢true (let e = j.bits 0 (omega arith) 1 in cc)

@@ -45,11 +45,11 @@ pruned_goes_on_with_one = refl
 
 -- it is a bitmap
 pruned_is_lawful : IsLawful 1 bitmap
-pruned_is_lawful = record { positive = omega arith; width = omega arith; pruned_within = omega arith; len_fits = omega arith; chunks_fit = omega arith }
+pruned_is_lawful = record { width = record { positive = omega arith; fits = omega arith }; pruned_within = omega arith; len_fits = omega arith; chunks_fit = omega arith }
 
 -- one of chunks without bytes is none, nor is one that is longer than u64, nor one that prunes more than it has
 no_bytes_a_chunk : IsLawful 0 bitmap → ⊥
-no_bytes_a_chunk l = omega (arith, l.positive)
+no_bytes_a_chunk l = omega (arith, l.width.positive)
 
 too_long : IsLawful 1 (record { pruned = 0; len = 2 ^ 64; bit = λ k. false }) → ⊥
 too_long l = omega (arith, l.len_fits)
@@ -59,7 +59,7 @@ pruned_past_the_length l = omega (arith, l.pruned_within)
 
 -- chunks whose bits pass u64 are too wide
 too_wide : IsLawful 2305843009213693952 plain → ⊥
-too_wide l = omega (arith, l.width)
+too_wide l = omega (arith, l.width.fits)
 
 -- chunk 2 has a retained bit, chunk 1 is pruned, chunk 3 has not begun
 third_chunk_is_retained : IsRetainedChunk 1 bitmap 2
@@ -214,7 +214,7 @@ nothing_left = refl
 -- an iterator over all ten that has loaded the word at 0 out of its chunk, which is 5: one more word is to come, of two
 iterator : IsScan 1 ten 0 10 (5 ∷ []) 1 0
 iterator = record {
-  lawful = record { positive = omega arith; width = omega arith; pruned_within = omega arith; len_fits = omega arith; chunks_fit = omega arith };
+  lawful = record { width = record { positive = omega arith; fits = omega arith }; pruned_within = omega arith; len_fits = omega arith; chunks_fit = omega arith };
   within = omega arith;
   aligned = λ h. refl;
   retained = λ h. omega arith;

@@ -1,65 +1,13 @@
-//! Whole chunks and bytes of a dense bitmap, for the bitmap with a pruned front.
+//! What a pruned front needs of a dense bitmap: whole chunks read, replaced, dropped and put back, and bytes appended.
 
-ghost use Rattle.std.specs.Prelude.{◌≡◌, ℕ, ◌+◌, ◌-◌, ◌*◌, ◌/◌, ◌%◌, ◌^◌, ◌<◌, ◌≤◌, [], ◌++◌, cond, drop, false, length, map, slice_index_or, slice_set, take, OnOk, OnErr, IsOk, ◌==◌};
-ghost use Rattle.std.specs.List.{flat_map, range_with_len};
-ghost use Rattle.bitmap_core.specs.Bits.{IsBytePut};
-ghost use Rattle.bitmap_core.specs.Chunk.{byte_bits, byte_of, chunk_bit, chunk_bits};
+ghost use Rattle.std.specs.Prelude.{◌≡◌, ◌≤◌, ◌<◌, ◌+◌, ◌-◌, ◌*◌, ◌/◌, ◌%◌, ◌^◌, ◌++◌, ℕ, cond, ◌==◌, drop, false, length, slice_index_or, take, IsOk, OnOk, OnErr};
+ghost use Rattle.std.specs.List.{flat_map};
+ghost use Rattle.bitmap_core.specs.Chunk.{byte_bits, chunk_bit, chunk_bits};
 ghost use Rattle.bitmap_core.specs.PrunedBits.{chunk, plain_bits};
 
-use crate::bitmap::BitMap;
-use crate::bitmap::chunks::{chunk_bits, chunk_index, make_room};
-use crate::chunk;
+use crate::bitmap::{BitMap, deque};
+use crate::chunk::{chunk_index, chunk_width};
 use std::alloc::AllocError;
-use std::collections::VecDeque;
-
-fn chunk_at<const N: usize>(chunks: &VecDeque<[u8; N]>, index: usize) -> &[u8; N]
-    requires { index < length chunks.now.items }
-    ensures same { result.now ≡ slice_index_or chunks.now.items index [] }
-    ensures bytes { result.now ≡ map (λ j. byte_of (λ t. chunk_bit N result.now (8 * j + t))) (range_with_len 0 N) }
-{
-    chunk::from_own_bits(&chunks[index])
-}
-
-fn set_chunk<const N: usize>(chunks: &mut VecDeque<[u8; N]>, index: usize, chunk: &[u8; N])
-    requires { index < length chunks.old.items }
-    ensures { chunks.new.items ≡ slice_set chunks.old.items index chunk.now }
-{
-    chunks[index] = *chunk;
-}
-
-fn set_byte<const N: usize>(chunks: &mut VecDeque<[u8; N]>, bit: u64, byte: u8)
-    requires positive { 0 < N }
-    requires fits { 8 * N < 2 ^ 64 }
-    requires within { bit / (8 * N) < length chunks.old.items }
-    ensures { IsBytePut N chunks.old.items chunks.new.items bit byte }
-{
-    chunk::set_byte(&mut chunks[chunk_index::<N>(bit)], bit, byte);
-}
-
-// The chunks that stay keep their places in memory.
-fn drop_front<const N: usize>(chunks: &mut VecDeque<[u8; N]>, count: usize)
-    requires { count ≤ length chunks.old.items }
-    ensures { chunks.new.items ≡ drop count chunks.old.items }
-{
-    drop(chunks.drain(..count));
-}
-
-fn put_front<const N: usize>(
-    chunks: &mut VecDeque<[u8; N]>,
-    front: &[[u8; N]],
-) -> Result<(), AllocError>
-    ensures ok { OnOk result (chunks.new.items ≡ front.now ++ chunks.old.items) }
-    ensures err { OnErr result (chunks.new.items ≡ chunks.old.items) }
-    ensures none { length front.now ≡ 0 → IsOk result }
-{
-    chunks.reserve(front.len())?;
-    let mut left = front.len();
-    while left > 0 {
-        left -= 1;
-        chunks.push_front_reserved(front[left]);
-    }
-    Ok(())
-}
 
 impl<const N: usize> BitMap<N> {
     // The chunk at an index.
@@ -67,7 +15,7 @@ impl<const N: usize> BitMap<N> {
         requires { 8 * N * index < length self.now }
         ensures { result.now ≡ chunk N (plain_bits self.now) index }
     {
-        chunk_at(&self.chunks, index)
+        deque::chunk_at(&self.chunks, index)
     }
 
     // Replaces the chunk at an index by one whose bits past the length are zero.
@@ -77,7 +25,7 @@ impl<const N: usize> BitMap<N> {
         ensures len { length self.new ≡ length self.old }
         ensures bits { (k : ℕ) → k < length self.old → slice_index_or self.new k false ≡ cond (k / (8 * N) == index) (chunk_bit N chunk.now k) (slice_index_or self.old k false) }
     {
-        set_chunk(&mut self.chunks, index, chunk);
+        deque::set_chunk(&mut self.chunks, index, chunk);
     }
 
     // Removes and answers the last chunk, which is full.
@@ -90,7 +38,7 @@ impl<const N: usize> BitMap<N> {
         let len = self.len;
         let chunk = *self.chunk_at(chunk_index::<N>(len) - 1);
         let _ = self.chunks.pop_back();
-        self.len = len - chunk_bits::<N>();
+        self.len = len - chunk_width::<N>();
         chunk
     }
 
@@ -100,8 +48,8 @@ impl<const N: usize> BitMap<N> {
         ensures { self.new ≡ drop (8 * N * count) self.old }
     {
         let len = self.len;
-        drop_front(&mut self.chunks, count);
-        self.len = len - chunk_bits::<N>() * count as u64;
+        deque::drop_front(&mut self.chunks, count);
+        self.len = len - chunk_width::<N>() * count as u64;
     }
 
     // Puts chunks in front, in order.
@@ -112,8 +60,8 @@ impl<const N: usize> BitMap<N> {
         ensures none { length front.now ≡ 0 → IsOk result }
     {
         let len = self.len;
-        put_front(&mut self.chunks, front)?;
-        self.len = chunk_bits::<N>() * front.len() as u64 + len;
+        deque::put_front(&mut self.chunks, front)?;
+        self.len = chunk_width::<N>() * front.len() as u64 + len;
         Ok(())
     }
 
@@ -126,8 +74,8 @@ impl<const N: usize> BitMap<N> {
         ensures partial { ¬ (length self.old % (8 * N) ≡ 0) → IsOk result }
     {
         let len = self.len;
-        make_room(&mut self.chunks, len)?;
-        set_byte(&mut self.chunks, len, byte);
+        deque::make_room(&mut self.chunks, len)?;
+        deque::set_byte(&mut self.chunks, len, byte);
         self.len = len + 8;
         Ok(())
     }

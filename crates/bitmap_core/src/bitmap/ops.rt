@@ -1,4 +1,4 @@
-//! Operations on whole bitmaps.
+//! What whole bitmaps are to operators: equality, hashes, `&`, `|` and `^`.
 
 ghost use Rattle.std.specs.Prelude.{◌≡◌, length, replicate, false, not, ◌&&◌, ◌||◌, map, IfOk};
 ghost use Rattle.std.specs.List.{zip};
@@ -7,64 +7,10 @@ ghost use Rattle.std.specs.Cmp.Rules.{comparing};
 ghost use Rattle.std.proofs.Common.{rules};
 ghost use Rattle.std.proofs.Math.Bool.{beq, xor};
 
-use crate::bitmap::chunks::clear_tail;
-use crate::bitmap::{BitMap, every_chunk};
-use crate::chunk::whole::{And, Gate, Or, Xor};
+use crate::bitmap::{BitMap, deque};
 use std::alloc::AllocError;
 use std::hash::{Hash, Hasher};
 use std::ops::{BitAnd, BitOr, BitXor};
-
-impl<const N: usize> BitMap<N> {
-    /// Inverts every bit. No memory.
-    pub fn flip_all(&mut self)
-        ensures { self.new ≡ map not self.old }
-    {
-        let len = self.len;
-        every_chunk::flip(&mut self.chunks);
-        clear_tail(&mut self.chunks, len);
-    }
-
-    /// Writes one value to every bit. No memory.
-    pub fn set_all(&mut self, value: bool)
-        ensures { self.new ≡ replicate (length self.old) value }
-    {
-        let len = self.len;
-        every_chunk::fill(&mut self.chunks, value);
-        clear_tail(&mut self.chunks, len);
-    }
-
-    // Joins each bit with the other of its position.
-    fn combine<G: Gate>(&mut self, other: &BitMap<N>)
-        requires { length self.old ≡ length other.now }
-        ensures { self.new ≡ map (λ p. G.gives p.0 p.1) (zip self.old other.now) }
-    {
-        every_chunk::combine::<G, N>(&mut self.chunks, &other.chunks);
-    }
-
-    /// Leaves a bit set where it is set in both bitmaps, which have the same length. The other one is not changed. No memory.
-    pub fn and(&mut self, other: &BitMap<N>)
-        requires { length self.old ≡ length other.now }
-        ensures { self.new ≡ map (λ p. p.0 && p.1) (zip self.old other.now) }
-    {
-        self.combine::<And>(other);
-    }
-
-    /// Sets a bit where it is set in either bitmap; they have the same length. The other one is not changed. No memory.
-    pub fn or(&mut self, other: &BitMap<N>)
-        requires { length self.old ≡ length other.now }
-        ensures { self.new ≡ map (λ p. p.0 || p.1) (zip self.old other.now) }
-    {
-        self.combine::<Or>(other);
-    }
-
-    /// Leaves a bit set where the two bitmaps, which have the same length, differ. The other one is not changed. No memory.
-    pub fn xor(&mut self, other: &BitMap<N>)
-        requires { length self.old ≡ length other.now }
-        ensures { self.new ≡ map (λ p. xor p.0 p.1) (zip self.old other.now) }
-    {
-        self.combine::<Xor>(other);
-    }
-}
 
 impl<const N: usize> PartialEq for BitMap<N> {
     ghost eq = { pointwise beq };
@@ -73,7 +19,7 @@ impl<const N: usize> PartialEq for BitMap<N> {
 
     /// Whether the bits are the same, and so the lengths. No memory.
     fn eq(&self, other: &Self) -> bool {
-        self.len == other.len && every_chunk::are_equal(&self.chunks, &other.chunks)
+        self.len == other.len && deque::are_equal(&self.chunks, &other.chunks)
     }
 }
 
@@ -92,7 +38,7 @@ impl<const N: usize> Hash for BitMap<N> {
     fn hash<H: Hasher>(&self, state: &mut H) {
         let len = self.len;
         state.write_u64(len);
-        every_chunk::feed(&self.chunks, state);
+        deque::feed(&self.chunks, state);
     }
 }
 

@@ -16,15 +16,15 @@
 
 ghost use Rattle.std.specs.Prelude.{◌≡◌, ℕ, ◌+◌, ◌-◌, ◌*◌, ◌/◌, ◌%◌, ◌^◌, ◌<◌, ◌≤◌, ◌↔◌, [], false, length, IfOk, OnOk, OnErr, IsOk, ◌==◌};
 ghost use Rattle.std.specs.Int.{div_ceil};
-ghost use Rattle.bitmap_core.specs.Chunk.{byte_bits, chunk_bit, chunk_bits as bits_of_chunk};
+ghost use Rattle.bitmap_core.specs.Chunk.{byte_bits, chunk_bit, chunk_bits, IsWidth};
 ghost use Rattle.bitmap_core.specs.PrunedBits.{appended, bit_at, bit_len, chunk, extended, HasChunk, HasBit, last_bit, popped, pruned_bits, pruned_to, pushed, set_at, truncated, unpruned, with_chunk};
 
 mod error;
 
 use crate::bitmap::BitMap;
-use crate::bitmap::chunks::{chunk_bits, chunk_index};
 pub use crate::bitmap::prunable::error::Error;
 use crate::chunk;
+use crate::chunk::{chunk_count, chunk_index, chunk_width};
 use std::alloc::{AllocError, Global};
 use std::marker::Model;
 
@@ -42,14 +42,13 @@ pub struct Prunable<const N: usize> {
 }
 
 impl<const N: usize> Model for Prunable<N> {
-    ghost use Rattle.std.specs.Prelude.{ℕ, ◌+◌, ◌*◌, ◌^◌, ◌<◌, length};
-    ghost use Rattle.bitmap_core.specs.PrunedBits.{PrunedBits};
+    ghost use Rattle.bitmap_core.specs.PrunedBits.{PrunedBits, IsCounted};
 
     ghost Value = { PrunedBits };
 
     ghost view = { λ b. record { pruned = b.pruned_chunks; bits = b.bitmap } };
 
-    ghost invariant = { λ b. (0 < N) × (8 * N < 2 ^ 64) × (8 * N * b.pruned_chunks + length b.bitmap < 2 ^ 64) };
+    ghost invariant = { λ b. IsCounted N (record { pruned = b.pruned_chunks; bits = b.bitmap }) };
 }
 
 impl<const N: usize> Prunable<N> {
@@ -58,8 +57,7 @@ impl<const N: usize> Prunable<N> {
 
     /// A bitmap without bits, nothing pruned. `N` is at least 1, and `8N` fits `u64`. No memory.
     pub fn new(alloc: Global) -> Self
-        requires positive { 0 < N }
-        requires fits { 8 * N < 2 ^ 64 }
+        requires width { IsWidth N }
         ensures { result ≡ record { pruned = 0; bits = [] } }
     {
         Prunable {
@@ -70,8 +68,7 @@ impl<const N: usize> Prunable<N> {
 
     /// The same as `new`, on the same conditions.
     pub fn default(alloc: Global) -> Self
-        requires positive { 0 < N }
-        requires fits { 8 * N < 2 ^ 64 }
+        requires width { IsWidth N }
         ensures { result ≡ record { pruned = 0; bits = [] } }
     {
         Prunable::new(alloc)
@@ -81,12 +78,11 @@ impl<const N: usize> Prunable<N> {
     ///
     /// It errs with `PrunedChunksOverflow` exactly where that passes `u64`. `N` is at least 1, and `8N` fits `u64`. No memory.
     pub fn new_with_pruned_chunks(alloc: Global, pruned_chunks: usize) -> Result<Self, Error>
-        requires positive { 0 < N }
-        requires fits { 8 * N < 2 ^ 64 }
+        requires width { IsWidth N }
         ensures ok { IfOk result (λ b. b ≡ record { pruned = pruned_chunks; bits = [] }) }
         ensures exact { IsOk result ↔ (8 * N * pruned_chunks < 2 ^ 64) }
     {
-        let pruned_bits = chunk_bits::<N>().checked_mul(pruned_chunks as u64);
+        let pruned_bits = chunk_width::<N>().checked_mul(pruned_chunks as u64);
         if pruned_bits.is_none() {
             return Err(Error::PrunedChunksOverflow);
         }
@@ -98,8 +94,7 @@ impl<const N: usize> Prunable<N> {
 
     // The bits after the pruned ones, and the number of pruned chunks, as a bitmap.
     pub(crate) fn from_parts(bitmap: BitMap<N>, pruned_chunks: usize) -> Self
-        requires positive { 0 < N }
-        requires fits { 8 * N < 2 ^ 64 }
+        requires width { IsWidth N }
         requires total { 8 * N * pruned_chunks + length bitmap < 2 ^ 64 }
         ensures { result ≡ record { pruned = pruned_chunks; bits = bitmap.entry } }
     {
@@ -112,8 +107,7 @@ impl<const N: usize> Prunable<N> {
     // The bits after the pruned ones.
     pub(crate) fn retained(&self) -> &BitMap<N>
         ensures value { result.now ≡ self.now.bits }
-        ensures positive { 0 < N }
-        ensures fits { 8 * N < 2 ^ 64 }
+        ensures width { IsWidth N }
         ensures bound { bit_len N self.now < 2 ^ 64 }
     {
         &self.bitmap
@@ -122,8 +116,7 @@ impl<const N: usize> Prunable<N> {
     /// The number of bits, pruned ones counted. No memory.
     pub fn len(&self) -> u64
         ensures value { result ≡ bit_len N self.now }
-        ensures positive { 0 < N }
-        ensures fits { 8 * N < 2 ^ 64 }
+        ensures width { IsWidth N }
         ensures bound { bit_len N self.now < 2 ^ 64 }
     {
         self.pruned_bits() + self.bitmap.len()
@@ -140,7 +133,7 @@ impl<const N: usize> Prunable<N> {
     pub fn is_chunk_aligned(&self) -> bool
         ensures { result ≡ (bit_len N self.now % (8 * N) == 0) }
     {
-        self.len() % chunk_bits::<N>() == 0
+        self.len() % chunk_width::<N>() == 0
     }
 
     /// The number of pruned chunks. No memory.
@@ -155,7 +148,7 @@ impl<const N: usize> Prunable<N> {
         ensures { result ≡ pruned_bits N self.now }
     {
         let pruned = self.pruned_chunks as u64;
-        chunk_bits::<N>() * pruned
+        chunk_width::<N>() * pruned
     }
 
     /// The number of chunks, pruned ones and a partial last one counted. No memory.
@@ -163,7 +156,7 @@ impl<const N: usize> Prunable<N> {
         ensures value { result ≡ div_ceil (bit_len N self.now) (8 * N) }
         ensures holds { (i : ℕ) → (i < result) ↔ (8 * N * i < bit_len N self.now) }
     {
-        self.len().div_ceil(chunk_bits::<N>()) as usize
+        chunk_count::<N>(self.len())
     }
 
     /// The number of full chunks, pruned ones counted, without a partial last one. No memory.
@@ -186,8 +179,7 @@ impl<const N: usize> Prunable<N> {
         requires { HasBit N self.now bit }
         ensures { result.now ≡ chunk N self.now (bit / (8 * N)) }
     {
-        // Read for what the invariant says of N.
-        let _pruned = self.pruned_chunks;
+        let _ = self.len();
         self.get_chunk(Self::to_chunk_index(bit))
     }
 
@@ -210,7 +202,7 @@ impl<const N: usize> Prunable<N> {
         ensures used { result.1 ≡ (bit_len N self.now - 1) % (8 * N) + 1 }
     {
         let last = self.len() - 1;
-        let used = last % chunk_bits::<N>() + 1;
+        let used = last % chunk_width::<N>() + 1;
         (self.get_chunk_containing(last), used)
     }
 
@@ -313,7 +305,7 @@ impl<const N: usize> Prunable<N> {
     pub fn push_chunk(&mut self, chunk: &[u8; N]) -> Result<(), AllocError>
         requires aligned { bit_len N self.old % (8 * N) ≡ 0 }
         requires room { bit_len N self.old + 8 * N < 2 ^ 64 }
-        ensures ok { OnOk result (self.new ≡ appended self.old (bits_of_chunk N chunk.now)) }
+        ensures ok { OnOk result (self.new ≡ appended self.old (chunk_bits N chunk.now)) }
         ensures err { OnErr result (self.new ≡ self.old) }
     {
         self.bitmap.push_chunk(chunk)
@@ -386,8 +378,7 @@ impl<const N: usize> Prunable<N> {
     ///
     /// `N` is at least 1, and `8N` fits `u64`. No memory.
     pub fn to_chunk_index(bit: u64) -> usize
-        requires positive { 0 < N }
-        requires fits { 8 * N < 2 ^ 64 }
+        requires width { IsWidth N }
         ensures { result ≡ bit / (8 * N) }
     {
         chunk_index::<N>(bit)

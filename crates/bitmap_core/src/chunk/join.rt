@@ -4,7 +4,7 @@
 
 ghost use Rattle.std.specs.Prelude.{◌≡◌, ℕ, ◌+◌, ◌-◌, ◌*◌, ◌/◌, ◌%◌, ◌^◌, ◌<◌, ◌≤◌, ◌++◌, length, ◌==◌, slice_index_or};
 ghost use Rattle.std.specs.Int.{bit_at};
-ghost use Rattle.bitmap_core.specs.Chunk.{chunk_bit, bit_in};
+ghost use Rattle.bitmap_core.specs.Chunk.{chunk_bit, bit_in, IsWidth};
 
 use crate::chunk::byte_index;
 
@@ -48,8 +48,7 @@ fn bits_from(front: &[u8], back: &[u8], at: usize, skip: u64) -> u8
 
 // Fills a chunk from byte `from` on with the run from bit `bit` on.
 fn fill_from<const N: usize>(chunk: &mut [u8; N], from: usize, front: &[u8], back: &[u8], bit: u64)
-    requires positive { 0 < N }
-    requires fits { 8 * N < 2 ^ 64 }
+    requires width { IsWidth N }
     ensures kept { (i : ℕ) → i % (8 * N) < 8 * from → chunk_bit N chunk.new i ≡ chunk_bit N chunk.old i }
     ensures filled { (i : ℕ) → 8 * from ≤ i % (8 * N) → chunk_bit N chunk.new i ≡ bit_in (front.now ++ back.now) (bit + (i % (8 * N) - 8 * from)) }
 {
@@ -120,8 +119,7 @@ fn chunk_within<const N: usize>(bytes: &[u8], skip: u64) -> [u8; N]
 
 /// The chunk of the `8N` bits of the run from bit `bit` on. No memory.
 pub fn chunk_from<const N: usize>(front: &[u8], back: &[u8], bit: u64) -> [u8; N]
-    requires positive { 0 < N }
-    requires fits { 8 * N < 2 ^ 64 }
+    requires width { IsWidth N }
     ensures { (i : ℕ) → chunk_bit N result i ≡ bit_in (front.now ++ back.now) (bit + i % (8 * N)) }
 {
     let at = (bit / 8) as usize;
@@ -138,8 +136,7 @@ pub fn chunk_from<const N: usize>(front: &[u8], back: &[u8], bit: u64) -> [u8; N
 
 /// Writes the run, from its first bit on, to the bits of a chunk from bit `len mod 8N` on, and keeps those before. No memory.
 pub fn join<const N: usize>(chunk: &mut [u8; N], len: u64, front: &[u8], back: &[u8])
-    requires positive { 0 < N }
-    requires fits { 8 * N < 2 ^ 64 }
+    requires width { IsWidth N }
     ensures kept { (i : ℕ) → i % (8 * N) < len % (8 * N) → chunk_bit N chunk.new i ≡ chunk_bit N chunk.old i }
     ensures joined { (i : ℕ) → len % (8 * N) ≤ i % (8 * N) → chunk_bit N chunk.new i ≡ bit_in (front.now ++ back.now) (i % (8 * N) - len % (8 * N)) }
 {

@@ -1,8 +1,9 @@
 //! Words of 64 bits out of a chunk. The lowest bit of a word is its first.
 
-ghost use Rattle.std.specs.Prelude.{◌≡◌, ◌≢◌, ℕ, ◌+◌, ◌*◌, ◌/◌, ◌%◌, ◌<◌, ◌≤◌, ◌==◌, true, false, length, slice_index_or};
+ghost use Rattle.std.specs.Prelude.{◌≡◌, ◌≢◌, ℕ, ◌+◌, ◌*◌, ◌/◌, ◌%◌, ◌^◌, ◌<◌, ◌≤◌, ◌==◌, true, false, length, slice_index_or, MatchOption};
 ghost use Rattle.std.specs.Int.{bit_at};
-ghost use Rattle.bitmap_core.specs.Chunk.{chunk_bit};
+ghost use Rattle.bitmap_core.specs.Chunk.{chunk_bit, IsWidth};
+ghost use Rattle.bitmap_core.specs.Meaning.{IsCut, next_word, starts_word, word_start};
 
 /// The 64 bits of a chunk from byte `byte` on, which is at most `N`, with zeros past the end of the chunk. No memory.
 pub fn word_at<const N: usize>(chunk: &[u8; N], byte: usize) -> u64
@@ -69,4 +70,35 @@ pub fn take_lowest(word: &mut u64) -> u64
     let old = *word;
     *word = old & (old - 1);
     old.trailing_zeros() as u64
+}
+
+/// Where the word begins that has a position of a whole bitmap: words stand side by side from the start of each chunk. No memory.
+pub fn word_base<const N: usize>(position: u64) -> u64
+    requires width { IsWidth N }
+    ensures { result ≡ word_start N position }
+{
+    position - position % (8 * N as u64) % 64
+}
+
+/// Where the next word begins after one that begins at `base`, unless that is past `u64`. No memory.
+pub fn following_word<const N: usize>(base: u64) -> Option<u64>
+    requires width { IsWidth N }
+    ensures { MatchOption result (2 ^ 64 ≤ next_word N base) (λ k. k ≡ next_word N base) }
+{
+    let width = 8 * N as u64;
+    let stride = (width - base % width).min(64);
+    base.checked_add(stride)
+}
+
+/// The word of a chunk that begins at position `base` of the whole bitmap, with zeros from the end of the chunk and from position `end` on. No memory.
+pub fn word_below<const N: usize>(chunk: &[u8; N], base: u64, end: u64) -> u64
+    requires width { IsWidth N }
+    requires start { starts_word N base ≡ true }
+    requires below { base < end }
+    ensures inside { (i : ℕ) → i < 64 → base + i < end → base % (8 * N) + i < 8 * N → (bit_at result i == 1) ≡ chunk_bit N chunk.now (base % (8 * N) + i) }
+    ensures past_chunk { (i : ℕ) → i < 64 → 8 * N ≤ base % (8 * N) + i → (bit_at result i == 1) ≡ false }
+    ensures past_end { IsCut base result end }
+{
+    let byte = (base % (8 * N as u64) / 8) as usize;
+    low_bits(word_at(chunk, byte), end - base)
 }

@@ -5,16 +5,9 @@ ghost use Rattle.std.specs.Int.{bit_at};
 ghost use Rattle.std.proofs.Common.{refl};
 ghost use Rattle.std.proofs.Math.Bool.{xor};
 ghost use Rattle.bitmap_core.specs.Chunk.{chunk_bit, IsChunk};
-ghost use Rattle.bitmap_core.specs.Gates.{xor_zeros};
+ghost use Rattle.bitmap_core.specs.Combined.{xor_zeros};
 
-use super::fit;
-
-/// Tells a proof what the type of a chunk says of it: it is a list of `N` bytes. No memory.
-pub fn known<const N: usize>(chunk: &[u8; N])
-    ensures { IsChunk N chunk.now }
-{
-    fit(chunk);
-}
+use crate::chunk::facts::fit;
 
 /// Inverts every bit of a chunk. No memory.
 pub fn flip<const N: usize>(chunk: &mut [u8; N])
@@ -36,27 +29,27 @@ pub fn fill<const N: usize>(chunk: &mut [u8; N], value: bool)
 }
 
 /// What two bits make of one another, for eight bits at a time. Two zeros make a zero.
-pub trait Gate {
+pub trait Bitwise {
     // What two bits make.
     ghost gives: { Bool → Bool → Bool };
 
     // Past the length of a bitmap both bits are zero, and have to stay so.
     ghost keeps_zeros: { gives false false ≡ false };
 
-    /// Joins each bit of a byte with that of its place in another. No memory.
-    fn join(a: u8, b: u8) -> u8
+    /// Combines each bit of a byte with that of its place in another. No memory.
+    fn of_bytes(a: u8, b: u8) -> u8
         ensures { (k : ℕ) → (bit_at result k == 1) ≡ gives (bit_at a k == 1) (bit_at b k == 1) };
 }
 
 /// Set where both are set.
 pub struct And;
 
-impl Gate for And {
+impl Bitwise for And {
     ghost gives = { λ a b. a && b };
 
     ghost keeps_zeros = { refl };
 
-    fn join(a: u8, b: u8) -> u8 {
+    fn of_bytes(a: u8, b: u8) -> u8 {
         a & b
     }
 }
@@ -64,12 +57,12 @@ impl Gate for And {
 /// Set where either is set.
 pub struct Or;
 
-impl Gate for Or {
+impl Bitwise for Or {
     ghost gives = { λ a b. a || b };
 
     ghost keeps_zeros = { refl };
 
-    fn join(a: u8, b: u8) -> u8 {
+    fn of_bytes(a: u8, b: u8) -> u8 {
         a | b
     }
 }
@@ -77,26 +70,26 @@ impl Gate for Or {
 /// Set where one is set and the other is not.
 pub struct Xor;
 
-impl Gate for Xor {
+impl Bitwise for Xor {
     ghost gives = { xor };
 
     ghost keeps_zeros = { xor_zeros };
 
-    fn join(a: u8, b: u8) -> u8 {
+    fn of_bytes(a: u8, b: u8) -> u8 {
         a ^ b
     }
 }
 
-/// Joins every bit of a chunk with that of its place in another, which is not changed. No memory.
-pub fn combine<G: Gate, const N: usize>(chunk: &mut [u8; N], other: &[u8; N])
+/// Combines every bit of a chunk with that of its place in another, which is not changed. No memory.
+pub fn combine<B: Bitwise, const N: usize>(chunk: &mut [u8; N], other: &[u8; N])
     requires { 0 < N }
-    ensures { (i : ℕ) → chunk_bit N chunk.new i ≡ G.gives (chunk_bit N chunk.old i) (chunk_bit N other.now i) }
+    ensures { (i : ℕ) → chunk_bit N chunk.new i ≡ B.gives (chunk_bit N chunk.old i) (chunk_bit N other.now i) }
 {
-    // Copies, so that no write can be taken for one to `other`: whole words are joined at once.
+    // Copies, so that no write can be taken for one to `other`: whole words are combined at once.
     let other = *other;
-    let mut joined = *chunk;
+    let mut combined = *chunk;
     for j in 0..N {
-        joined[j] = G::join(joined[j], other[j]);
+        combined[j] = B::of_bytes(combined[j], other[j]);
     }
-    *chunk = joined;
+    *chunk = combined;
 }

@@ -1,10 +1,13 @@
-//! Laws of the byte forms: which texts are accepted, that each value has one spelling, and that what is written is read again.
+//! Laws of the byte forms: which texts are accepted, that each value has one spelling, and that what spells a value is read as it.
+//!
+//! What the calls' own clauses say stands there: `write` appends the spelling, `encode_size` is its length, `max_encode_size` is that of every bitmap of so many bits and of none of fewer less, and a read takes the spelling of what it answers.
 
 ghost use Rattle.std.specs.Prelude.{◌≡◌, ℕ, ◌+◌, ◌*◌, ◌^◌, ◌<◌, ◌≤◌, ◌↔◌, ◌++◌, Bool, true, List, None, length, slice_index, IfErr, IfOk, IsTrue, OnErr, OnOk};
 ghost use Rattle.std.specs.Int.{div_ceil};
 ghost use Rattle.bitmap_core.specs.PrunedBits.{PrunedBits, bit_len};
 ghost use Rattle.bitmap_core.specs.Reading.{admits, bits_fault, bits_in, pruned_fault, pruned_in, SpellsBits, SpellsPruned};
 ghost use Rattle.bitmap_core.specs.Spelling.{pruned_spelling, spelling};
+ghost use Rattle.bitmap_core.specs.Chunk.{IsWidth};
 
 use crate::bitmap::BitMap;
 use crate::bitmap::codec::{CodecError, EncodeSize, RangeCfg, Read, Write};
@@ -80,57 +83,4 @@ pub fn pruned_bits_are_read_again<const N: usize>(
     let _ = map.len();
     let _ = map.pruned_chunks();
     Prunable::read_cfg(alloc, from, range)
-}
-
-/// What is written is read again, whole. Only memory can be missing, for the bytes or for the bitmap.
-pub fn written_bits_are_read<const N: usize>(
-    alloc: Global,
-    map: &BitMap<N>,
-) -> Result<BitMap<N>, CodecError>
-    ensures found { IfOk result (λ v. v ≡ map.now) }
-    ensures refused { IfErr result (λ e. e ≡ CodecError.OutOfMemory) }
-{
-    let _ = map.len();
-    let mut out = Vec::new(alloc);
-    map.write(&mut out).map_err(|_| CodecError::OutOfMemory)?;
-    let mut from = out.as_slice();
-    BitMap::read_cfg(alloc, &mut from, &RangeCfg::any())
-}
-
-/// What is read from the front of a text is written as it stood there. It errs as the read does, and with `OutOfMemory`, after the read, where there is none to write.
-pub fn read_bits_are_written<const N: usize>(
-    alloc: Global,
-    from: &mut &[u8],
-    range: &RangeCfg,
-) -> Result<Vec<u8>, CodecError>
-    requires positive { 0 < N }
-    requires fits { 8 * N < 2 ^ 64 }
-    ensures { IfOk result (λ out. from.old.now ≡ out.items ++ from.new.now) }
-{
-    let map = BitMap::<N>::read_cfg(alloc, from, range)?;
-    let mut out = Vec::new(alloc);
-    map.write(&mut out).map_err(|_| CodecError::OutOfMemory)?;
-    Ok(out)
-}
-
-/// The size of a bitmap, which it answers, is the number of bytes by which a write grows the vector. Refused, nothing is written.
-pub fn size_is_written<const N: usize>(
-    map: &BitMap<N>,
-    out: &mut Vec<u8>,
-) -> Result<usize, AllocError>
-    ensures written { OnOk result (out.new.items ≡ out.old.items ++ spelling N map.now) }
-    ensures size { IfOk result (λ size. length out.new.items ≡ length out.old.items + size) }
-{
-    map.write(out)?;
-    Ok(map.encode_size())
-}
-
-/// No bitmap of at most `bits` bits takes more bytes than `max_encode_size`, which it answers, and one of as many takes as many.
-pub fn longest_form<const N: usize>(map: &BitMap<N>, bits: u64) -> usize
-    requires { div_ceil bits (8 * N) * N + 8 < 2 ^ 64 }
-    ensures most { length map.now ≤ bits → length (spelling N map.now) ≤ result }
-    ensures reached { length map.now ≡ bits → length (spelling N map.now) ≡ result }
-{
-    let _ = map.len();
-    BitMap::<N>::max_encode_size(bits)
 }

@@ -23,7 +23,6 @@ pub fn set_positions_of_a_bitmap<const N: usize>(
     ensures exact { IfOk result (λ v. (k : ℕ) → Contains v.items k ↔ ((k < length bitmap.now) × (slice_index_or bitmap.now k false ≡ true))) }
     ensures count { IfOk result (λ v. length v.items ≡ count_by (λ b. b) bitmap.now) }
 {
-    // Tells the proof how large `N` may be.
     let _ = bitmap.len();
     bitmap.ones_iter().collect(alloc)
 }

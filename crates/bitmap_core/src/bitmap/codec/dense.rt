@@ -6,12 +6,12 @@ ghost use Rattle.std.specs.Simd.{first_chunks};
 ghost use Rattle.bitmap_core.specs.Bits.{bit_of, bits, IsChunkCount, IsZeroFrom};
 ghost use Rattle.bitmap_core.specs.Spelling.{chunk_count, spelling};
 ghost use Rattle.bitmap_core.specs.Reading.{admits, bits_fault, bits_in, chunk_bytes, fault, number};
+ghost use Rattle.bitmap_core.specs.Chunk.{IsWidth};
 
-use crate::bitmap::BitMap;
-use crate::bitmap::chunks::{chunk_bits, chunk_index};
 use crate::bitmap::codec::{CodecError, EncodeSize, RangeCfg, Read, Write};
-use crate::bitmap::every_chunk::slices;
+use crate::bitmap::{BitMap, deque};
 use crate::chunk;
+use crate::chunk::{chunk_count, chunk_index, chunk_width};
 use std::alloc::{AllocError, Global};
 use std::collections::VecDeque;
 
@@ -26,12 +26,11 @@ fn chunks_of<const N: usize>(bytes: &[u8], count: usize) -> &[[u8; N]]
 
 // Whether a bit of the chunks from a length on is set.
 fn is_set_past<const N: usize>(chunks: &[[u8; N]], len: u64) -> bool
-    requires positive { 0 < N }
-    requires fits { 8 * N < 2 ^ 64 }
+    requires width { IsWidth N }
     requires count { IsChunkCount N (length chunks.now) len }
     ensures { result ≡ list_any (bit_of N chunks.now) (range_with_len len (8 * N * length chunks.now - len)) }
 {
-    let from = len % chunk_bits::<N>();
+    let from = len % chunk_width::<N>();
     if from == 0 {
         return false;
     }
@@ -44,8 +43,7 @@ pub fn parts<'a, const N: usize>(
     text: &'a [u8],
     range: &RangeCfg,
 ) -> Result<(u64, &'a [[u8; N]], &'a [u8]), CodecError>
-    requires positive { 0 < N }
-    requires fits { 8 * N < 2 ^ 64 }
+    requires width { IsWidth N }
     ensures accepted { OnOk result (bits_fault N (admits range.now) text.now ≡ None) }
     ensures len { IfOk result (λ p. p.0 ≡ number text.now) }
     ensures chunks { IfOk result (λ p. p.1.now ≡ first_chunks N (chunk_count N (number text.now)) (take (chunk_bytes N text.now) (drop 8 text.now))) }
@@ -61,7 +59,7 @@ pub fn parts<'a, const N: usize>(
     if !range.contains(len) {
         return Err(CodecError::InvalidLength(len));
     }
-    let count = len.div_ceil(chunk_bits::<N>()) as usize;
+    let count = chunk_count::<N>(len);
     let (bytes, rest) = body
         .split_at_checked(N * count)
         .ok_or(CodecError::EndOfBuffer)?;
@@ -79,8 +77,7 @@ impl<const N: usize> BitMap<N> {
         chunks: &[[u8; N]],
         len: u64,
     ) -> Result<Self, AllocError>
-        requires positive { 0 < N }
-        requires fits { 8 * N < 2 ^ 64 }
+        requires width { IsWidth N }
         requires count { IsChunkCount N (length chunks.now) len }
         requires zero { IsZeroFrom N chunks.now len }
         ensures { IfOk result (λ b. b ≡ bits N chunks.now len) }
@@ -95,7 +92,7 @@ impl<const N: usize> BitMap<N> {
         ensures { out.new.items ≡ out.old.items ++ spelling N self.now }
     {
         let len = self.len;
-        let (front, back) = slices(&self.chunks);
+        let (front, back) = deque::slices(&self.chunks);
         out.extend_from_slice(&len.to_be_bytes()).unwrap();
         out.extend_from_slice(front.as_flattened()).unwrap();
         out.extend_from_slice(back.as_flattened()).unwrap();
@@ -123,7 +120,7 @@ impl<const N: usize> Write for BitMap<N> {
 }
 
 impl<const N: usize> Read for BitMap<N> {
-    ghost can_read = { (0 < N) × (8 * N < 2 ^ 64) };
+    ghost can_read = { IsWidth N };
 
     ghost value_in = { bits_in };
 

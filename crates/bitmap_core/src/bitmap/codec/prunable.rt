@@ -5,12 +5,13 @@ ghost use Rattle.std.specs.Simd.{first_chunks};
 ghost use Rattle.bitmap_core.specs.PrunedBits.{bit_len};
 ghost use Rattle.bitmap_core.specs.Spelling.{chunk_count, pruned_spelling};
 ghost use Rattle.bitmap_core.specs.Reading.{admits, bits_fault, chunk_bytes, fault, number, pruned_fault, pruned_in};
+ghost use Rattle.bitmap_core.specs.Chunk.{IsWidth};
 
 use crate::bitmap::BitMap;
-use crate::bitmap::chunks::chunk_bits;
 use crate::bitmap::codec::dense::parts;
 use crate::bitmap::codec::{CodecError, EncodeSize, RangeCfg, Read, Write};
 use crate::bitmap::prunable::Prunable;
+use crate::chunk::chunk_width;
 use std::alloc::{AllocError, Global};
 
 // The pruned chunk count of a text, the number of pruned bits, and what follows the count.
@@ -29,7 +30,7 @@ fn count_part<const N: usize>(text: &[u8]) -> Result<(usize, u64, &[u8]), CodecE
         .split_first_chunk::<8>()
         .ok_or(CodecError::EndOfBuffer)?;
     let count = u64::from_be_bytes(*front);
-    let pruned_bits = chunk_bits::<N>()
+    let pruned_bits = chunk_width::<N>()
         .checked_mul(count)
         .ok_or(CodecError::Invalid(
             "Prunable",
@@ -47,8 +48,7 @@ fn pruned_parts<'a, const N: usize>(
     text: &'a [u8],
     range: &RangeCfg,
 ) -> Result<(usize, u64, &'a [[u8; N]], &'a [u8]), CodecError>
-    requires positive { 0 < N }
-    requires fits { 8 * N < 2 ^ 64 }
+    requires width { IsWidth N }
     ensures accepted { OnOk result (pruned_fault N (admits range.now) text.now ≡ None) }
     ensures bits_accepted { OnOk result (bits_fault N (admits range.now) (drop 8 text.now) ≡ None) }
     ensures long { OnOk result (8 ≤ length text.now) }
@@ -94,7 +94,7 @@ impl<const N: usize> Write for Prunable<N> {
 }
 
 impl<const N: usize> Read for Prunable<N> {
-    ghost can_read = { (0 < N) × (8 * N < 2 ^ 64) };
+    ghost can_read = { IsWidth N };
 
     ghost value_in = { pruned_in };
 

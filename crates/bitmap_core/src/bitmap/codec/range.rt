@@ -15,34 +15,28 @@ impl RangeCfg {
     pub fn any() -> Self
         ensures { (k : ℕ) → k < 2 ^ 64 → admits result k ≡ true }
     {
-        RangeCfg {
-            low: 0,
-            high: u64::MAX,
-        }
+        RangeCfg::between(0, u64::MAX)
     }
 
     /// The length `n` alone. No memory.
     pub fn exact(n: u64) -> Self
         ensures { (k : ℕ) → admits result k ≡ (k == n) }
     {
-        RangeCfg { low: n, high: n }
+        RangeCfg::between(n, n)
     }
 
     /// The lengths from `n` on, which is in. No memory.
     pub fn at_least(n: u64) -> Self
         ensures { (k : ℕ) → k < 2 ^ 64 → admits result k ≡ nat_le n k }
     {
-        RangeCfg {
-            low: n,
-            high: u64::MAX,
-        }
+        RangeCfg::between(n, u64::MAX)
     }
 
     /// The lengths up to `n`, which is in. No memory.
     pub fn at_most(n: u64) -> Self
         ensures { (k : ℕ) → admits result k ≡ nat_le k n }
     {
-        RangeCfg { low: 0, high: n }
+        RangeCfg::between(0, n)
     }
 
     /// The lengths from `a` up to `b`, both of them in, and none where `a > b`. No memory.

@@ -1,14 +1,16 @@
 use Rattle.std.proofs.Common.{◌*◌, ◌∙◌, length, arith}
 use Rattle.bitmap_core.specs.Bits.{bit_of}
+use Rattle.bitmap_core.proofs.BitLists.{len_is}
 use Rattle.bitmap_core.proofs.Counts.{count-bits, ones_from_bound}
 use Rattle.bitmap_core.proofs.PlaceCounts.{count-whole}
 use Rattle.bitmap_core.proofs.bitmap.BitMap.count_ones.Goals as goal
 
-pub chunk_ones-requires : goal.chunk_ones-requires
-chunk_ones-requires g c =
+pub count_ones-requires : goal.count_ones-requires
+count_ones-requires g c =
     let e = count-bits g.row.N c.self.inside.chunks.items (8 * g.row.N * length c.self.inside.chunks.items) in
-    let b = ones_from_bound (bit_of g.row.N c.self.inside.chunks.items) c.self.inside.len (8 * g.row.N * length c.self.inside.chunks.items) c.self.invariant.3 in
-    (omega (arith, c.self.invariant.1), (c.self.invariant.0, omega arith))
+    let b = ones_from_bound (bit_of g.row.N c.self.inside.chunks.items) c.self.inside.len (8 * g.row.N * length c.self.inside.chunks.items) c.self.invariant.zero in
+    let l = len_is _ _ _ _ c.self.view_is in
+    (omega (arith, c.self.invariant.width.fits), (c.self.invariant.width.positive, omega arith))
 
 pub returns : goal.returns
-returns g c = c.chunk_ones.ensures ∙ count-whole _ _ _ _ c.self.view_is c.self.invariant.2 c.self.invariant.3
+returns g c = c.count_ones.ensures ∙ count-whole _ _ _ _ c.self.view_is c.self.invariant.count c.self.invariant.zero

@@ -8,19 +8,19 @@ use Rattle.bitmap_core.proofs.bitmap.BitMap.drop_front_chunks.Goals as goal
 pub drop_front-requires : goal.drop_front-requires
 drop_front-requires g c =
     let l = len_is _ _ _ _ c.self.view_is in
-    (omega (arith, c.self.invariant.1), fewer_chunks _ _ _ _ (omega (arith, c.self.invariant.0)) c.self.invariant.2.0)
+    (omega (arith, c.self.invariant.width.fits), fewer_chunks _ _ _ _ (omega (arith, c.self.invariant.width.positive)) c.self.invariant.count.0)
 
 pub overflow_mul-self : goal.overflow_mul-self
-overflow_mul-self g c = rw c.chunk_bits.ensures (omega (arith, len_is _ _ _ _ c.self.view_is))
+overflow_mul-self g c = rw c.chunk_width.ensures (omega (arith, len_is _ _ _ _ c.self.view_is))
 
 pub overflow_sub-self : goal.overflow_sub-self
-overflow_sub-self g c = rw c.chunk_bits.ensures (omega (arith, len_is _ _ _ _ c.self.view_is))
+overflow_sub-self g c = rw c.chunk_width.ensures (omega (arith, len_is _ _ _ _ c.self.view_is))
 
 pub invariant_of-self : goal.invariant_of-self
 invariant_of-self g c =
     let l = len_is _ _ _ _ c.self.view_is in
-    let k : c.args.count ≤ length c.self.inside.chunks.items = fewer_chunks _ _ _ _ (omega (arith, c.self.invariant.0)) c.self.invariant.2.0 in
-    rw (c.chunk_bits.ensures, c.drop_front.ensures, length-drop) (c.self.invariant.0, c.self.invariant.1, IsChunkCount-drop _ _ _ _ (omega arith) k c.self.invariant.2, IsZeroFrom-drop _ _ _ _ c.self.invariant.0 (omega arith) c.self.invariant.3)
+    let k : c.args.count ≤ length c.self.inside.chunks.items = fewer_chunks _ _ _ _ (omega (arith, c.self.invariant.width.positive)) c.self.invariant.count.0 in
+    rw (c.chunk_width.ensures, c.drop_front.ensures) (record { width = c.self.invariant.width; count = rw length-drop (IsChunkCount-drop _ _ _ _ (omega arith) k c.self.invariant.count); zero = IsZeroFrom-drop _ _ _ _ c.self.invariant.width.positive (omega arith) c.self.invariant.zero })
 
 pub returns : goal.returns
-returns g c = rw (c.chunk_bits.ensures, c.drop_front.ensures) (bits-drop _ _ _ _ _ c.self.invariant.0 (omega (arith, len_is _ _ _ _ c.self.view_is)) c.self.view_is)
+returns g c = rw (c.chunk_width.ensures, c.drop_front.ensures) (bits-drop _ _ _ _ _ c.self.invariant.width.positive (omega (arith, len_is _ _ _ _ c.self.view_is)) c.self.view_is)

@@ -5,10 +5,10 @@ use Rattle.bitmap_core.proofs.FrontChunks.{bits-front, IsChunkCount-front, IsZer
 use Rattle.bitmap_core.proofs.bitmap.BitMap.put_front_chunks.Goals as goal
 
 pub overflow_add-self : goal.overflow_add-self
-overflow_add-self g c = rw c.chunk_bits.ensures (omega (arith, len_is _ _ _ _ c.self.view_is))
+overflow_add-self g c = rw c.chunk_width.ensures (omega (arith, len_is _ _ _ _ c.self.view_is))
 
 pub invariant_of-self-2 : goal.invariant_of-self-2
-invariant_of-self-2 g c = rw (c.chunk_bits.ensures, c.in_ok-put_front.ensures.ok, length-append) (c.self.invariant.0, c.self.invariant.1, IsChunkCount-front _ _ _ _ c.self.invariant.2, IsZeroFrom-front _ _ _ _ c.self.invariant.0 c.self.invariant.3)
+invariant_of-self-2 g c = rw (c.chunk_width.ensures, c.in_ok-put_front.ensures.ok) (record { width = c.self.invariant.width; count = rw length-append (IsChunkCount-front _ _ _ _ c.self.invariant.count); zero = IsZeroFrom-front _ _ _ _ c.self.invariant.width.positive c.self.invariant.zero })
 
 pub returns-clause-ok : goal.returns-clause-ok
-returns-clause-ok g c = rw (c.chunk_bits.ensures, c.in_ok-put_front.ensures.ok) (bits-front _ _ _ _ _ c.self.invariant.0 c.self.view_is)
+returns-clause-ok g c = rw (c.chunk_width.ensures, c.in_ok-put_front.ensures.ok) (bits-front _ _ _ _ _ c.self.invariant.width.positive c.self.view_is)

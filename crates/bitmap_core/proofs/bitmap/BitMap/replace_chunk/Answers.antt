@@ -5,13 +5,13 @@ use Rattle.bitmap_core.proofs.WholeChunks.{chunk_within, IsZeroFrom-replaced, ge
 use Rattle.bitmap_core.proofs.bitmap.BitMap.replace_chunk.Goals as goal
 
 pub set_chunk-requires : goal.set_chunk-requires
-set_chunk-requires g c = (omega (arith, c.self.invariant.1), chunk_within _ _ _ _ (omega (arith, len_is _ _ _ _ c.self.view_is)) c.self.invariant.2)
+set_chunk-requires g c = (omega (arith, c.self.invariant.width.fits), chunk_within _ _ _ _ (omega (arith, len_is _ _ _ _ c.self.view_is)) c.self.invariant.count)
 
 pub invariant_of-self : goal.invariant_of-self
 invariant_of-self g c =
     let l = len_is _ _ _ _ c.self.view_is in
-    let w : c.args.index < length c.self.inside.chunks.items = chunk_within _ _ _ _ (omega arith) c.self.invariant.2 in
-    rw (c.set_chunk.ensures, length-set) (c.self.invariant.0, c.self.invariant.1, c.self.invariant.2, IsZeroFrom-replaced g.row.N c.self.inside.chunks.items c.args.index c.args.chunk.now c.self.inside.len w (λ k h. c.requires.zero k (omega arith)) c.self.invariant.3)
+    let w : c.args.index < length c.self.inside.chunks.items = chunk_within _ _ _ _ (omega arith) c.self.invariant.count in
+    rw c.set_chunk.ensures (record { width = c.self.invariant.width; count = rw length-set c.self.invariant.count; zero = IsZeroFrom-replaced g.row.N c.self.inside.chunks.items c.args.index c.args.chunk.now c.self.inside.len w (λ k h. c.requires.zero k (omega arith)) c.self.invariant.zero })
 
 pub returns-clause-len : goal.returns-clause-len
 returns-clause-len g c = length-bits _ _ _ ∙ sym (len_is _ _ _ _ c.self.view_is)
@@ -19,5 +19,5 @@ returns-clause-len g c = length-bits _ _ _ ∙ sym (len_is _ _ _ _ c.self.view_i
 pub returns-clause-bits : goal.returns-clause-bits
 returns-clause-bits g c =
     let l = len_is _ _ _ _ c.self.view_is in
-    let w : c.args.index < length c.self.inside.chunks.items = chunk_within _ _ _ _ (omega arith) c.self.invariant.2 in
+    let w : c.args.index < length c.self.inside.chunks.items = chunk_within _ _ _ _ (omega arith) c.self.invariant.count in
     λ k h. rw c.set_chunk.ensures (get_or-replaced _ _ _ _ _ _ k w c.self.view_is h)

@@ -20,7 +20,7 @@ loop-j-preserved g c = record {
 }
 
 pub returns-clause-kept : goal.returns-clause-kept
-returns-clause-kept g c = kept_bits _ _ _ _ c.requires.positive c.loop-j.invariant.kept
+returns-clause-kept g c = kept_bits _ _ _ _ c.requires.width.positive c.loop-j.invariant.kept
 
 pub returns-clause-filled : goal.returns-clause-filled
-returns-clause-filled g c = filled_bits _ _ _ _ _ c.requires.positive (λ k t u h w. c.loop-j.invariant.done k t u (omega arith) w)
+returns-clause-filled g c = filled_bits _ _ _ _ _ c.requires.width.positive (λ k t u h w. c.loop-j.invariant.done k t u (omega arith) w)

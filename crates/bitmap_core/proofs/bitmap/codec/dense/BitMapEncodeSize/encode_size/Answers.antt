@@ -5,8 +5,8 @@ use Rattle.bitmap_core.proofs.bitmap.codec.dense.BitMapEncodeSize.encode_size.Go
 pub max_encode_size-requires-clause-room : goal.max_encode_size-requires-clause-room
 max_encode_size-requires-clause-room g c =
     let e = c.len.ensures in
-    let l = spelling-lt g.row.N c.args.self.now e.positive e.fits e.bound in
+    let l = spelling-lt g.row.N c.args.self.now e.width.positive e.width.fits e.bound in
     rw e.value (omega (arith, all_bytes g.row.N (length c.args.self.now) c.args.self.now refl))
 
 pub returns : goal.returns
-returns g c = rw c.len.ensures.value at c.max_encode_size.ensures ∙ sym (all_bytes g.row.N (length c.args.self.now) c.args.self.now refl)
+returns g c = rw c.len.ensures.value at c.max_encode_size.ensures.value ∙ sym (all_bytes g.row.N (length c.args.self.now) c.args.self.now refl)

@@ -6,9 +6,9 @@ use Rattle.bitmap_core.proofs.bitmap.readable.dense.BitMapReadable.last_chunk.Go
 pub index-requires : goal.index-requires
 index-requires g c =
     let place = c.chunk_index.ensures ∙ ap (λ x. (x - 1) / (8 * g.row.N)) c.len-last.ensures.value in
-    omega (arith, place, plain_has_last _ _ _ _ c.self.view_is c.self.invariant.2 (omega arith), c.self.inside.chunks.ok.0)
+    omega (arith, place, plain_has_last _ _ _ _ c.self.view_is c.self.invariant.count (omega arith), c.self.inside.chunks.ok.0)
 
 pub returns-clause-chunk : goal.returns-clause-chunk
 returns-clause-chunk g c =
     let place = c.chunk_index.ensures ∙ ap (λ x. (x - 1) / (8 * g.row.N)) c.len-last.ensures.value in
-    plain_shows _ _ _ _ _ _ c.self.invariant.0 c.self.view_is (get_or_read _ _ _ (plain_has_last _ _ _ _ c.self.view_is c.self.invariant.2 (omega arith)) (rw place at c.index.ensures) [])
+    plain_shows _ _ _ _ _ _ c.self.invariant.width.positive c.self.view_is (get_or_read _ _ _ (plain_has_last _ _ _ _ c.self.view_is c.self.invariant.count (omega arith)) (rw place at c.index.ensures) [])

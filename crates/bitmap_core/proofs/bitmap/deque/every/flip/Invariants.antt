@@ -1,0 +1,10 @@
+use Rattle.std.proofs.Common.{◌≡◌, ℕ, ◌*◌, ◌/◌, ◌<◌, ◌≤◌, length, not}
+use Rattle.bitmap_core.specs.Bits.{bit_of}
+use Rattle.bitmap_core.proofs.bitmap.deque.every.flip.Given as goal
+
+abbrev pub invariant-loop-chunk : goal.invariant-loop-chunk
+invariant-loop-chunk g l = record {
+  count : length l.chunk-items ≡ length l.fn.chunks.items;
+  done : (k : ℕ) → k / (8 * g.row.N) < l.chunk-index → bit_of g.row.N l.chunk-items k ≡ not (bit_of g.row.N l.fn.chunks.items k);
+  rest : (k : ℕ) → l.chunk-index ≤ k / (8 * g.row.N) → bit_of g.row.N l.chunk-items k ≡ bit_of g.row.N l.fn.chunks.items k;
+}

@@ -1,0 +1,17 @@
+use Rattle.std.proofs.Common.{◌-◌, ◌≡◌, ◌≤◌}
+use Rattle.bitmap_core.specs.Meaning.{Meaning, IsScan, IsCut, left_from}
+use Rattle.bitmap_core.proofs.bitmap.readable.ones.advance.Given as goal
+
+abbrev pub invariant-loop-cursor : goal.invariant-loop-cursor
+invariant-loop-cursor g l =
+    let m : Meaning = g.B.Readable.meaning l.readable in
+    record {
+      scan : IsScan g.row.N m l.cursor.base l.end l.cursor.chunk l.cursor.loads l.cursor.first;
+      cut : IsCut l.cursor.base l.cursor.word l.end;
+      first : l.cursor.first ≡ l.initial.cursor.first;
+      counted : l.initial.cursor.loads ≤ l.cursor.loads;
+      left : left_from g.row.N m l.cursor.base l.cursor.word l.end ≡ left_from g.row.N m l.initial.cursor.base l.initial.cursor.word l.end;
+    }
+
+abbrev pub decreases-loop-cursor : goal.decreases-loop-cursor
+decreases-loop-cursor g l = l.end - l.cursor.base

@@ -1,5 +1,0 @@
-use Rattle.bitmap_core.proofs.PrunedMeanings.{pruned_shows}
-use Rattle.bitmap_core.proofs.bitmap.readable.pruned.PrunableReadable.get_chunk.Goals as goal
-
-pub returns : goal.returns
-returns g c = pruned_shows g.row.N c.args.self.now c.args.chunk _ c.len.ensures.positive c.get_chunk.ensures

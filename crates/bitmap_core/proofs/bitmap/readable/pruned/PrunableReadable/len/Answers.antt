@@ -1,5 +1,0 @@
-use Rattle.bitmap_core.proofs.PrunedMeanings.{pruned_lawful}
-use Rattle.bitmap_core.proofs.bitmap.readable.pruned.PrunableReadable.len.Goals as goal
-
-pub returns-clause-lawful : goal.returns-clause-lawful
-returns-clause-lawful g c = pruned_lawful g.row.N c.args.self.now c.len.ensures.positive c.len.ensures.fits c.len.ensures.bound

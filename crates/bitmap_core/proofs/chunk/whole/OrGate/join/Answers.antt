@@ -1,5 +1,0 @@
-use Rattle.bitmap_core.proofs.ByteBits.{or_bit}
-use Rattle.bitmap_core.proofs.chunk.whole.OrGate.join.Goals as goal
-
-pub returns : goal.returns
-returns c = λ k. or_bit _ _ k

@@ -1,0 +1,5 @@
+use Rattle.bitmap_core.proofs.ByteBits.{xor_bit}
+use Rattle.bitmap_core.proofs.chunk.whole.XorBitwise.of_bytes.Goals as goal
+
+pub returns : goal.returns
+returns c = λ k. xor_bit _ _ k

@@ -1,5 +1,0 @@
-use Rattle.bitmap_core.proofs.ByteBits.{xor_bit}
-use Rattle.bitmap_core.proofs.chunk.whole.XorGate.join.Goals as goal
-
-pub returns : goal.returns
-returns c = λ k. xor_bit _ _ k

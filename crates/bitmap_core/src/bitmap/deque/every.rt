@@ -1,0 +1,119 @@
+//! Every chunk of a deque.
+
+ghost use Rattle.std.specs.Prelude.{◌≡◌, ℕ, ◌+◌, ◌*◌, ◌/◌, ◌<◌, ◌≤◌, ◌++◌, length, not};
+ghost use Rattle.std.specs.Bool.{Decides};
+ghost use Rattle.std.specs.List.{fold};
+ghost use Rattle.bitmap_core.specs.Bits.{bit_of, AreChunks};
+ghost use Rattle.bitmap_core.specs.Combined.{IsCombined};
+
+use crate::bitmap::deque::runs::slices;
+use crate::chunk::facts::all_known;
+use crate::chunk::whole::{self, Bitwise};
+use std::collections::VecDeque;
+use std::hash::Hasher;
+
+// Inverts every bit.
+pub fn flip<const N: usize>(chunks: &mut VecDeque<[u8; N]>)
+    requires { 0 < N }
+    ensures count { length chunks.new.items ≡ length chunks.old.items }
+    ensures bits { (k : ℕ) → k / (8 * N) < length chunks.old.items → bit_of N chunks.new.items k ≡ not (bit_of N chunks.old.items k) }
+{
+    for chunk in chunks.make_contiguous().iter_mut() {
+        whole::flip(chunk);
+    }
+}
+
+// Writes one value to every bit.
+pub fn fill<const N: usize>(chunks: &mut VecDeque<[u8; N]>, value: bool)
+    requires { 0 < N }
+    ensures count { length chunks.new.items ≡ length chunks.old.items }
+    ensures bits { (k : ℕ) → k / (8 * N) < length chunks.old.items → bit_of N chunks.new.items k ≡ value }
+{
+    for chunk in chunks.make_contiguous().iter_mut() {
+        whole::fill(chunk, value);
+    }
+}
+
+// Combines each bit with the other of its place.
+pub fn combine<B: Bitwise, const N: usize>(
+    chunks: &mut VecDeque<[u8; N]>,
+    others: &VecDeque<[u8; N]>,
+)
+    requires positive { 0 < N }
+    requires same { length chunks.old.items ≡ length others.now.items }
+    ensures { IsCombined N B.gives chunks.old.items others.now.items chunks.new.items }
+{
+    let (front, back) = others.as_slices();
+    let (head, tail) = chunks.make_contiguous().split_at_mut(front.len());
+    combine_slices::<B, N>(head, front);
+    combine_slices::<B, N>(tail, back);
+}
+
+fn combine_slices<B: Bitwise, const N: usize>(chunks: &mut [[u8; N]], others: &[[u8; N]])
+    requires positive { 0 < N }
+    requires same { length chunks.old ≡ length others.now }
+    ensures { IsCombined N B.gives chunks.old others.now chunks.new }
+{
+    for i in 0..chunks.len() {
+        whole::combine::<B, N>(&mut chunks[i], &others[i]);
+    }
+}
+
+// Whether two deques of one length have the same bits.
+pub fn are_equal<const N: usize>(a: &VecDeque<[u8; N]>, b: &VecDeque<[u8; N]>) -> bool
+    requires positive { 0 < N }
+    requires same { length a.now.items ≡ length b.now.items }
+    ensures { Decides result ((k : ℕ) → bit_of N a.now.items k ≡ bit_of N b.now.items k) }
+{
+    let (a_front, a_back) = slices(a);
+    let (b_front, b_back) = slices(b);
+    if a_front.len() <= b_front.len() {
+        runs_equal(a_front, a_back, b_front, b_back)
+    } else {
+        runs_equal(b_front, b_back, a_front, a_back)
+    }
+}
+
+// Whether two fronts and the backs behind them make the same run. The first front is no longer than the second.
+fn runs_equal<const N: usize>(
+    front: &[[u8; N]],
+    back: &[[u8; N]],
+    longer: &[[u8; N]],
+    rest: &[[u8; N]],
+) -> bool
+    requires order { length front.now ≤ length longer.now }
+    requires same { length front.now + length back.now ≡ length longer.now + length rest.now }
+    ensures { Decides result (front.now ++ back.now ≡ longer.now ++ rest.now) }
+{
+    let (low, high) = longer.split_at(front.len());
+    let (near, far) = back.split_at(high.len());
+    slices_equal(front, low) && slices_equal(near, high) && slices_equal(far, rest)
+}
+
+// Byte by byte, so that many are compared at once.
+fn slices_equal<const N: usize>(a: &[[u8; N]], b: &[[u8; N]]) -> bool
+    requires { length a.now ≡ length b.now }
+    ensures { Decides result (a.now ≡ b.now) }
+{
+    all_known(a);
+    all_known(b);
+    a.as_flattened() == b.as_flattened()
+}
+
+// Feeds each chunk to a hash, in order.
+pub fn feed<const N: usize, H: Hasher>(chunks: &VecDeque<[u8; N]>, state: &mut H)
+    ensures fed { state.new ≡ fold H.write state.old chunks.now.items }
+    ensures known { AreChunks N chunks.now.items }
+{
+    let (front, back) = slices(chunks);
+    feed_slice(front, state);
+    feed_slice(back, state);
+}
+
+fn feed_slice<const N: usize, H: Hasher>(chunks: &[[u8; N]], state: &mut H)
+    ensures { state.new ≡ fold H.write state.old chunks.now }
+{
+    for chunk in chunks {
+        state.write(chunk);
+    }
+}

@@ -1,0 +1,198 @@
+//! The set positions of a range of any bitmap, by words of 64 bits.
+
+ghost use Rattle.std.specs.Prelude.{◌≡◌, ◌≢◌, ℕ, ◌+◌, ◌*◌, ◌/◌, ◌%◌, ◌^◌, ◌<◌, ◌≤◌, ◌==◌, true, false, [], length, MatchBool};
+ghost use Rattle.std.specs.Int.{bit_at};
+ghost use Rattle.std.specs.Iterator.{YieldsFirst, item_count};
+ghost use Rattle.bitmap_core.specs.Chunk.{chunk_bit, IsWidth};
+ghost use Rattle.bitmap_core.specs.Meaning.{starts_word, next_word, left_from, IsScan, IsCut, ones, ones_between, words, IsLawful, IsRetained, ShowsChunk};
+
+use crate::bitmap::readable::Readable;
+use crate::chunk::load::{following_word, high_bits, take_lowest, word_base, word_below};
+use crate::chunk::{chunk_index, chunk_width};
+use std::marker::Model;
+use std::ops::Range;
+
+/// The set positions of a range, ascending, each once. It goes by words of 64 bits, and loads each at most once.
+///
+/// After the last position it answers `None`, and goes on so. It takes no memory of its own.
+#[derive(Drop)]
+pub struct OnesIter<'a, B: Readable<N>, const N: usize> {
+    readable: &'a B,
+    // The end of the range, at most the length.
+    end: u64,
+    cursor: Cursor<N>,
+}
+
+#[derive(Drop)]
+struct Cursor<const N: usize> {
+    // For contracts alone: where the range begins.
+    first: u64,
+    // Where the word begins, or the end where the range is empty.
+    base: u64,
+    // The bits of that word that are not given yet.
+    word: u64,
+    // The chunk that has the word.
+    chunk: [u8; N],
+    // For contracts alone: how many words were loaded.
+    loads: u64,
+}
+
+impl<'a, B: Readable<N>, const N: usize> Model for OnesIter<'a, B, N> {
+    ghost use Rattle.bitmap_core.specs.Meaning.{IsScan, IsCut, Scan, left_from, words_between};
+
+    ghost Value = { Scan };
+
+    ghost view = { λ s. record {
+      left = left_from N (B.meaning s.readable.now) s.cursor.base s.cursor.word s.end;
+      loads = s.cursor.loads;
+      words = words_between N s.cursor.first s.end;
+    } };
+
+    ghost invariant = { λ s. IsScan N (B.meaning s.readable.now) s.cursor.base s.end s.cursor.chunk s.cursor.loads s.cursor.first × IsCut s.cursor.base s.cursor.word s.end };
+}
+
+// The word at `base` of its chunk, with zeros from the end of the chunk and from `end` on. Each call counts as one load.
+fn load_word<const N: usize>(chunk: &[u8; N], base: u64, end: u64, loads: &mut u64) -> u64
+    requires width { IsWidth N }
+    requires start { starts_word N base ≡ true }
+    requires below { base < end }
+    requires room { loads.old + 1 < 2 ^ 64 }
+    ensures inside { (i : ℕ) → i < 64 → base + i < end → base % (8 * N) + i < 8 * N → (bit_at result i == 1) ≡ chunk_bit N chunk.now (base % (8 * N) + i) }
+    ensures past_chunk { (i : ℕ) → i < 64 → 8 * N ≤ base % (8 * N) + i → (bit_at result i == 1) ≡ false }
+    ensures past_end { IsCut base result end }
+    ensures counted { loads.new ≡ loads.old + 1 }
+{
+    *loads += 1;
+    word_below(chunk, base, end)
+}
+
+// Moves on to the next word with a bit that is not given yet, if there is one.
+fn advance<B: Readable<N>, const N: usize>(readable: &B, end: u64, cursor: &mut Cursor<N>) -> bool
+    requires scan { IsScan N (B.meaning readable.now) cursor.old.base end cursor.old.chunk cursor.old.loads cursor.old.first }
+    requires cut { IsCut cursor.old.base cursor.old.word end }
+    ensures scan { IsScan N (B.meaning readable.now) cursor.new.base end cursor.new.chunk cursor.new.loads cursor.new.first }
+    ensures cut { IsCut cursor.new.base cursor.new.word end }
+    ensures first { cursor.new.first ≡ cursor.old.first }
+    ensures counted { cursor.old.loads ≤ cursor.new.loads }
+    ensures left { left_from N (B.meaning readable.now) cursor.new.base cursor.new.word end ≡ left_from N (B.meaning readable.now) cursor.old.base cursor.old.word end }
+    ensures found { MatchBool result (0 < cursor.new.word) (left_from N (B.meaning readable.now) cursor.new.base cursor.new.word end ≡ []) }
+{
+    while cursor.word == 0 {
+        let Some(next) = following_word::<N>(cursor.base) else {
+            return false;
+        };
+        if next >= end {
+            return false;
+        }
+        load_next(readable, end, next, cursor);
+    }
+    true
+}
+
+// Asks for the chunk of `base` where that begins one.
+fn turn_chunk<B: Readable<N>, const N: usize>(readable: &B, base: u64, chunk: &mut [u8; N])
+    requires lawful { IsLawful N (B.meaning readable.now) }
+    requires retained { IsRetained N (B.meaning readable.now) base }
+    requires shown { base % (8 * N) ≢ 0 → ShowsChunk N (B.meaning readable.now) (base / (8 * N)) chunk.old }
+    ensures shown { ShowsChunk N (B.meaning readable.now) (base / (8 * N)) chunk.new }
+    ensures len { length chunk.new ≡ N }
+{
+    if base % chunk_width::<N>() == 0 {
+        *chunk = readable.get_chunk(chunk_index::<N>(base));
+    }
+}
+
+// Loads the word at `next`, which follows the cursor's.
+fn load_next<B: Readable<N>, const N: usize>(
+    readable: &B,
+    end: u64,
+    next: u64,
+    cursor: &mut Cursor<N>,
+)
+    requires scan { IsScan N (B.meaning readable.now) cursor.old.base end cursor.old.chunk cursor.old.loads cursor.old.first }
+    requires next { next ≡ next_word N cursor.old.base }
+    requires inside { next < end }
+    ensures scan { IsScan N (B.meaning readable.now) cursor.new.base end cursor.new.chunk cursor.new.loads cursor.new.first }
+    ensures cut { IsCut cursor.new.base cursor.new.word end }
+    ensures first { cursor.new.first ≡ cursor.old.first }
+    ensures base { cursor.new.base ≡ next }
+    ensures counted { cursor.new.loads ≡ cursor.old.loads + 1 }
+    ensures left { left_from N (B.meaning readable.now) cursor.new.base cursor.new.word end ≡ ones_between (B.meaning readable.now).bit next end }
+{
+    turn_chunk(readable, next, &mut cursor.chunk);
+    cursor.base = next;
+    cursor.word = load_word(&cursor.chunk, next, end, &mut cursor.loads);
+}
+
+impl<'a, B: Readable<N>, const N: usize> OnesIter<'a, B, N> {
+    // The set positions in a range. It asks for the length once, and for the first chunk.
+    pub(crate) fn over(readable: &'a B, range: Range<u64>) -> Self
+        ensures positions { result.left ≡ ones N (B.meaning readable.now) range.start range.end }
+        ensures lawful { IsLawful N (B.meaning readable.now) }
+        ensures words { result.words ≡ words N (B.meaning readable.now) range.start range.end }
+        ensures loads { result.loads ≤ result.words }
+    {
+        let end = range.end.min(readable.len());
+        let position = range.start.max(readable.pruned_bits());
+        if position >= end {
+            return OnesIter {
+                readable,
+                end,
+                cursor: Cursor {
+                    first: position,
+                    base: end,
+                    word: 0,
+                    chunk: [0; N],
+                    loads: 0,
+                },
+            };
+        }
+        let base = word_base::<N>(position);
+        let chunk = readable.get_chunk(chunk_index::<N>(position));
+        let mut loads = 0;
+        let word = load_word(&chunk, base, end, &mut loads);
+        OnesIter {
+            readable,
+            end,
+            cursor: Cursor {
+                first: position,
+                base,
+                word: high_bits(word, position - base),
+                chunk,
+                loads,
+            },
+        }
+    }
+
+    // What `next` does, and what it loads. Clauses of `next` itself would ask each caller's loop for a proof file.
+    pub(crate) fn step(&mut self) -> Option<u64>
+        ensures steps { YieldsFirst (λ s. s.left) self.old result self.new }
+        ensures grows { self.old.loads ≤ self.new.loads }
+        ensures range { self.new.words ≡ self.old.words }
+    {
+        if !advance(self.readable, self.end, &mut self.cursor) {
+            return None;
+        }
+        let place = take_lowest(&mut self.cursor.word);
+        Some(self.cursor.base + place)
+    }
+
+    // What the fields say of every value.
+    pub(crate) fn loads_within_words(&self)
+        ensures { self.now.loads ≤ self.now.words }
+    {
+        let _ = &self.end;
+    }
+}
+
+impl<'a, B: Readable<N>, const N: usize> Iterator for OnesIter<'a, B, N> {
+    type Item = u64;
+
+    ghost next_gives = { YieldsFirst (λ s. s.left) };
+
+    ghost remaining = { item_count (λ s. s.left) };
+
+    fn next(&mut self) -> Option<u64> {
+        self.step()
+    }
+}
