@@ -1,5 +1,6 @@
 pub mod Edits
 pub mod Record
+pub mod Stored
 pub mod Undo
 pub mod History
 pub mod Pending

@@ -1,3 +1,4 @@
 //! A bitmap with a history of commits.
 
 pub mod error;
+mod record;
