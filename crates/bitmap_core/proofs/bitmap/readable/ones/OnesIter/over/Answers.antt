@@ -33,11 +33,11 @@ shown g c = rw c.chunk_index.ensures at c.get_chunk-chunk.ensures
 pub invariant_of-result-2 : goal.invariant_of-result-2
 invariant_of-result-2 g c =
     let m : Meaning = g.B.Readable.meaning c.args.readable.now in
-    rw (c.word_base-base.ensures, c.load_word-word.ensures.counted) (
-      first_scan g.row.N m c.max-position.result c.min-end.result c.get_chunk-chunk.result c.len.ensures.lawful
-          (omega (arith, c.len.ensures.value)) c.if-position-end.false (omega (arith, c.pruned_bits.ensures)) (shown g c),
-      masked_cut c.load_word-word.result c.high_bits.result _ _ c.min-end.result (masked g c) (rw c.word_base-base.ensures at c.load_word-word.ensures.past_end),
-    )
+    rw (c.word_base-base.ensures, c.load_word-word.ensures.counted) (record {
+      scan = first_scan g.row.N m c.max-position.result c.min-end.result c.get_chunk-chunk.result c.len.ensures.lawful
+          (omega (arith, c.len.ensures.value)) c.if-position-end.false (omega (arith, c.pruned_bits.ensures)) (shown g c);
+      cut = masked_cut c.load_word-word.result c.high_bits.result _ _ c.min-end.result (masked g c) (rw c.word_base-base.ensures at c.load_word-word.ensures.past_end);
+    })
 
 pub returns-clause-positions : goal.returns-clause-positions
 returns-clause-positions g c =
