@@ -1,9 +1,9 @@
 use Rattle.std.proofs.Common.{ℕ, ◌-◌, ◌*◌, ◌/◌, min, max, sym, ◌∙◌, ap, arith, refl}
 use Rattle.bitmap_core.specs.Meaning.{Meaning, ShowsChunk, word_start}
-use Rattle.bitmap_core.proofs.SetPositions.{ones_between-none, ones_between-at}
-use Rattle.bitmap_core.proofs.WordStarts.{start_of, start_near, start_chunk, end_near}
-use Rattle.bitmap_core.proofs.LoadedWords.{IsMasked, masked_cut, left_none, left_loaded, first_loaded}
-use Rattle.bitmap_core.proofs.WordScan.{first_scan, counted_first}
+use Rattle.bitmap_core.proofs.Lists.SetPositions.{ones_between-none, ones_between-at}
+use Rattle.bitmap_core.proofs.Words.Starts.{start_of, start_near, start_chunk, end_near}
+use Rattle.bitmap_core.proofs.Words.Loaded.{IsMasked, masked_cut, left_none, left_loaded, first_loaded}
+use Rattle.bitmap_core.proofs.Words.Scan.{first_scan, counted_first}
 use Rattle.bitmap_core.proofs.bitmap.readable.ones.OnesIter.over.Goals as goal
 use Rattle.bitmap_core.proofs.bitmap.readable.ones.OnesIter.over.Given.{Over}
 use Rattle.bitmap_core.proofs.bitmap.readable.ones.OnesIter.over.Goals.{After-high_bits}
