@@ -249,6 +249,7 @@ impl<const N: usize> BitMap<N> {
         ensures positions { result.left ≡ filter (λ k. slice_index_or self.now k false) (range_with_len 0 (length self.now)) }
         ensures words { result.words ≡ words_between N 0 (length self.now) }
         ensures loads { result.loads ≤ result.words }
+        ensures bound { length result.left < 2 ^ 64 }
     {
         self.ones_iter_range(0..self.len())
     }

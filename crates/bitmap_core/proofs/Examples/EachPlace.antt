@@ -8,8 +8,8 @@ use Rattle.std.proofs.Math.Nat.{mod-eq_of_lt}
 use Rattle.std.proofs.lemmas.Nat.{mod_below}
 use Rattle.bitmap_core.specs.Chunk.{chunk_bit}
 use Rattle.bitmap_core.specs.Bits.{bit_of}
-use Rattle.bitmap_core.proofs.ChunkBits.{chunk_bit-mod}
-use Rattle.bitmap_core.proofs.ChunkLists.{bit_of_past}
+use Rattle.bitmap_core.proofs.Chunks.Bits.{chunk_bit-mod}
+use Rattle.bitmap_core.proofs.Chunks.Lists.{bit_of_past}
 
 -- the first k values of a function, those out of the question left false
 abbrev pub table : (ℕ → Bool) → (ℕ → Bool) → ℕ → List Bool

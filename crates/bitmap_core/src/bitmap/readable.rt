@@ -9,7 +9,7 @@
 //! }
 //! ```
 
-ghost use Rattle.std.specs.Prelude.{◌≡◌, ◌+◌, ◌-◌, ◌*◌, ◌/◌, ◌<◌, ◌≤◌, ◌==◌};
+ghost use Rattle.std.specs.Prelude.{◌≡◌, ◌+◌, ◌-◌, ◌*◌, ◌/◌, ◌^◌, ◌<◌, ◌≤◌, ◌==◌, length};
 
 mod dense;
 mod ones;
@@ -129,6 +129,7 @@ pub trait Readable<const N: usize> {
         ensures lawful { IsLawful N (meaning self.now) }
         ensures words { result.words ≡ words N (meaning self.now) range.start range.end }
         ensures loads { result.loads ≤ result.words }
+        ensures bound { length result.left < 2 ^ 64 }
     {
         OnesIter::over(self, range)
     }
@@ -141,6 +142,7 @@ pub trait Readable<const N: usize> {
         ensures lawful { IsLawful N (meaning self.now) }
         ensures words { result.words ≡ words N (meaning self.now) pos (meaning self.now).len }
         ensures loads { result.loads ≤ result.words }
+        ensures bound { length result.left < 2 ^ 64 }
     {
         self.ones_iter_range(pos..u64::MAX)
     }

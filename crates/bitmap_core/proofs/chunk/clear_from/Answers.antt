@@ -1,5 +1,5 @@
 use Rattle.std.proofs.Common.{arith}
-use Rattle.bitmap_core.proofs.ChunkBits.{cleared}
+use Rattle.bitmap_core.proofs.Chunks.Bits.{cleared}
 use Rattle.bitmap_core.proofs.chunk.clear_from.Goals as goal
 
 pub returns-clause-below : goal.returns-clause-below

@@ -1,6 +1,6 @@
 use Rattle.std.proofs.Common.{◌∙◌}
 use Rattle.std.proofs.lemmas.List.{length-set}
-use Rattle.bitmap_core.proofs.Packing.{bytes-more}
+use Rattle.bitmap_core.proofs.Chunks.Packed.{bytes-more}
 use Rattle.bitmap_core.proofs.chunk.from_bools.Goals as goal
 
 pub loop-j-preserved : goal.loop-j-preserved

@@ -1,7 +1,7 @@
 use Rattle.std.proofs.Common.{◌∙◌, ap, arith, eqb}
 use Rattle.std.proofs.lemmas.Nat.{mod_below}
-use Rattle.bitmap_core.proofs.ByteBits.{bit_or_here, bit_or_other, bit_clear_here, bit_clear_other}
-use Rattle.bitmap_core.proofs.ChunkBits.{chunk_bit-set_here, chunk_bit-set_other}
+use Rattle.bitmap_core.proofs.Bytes.Bits.{bit_or_here, bit_or_other, bit_clear_here, bit_clear_other}
+use Rattle.bitmap_core.proofs.Chunks.Bits.{chunk_bit-set_here, chunk_bit-set_other}
 use Rattle.bitmap_core.proofs.chunk.set_bit.Goals as goal
 
 pub returns-then-value : goal.returns-then-value

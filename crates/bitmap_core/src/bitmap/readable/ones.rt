@@ -131,6 +131,7 @@ impl<'a, B: Readable<N>, const N: usize> OnesIter<'a, B, N> {
         ensures lawful { IsLawful N (B.meaning readable.now) }
         ensures words { result.words ≡ words N (B.meaning readable.now) range.start range.end }
         ensures loads { result.loads ≤ result.words }
+        ensures bound { length result.left < 2 ^ 64 }
     {
         let end = range.end.min(readable.len());
         let position = range.start.max(readable.pruned_bits());

@@ -2,10 +2,10 @@ use Rattle.std.proofs.Common.{◌≡◌, ◌++◌, ◌∙◌, sym, arith, length
 use Rattle.std.specs.List.{range_with_len}
 use Rattle.bitmap_core.specs.Chunk.{chunk_of}
 use Rattle.bitmap_core.specs.Spelling.{chunk_count}
-use Rattle.bitmap_core.proofs.BitLists.{len_is}
-use Rattle.bitmap_core.proofs.ChunkBytes.{chunks_are}
-use Rattle.bitmap_core.proofs.Texts.{length-spelling}
-use Rattle.bitmap_core.proofs.TextParts.{spelling_pieces, written}
+use Rattle.bitmap_core.proofs.Lists.Bits.{len_is}
+use Rattle.bitmap_core.proofs.Chunks.AsBytes.{chunks_are}
+use Rattle.bitmap_core.proofs.Texts.Spellings.{length-spelling}
+use Rattle.bitmap_core.proofs.Texts.Parts.{spelling_pieces, written}
 use Rattle.bitmap_core.proofs.bitmap.BitMap.append_spelling.Goals as goal
 
 pub unwrap-requires : goal.unwrap-requires

@@ -1,6 +1,6 @@
 use Rattle.std.proofs.Common.{arith}
-use Rattle.bitmap_core.proofs.BitLists.{len_is}
-use Rattle.bitmap_core.proofs.WholeChunks.{chunk_within, stored_chunk}
+use Rattle.bitmap_core.proofs.Lists.Bits.{len_is}
+use Rattle.bitmap_core.proofs.Chunks.Whole.{chunk_within, stored_chunk}
 use Rattle.bitmap_core.proofs.bitmap.BitMap.chunk_at.Goals as goal
 
 pub chunk_at-requires : goal.chunk_at-requires

@@ -1,8 +1,8 @@
 use Rattle.std.proofs.Common.{◌≡◌, ◌∙◌, sym, ap, length, arith}
 use Rattle.bitmap_core.specs.Bits.{bits}
-use Rattle.bitmap_core.proofs.BitLists.{len_is}
-use Rattle.bitmap_core.proofs.Places.{count_unique}
-use Rattle.bitmap_core.proofs.WholeBits.{bits-zip, IsZeroFrom-zip}
+use Rattle.bitmap_core.proofs.Lists.Bits.{len_is}
+use Rattle.bitmap_core.proofs.Chunks.Places.{count_unique}
+use Rattle.bitmap_core.proofs.Lists.WholeBits.{bits-zip, IsZeroFrom-zip}
 use Rattle.bitmap_core.proofs.bitmap.BitMap.combine.Goals as goal
 
 pub combine-requires : goal.combine-requires

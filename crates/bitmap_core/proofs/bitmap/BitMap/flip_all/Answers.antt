@@ -1,5 +1,5 @@
-use Rattle.bitmap_core.proofs.Places.{index_below}
-use Rattle.bitmap_core.proofs.WholeBits.{bits-flip}
+use Rattle.bitmap_core.proofs.Chunks.Places.{index_below}
+use Rattle.bitmap_core.proofs.Lists.WholeBits.{bits-flip}
 use Rattle.bitmap_core.proofs.bitmap.BitMap.flip_all.Goals as goal
 
 pub returns : goal.returns

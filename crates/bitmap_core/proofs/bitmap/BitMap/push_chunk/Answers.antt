@@ -1,10 +1,10 @@
 use Rattle.std.proofs.Common.{◌∙◌, ◌*◌, ◌%◌, ◌+◌, ◌++◌, ◌∷◌, [], sym, ap, arith}
 use Rattle.std.proofs.lemmas.List.{length_push}
 use Rattle.std.proofs.Math.Nat.{mul-add}
-use Rattle.bitmap_core.proofs.Places.{IsChunkCount-chunk, full_len}
-use Rattle.bitmap_core.proofs.BitLists.{len_is}
-use Rattle.bitmap_core.proofs.ChunkLists.{IsZeroFrom-count}
-use Rattle.bitmap_core.proofs.BitEdits.{bits-push_chunk}
+use Rattle.bitmap_core.proofs.Chunks.Places.{IsChunkCount-chunk, full_len}
+use Rattle.bitmap_core.proofs.Lists.Bits.{len_is}
+use Rattle.bitmap_core.proofs.Chunks.Lists.{IsZeroFrom-count}
+use Rattle.bitmap_core.proofs.Lists.Edits.{bits-push_chunk}
 use Rattle.bitmap_core.proofs.bitmap.BitMap.push_chunk.Goals as goal
 
 pub overflow_add-self : goal.overflow_add-self

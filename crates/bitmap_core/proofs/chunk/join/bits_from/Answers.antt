@@ -1,6 +1,6 @@
 use Rattle.std.proofs.Common.{◌∙◌, ◌+◌, ◌-◌, ◌++◌, ap}
 use Rattle.std.specs.Int.{bit_at}
-use Rattle.bitmap_core.proofs.Runs.{joined_bit}
+use Rattle.bitmap_core.proofs.Bytes.Shifted.{joined_bit}
 use Rattle.bitmap_core.proofs.chunk.join.bits_from.Goals as goal
 
 pub returns : goal.returns

@@ -2,7 +2,7 @@ use Rattle.std.proofs.Common.{◌≡◌, ◌<◌, ◌∙◌, ◌+◌, ◌-◌, �
 use Rattle.std.proofs.Math.Nat.{div-add-mod}
 use Rattle.std.proofs.lemmas.Nat.{mod_below}
 use Rattle.bitmap_core.specs.Chunk.{bit_in}
-use Rattle.bitmap_core.proofs.Runs.{bit_in-rest, bit_in-left, bit_in-right}
+use Rattle.bitmap_core.proofs.Bytes.Shifted.{bit_in-rest, bit_in-left, bit_in-right}
 use Rattle.bitmap_core.proofs.chunk.join.chunk_from.Goals as goal
 
 pub returns-then-at-front : goal.returns-then-at-front

@@ -4,7 +4,7 @@ use Rattle.std.proofs.Math.Nat.{div-add-mod}
 use Rattle.std.proofs.lemmas.List.{length-set, get_or-set_same, get_or-set_other}
 use Rattle.std.proofs.lemmas.Bool.{cases_eq}
 use Rattle.bitmap_core.specs.Chunk.{bit_in}
-use Rattle.bitmap_core.proofs.Runs.{filled_bits, kept_bits}
+use Rattle.bitmap_core.proofs.Bytes.Shifted.{filled_bits, kept_bits}
 use Rattle.bitmap_core.proofs.chunk.join.fill_from.Goals as goal
 
 pub loop-j-preserved : goal.loop-j-preserved

@@ -1,6 +1,6 @@
 use Rattle.std.proofs.Common.{◌∙◌, ◌-◌, ◌/◌, ◌%◌, ◌++◌, ap, set, refl}
 use Rattle.std.specs.Int.{bit_at}
-use Rattle.bitmap_core.proofs.Runs.{opened_kept, opened_joined}
+use Rattle.bitmap_core.proofs.Bytes.Shifted.{opened_kept, opened_joined}
 use Rattle.bitmap_core.proofs.chunk.join.join.Goals as goal
 
 pub returns-clause-kept : goal.returns-clause-kept

@@ -1,6 +1,6 @@
 use Rattle.std.proofs.Common.{◌∙◌, ap, get_or, arith}
 use Rattle.std.specs.Int.{bit_at}
-use Rattle.bitmap_core.proofs.JoinedWords.{word_byte_bit}
+use Rattle.bitmap_core.proofs.Words.Joined.{word_byte_bit}
 use Rattle.bitmap_core.proofs.chunk.join.put_word.Goals as goal
 
 pub returns-clause-here : goal.returns-clause-here

@@ -1,6 +1,6 @@
 use Rattle.std.proofs.Common.{◌≡◌, ◌∙◌, ◌+◌, ap, take, drop, w64, rules, arith}
 use Rattle.std.specs.Int.{bit_at, from_le_bytes}
-use Rattle.bitmap_core.proofs.JoinedWords.{joined_word_bit}
+use Rattle.bitmap_core.proofs.Words.Joined.{joined_word_bit}
 use Rattle.bitmap_core.proofs.chunk.join.word_from.Goals as goal
 
 pub returns : goal.returns

@@ -1,6 +1,6 @@
 use Rattle.std.proofs.Common.{get_or, ◌∙◌, ap}
 use Rattle.std.proofs.lemmas.List.{get_or-take}
-use Rattle.bitmap_core.proofs.WordBytes.{word_bits}
+use Rattle.bitmap_core.proofs.Words.OfBytes.{word_bits}
 use Rattle.bitmap_core.proofs.chunk.load.first_word.Goals as goal
 
 pub returns-in-Some : goal.returns-in-Some

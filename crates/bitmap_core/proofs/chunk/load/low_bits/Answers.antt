@@ -1,6 +1,6 @@
 use Rattle.std.proofs.Common.{ap, eqb}
-use Rattle.bitmap_core.proofs.ByteBits.{low_bit_below, low_bit_above}
-use Rattle.bitmap_core.proofs.WordMasks.{low_mask}
+use Rattle.bitmap_core.proofs.Bytes.Bits.{low_bit_below, low_bit_above}
+use Rattle.bitmap_core.proofs.Words.Masks.{low_mask}
 use Rattle.bitmap_core.proofs.chunk.load.low_bits.Goals as goal
 
 pub returns-then-count-lt64-clause-kept : goal.returns-then-count-lt64-clause-kept

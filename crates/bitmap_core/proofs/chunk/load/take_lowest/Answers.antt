@@ -1,5 +1,5 @@
 use Rattle.std.proofs.Common.{ap, eqb, arith}
-use Rattle.bitmap_core.proofs.WordMasks.{lowest, without_here, without_other}
+use Rattle.bitmap_core.proofs.Words.Masks.{lowest, without_here, without_other}
 use Rattle.bitmap_core.proofs.chunk.load.take_lowest.Goals as goal
 
 pub returns-clause-set : goal.returns-clause-set

@@ -2,7 +2,7 @@ use Rattle.std.proofs.Common.{◌≡◌, ℕ, ◌+◌, ◌-◌, ◌*◌, ◌/◌
 use Rattle.std.proofs.lemmas.Bool.{cases_lt}
 use Rattle.std.proofs.lemmas.Nat.{mod_below}
 use Rattle.bitmap_core.specs.Chunk.{chunk_bit}
-use Rattle.bitmap_core.proofs.WordStarts.{start_bytes}
+use Rattle.bitmap_core.proofs.Words.Starts.{start_bytes}
 use Rattle.bitmap_core.proofs.chunk.load.word_below.Goals as goal
 
 pub word_at-requires : goal.word_at-requires

@@ -1,7 +1,7 @@
 use Rattle.std.proofs.Common.{◌≡◌, ◌∙◌, ℕ, replicate, ap}
 use Rattle.bitmap_core.specs.Chunk.{chunk_bit}
-use Rattle.bitmap_core.proofs.ByteBits.{bit_of_ones_byte, bit_of_zero_byte}
-use Rattle.bitmap_core.proofs.ChunkBits.{chunk_bit-fill}
+use Rattle.bitmap_core.proofs.Bytes.Bits.{bit_of_ones_byte, bit_of_zero_byte}
+use Rattle.bitmap_core.proofs.Chunks.Bits.{chunk_bit-fill}
 use Rattle.bitmap_core.proofs.chunk.whole.fill.Goals as goal
 use Rattle.bitmap_core.proofs.chunk.whole.fill.Goals.{then-value, else-value}
 

@@ -1,7 +1,7 @@
 use Rattle.std.proofs.Common.{◌∙◌, ◌/◌, ◌%◌, ap, eqb, arith}
 use Rattle.std.specs.Int.{bit_at}
 use Rattle.std.proofs.lemmas.Nat.{mod_below}
-use Rattle.bitmap_core.proofs.ByteBits.{flip_bit}
+use Rattle.bitmap_core.proofs.Bytes.Bits.{flip_bit}
 use Rattle.bitmap_core.proofs.chunk.whole.flip.Goals as goal
 
 pub returns : goal.returns

@@ -1,7 +1,7 @@
 use Rattle.std.proofs.Common.{◌≡◌, ◌*◌, ◌∙◌, length, sym, ap, eqb, arith}
-use Rattle.bitmap_core.proofs.Counts.{ones_from}
+use Rattle.bitmap_core.proofs.Counting.Ones.{ones_from}
 use Rattle.bitmap_core.specs.Chunk.{bit_in}
-use Rattle.bitmap_core.proofs.WordBits.{none_chunk, zero_byte, other_byte}
+use Rattle.bitmap_core.proofs.Counting.Words.{none_chunk, zero_byte, other_byte}
 use Rattle.bitmap_core.proofs.chunk.words.are_bytes_zero.Goals as goal
 
 pub returns-then-byte-ne0 : goal.returns-then-byte-ne0

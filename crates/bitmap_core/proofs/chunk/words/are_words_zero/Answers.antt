@@ -1,8 +1,8 @@
 use Rattle.std.proofs.Common.{◌≡◌, ◌*◌, ◌∙◌, length, sym, ap, eqb, arith}
 use Rattle.bitmap_core.specs.Bits.{bit_of}
-use Rattle.bitmap_core.proofs.Counts.{ones_from}
-use Rattle.bitmap_core.proofs.PlaceCounts.{none_bits}
-use Rattle.bitmap_core.proofs.WordBits.{zero_word, other_word}
+use Rattle.bitmap_core.proofs.Counting.Ones.{ones_from}
+use Rattle.bitmap_core.proofs.Counting.Places.{none_bits}
+use Rattle.bitmap_core.proofs.Counting.Words.{zero_word, other_word}
 use Rattle.bitmap_core.proofs.chunk.words.are_words_zero.Goals as goal
 
 pub returns-then-load-ne0 : goal.returns-then-load-ne0

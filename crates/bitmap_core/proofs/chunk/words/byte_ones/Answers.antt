@@ -1,8 +1,8 @@
 use Rattle.std.proofs.Common.{◌≡◌, ◌*◌, ◌+◌, ◌∙◌, length, sym, ap, refl, arith}
-use Rattle.bitmap_core.proofs.Counts.{ones_from}
+use Rattle.bitmap_core.proofs.Counting.Ones.{ones_from}
 use Rattle.bitmap_core.specs.Chunk.{bit_in}
-use Rattle.bitmap_core.proofs.WordBits.{count-chunk, more_byte}
-use Rattle.bitmap_core.proofs.PlaceCounts.{ones_from_mono}
+use Rattle.bitmap_core.proofs.Counting.Words.{count-chunk, more_byte}
+use Rattle.bitmap_core.proofs.Counting.Places.{ones_from_mono}
 use Rattle.bitmap_core.proofs.chunk.words.byte_ones.Goals as goal
 
 pub overflow_add-total : goal.overflow_add-total

@@ -1,5 +1,5 @@
 use Rattle.std.proofs.Common.{arith}
-use Rattle.bitmap_core.proofs.WordBits.{count-words_and_rest}
+use Rattle.bitmap_core.proofs.Counting.Words.{count-words_and_rest}
 use Rattle.bitmap_core.proofs.chunk.words.count_ones.Goals as goal
 
 pub word_ones-requires : goal.word_ones-requires

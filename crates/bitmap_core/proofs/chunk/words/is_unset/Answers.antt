@@ -1,6 +1,6 @@
 use Rattle.std.proofs.Common.{◌∙◌, sym}
 use Rattle.std.proofs.lemmas.Bool.{false≢true}
-use Rattle.bitmap_core.proofs.ByteRanges.{none_in_byte, none_between, some_first, some_last}
+use Rattle.bitmap_core.proofs.Counting.ByteRanges.{none_in_byte, none_between, some_first, some_last}
 use Rattle.bitmap_core.proofs.chunk.words.is_unset.Goals as goal
 use Rattle.bitmap_core.proofs.chunk.words.is_unset.Goals.{then-is_byte_unset, else-is_byte_unset}
 

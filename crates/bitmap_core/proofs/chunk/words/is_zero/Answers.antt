@@ -1,5 +1,5 @@
 use Rattle.std.proofs.Common.{◌∙◌, sym}
-use Rattle.bitmap_core.proofs.WordBits.{zero_rest, other_words}
+use Rattle.bitmap_core.proofs.Counting.Words.{zero_rest, other_words}
 use Rattle.bitmap_core.proofs.chunk.words.is_zero.Goals as goal
 
 pub returns-then-are_words_zero : goal.returns-then-are_words_zero

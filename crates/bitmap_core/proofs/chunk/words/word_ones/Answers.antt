@@ -1,8 +1,8 @@
 use Rattle.std.proofs.Common.{◌≡◌, ◌*◌, ◌+◌, ◌∙◌, length, sym, ap, arith}
 use Rattle.bitmap_core.specs.Bits.{bit_of}
-use Rattle.bitmap_core.proofs.Counts.{ones_from, count-bits}
-use Rattle.bitmap_core.proofs.WordBits.{more_word}
-use Rattle.bitmap_core.proofs.PlaceCounts.{ones_from_mono}
+use Rattle.bitmap_core.proofs.Counting.Ones.{ones_from, count-bits}
+use Rattle.bitmap_core.proofs.Counting.Words.{more_word}
+use Rattle.bitmap_core.proofs.Counting.Places.{ones_from_mono}
 use Rattle.bitmap_core.proofs.chunk.words.word_ones.Goals as goal
 
 pub overflow_add-total : goal.overflow_add-total

@@ -1,5 +1,5 @@
 use Rattle.bitmap_core.specs.Reading.{admits}
-use Rattle.bitmap_core.proofs.ReadAgain.{read_again, err_is_memory, spelled_none}
+use Rattle.bitmap_core.proofs.Texts.ReadAgain.{read_again, err_is_memory, spelled_none}
 use Rattle.bitmap_core.proofs.laws.codec.bits_are_read_again.Goals as goal
 
 pub returns-clause-found : goal.returns-clause-found

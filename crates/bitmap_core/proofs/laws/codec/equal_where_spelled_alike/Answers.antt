@@ -2,7 +2,7 @@ use Rattle.std.proofs.Common.{ap, sym, ◌∙◌}
 use Rattle.std.specs.Cmp.{booleans_Decides}
 use Rattle.std.specs.Cmp.Lexicographic.{pointwise_decides}
 use Rattle.bitmap_core.specs.Spelling.{spelling}
-use Rattle.bitmap_core.proofs.Texts.{same_where_spelled}
+use Rattle.bitmap_core.proofs.Texts.Spellings.{same_where_spelled}
 use Rattle.bitmap_core.proofs.laws.codec.equal_where_spelled_alike.Goals as goal
 
 pub returns-clause-lists : goal.returns-clause-lists

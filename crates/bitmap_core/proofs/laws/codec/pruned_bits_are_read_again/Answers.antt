@@ -1,6 +1,6 @@
 use Rattle.std.proofs.Common.{arith}
 use Rattle.bitmap_core.specs.Reading.{admits}
-use Rattle.bitmap_core.proofs.ReadAgain.{pruned_read_again, err_is_memory, pruned_spelled_none}
+use Rattle.bitmap_core.proofs.Texts.ReadAgain.{pruned_read_again, err_is_memory, pruned_spelled_none}
 use Rattle.bitmap_core.proofs.laws.codec.pruned_bits_are_read_again.Goals as goal
 
 pub returns-clause-found : goal.returns-clause-found

@@ -1,8 +1,8 @@
 use Rattle.std.proofs.Common.{◌≡◌, ◌≤◌, ◌+◌, ◌∙◌, ◌^◌, drop, not, true, Option, None, Some, arith, rules, sym, ap}
 use Rattle.std.specs.Prelude.{SomeIff, is_some}
 use Rattle.bitmap_core.specs.Reading.{number, admits, bits_fault, pruned_fault, fault}
-use Rattle.bitmap_core.proofs.Texts.{number-lt}
-use Rattle.bitmap_core.proofs.Faults.{sound_pruned-none, pruned_bits_fault, pruned_total_fault}
+use Rattle.bitmap_core.proofs.Texts.Spellings.{number-lt}
+use Rattle.bitmap_core.proofs.Texts.Faults.{sound_pruned-none, pruned_bits_fault, pruned_total_fault}
 use Rattle.bitmap_core.proofs.bitmap.codec.prunable.pruned_parts.Goals as goal
 
 some_holds : {T P : Type 0} (o : Option T) (v : T) → SomeIff o P v → is_some o ≡ true → P

@@ -1,4 +1,4 @@
-use Rattle.bitmap_core.proofs.ByteEdits.{IsBytePut-chunk}
+use Rattle.bitmap_core.proofs.Chunks.ByteWritten.{IsBytePut-chunk}
 use Rattle.bitmap_core.proofs.bitmap.deque.bits.set_byte.Goals as goal
 
 pub returns : goal.returns

@@ -1,5 +1,5 @@
 use Rattle.std.proofs.Common.{arith}
-use Rattle.bitmap_core.proofs.FlatBits.{count-pieces}
+use Rattle.bitmap_core.proofs.Counting.JoinedChunks.{count-pieces}
 use Rattle.bitmap_core.proofs.bitmap.deque.counts.count_ones.Goals as goal
 
 pub count_ones-requires : goal.count_ones-requires

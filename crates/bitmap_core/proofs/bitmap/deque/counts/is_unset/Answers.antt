@@ -1,5 +1,5 @@
 use Rattle.std.proofs.Common.{◌∙◌, sym}
-use Rattle.bitmap_core.proofs.FlatBits.{cut_is, cut_within, none_right, some_in_left}
+use Rattle.bitmap_core.proofs.Counting.JoinedChunks.{cut_is, cut_within, none_right, some_in_left}
 use Rattle.bitmap_core.proofs.bitmap.deque.counts.is_unset.Goals as goal
 
 pub is_unset-requires-then-is_unset : goal.is_unset-requires-then-is_unset

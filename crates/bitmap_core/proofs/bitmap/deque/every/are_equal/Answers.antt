@@ -1,4 +1,4 @@
-use Rattle.bitmap_core.proofs.ChunkRuns.{same_bits_decided, lists_decided, lists_decided_back}
+use Rattle.bitmap_core.proofs.Chunks.Equal.{same_bits_decided, lists_decided, lists_decided_back}
 use Rattle.bitmap_core.proofs.bitmap.deque.every.are_equal.Goals as goal
 
 pub returns-then-a_front-b_front : goal.returns-then-a_front-b_front

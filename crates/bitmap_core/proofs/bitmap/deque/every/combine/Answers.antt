@@ -1,6 +1,6 @@
 use Rattle.std.proofs.Common.{◌∙◌, sym, arith}
 use Rattle.std.proofs.lemmas.List.{length-append}
-use Rattle.bitmap_core.proofs.WholeBits.{joined_runs}
+use Rattle.bitmap_core.proofs.Lists.WholeBits.{joined_runs}
 use Rattle.bitmap_core.proofs.bitmap.deque.every.combine.Goals as goal
 
 pub returns : goal.returns

@@ -1,7 +1,7 @@
 use Rattle.std.proofs.Common.{◌≡◌, ◌∙◌, ◌++◌, sym, arith}
 use Rattle.std.specs.Bool.{Decides}
 use Rattle.std.proofs.lemmas.Bool.{false≢true}
-use Rattle.bitmap_core.proofs.ChunkRuns.{runs_same, runs_joined, parts_of}
+use Rattle.bitmap_core.proofs.Chunks.Equal.{runs_same, runs_joined, parts_of}
 use Rattle.bitmap_core.proofs.bitmap.deque.every.runs_equal.Goals as goal
 use Rattle.bitmap_core.proofs.bitmap.deque.every.runs_equal.Goals.{then-slices_equal, else-slices_equal}
 

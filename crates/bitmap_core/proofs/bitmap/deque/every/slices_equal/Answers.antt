@@ -1,7 +1,7 @@
 use Rattle.std.proofs.Common.{ℕ, List, eqb, ap, ◌∙◌}
 use Rattle.std.specs.List.{flat_map}
 use Rattle.std.specs.Cmp.Lexicographic.{pointwise}
-use Rattle.bitmap_core.proofs.ChunkRuns.{bytes_decided}
+use Rattle.bitmap_core.proofs.Chunks.Equal.{bytes_decided}
 use Rattle.bitmap_core.proofs.bitmap.deque.every.slices_equal.Goals as goal
 
 pub returns : goal.returns

@@ -1,4 +1,4 @@
-use Rattle.bitmap_core.proofs.Equality.{same_values, other_lengths}
+use Rattle.bitmap_core.proofs.Lists.Equality.{same_values, other_lengths}
 use Rattle.bitmap_core.proofs.bitmap.ops.BitMapPartialEq.eq.Goals as goal
 
 pub returns-then-self-other : goal.returns-then-self-other

@@ -1,4 +1,4 @@
-use Rattle.bitmap_core.proofs.PrunedBitsFacts.{ceil_above_index, index_below_ceil}
+use Rattle.bitmap_core.proofs.Pruned.Positions.{ceil_above_index, index_below_ceil}
 use Rattle.bitmap_core.proofs.bitmap.prunable.Prunable.chunks_len.Goals as goal
 
 pub returns-clause-holds : goal.returns-clause-holds

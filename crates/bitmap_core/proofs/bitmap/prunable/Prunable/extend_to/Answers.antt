@@ -1,7 +1,7 @@
 use Rattle.std.proofs.Common.{◌≡◌, ◌+◌, ◌*◌, ◌≤◌, ◌∙◌, ap, length, arith, subst, sym}
 use Rattle.std.specs.Int.{div_ceil}
 use Rattle.bitmap_core.specs.PrunedBits.{bit_len, pruned_bits}
-use Rattle.bitmap_core.proofs.PrunedBitsFacts.{ceil_front}
+use Rattle.bitmap_core.proofs.Pruned.Positions.{ceil_front}
 use Rattle.bitmap_core.proofs.bitmap.prunable.Prunable.extend_to.Goals as goal
 
 pub returns-clause-roomy : goal.returns-clause-roomy

@@ -1,6 +1,6 @@
 use Rattle.std.proofs.Common.{◌≤◌, ◌∙◌, ap, arith, subst, sym}
 use Rattle.bitmap_core.specs.PrunedBits.{PrunedBits, HasChunk, chunk}
-use Rattle.bitmap_core.proofs.PrunedBitsFacts.{chunk_of_bits, retained_chunk}
+use Rattle.bitmap_core.proofs.Pruned.Positions.{chunk_of_bits, retained_chunk}
 use Rattle.bitmap_core.proofs.bitmap.prunable.Prunable.get_chunk.Goals as goal
 
 pub chunk_at-requires : goal.chunk_at-requires

@@ -1,6 +1,6 @@
 use Rattle.std.proofs.Common.{◌≡◌, ◌*◌, ◌/◌, ◌%◌, ◌-◌, ◌<◌, ◌∙◌, length, ap, arith, subst, sym}
 use Rattle.bitmap_core.specs.PrunedBits.{PrunedBits, bit_len, chunk}
-use Rattle.bitmap_core.proofs.PrunedBitsFacts.{last_chunk_of_bits, rest_of_len}
+use Rattle.bitmap_core.proofs.Pruned.Positions.{last_chunk_of_bits, rest_of_len}
 use Rattle.bitmap_core.proofs.bitmap.prunable.Prunable.pop_chunk.Goals as goal
 
 pub remove_last_chunk-requires : goal.remove_last_chunk-requires

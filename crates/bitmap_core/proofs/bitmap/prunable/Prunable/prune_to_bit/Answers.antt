@@ -2,7 +2,7 @@ use Rattle.std.proofs.Common.{◌+◌, ◌*◌, ◌≤◌, length, ap, subst, sy
 use Rattle.std.proofs.lemmas.List.{length-drop}
 use Rattle.std.proofs.Math.Nat.{div-add-mod}
 use Rattle.bitmap_core.specs.PrunedBits.{bit_len}
-use Rattle.bitmap_core.proofs.PrunedBitsFacts.{front_of}
+use Rattle.bitmap_core.proofs.Pruned.Positions.{front_of}
 use Rattle.bitmap_core.proofs.bitmap.prunable.Prunable.prune_to_bit.Goals as goal
 
 pub invariant_of-self : goal.invariant_of-self

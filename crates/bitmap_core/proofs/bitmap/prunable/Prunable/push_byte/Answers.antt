@@ -1,6 +1,6 @@
 use Rattle.std.proofs.Common.{◌*◌, ◌%◌, ◌∙◌, ap, sym}
 use Rattle.bitmap_core.specs.PrunedBits.{bit_len}
-use Rattle.bitmap_core.proofs.PrunedBitsFacts.{rest_of_len}
+use Rattle.bitmap_core.proofs.Pruned.Positions.{rest_of_len}
 use Rattle.bitmap_core.proofs.bitmap.prunable.Prunable.push_byte.Goals as goal
 
 pub returns-clause-partial : goal.returns-clause-partial

@@ -1,8 +1,8 @@
 use Rattle.std.proofs.Common.{◌+◌, ◌*◌, ◌%◌, ◌^◌, ◌<◌, ◌∙◌, length, ap, arith, subst, sym}
 use Rattle.std.proofs.lemmas.Result.{on_ok_weaker, on_err_weaker}
 use Rattle.bitmap_core.specs.PrunedBits.{PrunedBits, bit_len}
-use Rattle.bitmap_core.proofs.PrunedBitsFacts.{rest_of_len}
-use Rattle.bitmap_core.proofs.PrunedEdits.{either_way, fits_with_chunk}
+use Rattle.bitmap_core.proofs.Pruned.Positions.{rest_of_len}
+use Rattle.bitmap_core.proofs.Pruned.Edits.{either_way, fits_with_chunk}
 use Rattle.bitmap_core.proofs.bitmap.prunable.Prunable.push_chunk.Goals as goal
 
 pub push_chunk-requires : goal.push_chunk-requires

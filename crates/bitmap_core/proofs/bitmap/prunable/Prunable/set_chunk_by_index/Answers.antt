@@ -1,7 +1,7 @@
 use Rattle.std.proofs.Common.{◌∙◌, ap, arith, subst, sym}
 use Rattle.bitmap_core.specs.PrunedBits.{PrunedBits, HasChunk, with_chunk}
-use Rattle.bitmap_core.proofs.PrunedBitsFacts.{retained_chunk}
-use Rattle.bitmap_core.proofs.PrunedEdits.{chunk_replaced, zero_in_bits}
+use Rattle.bitmap_core.proofs.Pruned.Positions.{retained_chunk}
+use Rattle.bitmap_core.proofs.Pruned.Edits.{chunk_replaced, zero_in_bits}
 use Rattle.bitmap_core.proofs.bitmap.prunable.Prunable.set_chunk_by_index.Goals as goal
 
 pub replace_chunk-requires : goal.replace_chunk-requires

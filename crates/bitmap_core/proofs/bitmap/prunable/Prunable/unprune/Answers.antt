@@ -1,6 +1,6 @@
 use Rattle.std.proofs.Common.{◌≤◌, length, arith, subst, sym}
 use Rattle.bitmap_core.specs.PrunedBits.{PrunedBits}
-use Rattle.bitmap_core.proofs.PrunedEdits.{len_unpruned}
+use Rattle.bitmap_core.proofs.Pruned.Edits.{len_unpruned}
 use Rattle.bitmap_core.proofs.bitmap.prunable.Prunable.unprune.Goals as goal
 
 pub invariant_of-self-2 : goal.invariant_of-self-2

@@ -1,5 +1,5 @@
 use Rattle.std.proofs.Common.{◌∙◌}
-use Rattle.bitmap_core.proofs.Meanings.{shown_bit}
+use Rattle.bitmap_core.proofs.Meanings.Plain.{shown_bit}
 use Rattle.bitmap_core.proofs.bitmap.readable.Readable.get_bit.Goals as goal
 
 pub returns : goal.returns

@@ -1,5 +1,5 @@
 use Rattle.std.proofs.Common.{◌∙◌, arith}
-use Rattle.bitmap_core.proofs.LoadedWords.{left_none, left_moved}
+use Rattle.bitmap_core.proofs.Words.Loaded.{left_none, left_moved}
 use Rattle.bitmap_core.proofs.bitmap.readable.ones.advance.Goals as goal
 
 pub returns-in_default-clause-found : goal.returns-in_default-clause-found

@@ -1,7 +1,7 @@
 use Rattle.std.proofs.Common.{arith, ap, length}
 use Rattle.bitmap_core.specs.Spelling.{spelling}
-use Rattle.bitmap_core.proofs.PrunedTexts.{length-pruned}
-use Rattle.bitmap_core.proofs.TextParts.{spelling-lt}
+use Rattle.bitmap_core.proofs.Pruned.Texts.{length-pruned}
+use Rattle.bitmap_core.proofs.Texts.Parts.{spelling-lt}
 use Rattle.bitmap_core.proofs.bitmap.codec.prunable.PrunableEncodeSize.encode_size.Goals as goal
 
 pub overflow_add-result : goal.overflow_add-result

@@ -1,9 +1,9 @@
 use Rattle.std.proofs.Common.{arith, rules, ◌≡◌, ◌∙◌, ap, length, drop}
 use Rattle.bitmap_core.specs.Bits.{bits}
-use Rattle.bitmap_core.proofs.BitLists.{length-bits}
-use Rattle.bitmap_core.proofs.Texts.{AreBytes-drop, number-lt}
-use Rattle.bitmap_core.proofs.TextParts.{read_is}
-use Rattle.bitmap_core.proofs.PrunedTexts.{pruned_read, pruned_in_spelled}
+use Rattle.bitmap_core.proofs.Lists.Bits.{length-bits}
+use Rattle.bitmap_core.proofs.Texts.Spellings.{AreBytes-drop, number-lt}
+use Rattle.bitmap_core.proofs.Texts.Parts.{read_is}
+use Rattle.bitmap_core.proofs.Pruned.Texts.{pruned_read, pruned_in_spelled}
 use Rattle.bitmap_core.proofs.bitmap.codec.prunable.PrunableRead.read_cfg.Goals as goal
 
 pub from_chunks-requires : goal.from_chunks-requires

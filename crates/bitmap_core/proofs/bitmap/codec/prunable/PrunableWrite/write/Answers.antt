@@ -1,6 +1,6 @@
 use Rattle.std.proofs.Common.{arith, ap, length}
 use Rattle.bitmap_core.specs.Spelling.{spelling}
-use Rattle.bitmap_core.proofs.PrunedTexts.{length-pruned, pruned_written}
+use Rattle.bitmap_core.proofs.Pruned.Texts.{length-pruned, pruned_written}
 use Rattle.bitmap_core.proofs.bitmap.codec.prunable.PrunableWrite.write.Goals as goal
 
 pub unwrap-requires : goal.unwrap-requires

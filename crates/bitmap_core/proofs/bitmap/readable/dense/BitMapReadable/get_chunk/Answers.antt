@@ -1,6 +1,6 @@
 use Rattle.std.proofs.Common.{[], arith}
 use Rattle.std.proofs.lemmas.List.{get_or_read}
-use Rattle.bitmap_core.proofs.Meanings.{plain_has, plain_shows}
+use Rattle.bitmap_core.proofs.Meanings.Plain.{plain_has, plain_shows}
 use Rattle.bitmap_core.proofs.bitmap.readable.dense.BitMapReadable.get_chunk.Goals as goal
 
 pub index-requires : goal.index-requires

@@ -1,6 +1,6 @@
 use Rattle.std.proofs.Common.{◌-◌, ◌*◌, ◌/◌, ◌∙◌, [], ap, arith}
 use Rattle.std.proofs.lemmas.List.{get_or_read}
-use Rattle.bitmap_core.proofs.Meanings.{plain_has_last, plain_shows}
+use Rattle.bitmap_core.proofs.Meanings.Plain.{plain_has_last, plain_shows}
 use Rattle.bitmap_core.proofs.bitmap.readable.dense.BitMapReadable.last_chunk.Goals as goal
 
 pub index-requires : goal.index-requires

@@ -1,6 +1,6 @@
 use Rattle.std.proofs.Common.{◌≡◌, ◌+◌, ◌∷◌, ap}
 use Rattle.bitmap_core.specs.Meaning.{Scan, left_from}
-use Rattle.bitmap_core.proofs.LoadedWords.{IsLowestTaken, left_taken}
+use Rattle.bitmap_core.proofs.Words.Loaded.{IsLowestTaken, left_taken}
 use Rattle.bitmap_core.proofs.bitmap.readable.ones.OnesIter.step.Goals as goal
 use Rattle.bitmap_core.proofs.bitmap.readable.ones.OnesIter.step.Given.{Over}
 use Rattle.bitmap_core.proofs.bitmap.readable.ones.OnesIter.step.Goals.{After-take_lowest-place}

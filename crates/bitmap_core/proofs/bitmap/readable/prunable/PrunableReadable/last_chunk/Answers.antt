@@ -1,6 +1,6 @@
 use Rattle.std.proofs.Common.{◌-◌, ◌*◌, ◌/◌, arith}
 use Rattle.bitmap_core.specs.PrunedBits.{bit_len}
-use Rattle.bitmap_core.proofs.PrunedMeanings.{pruned_shows, last_used}
+use Rattle.bitmap_core.proofs.Meanings.Pruned.{pruned_shows, last_used}
 use Rattle.bitmap_core.proofs.bitmap.readable.prunable.PrunableReadable.last_chunk.Goals as goal
 
 pub returns-clause-chunk : goal.returns-clause-chunk
