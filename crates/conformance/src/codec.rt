@@ -127,7 +127,29 @@ fn damaged(
     Ok(text)
 }
 
-// The form of a full chunk and one bit more, and each front of it.
+// Each front of a bitmap's text is short.
+fn check_fronts<const N: usize>(rt: &impl Abort, alloc: Global, text: &[u8])
+    requires positive { 0 < N }
+    requires fits { 8 * N < 2 ^ 64 }
+{
+    for len in 0..text.len() {
+        let error = refusal::<N>(alloc, &text[..len], &RangeCfg::any());
+        assert!(rt; is_short(error), "{len} bytes");
+    }
+}
+
+// So is each of the text of a bitmap with a pruned front.
+fn check_pruned_fronts<const N: usize>(rt: &impl Abort, alloc: Global, text: &[u8])
+    requires positive { 0 < N }
+    requires fits { 8 * N < 2 ^ 64 }
+{
+    for len in 0..text.len() {
+        let error = pruned_refusal::<N>(alloc, &text[..len], &RangeCfg::any());
+        assert!(rt; is_short(error), "{len} bytes");
+    }
+}
+
+// The form of a full chunk and one bit more.
 fn check_bits<const N: usize>(rt: &impl Abort, alloc: Global) -> Result<(), AllocError>
     requires positive { 0 < N }
     requires fits { 8 * N < 2 ^ 64 }
@@ -141,12 +163,7 @@ fn check_bits<const N: usize>(rt: &impl Abort, alloc: Global) -> Result<(), Allo
     map.write(&mut out)?;
     assert!(rt; out == text);
     assert!(rt; is_accepted::<N>(alloc, &text, &any));
-    for len in 0..text.len() {
-        assert!(rt;
-            is_short(refusal::<N>(alloc, &text[..len], &any)),
-            "{len} bytes"
-        );
-    }
+    check_fronts::<N>(rt, alloc, &text);
     let trailing = damaged(rt, alloc, &text, 2 * N + 7, 128)?;
     assert!(rt; is_invalid(refusal::<N>(alloc, &trailing, &any), "BitMap", TRAILING));
     Ok(())
@@ -158,7 +175,6 @@ fn check_pruned<const N: usize>(rt: &impl Abort, alloc: Global) -> Result<(), Al
     requires fits { 8 * N < 2 ^ 64 }
 {
     assert!(rt; N <= 64);
-    let any = RangeCfg::any();
     let mut text = Vec::from_slice(alloc, &[0, 0, 0, 0, 0, 0, 0, 1])?;
     text.extend_from_slice(&one_chunk_and_a_bit::<N>(alloc)?)?;
     let mut map = of_chunks(rt, alloc, &[[0xff; N], [0xff; N]])?;
@@ -167,20 +183,10 @@ fn check_pruned<const N: usize>(rt: &impl Abort, alloc: Global) -> Result<(), Al
     assert_eq!(rt; map.encode_size(), 2 * N + 16);
     assert!(rt; written(alloc, &map)? == text);
     assert!(rt; is_pruned::<N>(rt, alloc, &text, 1, &[b'1'; 513][..8 * N + 1]));
-    for len in 0..text.len() {
-        assert!(rt;
-            is_short(pruned_refusal::<N>(alloc, &text[..len], &any)),
-            "{len} bytes"
-        );
-    }
+    check_pruned_fronts::<N>(rt, alloc, &text);
     let trailing = damaged(rt, alloc, &text, 2 * N + 15, 128)?;
-    assert!(rt;
-        is_invalid(
-            pruned_refusal::<N>(alloc, &trailing, &any),
-            "BitMap",
-            TRAILING
-        )
-    );
+    let error = pruned_refusal::<N>(alloc, &trailing, &RangeCfg::any());
+    assert!(rt; is_invalid(error, "BitMap", TRAILING));
     Ok(())
 }
 
@@ -263,10 +269,7 @@ fn faults_of_bits(rt: HostRuntime) -> Result<(), Fail> {
 #[test]
 fn bits_cut_short(rt: HostRuntime) -> Result<(), Fail> {
     let alloc = rt.alloc();
-    for len in 0..12 {
-        let error = refusal::<4>(alloc, &THREE_BITS[..len], &RangeCfg::any());
-        assert!(rt; is_short(error), "{len} bytes");
-    }
+    check_fronts::<4>(&rt, alloc, &THREE_BITS);
     // A length out of range is told even where chunks are missing.
     for len in 8..12 {
         let error = refusal::<4>(alloc, &THREE_BITS[..len], &RangeCfg::at_most(2));
@@ -412,13 +415,8 @@ fn a_byte_behind_pruned(rt: HostRuntime) -> Result<(), Fail> {
 }
 
 #[test]
-fn pruned_cut_short(rt: HostRuntime) -> Result<(), Fail> {
-    let alloc = rt.alloc();
-    for len in 0..20 {
-        let error = pruned_refusal::<4>(alloc, &BEHIND_ONE[..len], &RangeCfg::any());
-        assert!(rt; is_short(error), "{len} bytes");
-    }
-    Ok(())
+fn pruned_cut_short(rt: HostRuntime) {
+    check_pruned_fronts::<4>(&rt, rt.alloc(), &BEHIND_ONE);
 }
 
 #[test]
