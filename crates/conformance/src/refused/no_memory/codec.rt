@@ -2,10 +2,11 @@
 
 ghost use Rattle.std.specs.Prelude.{◌*◌, ◌^◌, ◌<◌};
 
+use crate::codec::refusal;
 use crate::refused::no_memory;
 use crate::refused::no_memory::pruned;
 use bitmap_core::bitmap::BitMap;
-use bitmap_core::bitmap::codec::{CodecError, EncodeSize, RangeCfg, Read, Write};
+use bitmap_core::bitmap::codec::{CodecError, EncodeSize, RangeCfg, Write};
 use bitmap_core::bitmap::prunable::Prunable;
 use std::alloc::Global;
 use std::process::Abort;
@@ -22,44 +23,6 @@ fn text(first: u64, second: u64) -> [u8; 80] {
     text
 }
 
-// The fault of a text that is read as a bitmap twice, and is left where it was.
-fn fault<const N: usize>(
-    rt: &impl Abort,
-    alloc: Global,
-    text: &[u8],
-    range: &RangeCfg,
-) -> CodecError
-    requires positive { 0 < N }
-    requires fits { 8 * N < 2 ^ 64 }
-{
-    let mut from = text;
-    let first = BitMap::<N>::read_cfg(alloc, &mut from, range);
-    assert!(rt; first.is_err() && from.len() == text.len());
-    match BitMap::<N>::read_cfg(alloc, &mut from, range) {
-        Err(error) => error,
-        Ok(_) => CodecError::OutOfMemory,
-    }
-}
-
-// The same of a text that is read as a bitmap with a pruned front.
-fn pruned_fault<const N: usize>(
-    rt: &impl Abort,
-    alloc: Global,
-    text: &[u8],
-    range: &RangeCfg,
-) -> CodecError
-    requires positive { 0 < N }
-    requires fits { 8 * N < 2 ^ 64 }
-{
-    let mut from = text;
-    let first = Prunable::<N>::read_cfg(alloc, &mut from, range);
-    assert!(rt; first.is_err() && from.len() == text.len());
-    match Prunable::<N>::read_cfg(alloc, &mut from, range) {
-        Err(error) => error,
-        Ok(_) => CodecError::OutOfMemory,
-    }
-}
-
 // Each fault of a bitmap's text.
 fn check_bits<const N: usize>(rt: &impl Abort, alloc: Global)
     requires positive { 0 < N }
@@ -69,16 +32,16 @@ fn check_bits<const N: usize>(rt: &impl Abort, alloc: Global)
     let any = RangeCfg::any();
     let mut one = text(1, 0);
     one[8] = 2;
-    let few = fault::<N>(rt, alloc, &one[..7], &any);
-    assert!(rt; matches!(few, CodecError::EndOfBuffer));
-    let length = fault::<N>(rt, alloc, &one[..8 + N], &RangeCfg::at_least(2));
-    assert!(rt; matches!(length, CodecError::InvalidLength(1)));
-    let chunk = fault::<N>(rt, alloc, &one[..7 + N], &any);
-    assert!(rt; matches!(chunk, CodecError::EndOfBuffer));
-    let longest = fault::<N>(rt, alloc, &text(u64::MAX, 0), &any);
-    assert!(rt; matches!(longest, CodecError::EndOfBuffer));
-    let trailing = fault::<N>(rt, alloc, &one[..8 + N], &any);
-    assert!(rt; matches!(trailing, CodecError::Invalid("BitMap", _)));
+    let few = refusal::<BitMap<N>>(alloc, &one[..7], &any);
+    assert!(rt; matches!(few, Some(CodecError::EndOfBuffer)));
+    let length = refusal::<BitMap<N>>(alloc, &one[..8 + N], &RangeCfg::at_least(2));
+    assert!(rt; matches!(length, Some(CodecError::InvalidLength(1))));
+    let chunk = refusal::<BitMap<N>>(alloc, &one[..7 + N], &any);
+    assert!(rt; matches!(chunk, Some(CodecError::EndOfBuffer)));
+    let longest = refusal::<BitMap<N>>(alloc, &text(u64::MAX, 0), &any);
+    assert!(rt; matches!(longest, Some(CodecError::EndOfBuffer)));
+    let trailing = refusal::<BitMap<N>>(alloc, &one[..8 + N], &any);
+    assert!(rt; matches!(trailing, Some(CodecError::Invalid("BitMap", _))));
 }
 
 // Each fault of the text of a bitmap with a pruned front.
@@ -90,23 +53,23 @@ fn check_pruned<const N: usize>(rt: &impl Abort, alloc: Global)
     let any = RangeCfg::any();
     let width = 8 * N as u64;
     let (most, room) = (u64::MAX / width, u64::MAX % width);
-    let few = pruned_fault::<N>(rt, alloc, &text(1, 1)[..7], &any);
-    assert!(rt; matches!(few, CodecError::EndOfBuffer));
-    let many = pruned_fault::<N>(rt, alloc, &text(u64::MAX, 0), &any);
-    assert!(rt; matches!(many, CodecError::Invalid("Prunable", _)));
+    let few = refusal::<Prunable<N>>(alloc, &text(1, 1)[..7], &any);
+    assert!(rt; matches!(few, Some(CodecError::EndOfBuffer)));
+    let many = refusal::<Prunable<N>>(alloc, &text(u64::MAX, 0), &any);
+    assert!(rt; matches!(many, Some(CodecError::Invalid("Prunable", _))));
     let long = text(most, room + 1);
-    let total = pruned_fault::<N>(rt, alloc, &long[..16 + N], &any);
-    assert!(rt; matches!(total, CodecError::Invalid("Prunable", _)));
+    let total = refusal::<Prunable<N>>(alloc, &long[..16 + N], &any);
+    assert!(rt; matches!(total, Some(CodecError::Invalid("Prunable", _))));
     let mut one = text(1, 1);
     one[16] = 2;
-    let short = pruned_fault::<N>(rt, alloc, &one[..15], &any);
-    assert!(rt; matches!(short, CodecError::EndOfBuffer));
-    let length = pruned_fault::<N>(rt, alloc, &one[..16 + N], &RangeCfg::exact(2));
-    assert!(rt; matches!(length, CodecError::InvalidLength(1)));
-    let chunk = pruned_fault::<N>(rt, alloc, &one[..15 + N], &any);
-    assert!(rt; matches!(chunk, CodecError::EndOfBuffer));
-    let trailing = pruned_fault::<N>(rt, alloc, &one[..16 + N], &any);
-    assert!(rt; matches!(trailing, CodecError::Invalid("BitMap", _)));
+    let short = refusal::<Prunable<N>>(alloc, &one[..15], &any);
+    assert!(rt; matches!(short, Some(CodecError::EndOfBuffer)));
+    let length = refusal::<Prunable<N>>(alloc, &one[..16 + N], &RangeCfg::exact(2));
+    assert!(rt; matches!(length, Some(CodecError::InvalidLength(1))));
+    let chunk = refusal::<Prunable<N>>(alloc, &one[..15 + N], &any);
+    assert!(rt; matches!(chunk, Some(CodecError::EndOfBuffer)));
+    let trailing = refusal::<Prunable<N>>(alloc, &one[..16 + N], &any);
+    assert!(rt; matches!(trailing, Some(CodecError::Invalid("BitMap", _))));
 }
 
 // Both bitmaps written where there is room for them.
