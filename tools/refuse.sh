@@ -41,16 +41,19 @@ read_table() {
     done <"$table"
 }
 
-# Sees to it that the tests of crate $1 are those of the sources as they stand.
+# Sees to it that the tests of crate $1 are those of the sources as they stand. $2 may be --built.
 build() {
     local tests=crates/$1/out/$1_tests newer
     if [[ $2 != --built ]]; then
         (cd "crates/$1" && rt test -- refused::)
         return
     fi
-    newer=$(find crates.txt crates/*/src crates/*/specs ! -type d -newer "$tests" -print -quit)
+    newer=$tests
+    if [[ -x $tests ]]; then
+        newer=$(find crates.txt crates/*/src crates/*/specs ! -type d -newer "$tests" -print -quit)
+    fi
     if [[ -n $newer ]]; then
-        echo "refuse: $newer is newer than $tests: leave --built out" >&2
+        echo "refuse: $tests is missing, or older than the sources: leave --built out" >&2
         return 1
     fi
 }
