@@ -2,7 +2,7 @@
 use Rattle.std.proofs.Common.{ℕ, ◌+◌, ◌<◌, ◌≤◌, List, [], ◌∷◌, ◌++◌, length, take, map, get_or, refl}
 use Rattle.std.proofs.lemmas.List.{take_all, take_more, map-append}
 use Rattle.replay.specs.declared.command.Command.{Command}
-use Rattle.replay.specs.declared.command.Reply.{Reply}
+use Rattle.replay.specs.declared.reply.Reply.{Reply}
 use Rattle.replay.specs.Machine.{Machine, Agrees, Answer, Step, StepTo, Run, RunsOn}
 use Rattle.replay.specs.Seen.{said}
 use Rattle.replay.proofs.Simulates.{simulates}

@@ -51,3 +51,7 @@ pub simulates : (N : ℕ) (old new before : Machine) (command : Command N) (answ
 simulates N old new before command answer a step =
     let from : StepTo N Agrees (record { state = before.state; touched = old.touched }) command answer new = subst (λ (s : State). StepTo N Agrees (record { state = s; touched = old.touched }) command answer new) a.same step in
     simulated N before.state old.touched before.touched command answer new a.within from
+
+-- a step from a machine is one from an equal machine
+pub step_from : (N : ℕ) (a b : Machine) (command : Command N) (answer : Answer) (new : Machine) → a ≡ b → StepTo N Agrees a command answer new → StepTo N Agrees b command answer new
+step_from N a b command answer new e step = subst (λ (m : Machine). StepTo N Agrees m command answer new) e step

@@ -1,13 +1,15 @@
 //! A session: runs commands on a bitmap with its history.
 
 ghost use Rattle.std.specs.Prelude.{◌≡◌, ℕ, ◌+◌, ◌*◌, ◌^◌, ◌<◌, ◌≤◌, List, [], ◌∷◌, ◌++◌, length, map, IfOk, OnErr, OnOk, vec_len, vec_capacity};
+ghost use Rattle.bitmap_core.specs.Chunk.{IsWidth};
 ghost use Rattle.bitmap_core.specs.Meaning.{ones, pruned_meaning};
 ghost use Rattle.bitmap_core.specs.Spelling.{pruned_spelling};
 ghost use Rattle.bitmap_core.specs.Reading.{admits};
-ghost use Rattle.replay.specs.Machine.{Agrees, IsDecoded, StepTo, RunsOn, shown, start};
+ghost use Rattle.replay.specs.Machine.{Agrees, IsDecoded, StepTo, RunsOn, first_machine, shown};
 ghost use Rattle.replay.specs.Seen.{seen, said};
 
-use crate::command::{Command, Refusal, Reply};
+use crate::command::Command;
+use crate::reply::{Refusal, Reply};
 use crate::store::{Clean, Dirty};
 use bitmap_core::bitmap::codec::{CodecError, RangeCfg, Read, Write};
 use bitmap_core::bitmap::{Prunable, Readable};
@@ -23,8 +25,7 @@ enum State<const N: usize> {
 }
 
 fn start<const N: usize>(state: State<N>, alloc: Global, chunks: usize) -> (State<N>, Reply<N>)
-    requires positive { 0 < N }
-    requires fits { 8 * N < 2 ^ 64 }
+    requires width { IsWidth N }
     ensures { StepTo N Agrees (seen state.entry) (Command.Start chunks) (said result.1) (seen result.0) }
 {
     match state {
@@ -154,6 +155,18 @@ fn shown_bitmap<'a, const N: usize>(state: &'a State<N>) -> &'a Prunable<N>
     }
 }
 
+fn len<const N: usize>(state: &State<N>) -> Reply<N>
+    ensures { StepTo N Agrees (seen state.now) Command.Len (said result) (seen state.now) }
+{
+    Reply::Number(shown_bitmap(state).len())
+}
+
+fn pruned_chunks<const N: usize>(state: &State<N>) -> Reply<N>
+    ensures { StepTo N Agrees (seen state.now) Command.PrunedChunks (said result) (seen state.now) }
+{
+    Reply::Number(shown_bitmap(state).pruned_chunks() as u64)
+}
+
 fn get<const N: usize>(state: &State<N>, position: u64) -> Reply<N>
     ensures { StepTo N Agrees (seen state.now) (Command.Get position) (said result) (seen state.now) }
 {
@@ -165,18 +178,6 @@ fn get<const N: usize>(state: &State<N>, position: u64) -> Reply<N>
         return Reply::Refused(Refusal::Pruned);
     }
     Reply::Bit(bitmap.get_bit(position))
-}
-
-fn len<const N: usize>(state: &State<N>) -> Reply<N>
-    ensures { StepTo N Agrees (seen state.now) Command.Len (said result) (seen state.now) }
-{
-    Reply::Number(shown_bitmap(state).len())
-}
-
-fn pruned_chunks<const N: usize>(state: &State<N>) -> Reply<N>
-    ensures { StepTo N Agrees (seen state.now) Command.PrunedChunks (said result) (seen state.now) }
-{
-    Reply::Number(shown_bitmap(state).pruned_chunks() as u64)
 }
 
 // The set positions of a bitmap in a range.
@@ -226,19 +227,6 @@ fn encode<const N: usize>(state: &State<N>, alloc: Global) -> Reply<N>
     }
 }
 
-fn decode<const N: usize>(alloc: Global, text: &[u8], range: &RangeCfg) -> Reply<N>
-    requires positive { 0 < N }
-    requires fits { 8 * N < 2 ^ 64 }
-    ensures { IsDecoded N (admits range.now) text.now (said result) }
-{
-    let mut left = text;
-    match Prunable::read_cfg(alloc, &mut left, range) {
-        Ok(bitmap) => Reply::Read(bitmap, left.len()),
-        Err(CodecError::OutOfMemory) => Reply::Refused(Refusal::NoMemory),
-        Err(error) => Reply::Refused(Refusal::Codec(error)),
-    }
-}
-
 fn at<const N: usize>(state: &State<N>, number: u64) -> Reply<N>
     ensures { StepTo N Agrees (seen state.now) (Command.At number) (said result) (seen state.now) }
 {
@@ -251,14 +239,25 @@ fn at<const N: usize>(state: &State<N>, number: u64) -> Reply<N>
     }
 }
 
+fn decode<const N: usize>(alloc: Global, text: &[u8], range: &RangeCfg) -> Reply<N>
+    requires width { IsWidth N }
+    ensures { IsDecoded N (admits range.now) text.now (said result) }
+{
+    let mut left = text;
+    match Prunable::read_cfg(alloc, &mut left, range) {
+        Ok(bitmap) => Reply::Read(bitmap, left.len()),
+        Err(CodecError::OutOfMemory) => Reply::Refused(Refusal::NoMemory),
+        Err(error) => Reply::Refused(Refusal::Codec(error)),
+    }
+}
+
 // One command: the state after it, and the reply.
 fn step<const N: usize>(
     state: State<N>,
     alloc: Global,
     command: &Command<N>,
 ) -> (State<N>, Reply<N>)
-    requires positive { 0 < N }
-    requires fits { 8 * N < 2 ^ 64 }
+    requires width { IsWidth N }
     ensures { StepTo N Agrees (seen state.entry) command.now (said result.1) (seen result.0) }
 {
     match command {
@@ -289,12 +288,12 @@ fn step<const N: usize>(
             let reply = encode(&state, alloc);
             (state, reply)
         }
-        Command::Decode(text, range) => {
-            let reply = decode(alloc, text.as_slice(), range);
-            (state, reply)
-        }
         Command::At(number) => {
             let reply = at(&state, *number);
+            (state, reply)
+        }
+        Command::Decode(text, range) => {
+            let reply = decode(alloc, text.as_slice(), range);
             (state, reply)
         }
     }
@@ -318,7 +317,7 @@ pub struct Session<const N: usize> {
 }
 
 impl<const N: usize> Model for Session<N> {
-    ghost use Rattle.std.specs.Prelude.{ℕ, ◌*◌, ◌^◌, ◌<◌};
+    ghost use Rattle.bitmap_core.specs.Chunk.{IsWidth};
     ghost use Rattle.replay.specs.Machine.{Machine};
 
     ghost Value = { Machine };
@@ -327,15 +326,14 @@ impl<const N: usize> Model for Session<N> {
 
     ghost view = { λ s. seen s.state };
 
-    ghost invariant = { λ s. (0 < N) × (8 * N < 2 ^ 64) };
+    ghost invariant = { λ s. IsWidth N };
 }
 
 impl<const N: usize> Session<N> {
-    /// Clean, empty and without commits. `N` is at least 1, and `8N` fits `u64`. No memory.
+    /// No batch, no bits, nothing pruned and no commits. `N` is at least 1, and `8N` fits `u64`. No memory.
     pub fn new(alloc: Global) -> Self
-        requires positive { 0 < N }
-        requires fits { 8 * N < 2 ^ 64 }
-        ensures { result ≡ start }
+        requires width { IsWidth N }
+        ensures { result ≡ first_machine }
     {
         Session {
             state: State::Clean(Clean::new(alloc, Prunable::new(alloc))),
@@ -356,6 +354,12 @@ impl<const N: usize> Session<N> {
     }
 
     /// Runs the commands in order and appends one reply for each.
+    ///
+    /// The clause `run` is the main theorem. The machine of `specs/Machine.antt` keeps every committed bitmap whole.
+    /// For every list of commands the replies are those of that machine: from every machine that agrees with the
+    /// session before, there is a run over the commands, one reply a command, that ends in a machine that agrees with
+    /// the session after. A refused command changes nothing, and only a command that the machine marks may find no
+    /// memory. Nothing is asked but that the width may be used, which holds of every session.
     ///
     /// Room for the replies is taken first: refused there, the session and the replies are as they were. A command
     /// that finds no memory later is answered by `NoMemory`.

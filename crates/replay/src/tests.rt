@@ -1,5 +1,6 @@
-use crate::command::{Command, Reply};
+use crate::command::Command;
 use crate::program::{read_width, run_script};
+use crate::reply::Reply;
 use crate::session::Session;
 use std::alloc::{AllocError, Global};
 use std::io;

@@ -6,11 +6,11 @@ use Rattle.bitmap_core.specs.PrunedBits.{PrunedBits}
 use Rattle.bitmap_core.specs.declared.bitmap.codec.error.CodecError.TheVariants as errors
 use Rattle.bitmap_core.specs.Reading.Fault.{EndOfBuffer, InvalidLength}
 use Rattle.replay.specs.declared.session.State.TheVariants as state
-use Rattle.replay.specs.declared.command.Refusal.TheVariants as refusal
-use Rattle.replay.specs.declared.command.Reply.TheVariants as reply
+use Rattle.replay.specs.declared.reply.Refusal.TheVariants as refusal
+use Rattle.replay.specs.declared.reply.Reply.TheVariants as reply
 use Rattle.replay.specs.Machine.{Done, Bit, Number, Positions, Bytes, Snapshot, Read, Refused, WrongMode, OutOfBounds, Pruned, TooLong, NoRetainedBit, ReservedCommitNumber, NonMonotonicCommit, PrunedChunksOverflow, Codec, NoMemory}
 use Rattle.replay.specs.Seen.{no_costs, reason, seen, said}
-use Rattle.replay.specs.Width.{IsWidth}
+use Rattle.replay.specs.Width.{IsOfferedWidth}
 
 -- a set bit, nothing pruned
 abbrev pub one_bit : PrunedBits
@@ -78,23 +78,23 @@ said_refused : said {N = 1} (reply.Refused refusal.Pruned) ≡ Refused Pruned
 said_refused = refl
 
 -- 1, 3, 4, 8 and 32 are widths
-one : IsWidth 1
+one : IsOfferedWidth 1
 one = inl refl
 
-three : IsWidth 3
+three : IsOfferedWidth 3
 three = inr (inl refl)
 
-four : IsWidth 4
+four : IsOfferedWidth 4
 four = inr (inr (inl refl))
 
-eight : IsWidth 8
+eight : IsOfferedWidth 8
 eight = inr (inr (inr (inl refl)))
 
-thirty_two : IsWidth 32
+thirty_two : IsOfferedWidth 32
 thirty_two = inr (inr (inr (inr refl)))
 
 -- 2 is none
-not_two : IsWidth 2 → ⊥
+not_two : IsOfferedWidth 2 → ⊥
 not_two (inl e) = omega (arith, e)
 not_two (inr (inl e)) = omega (arith, e)
 not_two (inr (inr (inl e))) = omega (arith, e)

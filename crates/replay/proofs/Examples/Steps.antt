@@ -5,14 +5,14 @@ use Rattle.std.proofs.Common.{refl, ap, sym, ◌∙◌, inl, inr, arith}
 use Rattle.std.proofs.lemmas.Bool.{false≢true}
 use Rattle.bitmap_core.specs.PrunedBits.{PrunedBits}
 use Rattle.bitmap_core.specs.declared.bitmap.codec.range.RangeCfg.{RangeCfg}
-use Rattle.bitmap_core.specs.Reading.{admits, pruned_fault}
+use Rattle.bitmap_core.specs.Reading.{admits}
 use Rattle.bitmap_core.specs.Reading.Fault.{EndOfBuffer}
 use Rattle.replay.specs.declared.command.Command.{Command}
 use Rattle.replay.specs.declared.command.Command.TheVariants.{Begin, Push, Pop, Set, Commit, Len, Ones, At, Decode}
 use Rattle.replay.specs.History.{History}
-use Rattle.replay.specs.Machine.{State, Machine, start, Done, Bit, Number, Positions, Snapshot, Read, Refused, WrongMode, NonMonotonicCommit, Codec, NoMemory, Step, Run, Agrees, RunsOn, decoded}
-use Rattle.replay.proofs.Examples.Replies.{behind_one, text_of_three, read}
-use Rattle.replay.proofs.Examples.Refusals.{no_bytes}
+use Rattle.replay.specs.Machine.{State, Machine, first_machine, Done, Bit, Number, Positions, Snapshot, Read, Refused, WrongMode, NonMonotonicCommit, Codec, NoMemory, Step, Run, Agrees, RunsOn, wants_readable, decoded}
+use Rattle.replay.proofs.Examples.Refusals.{text_of_three, three_alone, no_bytes, admitted}
+use Rattle.replay.proofs.Examples.Replies.{behind_one, read}
 
 -- some bits, nothing pruned
 abbrev pub plain : List Bool → PrunedBits
@@ -31,7 +31,7 @@ abbrev pub first_commit : List (Command 1)
 first_commit = Begin ∷ Push true ∷ Push false ∷ Commit 1 ∷ []
 
 -- each command is done, and the commit costs one entry: the chunk that both bits stand in
-first_run : Run 1 start first_commit (Done ∷ Done ∷ Done ∷ Done ∷ []) (clean (plain (true ∷ false ∷ [])) ((1, plain (true ∷ false ∷ [])) ∷ []) ((1, 1) ∷ []))
+first_run : Run 1 first_machine first_commit (Done ∷ Done ∷ Done ∷ Done ∷ []) (clean (plain (true ∷ false ∷ [])) ((1, plain (true ∷ false ∷ [])) ∷ []) ((1, 1) ∷ []))
 first_run = (
   batch (plain []) (plain []) [] [] [],
   inl (refl, (0, omega arith, refl)),
@@ -129,7 +129,7 @@ begin_in_a_batch : Step 1 (batch_on_it (true ∷ []) []) Begin Done (batch_on_it
 begin_in_a_batch r = let e = r.0 in cc
 
 -- a refused command does not leave another machine
-refused_and_changed : Step 1 one_kept (Push true) (Refused WrongMode) start → ⊥
+refused_and_changed : Step 1 one_kept (Push true) (Refused WrongMode) first_machine → ⊥
 refused_and_changed r = let e : ◌≡◌ {A = ℕ} 0 1 = ap (λ (m : Machine). length m.state.history) r.1 in omega (arith, e)
 
 -- one touched chunk may cost one entry, and not two
@@ -141,23 +141,26 @@ dear_commit (inr m) = let e = m.1.0 in cc
 plus_one : Step 1 (batch_on_it [] (0 ∷ 0 ∷ [])) (Commit 2) Done (clean (plain []) ((1, plain (true ∷ false ∷ [])) ∷ (2, plain []) ∷ []) ((1, 1) ∷ (2, 2) ∷ []))
 plus_one = inl (refl, (2, omega arith, refl))
 
--- its number of bits is 3, which the range admits
-sound : pruned_fault 1 (admits (record { low = 3; high = 3 })) text_of_three ≡ None
-unfolding pruned_fault
-sound = refl
-
 -- a text without fault is read, its last two bytes left, and one without bytes is refused
-three_are_read : (text : Vec ℕ) → text.items ≡ text_of_three → Step 1 one_kept (Decode text (record { low = 3; high = 3 })) (Read (behind_one (true ∷ false ∷ true ∷ [])) 2) one_kept
-three_are_read text e = let f : pruned_fault 1 (admits (record { low = 3; high = 3 })) text.items ≡ None = ap (pruned_fault 1 (admits (record { low = 3; high = 3 }))) e ∙ sound in rw f (inl (sym (ap (decoded 1) e ∙ read), (0, omega arith, refl)))
+three_are_read : (text : Vec ℕ) → text.items ≡ text_of_three
+    → Step 1 one_kept (Decode text three_alone) (Read (behind_one (true ∷ false ∷ true ∷ [])) 2) one_kept
+three_are_read text e =
+    let f : wants_readable 1 (admits three_alone) text.items ≡ None =
+      ap (wants_readable 1 (admits three_alone)) e ∙ admitted in
+    rw f (inl (sym (ap (decoded 1) e ∙ read), (0, omega arith, refl)))
 
-nothing_is_read : (text : Vec ℕ) (range : RangeCfg) → text.items ≡ [] → Step 1 one_kept (Decode text range) (Refused (Codec (Some EndOfBuffer))) one_kept
-nothing_is_read text range e = let f : pruned_fault 1 (admits range) text.items ≡ Some EndOfBuffer = ap (pruned_fault 1 (admits range)) e ∙ no_bytes range in rw f (refl, refl)
+nothing_is_read : (text : Vec ℕ) (range : RangeCfg) → text.items ≡ []
+    → Step 1 one_kept (Decode text range) (Refused (Codec (Some EndOfBuffer))) one_kept
+nothing_is_read text range e =
+    let f : wants_readable 1 (admits range) text.items ≡ Some (Codec (Some EndOfBuffer)) =
+      ap (wants_readable 1 (admits range)) e ∙ no_bytes range in
+    rw f (refl, refl)
 
 -- there is one answer a command
-missing_answer : Run 1 start (Begin ∷ []) [] start → ⊥
+missing_answer : Run 1 first_machine (Begin ∷ []) [] first_machine → ⊥
 missing_answer r = r
 
-answer_too_many : Run 1 start [] (Done ∷ []) start → ⊥
+answer_too_many : Run 1 first_machine [] (Done ∷ []) first_machine → ⊥
 answer_too_many r = r
 
 -- the empty run ends where it began

@@ -1,6 +1,6 @@
 use Rattle.std.proofs.Common.{◌≡◌, ◌+◌, ◌-◌, ◌≤◌, List, ◌++◌, length, take, map}
 use Rattle.std.specs.Prelude.{vec_len, vec_capacity}
-use Rattle.replay.specs.declared.command.Reply.{Reply}
+use Rattle.replay.specs.declared.reply.Reply.{Reply}
 use Rattle.replay.specs.Machine.{RunsOn}
 use Rattle.replay.specs.Seen.{said}
 use Rattle.replay.proofs.session.Session.run.Given as goal
