@@ -371,21 +371,21 @@ not_kept_takes_none = refl
 decode_accepted : (text : Vec ℕ) → text.items ≡ text_of_three → refusal_of 1 dirty (Decode text three_alone) ≡ None
 decode_accepted text e =
     let f : wants_readable 1 (admits three_alone) text.items ≡ None =
-      ap (wants_readable 1 (admits three_alone)) e ∙ admitted in
+    ap (wants_readable 1 (admits three_alone)) e ∙ admitted in
     rw f refl
 
 decode_not_admitted : (text : Vec ℕ) → text.items ≡ text_of_three
     → refusal_of 1 clean (Decode text four_alone) ≡ Some (Codec (Some (InvalidLength 3)))
 decode_not_admitted text e =
     let f : wants_readable 1 (admits four_alone) text.items ≡ Some (Codec (Some (InvalidLength 3))) =
-      ap (wants_readable 1 (admits four_alone)) e ∙ not_admitted in
+    ap (wants_readable 1 (admits four_alone)) e ∙ not_admitted in
     rw f refl
 
 decode_nothing : (text : Vec ℕ) (range : RangeCfg) → text.items ≡ []
     → refusal_of 1 dirty (Decode text range) ≡ Some (Codec (Some EndOfBuffer))
 decode_nothing text range e =
     let f : wants_readable 1 (admits range) text.items ≡ Some (Codec (Some EndOfBuffer)) =
-      ap (wants_readable 1 (admits range)) e ∙ no_bytes range in
+    ap (wants_readable 1 (admits range)) e ∙ no_bytes range in
     rw f refl
 
 decode_takes_memory : (text : Vec ℕ) (range : RangeCfg) → takes_memory 1 clean (Decode text range) ≡ true

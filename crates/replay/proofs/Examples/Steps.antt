@@ -146,14 +146,14 @@ three_are_read : (text : Vec ℕ) → text.items ≡ text_of_three
     → Step 1 one_kept (Decode text three_alone) (Read (behind_one (true ∷ false ∷ true ∷ [])) 2) one_kept
 three_are_read text e =
     let f : wants_readable 1 (admits three_alone) text.items ≡ None =
-      ap (wants_readable 1 (admits three_alone)) e ∙ admitted in
+    ap (wants_readable 1 (admits three_alone)) e ∙ admitted in
     rw f (inl (sym (ap (decoded 1) e ∙ read), (0, omega arith, refl)))
 
 nothing_is_read : (text : Vec ℕ) (range : RangeCfg) → text.items ≡ []
     → Step 1 one_kept (Decode text range) (Refused (Codec (Some EndOfBuffer))) one_kept
 nothing_is_read text range e =
     let f : wants_readable 1 (admits range) text.items ≡ Some (Codec (Some EndOfBuffer)) =
-      ap (wants_readable 1 (admits range)) e ∙ no_bytes range in
+    ap (wants_readable 1 (admits range)) e ∙ no_bytes range in
     rw f (refl, refl)
 
 -- there is one answer a command
