@@ -32,8 +32,14 @@ reason refusal.NoMemory = NoMemory
 module _ {N : ℕ} where
   -- a session's state; whole copies mark no chunk
   abbrev pub seen : State N → Machine
-  seen (state.Clean clean) = record { state = record { current = clean.current; pending = None; history = clean.history; costs = no_costs clean.history }; touched = [] }
-  seen (state.Dirty dirty) = record { state = record { current = dirty.current; pending = Some dirty.pending; history = dirty.history; costs = no_costs dirty.history }; touched = [] }
+  seen (state.Clean clean) = record {
+    state = record { current = clean.current; pending = None; history = clean.history; costs = no_costs clean.history };
+    touched = [];
+  }
+  seen (state.Dirty dirty) = record {
+    state = record { current = dirty.current; pending = Some dirty.pending; history = dirty.history; costs = no_costs dirty.history };
+    touched = [];
+  }
 
   -- what a reply says
   abbrev pub said : Reply N → Answer

@@ -7,7 +7,7 @@ use Rattle.bitmap_core.specs.declared.bitmap.codec.range.RangeCfg.{RangeCfg}
 use Rattle.bitmap_core.specs.Reading.{admits, pruned_fault}
 use Rattle.bitmap_core.specs.Reading.Fault.{EndOfBuffer, InvalidLength}
 use Rattle.replay.specs.declared.command.Command.TheVariants.{Start, Begin, Push, Pop, Set, Commit, Abort, Len, PrunedChunks, Get, Ones, Encode, At, Decode}
-use Rattle.replay.specs.Machine.{State, first_machine, anew, is_dirty, shown, edited, WrongMode, OutOfBounds, Pruned, TooLong, NoRetainedBit, ReservedCommitNumber, NonMonotonicCommit, PrunedChunksOverflow, Codec, when, first, wants_batch, wants_no_batch, wants_retained, wants_number, chunk_index, shown_len, wants_bit, wants_room, wants_fitting, wants_readable, refusal_of, takes_memory}
+use Rattle.replay.specs.Machine.{State, first_machine, is_dirty, shown, edited, WrongMode, OutOfBounds, Pruned, TooLong, NoRetainedBit, ReservedCommitNumber, NonMonotonicCommit, PrunedChunksOverflow, Codec, when, first, wants_batch, wants_no_batch, wants_retained, wants_number, chunk_index, shown_len, wants_bit, wants_room, wants_fitting, wants_readable, refusal_of, takes_memory}
 
 -- two bits behind one pruned chunk: positions 8 and 9
 abbrev pub two_bits : PrunedBits
@@ -368,25 +368,24 @@ not_kept_takes_none = refl
 
 -- ---- decode goes with a batch and without
 
+-- what refuses a text is what refuses its bytes
+pub of_bytes : (range : RangeCfg) (text : Vec ℕ) (bytes : List ℕ)
+    → text.items ≡ bytes
+    → wants_readable 1 (admits range) text.items ≡ wants_readable 1 (admits range) bytes
+of_bytes range text bytes e = ap (wants_readable 1 (admits range)) e
+
 decode_accepted : (text : Vec ℕ) → text.items ≡ text_of_three → refusal_of 1 dirty (Decode text three_alone) ≡ None
-decode_accepted text e =
-    let f : wants_readable 1 (admits three_alone) text.items ≡ None =
-    ap (wants_readable 1 (admits three_alone)) e ∙ admitted in
-    rw f refl
+decode_accepted text e = rw (of_bytes three_alone text text_of_three e ∙ admitted) refl
 
-decode_not_admitted : (text : Vec ℕ) → text.items ≡ text_of_three
+decode_not_admitted : (text : Vec ℕ)
+    → text.items ≡ text_of_three
     → refusal_of 1 clean (Decode text four_alone) ≡ Some (Codec (Some (InvalidLength 3)))
-decode_not_admitted text e =
-    let f : wants_readable 1 (admits four_alone) text.items ≡ Some (Codec (Some (InvalidLength 3))) =
-    ap (wants_readable 1 (admits four_alone)) e ∙ not_admitted in
-    rw f refl
+decode_not_admitted text e = rw (of_bytes four_alone text text_of_three e ∙ not_admitted) refl
 
-decode_nothing : (text : Vec ℕ) (range : RangeCfg) → text.items ≡ []
+decode_nothing : (text : Vec ℕ) (range : RangeCfg)
+    → text.items ≡ []
     → refusal_of 1 dirty (Decode text range) ≡ Some (Codec (Some EndOfBuffer))
-decode_nothing text range e =
-    let f : wants_readable 1 (admits range) text.items ≡ Some (Codec (Some EndOfBuffer)) =
-    ap (wants_readable 1 (admits range)) e ∙ no_bytes range in
-    rw f refl
+decode_nothing text range e = rw (of_bytes range text [] e ∙ no_bytes range) refl
 
 decode_takes_memory : (text : Vec ℕ) (range : RangeCfg) → takes_memory 1 clean (Decode text range) ≡ true
 decode_takes_memory text range = refl

@@ -15,20 +15,31 @@ use Rattle.replay.specs.Machine.{State, Machine, first_machine, anew, committed,
 abbrev pub behind_one : List Bool → PrunedBits
 behind_one v = record { pruned = 1; bits = v }
 
--- bits 1, 0 at the positions 8 and 9; one commit under 5
+-- bits 1, 0 at the positions 8 and 9
+abbrev pub two_bits : PrunedBits
+two_bits = behind_one (true ∷ false ∷ [])
+
+-- they are current, and kept under 5
 abbrev pub clean : State
-clean = record { current = behind_one (true ∷ false ∷ []); pending = None; history = (5, behind_one (true ∷ false ∷ [])) ∷ []; costs = (5, 1) ∷ [] }
+clean = record { current = two_bits; pending = None; history = (5, two_bits) ∷ []; costs = (5, 1) ∷ [] }
 
 -- in a batch some bits are pending
 abbrev pub pending : List Bool → State
-pending v = record { current = behind_one (true ∷ false ∷ []); pending = Some (behind_one v); history = (5, behind_one (true ∷ false ∷ [])) ∷ []; costs = (5, 1) ∷ [] }
+pending v = record { current = two_bits; pending = Some (behind_one v); history = (5, two_bits) ∷ []; costs = (5, 1) ∷ [] }
 
 -- the same, with chunks that the batch has touched
 abbrev pub touched : List Bool → List ℕ → Machine
 touched v chunks = record { state = pending v; touched = chunks }
 
+-- a batch over other current bits, and nothing kept
+abbrev pub unkept : PrunedBits → PrunedBits → State
+unkept current pending = record { current = current; pending = Some pending; history = []; costs = [] }
+
 -- the machine before the first command
-nothing_yet : first_machine ≡ record { state = record { current = record { pruned = 0; bits = [] }; pending = None; history = []; costs = [] }; touched = [] }
+nothing_yet : first_machine ≡ record {
+  state = record { current = record { pruned = 0; bits = [] }; pending = None; history = []; costs = [] };
+  touched = [];
+}
 nothing_yet = refl
 
 -- ---- whole rules, of a read, of an edit and of a command that begins a batch
@@ -55,7 +66,13 @@ begin_rule : rule 1 clean Begin ≡ record {
 begin_rule = refl
 
 -- the three shapes of a rule, each with a refusal of its own
-a_read : reads clean (Some Pruned ∷ []) true Done ≡ record { refusals = Some Pruned ∷ []; takes_memory = true; answer = Done; after = λ cost. clean; touches = [] }
+a_read : reads clean (Some Pruned ∷ []) true Done ≡ record {
+  refusals = Some Pruned ∷ [];
+  takes_memory = true;
+  answer = Done;
+  after = λ cost. clean;
+  touches = [];
+}
 a_read = refl
 
 an_edit : edits clean (Some Pruned ∷ []) false Done (behind_one []) (4 ∷ []) ≡ record {
@@ -67,7 +84,13 @@ an_edit : edits clean (Some Pruned ∷ []) false Done (behind_one []) (4 ∷ [])
 }
 an_edit = refl
 
-a_turn : turns (Some Pruned ∷ []) false (λ cost. anew cost) ≡ record { refusals = Some Pruned ∷ []; takes_memory = false; answer = Done; after = λ cost. anew cost; touches = [] }
+a_turn : turns (Some Pruned ∷ []) false (λ cost. anew cost) ≡ record {
+  refusals = Some Pruned ∷ [];
+  takes_memory = false;
+  answer = Done;
+  after = λ cost. anew cost;
+  touches = [];
+}
 a_turn = refl
 
 -- ---- replies
@@ -87,7 +110,7 @@ pruned_count : answer_of 1 clean PrunedChunks ≡ Number 1
 pruned_count = refl
 
 -- of a batch whose bitmap has another count, that count
-pending_count : answer_of 1 (record { current = behind_one []; pending = Some (record { pruned = 0; bits = [] }); history = []; costs = [] }) PrunedChunks ≡ Number 0
+pending_count : answer_of 1 (unkept (behind_one []) (record { pruned = 0; bits = [] })) PrunedChunks ≡ Number 0
 pending_count = refl
 
 -- position 9 without a batch, and in one that has set it
@@ -102,7 +125,10 @@ set_positions : answer_of 1 clean (Ones 0 99) ≡ Positions (Some (8 ∷ []))
 set_positions = refl
 
 -- one pruned chunk, two bits, and the byte 1
-encoded : answer_of 1 clean Encode ≡ Bytes (Some (0 ∷ 0 ∷ 0 ∷ 0 ∷ 0 ∷ 0 ∷ 0 ∷ 1 ∷ 0 ∷ 0 ∷ 0 ∷ 0 ∷ 0 ∷ 0 ∷ 0 ∷ 2 ∷ 1 ∷ []))
+abbrev pub text_of_two : List ℕ
+text_of_two = 0 ∷ 0 ∷ 0 ∷ 0 ∷ 0 ∷ 0 ∷ 0 ∷ 1 ∷ 0 ∷ 0 ∷ 0 ∷ 0 ∷ 0 ∷ 0 ∷ 0 ∷ 2 ∷ 1 ∷ []
+
+encoded : answer_of 1 clean Encode ≡ Bytes (Some text_of_two)
 unfolding pruned_spelling spelling
 encoded = refl
 
@@ -161,7 +187,9 @@ unfolding pruned_fault
 is_not_want_of_memory e = cc
 
 -- a decode replies so in a batch too
-decode_reply : (text : Vec ℕ) (range : RangeCfg) → text.items ≡ text_of_three → answer_of 1 (pending []) (Decode text range) ≡ Read (behind_one (true ∷ false ∷ true ∷ [])) 2
+decode_reply : (text : Vec ℕ) (range : RangeCfg)
+    → text.items ≡ text_of_three
+    → answer_of 1 (pending []) (Decode text range) ≡ Read (behind_one (true ∷ false ∷ true ∷ [])) 2
 decode_reply text range e = ap (decoded 1) e ∙ read
 
 -- ---- states
@@ -188,11 +216,21 @@ set_leaves : state_after 1 (pending (true ∷ false ∷ [])) (Set 9 true) 0 ≡ 
 set_leaves = refl
 
 -- a commit under 6 at a cost of 2: the pending bits are current, and kept behind what was kept
-commit_leaves : state_after 1 (pending (true ∷ [])) (Commit 6) 2 ≡ record { current = behind_one (true ∷ []); pending = None; history = (5, behind_one (true ∷ false ∷ [])) ∷ (6, behind_one (true ∷ [])) ∷ []; costs = (5, 1) ∷ (6, 2) ∷ [] }
+commit_leaves : state_after 1 (pending (true ∷ [])) (Commit 6) 2 ≡ record {
+  current = behind_one (true ∷ []);
+  pending = None;
+  history = (5, two_bits) ∷ (6, behind_one (true ∷ [])) ∷ [];
+  costs = (5, 1) ∷ (6, 2) ∷ [];
+}
 commit_leaves = refl
 
 -- without a batch it would keep the current bits
-committed_clean : committed clean 6 0 ≡ record { current = behind_one (true ∷ false ∷ []); pending = None; history = (5, behind_one (true ∷ false ∷ [])) ∷ (6, behind_one (true ∷ false ∷ [])) ∷ []; costs = (5, 1) ∷ (6, 0) ∷ [] }
+committed_clean : committed clean 6 0 ≡ record {
+  current = two_bits;
+  pending = None;
+  history = (5, two_bits) ∷ (6, two_bits) ∷ [];
+  costs = (5, 1) ∷ (6, 0) ∷ [];
+}
 committed_clean = refl
 
 -- an abort leaves what was there before the batch
@@ -271,14 +309,14 @@ up_to_two_chunks : popped_to_chunks 1 (pending (true ∷ true ∷ true ∷ true 
 up_to_two_chunks = refl
 
 -- from 16 down and up to 16 again, which is no fewer
-no_fewer : popped_to_chunks 1 (record { current = behind_one (replicate 8 true); pending = Some (behind_one (replicate 8 false)); history = []; costs = [] }) ≡ false
+no_fewer : popped_to_chunks 1 (unkept (behind_one (replicate 8 true)) (behind_one (replicate 8 false))) ≡ false
 no_fewer = refl
 
 -- from 17 down to 16, at width 1; of chunks of two bytes 32 are a whole one, and 24 are not
-down_to_two_chunks : popped_to_chunks 1 (record { current = behind_one (replicate 9 true); pending = Some (behind_one (replicate 8 true)); history = []; costs = [] }) ≡ true
+down_to_two_chunks : popped_to_chunks 1 (unkept (behind_one (replicate 9 true)) (behind_one (replicate 8 true))) ≡ true
 down_to_two_chunks = refl
 
-down_within_a_wide_chunk : popped_to_chunks 2 (record { current = behind_one (replicate 9 true); pending = Some (behind_one (replicate 8 true)); history = []; costs = [] }) ≡ false
+down_within_a_wide_chunk : popped_to_chunks 2 (unkept (behind_one (replicate 9 true)) (behind_one (replicate 8 true))) ≡ false
 down_within_a_wide_chunk = refl
 
 -- the chunks 1 and 2 touched, one of them twice

@@ -25,14 +25,27 @@ two_costs : no_costs ((3, one_bit) ∷ (7, none) ∷ []) ≡ (3, 0) ∷ (7, 0) �
 two_costs = refl
 
 -- a session without a batch, and one in a batch
-seen_clean : seen {N = 1} (state.Clean (record { current = one_bit; history = (3, none) ∷ [] })) ≡ record { state = record { current = one_bit; pending = None; history = (3, none) ∷ []; costs = (3, 0) ∷ [] }; touched = [] }
+seen_clean : seen {N = 1} (state.Clean (record { current = one_bit; history = (3, none) ∷ [] })) ≡ record {
+  state = record { current = one_bit; pending = None; history = (3, none) ∷ []; costs = (3, 0) ∷ [] };
+  touched = [];
+}
 seen_clean = refl
 
-seen_dirty : seen {N = 1} (state.Dirty (record { current = none; history = (3, none) ∷ []; pending = one_bit })) ≡ record { state = record { current = none; pending = Some one_bit; history = (3, none) ∷ []; costs = (3, 0) ∷ [] }; touched = [] }
+seen_dirty : seen {N = 1} (state.Dirty (record { current = none; history = (3, none) ∷ []; pending = one_bit })) ≡ record {
+  state = record { current = none; pending = Some one_bit; history = (3, none) ∷ []; costs = (3, 0) ∷ [] };
+  touched = [];
+}
 seen_dirty = refl
 
 -- refusals, one by one
-reasons : (reason refusal.WrongMode ≡ WrongMode) × (reason refusal.OutOfBounds ≡ OutOfBounds) × (reason refusal.Pruned ≡ Pruned) × (reason refusal.TooLong ≡ TooLong) × (reason refusal.NoRetainedBit ≡ NoRetainedBit) × (reason refusal.ReservedCommitNumber ≡ ReservedCommitNumber) × (reason refusal.PrunedChunksOverflow ≡ PrunedChunksOverflow) × (reason refusal.NoMemory ≡ NoMemory)
+reasons : (reason refusal.WrongMode ≡ WrongMode)
+    × (reason refusal.OutOfBounds ≡ OutOfBounds)
+    × (reason refusal.Pruned ≡ Pruned)
+    × (reason refusal.TooLong ≡ TooLong)
+    × (reason refusal.NoRetainedBit ≡ NoRetainedBit)
+    × (reason refusal.ReservedCommitNumber ≡ ReservedCommitNumber)
+    × (reason refusal.PrunedChunksOverflow ≡ PrunedChunksOverflow)
+    × (reason refusal.NoMemory ≡ NoMemory)
 reasons = (refl, refl, refl, refl, refl, refl, refl, refl)
 
 -- the kept number comes first, and then the one that was tried

@@ -33,4 +33,7 @@ pub returns-in-At : goal.returns-in-At
 returns-in-At g c = rw c.in-At.is c.at-reply.ensures
 
 pub returns-in-Decode : goal.returns-in-Decode
-returns-in-Decode g c = rw c.in-Decode.is (decode_stepped c.args.state c.in-Decode.text c.in-Decode.range (said c.decode-reply.result) (rw (← c.as_slice.ensures.value) c.decode-reply.ensures))
+returns-in-Decode g c =
+    rw c.in-Decode.is
+    (decode_stepped c.args.state c.in-Decode.text c.in-Decode.range (said c.decode-reply.result)
+    (rw (← c.as_slice.ensures.value) c.decode-reply.ensures))

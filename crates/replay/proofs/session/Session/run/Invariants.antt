@@ -7,6 +7,8 @@ use Rattle.replay.proofs.session.Session.run.Given as goal
 
 abbrev pub invariant-loop-command : goal.invariant-loop-command
 invariant-loop-command g l = record {
-  run : (new : List (Reply g.row.N)) × (l.replies.items ≡ l.fn.replies.items ++ new) × RunsOn g.row.N l.fn.self (take l.command-index l.commands) (map said new) l.self;
+  run : (new : List (Reply g.row.N))
+      × (l.replies.items ≡ l.fn.replies.items ++ new)
+      × RunsOn g.row.N l.fn.self (take l.command-index l.commands) (map said new) l.self;
   room : vec_len l.replies + (length l.commands - l.command-index) ≤ vec_capacity l.replies;
 }
