@@ -24,98 +24,98 @@ enum State<const N: usize> {
     Dirty(Dirty<N>),
 }
 
-fn start<const N: usize>(state: State<N>, alloc: Global, chunks: usize) -> (State<N>, Reply<N>)
+fn start<const N: usize>(state: State<N>, alloc: Global, chunks: usize) -> (Reply<N>, State<N>)
     requires width { IsWidth N }
-    ensures { StepTo N Agrees (seen state.entry) (Command.Start chunks) (said result.1) (seen result.0) }
+    ensures { StepTo N Agrees (seen state.entry) (Command.Start chunks) (said result.0) (seen result.1) }
 {
     match state {
         State::Clean(clean) => match Prunable::new_with_pruned_chunks(alloc, chunks) {
-            Ok(bitmap) => (State::Clean(Clean::new(alloc, bitmap)), Reply::Done),
+            Ok(bitmap) => (Reply::Done, State::Clean(Clean::new(alloc, bitmap))),
             Err(_) => (
-                State::Clean(clean),
                 Reply::Refused(Refusal::PrunedChunksOverflow),
+                State::Clean(clean),
             ),
         },
-        State::Dirty(dirty) => (State::Dirty(dirty), Reply::Refused(Refusal::WrongMode)),
+        State::Dirty(dirty) => (Reply::Refused(Refusal::WrongMode), State::Dirty(dirty)),
     }
 }
 
-fn begin<const N: usize>(state: State<N>) -> (State<N>, Reply<N>)
-    ensures { StepTo N Agrees (seen state.entry) Command.Begin (said result.1) (seen result.0) }
+fn begin<const N: usize>(state: State<N>) -> (Reply<N>, State<N>)
+    ensures { StepTo N Agrees (seen state.entry) Command.Begin (said result.0) (seen result.1) }
 {
     match state {
         State::Clean(clean) => match clean.into_dirty() {
-            Ok(dirty) => (State::Dirty(dirty), Reply::Done),
-            Err((clean, _)) => (State::Clean(clean), Reply::Refused(Refusal::NoMemory)),
+            Ok(dirty) => (Reply::Done, State::Dirty(dirty)),
+            Err((clean, _)) => (Reply::Refused(Refusal::NoMemory), State::Clean(clean)),
         },
-        State::Dirty(dirty) => (State::Dirty(dirty), Reply::Refused(Refusal::WrongMode)),
+        State::Dirty(dirty) => (Reply::Refused(Refusal::WrongMode), State::Dirty(dirty)),
     }
 }
 
 #[tactic(auto, using(crate::proofs::Steps::push_accepted))]
-fn push<const N: usize>(state: State<N>, bit: bool) -> (State<N>, Reply<N>)
-    ensures { StepTo N Agrees (seen state.entry) (Command.Push bit) (said result.1) (seen result.0) }
+fn push<const N: usize>(state: State<N>, bit: bool) -> (Reply<N>, State<N>)
+    ensures { StepTo N Agrees (seen state.entry) (Command.Push bit) (said result.0) (seen result.1) }
 {
     match state {
-        State::Clean(clean) => (State::Clean(clean), Reply::Refused(Refusal::WrongMode)),
+        State::Clean(clean) => (Reply::Refused(Refusal::WrongMode), State::Clean(clean)),
         State::Dirty(mut dirty) => {
             if dirty.pending().len() == u64::MAX {
-                return (State::Dirty(dirty), Reply::Refused(Refusal::TooLong));
+                return (Reply::Refused(Refusal::TooLong), State::Dirty(dirty));
             }
             match dirty.push(bit) {
-                Ok(()) => (State::Dirty(dirty), Reply::Done),
-                Err(_) => (State::Dirty(dirty), Reply::Refused(Refusal::NoMemory)),
+                Ok(()) => (Reply::Done, State::Dirty(dirty)),
+                Err(_) => (Reply::Refused(Refusal::NoMemory), State::Dirty(dirty)),
             }
         }
     }
 }
 
 #[tactic(auto, using(crate::proofs::Steps::pop_accepted))]
-fn pop<const N: usize>(state: State<N>) -> (State<N>, Reply<N>)
-    ensures { StepTo N Agrees (seen state.entry) Command.Pop (said result.1) (seen result.0) }
+fn pop<const N: usize>(state: State<N>) -> (Reply<N>, State<N>)
+    ensures { StepTo N Agrees (seen state.entry) Command.Pop (said result.0) (seen result.1) }
 {
     match state {
-        State::Clean(clean) => (State::Clean(clean), Reply::Refused(Refusal::WrongMode)),
+        State::Clean(clean) => (Reply::Refused(Refusal::WrongMode), State::Clean(clean)),
         State::Dirty(mut dirty) => {
             if dirty.pending().len() == dirty.pending().pruned_bits() {
-                return (State::Dirty(dirty), Reply::Refused(Refusal::NoRetainedBit));
+                return (Reply::Refused(Refusal::NoRetainedBit), State::Dirty(dirty));
             }
             let bit = dirty.pop();
-            (State::Dirty(dirty), Reply::Bit(bit))
+            (Reply::Bit(bit), State::Dirty(dirty))
         }
     }
 }
 
 #[tactic(auto, using(crate::proofs::Steps::set_accepted))]
-fn set<const N: usize>(state: State<N>, position: u64, value: bool) -> (State<N>, Reply<N>)
-    ensures { StepTo N Agrees (seen state.entry) (Command.Set position value) (said result.1) (seen result.0) }
+fn set<const N: usize>(state: State<N>, position: u64, value: bool) -> (Reply<N>, State<N>)
+    ensures { StepTo N Agrees (seen state.entry) (Command.Set position value) (said result.0) (seen result.1) }
 {
     match state {
-        State::Clean(clean) => (State::Clean(clean), Reply::Refused(Refusal::WrongMode)),
+        State::Clean(clean) => (Reply::Refused(Refusal::WrongMode), State::Clean(clean)),
         State::Dirty(mut dirty) => {
             if position >= dirty.pending().len() {
-                return (State::Dirty(dirty), Reply::Refused(Refusal::OutOfBounds));
+                return (Reply::Refused(Refusal::OutOfBounds), State::Dirty(dirty));
             }
             if position < dirty.pending().pruned_bits() {
-                return (State::Dirty(dirty), Reply::Refused(Refusal::Pruned));
+                return (Reply::Refused(Refusal::Pruned), State::Dirty(dirty));
             }
             dirty.set(position, value);
-            (State::Dirty(dirty), Reply::Done)
+            (Reply::Done, State::Dirty(dirty))
         }
     }
 }
 
 #[tactic(auto, using(crate::proofs::Steps::commit_accepted))]
-fn commit<const N: usize>(state: State<N>, number: u64) -> (State<N>, Reply<N>)
-    ensures { StepTo N Agrees (seen state.entry) (Command.Commit number) (said result.1) (seen result.0) }
+fn commit<const N: usize>(state: State<N>, number: u64) -> (Reply<N>, State<N>)
+    ensures { StepTo N Agrees (seen state.entry) (Command.Commit number) (said result.0) (seen result.1) }
 {
     match state {
-        State::Clean(clean) => (State::Clean(clean), Reply::Refused(Refusal::WrongMode)),
+        State::Clean(clean) => (Reply::Refused(Refusal::WrongMode), State::Clean(clean)),
         State::Dirty(dirty) => {
             if number == u64::MAX {
                 return (
-                    State::Dirty(dirty),
                     Reply::Refused(Refusal::ReservedCommitNumber),
+                    State::Dirty(dirty),
                 );
             }
             if let Some(previous) = dirty.latest()
@@ -125,23 +125,23 @@ fn commit<const N: usize>(state: State<N>, number: u64) -> (State<N>, Reply<N>)
                     previous,
                     attempted: number,
                 };
-                return (State::Dirty(dirty), Reply::Refused(refusal));
+                return (Reply::Refused(refusal), State::Dirty(dirty));
             }
             match dirty.commit(number) {
-                Ok(clean) => (State::Clean(clean), Reply::Done),
-                Err((dirty, _)) => (State::Dirty(dirty), Reply::Refused(Refusal::NoMemory)),
+                Ok(clean) => (Reply::Done, State::Clean(clean)),
+                Err((dirty, _)) => (Reply::Refused(Refusal::NoMemory), State::Dirty(dirty)),
             }
         }
     }
 }
 
 #[tactic(auto, using(crate::proofs::Steps::abort_accepted))]
-fn abort<const N: usize>(state: State<N>) -> (State<N>, Reply<N>)
-    ensures { StepTo N Agrees (seen state.entry) Command.Abort (said result.1) (seen result.0) }
+fn abort<const N: usize>(state: State<N>) -> (Reply<N>, State<N>)
+    ensures { StepTo N Agrees (seen state.entry) Command.Abort (said result.0) (seen result.1) }
 {
     match state {
-        State::Clean(clean) => (State::Clean(clean), Reply::Refused(Refusal::WrongMode)),
-        State::Dirty(dirty) => (State::Clean(dirty.abort()), Reply::Done),
+        State::Clean(clean) => (Reply::Refused(Refusal::WrongMode), State::Clean(clean)),
+        State::Dirty(dirty) => (Reply::Done, State::Clean(dirty.abort())),
     }
 }
 
@@ -251,14 +251,14 @@ fn decode<const N: usize>(alloc: Global, text: &[u8], range: &RangeCfg) -> Reply
     }
 }
 
-// One command: the state after it, and the reply.
+// One command: the reply, and the state after it.
 fn step<const N: usize>(
     state: State<N>,
     alloc: Global,
     command: &Command<N>,
-) -> (State<N>, Reply<N>)
+) -> (Reply<N>, State<N>)
     requires width { IsWidth N }
-    ensures { StepTo N Agrees (seen state.entry) command.now (said result.1) (seen result.0) }
+    ensures { StepTo N Agrees (seen state.entry) command.now (said result.0) (seen result.1) }
 {
     match command {
         Command::Start(chunks) => start(state, alloc, *chunks),
@@ -268,34 +268,13 @@ fn step<const N: usize>(
         Command::Set(position, value) => set(state, *position, *value),
         Command::Commit(number) => commit(state, *number),
         Command::Abort => abort(state),
-        Command::Len => {
-            let reply = len(&state);
-            (state, reply)
-        }
-        Command::PrunedChunks => {
-            let reply = pruned_chunks(&state);
-            (state, reply)
-        }
-        Command::Get(position) => {
-            let reply = get(&state, *position);
-            (state, reply)
-        }
-        Command::Ones(from, to) => {
-            let reply = ones_of_current(&state, alloc, *from, *to);
-            (state, reply)
-        }
-        Command::Encode => {
-            let reply = encode(&state, alloc);
-            (state, reply)
-        }
-        Command::At(number) => {
-            let reply = at(&state, *number);
-            (state, reply)
-        }
-        Command::Decode(text, range) => {
-            let reply = decode(alloc, text.as_slice(), range);
-            (state, reply)
-        }
+        Command::Len => (len(&state), state),
+        Command::PrunedChunks => (pruned_chunks(&state), state),
+        Command::Get(position) => (get(&state, *position), state),
+        Command::Ones(from, to) => (ones_of_current(&state, alloc, *from, *to), state),
+        Command::Encode => (encode(&state, alloc), state),
+        Command::At(number) => (at(&state, *number), state),
+        Command::Decode(text, range) => (decode(alloc, text.as_slice(), range), state),
     }
 }
 
@@ -348,7 +327,7 @@ impl<const N: usize> Session<N> {
         let alloc = self.alloc;
         let empty = State::Clean(Clean::new(alloc, Prunable::new(alloc)));
         let state = mem::replace(&mut self.state, empty);
-        let (state, reply) = step(state, alloc, command);
+        let (reply, state) = step(state, alloc, command);
         self.state = state;
         reply
     }
