@@ -26,9 +26,6 @@ returns-in-Abort g c = rw c.in-Abort.is c.abort.ensures
 pub returns-in-Ones : goal.returns-in-Ones
 returns-in-Ones g c = rw c.in-Ones.is c.ones_of_current.ensures
 
-pub returns-in-Encode : goal.returns-in-Encode
-returns-in-Encode g c = rw c.in-Encode.is c.encode.ensures
-
 pub returns-in-At : goal.returns-in-At
 returns-in-At g c = rw c.in-At.is c.at.ensures
 
