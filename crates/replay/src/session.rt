@@ -1,6 +1,6 @@
 //! A session: runs commands on a bitmap with its history.
 
-ghost use Rattle.std.specs.Prelude.{◌≡◌, ℕ, ◌+◌, ◌*◌, ◌^◌, ◌<◌, ◌≤◌, List, [], ◌∷◌, ◌++◌, length, map, IfOk, OnErr, OnOk, vec_len, vec_capacity};
+ghost use Rattle.std.specs.Prelude.{◌≡◌, ◌+◌, ◌<◌, ◌≤◌, List, [], ◌∷◌, ◌++◌, map, IfOk, OnErr, OnOk, vec_len, vec_capacity};
 ghost use Rattle.bitmap_core.specs.Chunk.{IsWidth};
 ghost use Rattle.bitmap_core.specs.Meaning.{ones, pruned_meaning};
 ghost use Rattle.bitmap_core.specs.Spelling.{pruned_spelling};
