@@ -17,15 +17,19 @@ value_of_digit d h = elim (cases_eq d 1) [
 
 -- a byte is the one with its own bits
 pub byte_is : (x : ℕ) → x < 256 → byte_of (λ t. eqb (bit_at x t) 1) ≡ x
-byte_is x h = omega (arith, value_of_digit (x / 1 % 2), value_of_digit (x / 2 % 2), value_of_digit (x / 4 % 2), value_of_digit (x / 8 % 2), value_of_digit (x / 16 % 2), value_of_digit (x / 32 % 2), value_of_digit (x / 64 % 2), value_of_digit (x / 128 % 2))
+byte_is x h =
+    omega (arith, value_of_digit (x / 1 % 2), value_of_digit (x / 2 % 2), value_of_digit (x / 4 % 2), value_of_digit (x / 8 % 2), value_of_digit (x / 16 % 2), value_of_digit (x / 32 % 2), value_of_digit (x / 64 % 2), value_of_digit (x / 128 % 2))
 
 -- bytes with the same bits are equal
 pub byte_same : (f g : ℕ → Bool) → ((t : ℕ) → t < 8 → f t ≡ g t) → byte_of f ≡ byte_of g
-byte_same f g h = rw (h 0 (omega arith), h 1 (omega arith), h 2 (omega arith), h 3 (omega arith), h 4 (omega arith), h 5 (omega arith), h 6 (omega arith), h 7 (omega arith)) refl
+byte_same f g h =
+    rw (h 0 (omega arith), h 1 (omega arith), h 2 (omega arith), h 3 (omega arith), h 4 (omega arith), h 5 (omega arith), h 6 (omega arith), h 7 (omega arith)) refl
 
-pub map_range_same : {X : Type 0} (f g : ℕ → X) (a m : ℕ) → ((j : ℕ) → a ≤ j → j < a + m → f j ≡ g j) → map f (range_with_len a m) ≡ map g (range_with_len a m)
+pub map_range_same : {X : Type 0} (f g : ℕ → X) (a m : ℕ) → ((j : ℕ) → a ≤ j → j < a + m → f j ≡ g j)
+    → map f (range_with_len a m) ≡ map g (range_with_len a m)
 map_range_same f g a zero h = refl
-map_range_same f g a (suc m) h = rw (h a (omega arith) (omega arith)) (ap (λ ys. g a ∷ ys) (map_range_same f g (a + 1) m (λ j l r. h j (omega arith) (omega arith))))
+map_range_same f g a (suc m) h =
+    rw (h a (omega arith) (omega arith)) (ap (λ ys. g a ∷ ys) (map_range_same f g (a + 1) m (λ j l r. h j (omega arith) (omega arith))))
 
 -- bit t of byte j of a chunk
 chunk_bit_in_byte : (n : ℕ) (c : List ℕ) (j t : ℕ) → j < n → t < 8 → chunk_bit n c (8 * j + t) ≡ eqb (bit_at (get_or c j 0) t) 1
@@ -37,7 +41,9 @@ chunk_bit_in_byte n c j t h s =
     ap (λ x. eqb (bit_at (get_or c x 0) ((8 * j + t) % 8)) 1) k ∙ ap (λ x. eqb (bit_at (get_or c j 0) x) 1) r
 
 -- a chunk is the list of the bytes that its bits make
-pub bytes_are : (n : ℕ) (c : List ℕ) (bit : ℕ → Bool) → length c ≡ n → ((j : ℕ) → get_or c j 0 < 256) → ((t : ℕ) → t < 8 * n → chunk_bit n c t ≡ bit t) → c ≡ map (λ j. byte_of (λ t. bit (8 * j + t))) (range_with_len 0 n)
+pub bytes_are : (n : ℕ) (c : List ℕ) (bit : ℕ → Bool) → length c ≡ n → ((j : ℕ) → get_or c j 0 < 256)
+    → ((t : ℕ) → t < 8 * n → chunk_bit n c t ≡ bit t)
+    → c ≡ map (λ j. byte_of (λ t. bit (8 * j + t))) (range_with_len 0 n)
 bytes_are n c bit l r h =
     ext_get_or 0 c (map (λ j. byte_of (λ t. bit (8 * j + t))) (range_with_len 0 n)) (l ∙ sym (length-map-range_with_len (λ j. byte_of (λ t. bit (8 * j + t))) 0 n)) (λ j b.
     let s : j < n = omega arith in
@@ -80,22 +86,32 @@ module _ (a b c d e f g h : ℕ) (la : a < 2) (lb : b < 2) (lc : c < 2) (ld : d 
 
 -- the bits of a byte made of bits are those
 pub byte_bit : (bit : ℕ → Bool) (t : ℕ) → t < 8 → bit_at (byte_of bit) t ≡ bit_value (bit t)
-byte_bit bit zero h = digit_0 (bit_value (bit 0)) (bit_value (bit 1)) (bit_value (bit 2)) (bit_value (bit 3)) (bit_value (bit 4)) (bit_value (bit 5)) (bit_value (bit 6)) (bit_value (bit 7)) (digit_below (bit 0)) (digit_below (bit 1)) (digit_below (bit 2)) (digit_below (bit 3)) (digit_below (bit 4)) (digit_below (bit 5)) (digit_below (bit 6)) (digit_below (bit 7))
-byte_bit bit (suc zero) h = digit_1 (bit_value (bit 0)) (bit_value (bit 1)) (bit_value (bit 2)) (bit_value (bit 3)) (bit_value (bit 4)) (bit_value (bit 5)) (bit_value (bit 6)) (bit_value (bit 7)) (digit_below (bit 0)) (digit_below (bit 1)) (digit_below (bit 2)) (digit_below (bit 3)) (digit_below (bit 4)) (digit_below (bit 5)) (digit_below (bit 6)) (digit_below (bit 7))
-byte_bit bit (suc (suc zero)) h = digit_2 (bit_value (bit 0)) (bit_value (bit 1)) (bit_value (bit 2)) (bit_value (bit 3)) (bit_value (bit 4)) (bit_value (bit 5)) (bit_value (bit 6)) (bit_value (bit 7)) (digit_below (bit 0)) (digit_below (bit 1)) (digit_below (bit 2)) (digit_below (bit 3)) (digit_below (bit 4)) (digit_below (bit 5)) (digit_below (bit 6)) (digit_below (bit 7))
-byte_bit bit (suc (suc (suc zero))) h = digit_3 (bit_value (bit 0)) (bit_value (bit 1)) (bit_value (bit 2)) (bit_value (bit 3)) (bit_value (bit 4)) (bit_value (bit 5)) (bit_value (bit 6)) (bit_value (bit 7)) (digit_below (bit 0)) (digit_below (bit 1)) (digit_below (bit 2)) (digit_below (bit 3)) (digit_below (bit 4)) (digit_below (bit 5)) (digit_below (bit 6)) (digit_below (bit 7))
-byte_bit bit (suc (suc (suc (suc zero)))) h = digit_4 (bit_value (bit 0)) (bit_value (bit 1)) (bit_value (bit 2)) (bit_value (bit 3)) (bit_value (bit 4)) (bit_value (bit 5)) (bit_value (bit 6)) (bit_value (bit 7)) (digit_below (bit 0)) (digit_below (bit 1)) (digit_below (bit 2)) (digit_below (bit 3)) (digit_below (bit 4)) (digit_below (bit 5)) (digit_below (bit 6)) (digit_below (bit 7))
-byte_bit bit (suc (suc (suc (suc (suc zero))))) h = digit_5 (bit_value (bit 0)) (bit_value (bit 1)) (bit_value (bit 2)) (bit_value (bit 3)) (bit_value (bit 4)) (bit_value (bit 5)) (bit_value (bit 6)) (bit_value (bit 7)) (digit_below (bit 0)) (digit_below (bit 1)) (digit_below (bit 2)) (digit_below (bit 3)) (digit_below (bit 4)) (digit_below (bit 5)) (digit_below (bit 6)) (digit_below (bit 7))
-byte_bit bit (suc (suc (suc (suc (suc (suc zero)))))) h = digit_6 (bit_value (bit 0)) (bit_value (bit 1)) (bit_value (bit 2)) (bit_value (bit 3)) (bit_value (bit 4)) (bit_value (bit 5)) (bit_value (bit 6)) (bit_value (bit 7)) (digit_below (bit 0)) (digit_below (bit 1)) (digit_below (bit 2)) (digit_below (bit 3)) (digit_below (bit 4)) (digit_below (bit 5)) (digit_below (bit 6)) (digit_below (bit 7))
-byte_bit bit (suc (suc (suc (suc (suc (suc (suc zero))))))) h = digit_7 (bit_value (bit 0)) (bit_value (bit 1)) (bit_value (bit 2)) (bit_value (bit 3)) (bit_value (bit 4)) (bit_value (bit 5)) (bit_value (bit 6)) (bit_value (bit 7)) (digit_below (bit 0)) (digit_below (bit 1)) (digit_below (bit 2)) (digit_below (bit 3)) (digit_below (bit 4)) (digit_below (bit 5)) (digit_below (bit 6)) (digit_below (bit 7))
+byte_bit bit zero h =
+    digit_0 (bit_value (bit 0)) (bit_value (bit 1)) (bit_value (bit 2)) (bit_value (bit 3)) (bit_value (bit 4)) (bit_value (bit 5)) (bit_value (bit 6)) (bit_value (bit 7)) (digit_below (bit 0)) (digit_below (bit 1)) (digit_below (bit 2)) (digit_below (bit 3)) (digit_below (bit 4)) (digit_below (bit 5)) (digit_below (bit 6)) (digit_below (bit 7))
+byte_bit bit (suc zero) h =
+    digit_1 (bit_value (bit 0)) (bit_value (bit 1)) (bit_value (bit 2)) (bit_value (bit 3)) (bit_value (bit 4)) (bit_value (bit 5)) (bit_value (bit 6)) (bit_value (bit 7)) (digit_below (bit 0)) (digit_below (bit 1)) (digit_below (bit 2)) (digit_below (bit 3)) (digit_below (bit 4)) (digit_below (bit 5)) (digit_below (bit 6)) (digit_below (bit 7))
+byte_bit bit (suc (suc zero)) h =
+    digit_2 (bit_value (bit 0)) (bit_value (bit 1)) (bit_value (bit 2)) (bit_value (bit 3)) (bit_value (bit 4)) (bit_value (bit 5)) (bit_value (bit 6)) (bit_value (bit 7)) (digit_below (bit 0)) (digit_below (bit 1)) (digit_below (bit 2)) (digit_below (bit 3)) (digit_below (bit 4)) (digit_below (bit 5)) (digit_below (bit 6)) (digit_below (bit 7))
+byte_bit bit (suc (suc (suc zero))) h =
+    digit_3 (bit_value (bit 0)) (bit_value (bit 1)) (bit_value (bit 2)) (bit_value (bit 3)) (bit_value (bit 4)) (bit_value (bit 5)) (bit_value (bit 6)) (bit_value (bit 7)) (digit_below (bit 0)) (digit_below (bit 1)) (digit_below (bit 2)) (digit_below (bit 3)) (digit_below (bit 4)) (digit_below (bit 5)) (digit_below (bit 6)) (digit_below (bit 7))
+byte_bit bit (suc (suc (suc (suc zero)))) h =
+    digit_4 (bit_value (bit 0)) (bit_value (bit 1)) (bit_value (bit 2)) (bit_value (bit 3)) (bit_value (bit 4)) (bit_value (bit 5)) (bit_value (bit 6)) (bit_value (bit 7)) (digit_below (bit 0)) (digit_below (bit 1)) (digit_below (bit 2)) (digit_below (bit 3)) (digit_below (bit 4)) (digit_below (bit 5)) (digit_below (bit 6)) (digit_below (bit 7))
+byte_bit bit (suc (suc (suc (suc (suc zero))))) h =
+    digit_5 (bit_value (bit 0)) (bit_value (bit 1)) (bit_value (bit 2)) (bit_value (bit 3)) (bit_value (bit 4)) (bit_value (bit 5)) (bit_value (bit 6)) (bit_value (bit 7)) (digit_below (bit 0)) (digit_below (bit 1)) (digit_below (bit 2)) (digit_below (bit 3)) (digit_below (bit 4)) (digit_below (bit 5)) (digit_below (bit 6)) (digit_below (bit 7))
+byte_bit bit (suc (suc (suc (suc (suc (suc zero)))))) h =
+    digit_6 (bit_value (bit 0)) (bit_value (bit 1)) (bit_value (bit 2)) (bit_value (bit 3)) (bit_value (bit 4)) (bit_value (bit 5)) (bit_value (bit 6)) (bit_value (bit 7)) (digit_below (bit 0)) (digit_below (bit 1)) (digit_below (bit 2)) (digit_below (bit 3)) (digit_below (bit 4)) (digit_below (bit 5)) (digit_below (bit 6)) (digit_below (bit 7))
+byte_bit bit (suc (suc (suc (suc (suc (suc (suc zero))))))) h =
+    digit_7 (bit_value (bit 0)) (bit_value (bit 1)) (bit_value (bit 2)) (bit_value (bit 3)) (bit_value (bit 4)) (bit_value (bit 5)) (bit_value (bit 6)) (bit_value (bit 7)) (digit_below (bit 0)) (digit_below (bit 1)) (digit_below (bit 2)) (digit_below (bit 3)) (digit_below (bit 4)) (digit_below (bit 5)) (digit_below (bit 6)) (digit_below (bit 7))
 byte_bit bit (suc (suc (suc (suc (suc (suc (suc (suc t)))))))) h = absurd (omega arith)
 
 -- the bits of the bytes that bits make are those
-pub chunk_bit_of_bytes : (n : ℕ) (bit : ℕ → Bool) (i : ℕ) → 0 < n → i < 8 * n → chunk_bit n (map (λ j. byte_of (λ t. bit (8 * j + t))) (range_with_len 0 n)) i ≡ bit i
+pub chunk_bit_of_bytes : (n : ℕ) (bit : ℕ → Bool) (i : ℕ) → 0 < n → i < 8 * n
+    → chunk_bit n (map (λ j. byte_of (λ t. bit (8 * j + t))) (range_with_len 0 n)) i ≡ bit i
 chunk_bit_of_bytes n bit i p h =
     let s : i / 8 < n = omega arith in
     let k : i / 8 % n ≡ i / 8 = mod-eq_of_lt s in
-    let byte : get_or (map (λ j. byte_of (λ t. bit (8 * j + t))) (range_with_len 0 n)) (i / 8) 0 ≡ byte_of (λ t. bit (8 * (i / 8) + t)) = get_or-map-range_with_len (λ j. byte_of (λ t. bit (8 * j + t))) 0 n (i / 8) (i / 8) 0 s (omega arith) in
+    let byte : get_or (map (λ j. byte_of (λ t. bit (8 * j + t))) (range_with_len 0 n)) (i / 8) 0 ≡ byte_of (λ t. bit (8 * (i / 8) + t)) =
+    get_or-map-range_with_len (λ j. byte_of (λ t. bit (8 * j + t))) 0 n (i / 8) (i / 8) 0 s (omega arith) in
     ap (λ x. eqb (bit_at (get_or (map (λ j. byte_of (λ t. bit (8 * j + t))) (range_with_len 0 n)) x 0) (i % 8)) 1) k
     ∙ ap (λ x. eqb (bit_at x (i % 8)) 1) byte
     ∙ ap (λ x. eqb x 1) (byte_bit (λ t. bit (8 * (i / 8) + t)) (i % 8) (omega arith))

@@ -33,7 +33,8 @@ quotient_is w q k p a b =
     let s : k < q + 2 = lt_of_mul-lt-mul_left w (rw (mul-add w q 2) (omega arith)) in
     omega arith
 
-pub IsChunkCount-fewer : (n k len : ℕ) → 0 < n → IsChunkCount n k (len + 1) → len % (8 * n) ≡ 0 → (0 < k) × IsChunkCount n (k - 1) len × (len / (8 * n) ≡ k - 1)
+pub IsChunkCount-fewer : (n k len : ℕ) → 0 < n → IsChunkCount n k (len + 1) → len % (8 * n) ≡ 0
+    → (0 < k) × IsChunkCount n (k - 1) len × (len / (8 * n) ≡ k - 1)
 IsChunkCount-fewer n k len p c e =
     let d = div-add-mod len (8 * n) in
     let q : k ≡ len / (8 * n) + 1 = quotient_is (8 * n) (len / (8 * n)) k (omega arith) (omega arith) (omega arith) in
@@ -61,11 +62,13 @@ IsChunkCount-ceil n len p =
     let r = mod_below len (8 * n) (omega arith) in
     elim (cases_eq (len % (8 * n)) 0) [
       | inl e ↦ (let q : div_ceil len (8 * n) ≡ len / (8 * n) = omega arith in (rw q (omega arith), rw q (omega arith)))
-      | inr e ↦ (let q : div_ceil len (8 * n) ≡ len / (8 * n) + 1 = omega arith in (rw (q, mul-add (8 * n) (len / (8 * n)) 1) (omega arith), rw (q, mul-add (8 * n) (len / (8 * n)) 1) (omega arith)))
+      | inr e ↦
+          (let q : div_ceil len (8 * n) ≡ len / (8 * n) + 1 = omega arith in (rw (q, mul-add (8 * n) (len / (8 * n)) 1) (omega arith), rw (q, mul-add (8 * n) (len / (8 * n)) 1) (omega arith)))
     ]
 
 -- the chunks of a length, with those that a greater length lacks
-pub IsChunkCount-missing : (n k len longer : ℕ) → 0 < n → IsChunkCount n k len → len ≤ longer → IsChunkCount n (k + (div_ceil longer (8 * n) - k)) longer
+pub IsChunkCount-missing : (n k len longer : ℕ) → 0 < n → IsChunkCount n k len → len ≤ longer
+    → IsChunkCount n (k + (div_ceil longer (8 * n) - k)) longer
 IsChunkCount-missing n k len longer p c h =
     let d = IsChunkCount-ceil n longer p in
     let f : k ≤ div_ceil longer (8 * n) = fewer_chunks (8 * n) k (div_ceil longer (8 * n)) len c.1 (omega (arith, d.0)) in

@@ -24,7 +24,8 @@ end_of_buffer = refl
 invalid_length : fault (errors.InvalidLength 7) ≡ Some (InvalidLength 7)
 invalid_length = refl
 
-invalid_text : (what why : Bor (List ℕ)) → what.now ≡ codes "BitMap" → why.now ≡ codes "bad" → fault (errors.Invalid what why) ≡ Some (Invalid (codes "BitMap") (codes "bad"))
+invalid_text : (what why : Bor (List ℕ)) → what.now ≡ codes "BitMap" → why.now ≡ codes "bad"
+    → fault (errors.Invalid what why) ≡ Some (Invalid (codes "BitMap") (codes "bad"))
 invalid_text what why a b = rw (a, b) refl
 
 want_of_memory : fault errors.OutOfMemory ≡ None

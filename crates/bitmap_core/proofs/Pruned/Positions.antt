@@ -33,7 +33,9 @@ ceil_above_index n len i p h = let c = IsChunkCount-ceil n len p in lt_of_mul-lt
 
 -- room for len bits in the retained chunks, from the room in all
 pub ceil_front : (n p l : ℕ) → 0 < n → 8 * n * div_ceil (8 * n * p + l) (8 * n) ≡ 8 * n * p + 8 * n * div_ceil l (8 * n)
-ceil_front n p l h = ap (λ k. 8 * n * k) (count_unique n (div_ceil (8 * n * p + l) (8 * n)) (p + div_ceil l (8 * n)) (8 * n * p + l) (IsChunkCount-ceil n (8 * n * p + l) h) (IsChunkCount-front n p (div_ceil l (8 * n)) l (IsChunkCount-ceil n l h))) ∙ mul-add (8 * n) p (div_ceil l (8 * n))
+ceil_front n p l h =
+    ap (λ k. 8 * n * k) (count_unique n (div_ceil (8 * n * p + l) (8 * n)) (p + div_ceil l (8 * n)) (8 * n * p + l) (IsChunkCount-ceil n (8 * n * p + l) h) (IsChunkCount-front n p (div_ceil l (8 * n)) l (IsChunkCount-ceil n l h)))
+    ∙ mul-add (8 * n) p (div_ceil l (8 * n))
 
 -- a retained chunk, counted from the first retained one
 pub retained_chunk : (n : ℕ) (b : PrunedBits) (i : ℕ) → HasChunk n b i → 8 * n * (i - b.pruned) < length b.bits
@@ -48,13 +50,15 @@ pub bit_past : (n : ℕ) (b : PrunedBits) (k : ℕ) → bit_len n b ≤ k → bi
 bit_past n b k h = get_or_past b.bits (k - pruned_bits n b) false (omega arith)
 
 pub bit_from_bits : (n pruned len : ℕ) (bit : ℕ → Bool) (k : ℕ) → 8 * n * pruned ≤ k → k < len → bit_at n (from_bits n pruned len bit) k ≡ bit k
-bit_from_bits n pruned len bit k l h = get_or-map-range_with_len bit (8 * n * pruned) (len - 8 * n * pruned) (k - 8 * n * pruned) k false (omega arith) (omega arith)
+bit_from_bits n pruned len bit k l h =
+    get_or-map-range_with_len bit (8 * n * pruned) (len - 8 * n * pruned) (k - 8 * n * pruned) k false (omega arith) (omega arith)
 
 pub len_from_bits : (n pruned len : ℕ) (bit : ℕ → Bool) → 8 * n * pruned ≤ len → bit_len n (from_bits n pruned len bit) ≡ len
 len_from_bits n pruned len bit h = omega (arith, length-map-range_with_len bit (8 * n * pruned) (len - 8 * n * pruned))
 
 -- a bitmap is fixed by its pruned count, its length and its bits by position
-pub same_from_bits : (n : ℕ) (b : PrunedBits) (bit : ℕ → Bool) → ((k : ℕ) → HasBit n b k → bit k ≡ bit_at n b k) → from_bits n b.pruned (bit_len n b) bit ≡ b
+pub same_from_bits : (n : ℕ) (b : PrunedBits) (bit : ℕ → Bool) → ((k : ℕ) → HasBit n b k → bit k ≡ bit_at n b k)
+    → from_bits n b.pruned (bit_len n b) bit ≡ b
 same_from_bits n b bit h =
     let count : bit_len n b - pruned_bits n b ≡ length b.bits = omega arith in
     let len = length-map-range_with_len bit (pruned_bits n b) (bit_len n b - pruned_bits n b) ∙ count in
@@ -65,7 +69,9 @@ same_from_bits n b bit h =
     ∙ (h (pruned_bits n b + i) (omega arith, omega arith)
     ∙ ap (λ j. get_or b.bits j false) back)))
 
-pub same_bitmap : (n : ℕ) (a b : PrunedBits) → a.pruned ≡ b.pruned → bit_len n a ≡ bit_len n b → ((k : ℕ) → HasBit n b k → bit_at n a k ≡ bit_at n b k) → a ≡ b
+pub same_bitmap : (n : ℕ) (a b : PrunedBits) → a.pruned ≡ b.pruned → bit_len n a ≡ bit_len n b
+    → ((k : ℕ) → HasBit n b k → bit_at n a k ≡ bit_at n b k)
+    → a ≡ b
 same_bitmap n a b p l h =
     same_pruned a b p (ext_get_or false a.bits b.bits (omega (arith, ap (λ m. 8 * n * m) p)) (λ i s.
     let m = ap (λ x. 8 * n * x) p in
@@ -74,7 +80,9 @@ same_bitmap n a b p l h =
     ap (λ j. get_or a.bits j false) (sym e) ∙ h (pruned_bits n b + i) (omega arith, omega arith) ∙ ap (λ j. get_or b.bits j false) f))
 
 -- chunks with the same bits are equal
-chunk_same : (n : ℕ) (a b : PrunedBits) (i j : ℕ) → ((t : ℕ) → t < 8 * n → bit_at n a (8 * n * i + t) ≡ bit_at n b (8 * n * j + t)) → chunk n a i ≡ chunk n b j
+chunk_same : (n : ℕ) (a b : PrunedBits) (i j : ℕ)
+    → ((t : ℕ) → t < 8 * n → bit_at n a (8 * n * i + t) ≡ bit_at n b (8 * n * j + t))
+    → chunk n a i ≡ chunk n b j
 chunk_same n a b i j h =
     map_range_same (λ s. byte_of (λ t. bit_at n a (8 * n * i + 8 * s + t))) (λ s. byte_of (λ t. bit_at n b (8 * n * j + 8 * s + t))) 0 n (λ s _ r.
     byte_same (λ t. bit_at n a (8 * n * i + 8 * s + t)) (λ t. bit_at n b (8 * n * j + 8 * s + t)) (λ t u.
@@ -88,7 +96,8 @@ chunk_of_bits n b i h =
     let f = front_of (8 * n) b.pruned i h in
     chunk_same n (plain_bits b.bits) b (i - b.pruned) i (λ t s. ap (λ k. get_or b.bits k false) (omega arith))
 
-pub last_chunk_of_bits : (n : ℕ) (b : PrunedBits) → 0 < n → length b.bits % (8 * n) ≡ 0 → 0 < length b.bits → chunk n (plain_bits b.bits) (length b.bits / (8 * n) - 1) ≡ chunk n b (bit_len n b / (8 * n) - 1)
+pub last_chunk_of_bits : (n : ℕ) (b : PrunedBits) → 0 < n → length b.bits % (8 * n) ≡ 0 → 0 < length b.bits
+    → chunk n (plain_bits b.bits) (length b.bits / (8 * n) - 1) ≡ chunk n b (bit_len n b / (8 * n) - 1)
 last_chunk_of_bits n b p a f =
     let q : bit_len n b / (8 * n) ≡ b.pruned + length b.bits / (8 * n) = mul-add-div (omega arith) b.pruned (length b.bits) in
     let s : 0 < length b.bits / (8 * n) = lt_of_mul-lt-mul_left (8 * n) (omega (arith, place (8 * n) (length b.bits))) in

@@ -63,7 +63,9 @@ sound-spells n range text p h s =
     let b = number-lt text h in
     record { bits = value n (number text) (drop 8 text); rest = drop (8 + chunk_bytes n text) text; spelled = text-spells n text p h s.whole s.clear; len_fits = omega arith; chunks_fit = omega (arith, count-le n (length (value n (number text) (drop 8 text))) p); admitted = ap range l ∙ s.admitted }
 
-pub spells-sound : (n : ℕ) (range : ℕ → Bool) (v : List Bool) (rest : List ℕ) → 0 < n → length v < 2 ^ 64 → range (length v) ≡ true → Sound n range (spelling n v ++ rest)
+pub spells-sound : (n : ℕ) (range : ℕ → Bool) (v : List Bool) (rest : List ℕ) → 0 < n → length v < 2 ^ 64
+    → range (length v) ≡ true
+    → Sound n range (spelling n v ++ rest)
 spells-sound n range v rest p l r =
     let m = spelling-number n v rest l in
     let w = length-append (spelling n v) rest in
@@ -109,7 +111,9 @@ unfolding or_else
 none_first None g e = (refl, e)
 none_first (Some f) g e = absurd cc
 
-none_later : (n : ℕ) (range : ℕ → Bool) (text : List ℕ) → first_fault (bits_tests n range (drop 8 text) ++ total_tests n text) ≡ None → (bits_fault n range (drop 8 text) ≡ None) × (8 * n * number text + number (drop 8 text) < 2 ^ 64)
+none_later : (n : ℕ) (range : ℕ → Bool) (text : List ℕ)
+    → first_fault (bits_tests n range (drop 8 text) ++ total_tests n text) ≡ None
+    → (bits_fault n range (drop 8 text) ≡ None) × (8 * n * number text + number (drop 8 text) < 2 ^ 64)
 unfolding bits_fault
 none_later n range text e =
     let d = none_first _ _ (sym (first_fault-append (bits_tests n range (drop 8 text)) (total_tests n text)) ∙ e) in
@@ -125,20 +129,29 @@ sound_pruned n range text e =
     record { long = ltb-false _ _ a.0; fits = within_64 _ b.0; count = within_64 _ c.0; bits = d.0; total = d.1 }
 
 -- a bitmap with a pruned front whose count is in order has the faults of its bits, and then that of its total
-pruned_later : (n : ℕ) (range : ℕ → Bool) (text : List ℕ) → 8 ≤ length text → 8 * n * number text < 2 ^ 64 → number text < 2 ^ 64 → pruned_fault n range text ≡ or_else (bits_fault n range (drop 8 text)) (first_fault (total_tests n text))
+pruned_later : (n : ℕ) (range : ℕ → Bool) (text : List ℕ) → 8 ≤ length text → 8 * n * number text < 2 ^ 64
+    → number text < 2 ^ 64
+    → pruned_fault n range text ≡ or_else (bits_fault n range (drop 8 text)) (first_fault (total_tests n text))
 unfolding pruned_fault bits_fault
-pruned_later n range text l w c = rw (le-ltb _ _ l, lt-ltb _ _ w, lt-ltb _ _ c) (first_fault-append (bits_tests n range (drop 8 text)) (total_tests n text))
+pruned_later n range text l w c =
+    rw (le-ltb _ _ l, lt-ltb _ _ w, lt-ltb _ _ c) (first_fault-append (bits_tests n range (drop 8 text)) (total_tests n text))
 
-pub pruned_bits_fault : (n : ℕ) (range : ℕ → Bool) (text : List ℕ) (f : Option Fault) → 8 ≤ length text → 8 * n * number text < 2 ^ 64 → number text < 2 ^ 64 → bits_fault n range (drop 8 text) ≡ f → IsSome f → pruned_fault n range text ≡ f
+pub pruned_bits_fault : (n : ℕ) (range : ℕ → Bool) (text : List ℕ) (f : Option Fault) → 8 ≤ length text
+    → 8 * n * number text < 2 ^ 64 → number text < 2 ^ 64 → bits_fault n range (drop 8 text) ≡ f → IsSome f
+    → pruned_fault n range text ≡ f
 unfolding or_else
 pruned_bits_fault n range text None l w c e d = absurd cc
 pruned_bits_fault n range text (Some f) l w c e d = pruned_later n range text l w c ∙ ap (λ x. or_else x (first_fault (total_tests n text))) e
 
-pub pruned_total_fault : (n : ℕ) (range : ℕ → Bool) (text : List ℕ) → 8 ≤ length text → 8 * n * number text < 2 ^ 64 → number text < 2 ^ 64 → bits_fault n range (drop 8 text) ≡ None → 2 ^ 64 ≤ 8 * n * number text + number (drop 8 text)
+pub pruned_total_fault : (n : ℕ) (range : ℕ → Bool) (text : List ℕ) → 8 ≤ length text → 8 * n * number text < 2 ^ 64
+    → number text < 2 ^ 64 → bits_fault n range (drop 8 text) ≡ None
+    → 2 ^ 64 ≤ 8 * n * number text + number (drop 8 text)
     → pruned_fault n range text ≡ Some (Invalid (codes "Prunable") (codes "total bitmap length (pruned + unpruned) would overflow u64"))
 unfolding or_else
-pruned_total_fault n range text l w c e t = pruned_later n range text l w c ∙ ap (λ x. or_else x (first_fault (total_tests n text))) e ∙ rw (le-ltb _ _ t) refl
+pruned_total_fault n range text l w c e t =
+    pruned_later n range text l w c ∙ ap (λ x. or_else x (first_fault (total_tests n text))) e ∙ rw (le-ltb _ _ t) refl
 
 pub sound_pruned-none : (n : ℕ) (range : ℕ → Bool) (text : List ℕ) → SoundPruned n range text → pruned_fault n range text ≡ None
 unfolding or_else
-sound_pruned-none n range text s = pruned_later n range text s.long s.fits s.count ∙ ap (λ x. or_else x (first_fault (total_tests n text))) s.bits ∙ rw (lt-ltb _ _ s.total) refl
+sound_pruned-none n range text s =
+    pruned_later n range text s.long s.fits s.count ∙ ap (λ x. or_else x (first_fault (total_tests n text))) s.bits ∙ rw (lt-ltb _ _ s.total) refl

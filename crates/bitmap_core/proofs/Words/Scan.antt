@@ -14,7 +14,8 @@ counted_more n base next end loads total s f i c =
     let p : ℕ → Bool = starts_word n in
     let h : base < next = f.after in
     let none : ones_between p (base + 1) next ≡ [] = ones_between-false p (base + 1) next (λ k a b. inside_none n base next k s f (omega arith) b) in
-    let one : ones_between p (base + 1) end ≡ ones_between p (base + 1) next ++ ones_between p next end = ones_between-append p (base + 1) next end (omega arith) (omega arith) in
+    let one : ones_between p (base + 1) end ≡ ones_between p (base + 1) next ++ ones_between p next end =
+    ones_between-append p (base + 1) next end (omega arith) (omega arith) in
     let two : ones_between p next end ≡ next ∷ ones_between p (next + 1) end = ones_between-hit p next end i f.starts in
     let three : length (ones_between p (base + 1) end) ≡ length (ones_between p next end) = rw (one, none) refl in
     let four : length (ones_between p next end) ≡ suc (length (ones_between p (next + 1) end)) = ap length two in
@@ -51,7 +52,8 @@ module _ (n : ℕ) (m : Meaning) (base end : ℕ) (chunk : List ℕ) (loads firs
       (next_cases n base scan.lawful.width.positive)
 
   step_counted : loads + 1 + length (ones_between (starts_word n) (next + 1) end) ≡ words_between n first end
-  step_counted = counted_more n base next end loads (words_between n first end) (scan.aligned step_before) (step_follows step_before) inside scan.counted
+  step_counted =
+      counted_more n base next end loads (words_between n first end) (scan.aligned step_before) (step_follows step_before) inside scan.counted
 
   step_scan : (bytes : List ℕ) → ShowsChunk n m (next / (8 * n)) bytes → IsScan n m next end bytes (loads + 1) first
   step_scan bytes shown = record {
@@ -74,7 +76,9 @@ pub record IsStep (n : ℕ) (m : Meaning) (base end loads first next : ℕ) (chu
   pub room : loads + 1 < 2 ^ 64
   pub scan : (bytes : List ℕ) → ShowsChunk n m (next / (8 * n)) bytes → IsScan n m next end bytes (loads + 1) first
 
-pub step : {n : ℕ} {m : Meaning} {base end loads first next : ℕ} {chunk : List ℕ} → IsScan n m base end chunk loads first → next ≡ next_word n base → next < end → end < 2 ^ 64 → IsStep n m base end loads first next chunk
+pub step : {n : ℕ} {m : Meaning} {base end loads first next : ℕ} {chunk : List ℕ} → IsScan n m base end chunk loads first
+    → next ≡ next_word n base → next < end → end < 2 ^ 64
+    → IsStep n m base end loads first next chunk
 step {n} {m} {base} {end} {loads} {first} {next} {chunk} scan is inside fits =
     let after : base < next = step_after n m base end chunk loads first scan next is inside in
     let f : Follows n base next = step_follows n m base end chunk loads first scan next is inside (omega arith) in
@@ -93,13 +97,17 @@ step {n} {m} {base} {end} {loads} {first} {next} {chunk} scan is inside fits =
 -- ---- the first word of a range
 
 -- the first load is one of the words of the range
-pub counted_first : (n first end : ℕ) → 0 < n → first < end → 1 + length (ones_between (starts_word n) (word_start n first + 1) end) ≡ words_between n first end
+pub counted_first : (n first end : ℕ) → 0 < n → first < end
+    → 1 + length (ones_between (starts_word n) (word_start n first + 1) end) ≡ words_between n first end
 counted_first n first end p h =
     let e = lt-ltb first end h in
-    let hit : ones_between (starts_word n) (word_start n first) end ≡ word_start n first ∷ ones_between (starts_word n) (word_start n first + 1) end = ones_between-hit (starts_word n) (word_start n first) end (omega arith) (start_of n first p) in
+    let hit : ones_between (starts_word n) (word_start n first) end ≡ word_start n first ∷ ones_between (starts_word n) (word_start n first + 1) end =
+    ones_between-hit (starts_word n) (word_start n first) end (omega arith) (start_of n first p) in
     rw (e, hit) (omega arith)
 
-pub first_scan : (n : ℕ) (m : Meaning) (first end : ℕ) (bytes : List ℕ) → IsLawful n m → end ≤ m.len → first < end → 8 * n * m.pruned ≤ first → ShowsChunk n m (first / (8 * n)) bytes → IsScan n m (word_start n first) end bytes 1 first
+pub first_scan : (n : ℕ) (m : Meaning) (first end : ℕ) (bytes : List ℕ) → IsLawful n m → end ≤ m.len → first < end
+    → 8 * n * m.pruned ≤ first → ShowsChunk n m (first / (8 * n)) bytes
+    → IsScan n m (word_start n first) end bytes 1 first
 first_scan n m first end bytes lawful within h from shown = record {
   lawful = lawful;
   within = within;

@@ -23,4 +23,5 @@ invariant_of-self g c =
     rw (c.chunk_width.ensures, c.drop_front.ensures) (record { width = c.self.invariant.width; count = rw length-drop (IsChunkCount-drop _ _ _ _ (omega arith) k c.self.invariant.count); zero = IsZeroFrom-drop _ _ _ _ c.self.invariant.width.positive (omega arith) c.self.invariant.zero })
 
 pub returns : goal.returns
-returns g c = rw (c.chunk_width.ensures, c.drop_front.ensures) (bits-drop _ _ _ _ _ c.self.invariant.width.positive (omega (arith, len_is _ _ _ _ c.self.view_is)) c.self.view_is)
+returns g c =
+    rw (c.chunk_width.ensures, c.drop_front.ensures) (bits-drop _ _ _ _ _ c.self.invariant.width.positive (omega (arith, len_is _ _ _ _ c.self.view_is)) c.self.view_is)

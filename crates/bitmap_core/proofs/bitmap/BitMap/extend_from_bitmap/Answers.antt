@@ -24,5 +24,6 @@ returns-clause-ok g c =
 
 pub returns-in_err-append_run-clause-roomy : goal.returns-in_err-append_run-clause-roomy
 returns-in_err-append_run-clause-roomy g c =
-    let e : div_ceil c.self.inside.len (8 * g.row.N) ≡ length c.self.inside.chunks.items = count_unique _ _ _ _ (IsChunkCount-ceil _ _ c.self.invariant.width.positive) c.self.invariant.count in
+    let e : div_ceil c.self.inside.len (8 * g.row.N) ≡ length c.self.inside.chunks.items =
+    count_unique _ _ _ _ (IsChunkCount-ceil _ _ c.self.invariant.width.positive) c.self.invariant.count in
     λ h. absurd (false≢true (c.in_err-append_run.ensures.roomy (rw (← c.len.ensures.value, len_is _ _ _ _ c.self.view_is, e) at h)))

@@ -15,7 +15,8 @@ invariant_of-result g c =
     let k = IsChunkCount-ceil g.row.N c.args.size c.requires.width.positive in
     record {
       width = c.requires.width;
-      count = rw (c.clear_tail.ensures.count, c.in_ok-append_copies.ensures.ok, c.new-chunks.ensures.items, c.chunk_count.ensures, length-replicate) k;
+      count =
+          rw (c.clear_tail.ensures.count, c.in_ok-append_copies.ensures.ok, c.new-chunks.ensures.items, c.chunk_count.ensures, length-replicate) k;
       zero = c.clear_tail.ensures.zero;
     }
 

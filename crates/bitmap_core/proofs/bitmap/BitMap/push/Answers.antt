@@ -18,5 +18,6 @@ returns-clause-ok g c =
     let e = bits-same _ _ _ _ (λ i _. c.in_ok-make_room.ensures.same i) ∙ c.self.view_is in
     elim c.if-bit.branch [
       | then-bit w ↦ rw (w.self-inside-is, w.if-bit.true) (bits-push _ _ _ _ _ _ w.set_bit.ensures e)
-      | else-bit w ↦ rw (w.self-inside-is, w.if-bit.false) (bits-push _ _ _ _ _ _ (IsBitPut_same _ _ _ _ (c.in_ok-make_room.ensures.same _ ∙ c.self.invariant.zero _ (omega arith))) e)
+      | else-bit w ↦
+          rw (w.self-inside-is, w.if-bit.false) (bits-push _ _ _ _ _ _ (IsBitPut_same _ _ _ _ (c.in_ok-make_room.ensures.same _ ∙ c.self.invariant.zero _ (omega arith))) e)
     ]

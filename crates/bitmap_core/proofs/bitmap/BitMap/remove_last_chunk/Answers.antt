@@ -25,7 +25,9 @@ invariant_of-self g c =
     rw c.chunk_width.ensures (record { width = c.self.invariant.width; count = IsChunkCount-last _ _ _ _ _ c.self.invariant.width.positive c.self.invariant.count c.self.view_is c.requires.aligned c.requires.filled y; zero = IsZeroFrom-last _ _ _ _ _ c.self.invariant.width.positive c.self.invariant.count c.self.view_is c.requires.aligned c.requires.filled y })
 
 pub returns-clause-value : goal.returns-clause-value
-returns-clause-value g c = c.chunk_at-chunk.ensures ∙ ap (λ i. chunk g.row.N (plain_bits c.args.self.now) (i - 1)) (c.chunk_index.ensures ∙ ap (λ x. x / (8 * g.row.N)) (sym (len_is _ _ _ _ c.self.view_is)))
+returns-clause-value g c =
+    c.chunk_at-chunk.ensures
+    ∙ ap (λ i. chunk g.row.N (plain_bits c.args.self.now) (i - 1)) (c.chunk_index.ensures ∙ ap (λ x. x / (8 * g.row.N)) (sym (len_is _ _ _ _ c.self.view_is)))
 
 pub returns-clause-rest : goal.returns-clause-rest
 returns-clause-rest g c =

@@ -5,7 +5,8 @@ use Rattle.bitmap_core.proofs.Chunks.Whole.{chunk_within, IsZeroFrom-replaced, g
 use Rattle.bitmap_core.proofs.bitmap.BitMap.replace_chunk.Goals as goal
 
 pub set_chunk-requires : goal.set_chunk-requires
-set_chunk-requires g c = (omega (arith, c.self.invariant.width.fits), chunk_within _ _ _ _ (omega (arith, len_is _ _ _ _ c.self.view_is)) c.self.invariant.count)
+set_chunk-requires g c =
+    (omega (arith, c.self.invariant.width.fits), chunk_within _ _ _ _ (omega (arith, len_is _ _ _ _ c.self.view_is)) c.self.invariant.count)
 
 pub invariant_of-self : goal.invariant_of-self
 invariant_of-self g c =

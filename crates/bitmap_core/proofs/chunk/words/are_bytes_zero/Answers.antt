@@ -5,7 +5,8 @@ use Rattle.bitmap_core.proofs.Counting.Words.{none_chunk, zero_byte, other_byte}
 use Rattle.bitmap_core.proofs.chunk.words.are_bytes_zero.Goals as goal
 
 pub returns-then-byte-ne0 : goal.returns-then-byte-ne0
-returns-then-byte-ne0 c = sym (other_byte c.args.bytes.now c.loop-byte.byte-index c.loop-byte-test.true (omega (arith, c.type_inv.bytes c.loop-byte.byte-index)) c.if-byte-ne0.true c.loop-byte.invariant)
+returns-then-byte-ne0 c =
+    sym (other_byte c.args.bytes.now c.loop-byte.byte-index c.loop-byte-test.true (omega (arith, c.type_inv.bytes c.loop-byte.byte-index)) c.if-byte-ne0.true c.loop-byte.invariant)
 
 pub loop-byte-preserved : goal.loop-byte-preserved
 loop-byte-preserved c = zero_byte c.args.bytes.now c.loop-byte.byte-index c.if-byte-ne0.false c.loop-byte.invariant

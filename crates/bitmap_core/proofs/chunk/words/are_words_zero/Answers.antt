@@ -6,10 +6,12 @@ use Rattle.bitmap_core.proofs.Counting.Words.{zero_word, other_word}
 use Rattle.bitmap_core.proofs.chunk.words.are_words_zero.Goals as goal
 
 pub returns-then-load-ne0 : goal.returns-then-load-ne0
-returns-then-load-ne0 c = sym (other_word c.args.words.now c.loop-word.word-index _ c.load.result c.loop-word-test.true c.load.type_inv c.load.ensures c.if-load-ne0.true c.loop-word.invariant)
+returns-then-load-ne0 c =
+    sym (other_word c.args.words.now c.loop-word.word-index _ c.load.result c.loop-word-test.true c.load.type_inv c.load.ensures c.if-load-ne0.true c.loop-word.invariant)
 
 pub loop-word-preserved : goal.loop-word-preserved
-loop-word-preserved c = zero_word c.args.words.now c.loop-word.word-index _ c.load.result c.loop-word-test.true c.load.type_inv c.load.ensures c.if-load-ne0.false c.loop-word.invariant
+loop-word-preserved c =
+    zero_word c.args.words.now c.loop-word.word-index _ c.load.result c.loop-word-test.true c.load.type_inv c.load.ensures c.if-load-ne0.false c.loop-word.invariant
 
 pub returns : goal.returns
 returns c =

@@ -3,7 +3,8 @@ use Rattle.bitmap_core.proofs.Chunks.OfBytes.{past_chunk, past_full}
 use Rattle.bitmap_core.proofs.bitmap.codec.dense.is_set_past.Goals as goal
 
 pub returns-then-from-eq0 : goal.returns-then-from-eq0
-returns-then-from-eq0 g c = past_full g.row.N c.args.len c.args.chunks.now c.requires.width.positive c.requires.count (rw c.chunk_width.ensures at c.if-from-eq0.true)
+returns-then-from-eq0 g c =
+    past_full g.row.N c.args.len c.args.chunks.now c.requires.width.positive c.requires.count (rw c.chunk_width.ensures at c.if-from-eq0.true)
 
 pub returns : goal.returns
 returns g c =

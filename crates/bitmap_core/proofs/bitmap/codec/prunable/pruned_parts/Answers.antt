@@ -12,7 +12,9 @@ some_holds (Some x) v s e = s.0
 pub returns-in_err-len-clause-refused : goal.returns-in_err-len-clause-refused
 returns-in_err-len-clause-refused g c =
     let p = c.in_ok-pruned_chunks.ensures in
-    let bits : bits_fault g.row.N (admits c.args.range.now) (drop 8 c.args.text.now) ≡ fault c.in_err-len.field-0.0 = ap (bits_fault g.row.N (admits c.args.range.now)) (sym p.body) ∙ c.in_err-len.ensures.refused in
+    let bits : bits_fault g.row.N (admits c.args.range.now) (drop 8 c.args.text.now) ≡ fault c.in_err-len.field-0.0 =
+    ap (bits_fault g.row.N (admits c.args.range.now)) (sym p.body)
+    ∙ c.in_err-len.ensures.refused in
     let q : pruned_fault g.row.N (admits c.args.range.now) c.args.text.now ≡ fault c.in_err-len.field-0.0 =
     pruned_bits_fault g.row.N (admits c.args.range.now) c.args.text.now _ p.long p.fits (number-lt c.args.text.now c.count_part.ensures.bytes) bits c.in_err-len.ensures.named in
     search rules

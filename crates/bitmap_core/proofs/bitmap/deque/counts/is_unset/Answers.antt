@@ -10,9 +10,11 @@ is_unset-requires-then-is_unset g c =
 pub returns-then-is_unset : goal.returns-then-is_unset
 returns-then-is_unset g c =
     let cut = cut_is g.row.N c.args.chunks.now.items c.bytes.result.0.now c.bytes.result.1.now c.saturating_mul-split.result c.args.to c.requires.positive c.bytes.ensures.known c.bytes.ensures.items c.saturating_mul-split.ensures c.requires.within c.ranges.to.fits in
-    c.is_unset-then-is_unset.ensures ∙ rw (c.max.ensures, c.max-then-is_unset.ensures) (none_right _ _ _ _ _ c.args.from _ cut (rw (c.min.ensures, c.min-2.ensures) at (sym c.is_unset.ensures ∙ c.if-is_unset.true)))
+    c.is_unset-then-is_unset.ensures
+    ∙ rw (c.max.ensures, c.max-then-is_unset.ensures) (none_right _ _ _ _ _ c.args.from _ cut (rw (c.min.ensures, c.min-2.ensures) at (sym c.is_unset.ensures ∙ c.if-is_unset.true)))
 
 pub returns-else-is_unset : goal.returns-else-is_unset
 returns-else-is_unset g c =
     let cut = cut_is g.row.N c.args.chunks.now.items c.bytes.result.0.now c.bytes.result.1.now c.saturating_mul-split.result c.args.to c.requires.positive c.bytes.ensures.known c.bytes.ensures.items c.saturating_mul-split.ensures c.requires.within c.ranges.to.fits in
-    c.if-is_unset.false ∙ sym (some_in_left _ _ _ _ _ c.args.from _ cut (rw (c.min.ensures, c.min-2.ensures) at (sym c.is_unset.ensures ∙ c.if-is_unset.false)))
+    c.if-is_unset.false
+    ∙ sym (some_in_left _ _ _ _ _ c.args.from _ cut (rw (c.min.ensures, c.min-2.ensures) at (sym c.is_unset.ensures ∙ c.if-is_unset.false)))

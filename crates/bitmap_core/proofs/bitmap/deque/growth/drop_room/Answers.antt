@@ -15,4 +15,5 @@ returns-then-len-chunk_width-eq0-clause-same g c =
     rw (c.pop_back.ensures.rest, c.args.chunks.now.ok.0) (bit_of-drop_last _ _ _ c.requires.width.positive c.requires.zero f.2 (rw c.chunk_width.ensures at c.if-len-chunk_width-eq0.true))
 
 pub returns-else-len-chunk_width-eq0-clause-count : goal.returns-else-len-chunk_width-eq0-clause-count
-returns-else-len-chunk_width-eq0-clause-count g c = IsChunkCount-kept _ _ _ c.requires.width.positive c.requires.count (rw c.chunk_width.ensures at c.if-len-chunk_width-eq0.false)
+returns-else-len-chunk_width-eq0-clause-count g c =
+    IsChunkCount-kept _ _ _ c.requires.width.positive c.requires.count (rw c.chunk_width.ensures at c.if-len-chunk_width-eq0.false)

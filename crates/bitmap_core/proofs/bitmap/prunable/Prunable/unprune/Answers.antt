@@ -6,5 +6,6 @@ use Rattle.bitmap_core.proofs.bitmap.prunable.Prunable.unprune.Goals as goal
 pub invariant_of-self-2 : goal.invariant_of-self-2
 invariant_of-self-2 g c =
     let b : PrunedBits = record { pruned = c.self.inside.pruned_chunks; bits = c.self.inside.bitmap } in
-    let fits : length c.args.chunks.now ≤ c.self.inside.pruned_chunks = subst (λ b. length c.args.chunks.now ≤ b.pruned) (sym c.self.view_is) c.requires in
+    let fits : length c.args.chunks.now ≤ c.self.inside.pruned_chunks =
+    subst (λ b. length c.args.chunks.now ≤ b.pruned) (sym c.self.view_is) c.requires in
     rw c.in_ok-put_front_chunks.ensures.ok (record { width = c.self.invariant.width; len = omega (arith, len_unpruned g.row.N b c.args.chunks.now c.self.invariant.width.positive fits, c.self.invariant.len) })

@@ -16,5 +16,6 @@ loop-cursor-preserved g c = record {
   cut = c.load_next.ensures.cut;
   first = c.load_next.ensures.first ∙ c.loop-cursor.invariant.first;
   counted = omega (arith, c.load_next.ensures.counted, c.loop-cursor.invariant.counted);
-  left = left_moved g.row.N (g.B.Readable.meaning c.args.readable.now) c.loop-cursor.cursor.base c.loop-cursor.cursor.word c.args.end c.in-Some.next _ _ c.loop-cursor-test.true c.in-Some.ensures c.load_next.ensures.left c.loop-cursor.invariant.left;
+  left =
+      left_moved g.row.N (g.B.Readable.meaning c.args.readable.now) c.loop-cursor.cursor.base c.loop-cursor.cursor.word c.args.end c.in-Some.next _ _ c.loop-cursor-test.true c.in-Some.ensures c.load_next.ensures.left c.loop-cursor.invariant.left;
 }

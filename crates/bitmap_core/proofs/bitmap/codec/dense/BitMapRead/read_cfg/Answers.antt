@@ -25,4 +25,5 @@ returns-clause-sized g c =
     omega (arith, ap length v, length-bits g.row.N c.in_ok-len.chunks.now c.in_ok-len.len, c.in_ok-len.ensures.len, number-lt c.args.from.now.now c.parts.ensures.bytes)
 
 pub returns-clause-value : goal.returns-clause-value
-returns-clause-value g c = bits_in_spelled g.row.N c.args.from.now.now c.in_ok-map.map c.in_ok-len.rest.now c.requires.positive (returns-clause-sized g c) (returns-clause-found g c)
+returns-clause-value g c =
+    bits_in_spelled g.row.N c.args.from.now.now c.in_ok-map.map c.in_ok-len.rest.now c.requires.positive (returns-clause-sized g c) (returns-clause-found g c)

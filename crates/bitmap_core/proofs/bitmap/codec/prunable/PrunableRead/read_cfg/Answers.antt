@@ -15,7 +15,9 @@ from_chunks-requires g c =
 pub from_parts-requires : goal.from_parts-requires
 from_parts-requires g c =
     let v : c.in_ok-bits.bits ≡ bits g.row.N c.in_ok-pruned_chunks.chunks.now c.in_ok-pruned_chunks.len = search rules in
-    let l : length c.in_ok-bits.bits ≡ c.in_ok-pruned_chunks.len = ap length v ∙ length-bits g.row.N c.in_ok-pruned_chunks.chunks.now c.in_ok-pruned_chunks.len in
+    let l : length c.in_ok-bits.bits ≡ c.in_ok-pruned_chunks.len =
+    ap length v
+    ∙ length-bits g.row.N c.in_ok-pruned_chunks.chunks.now c.in_ok-pruned_chunks.len in
     (omega arith, (omega arith, (c.requires, omega (arith, l, c.in_ok-pruned_chunks.ensures.total))))
 
 pub returns-clause-found : goal.returns-clause-found
@@ -28,5 +30,7 @@ returns-clause-found g c =
 pub returns-clause-value : goal.returns-clause-value
 returns-clause-value g c =
     let v : c.in_ok-bits.bits ≡ bits g.row.N c.in_ok-pruned_chunks.chunks.now c.in_ok-pruned_chunks.len = search rules in
-    let l : length c.in_ok-bits.bits ≡ c.in_ok-pruned_chunks.len = ap length v ∙ length-bits g.row.N c.in_ok-pruned_chunks.chunks.now c.in_ok-pruned_chunks.len in
+    let l : length c.in_ok-bits.bits ≡ c.in_ok-pruned_chunks.len =
+    ap length v
+    ∙ length-bits g.row.N c.in_ok-pruned_chunks.chunks.now c.in_ok-pruned_chunks.len in
     pruned_in_spelled g.row.N c.args.from.now.now c.from_parts.result c.in_ok-pruned_chunks.rest.now c.requires.positive (omega (arith, l, ap (λ x. length x.bits) c.from_parts.ensures, c.in_ok-pruned_chunks.ensures.total)) (omega (arith, ap (λ x. x.pruned) c.from_parts.ensures, c.in_ok-pruned_chunks.ensures.pruned, number-lt c.args.from.now.now c.pruned_parts.ensures.bytes)) (returns-clause-found g c)

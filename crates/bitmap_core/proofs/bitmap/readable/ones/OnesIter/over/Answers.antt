@@ -14,7 +14,7 @@ returns-then-position-end-clause-positions g c =
     let p = c.len.ensures.lawful.width.positive in
     left_none g.row.N m c.min-end.result 0 c.min-end.result refl (omega (arith, end_near g.row.N c.min-end.result p))
     ∙ sym (ones_between-none m.bit (max c.args.range.start (8 * g.row.N * m.pruned)) (min c.args.range.end m.len)
-      (omega (arith, c.if-position-end.true, c.max-position.ensures, c.min-end.ensures, c.pruned_bits.ensures, c.len.ensures.value)))
+    (omega (arith, c.if-position-end.true, c.max-position.ensures, c.min-end.ensures, c.pruned_bits.ensures, c.len.ensures.value)))
 
 pub load_word-word-requires : goal.load_word-word-requires
 load_word-word-requires g c =
@@ -22,7 +22,8 @@ load_word-word-requires g c =
     let below = c.if-position-end.false in
     (omega arith, (c.len.ensures.lawful.width, rw c.word_base-base.ensures (start_of g.row.N c.max-position.result p, (omega (arith, below), omega arith))))
 
-masked : (g : Over) (c : After-high_bits g) → IsMasked c.load_word-word.result c.high_bits.result (c.max-position.result - word_start g.row.N c.max-position.result)
+masked : (g : Over) (c : After-high_bits g)
+    → IsMasked c.load_word-word.result c.high_bits.result (c.max-position.result - word_start g.row.N c.max-position.result)
 masked g c = record { kept = rw c.word_base-base.ensures at c.high_bits.ensures.kept; cut = rw c.word_base-base.ensures at c.high_bits.ensures.cut }
 
 -- the first chunk is that of the position
@@ -44,14 +45,14 @@ returns-clause-positions g c =
     let m : Meaning = g.B.Readable.meaning c.args.readable.now in
     let p = c.len.ensures.lawful.width.positive in
     rw c.word_base-base.ensures (left_loaded g.row.N m (word_start g.row.N c.max-position.result) c.max-position.result c.min-end.result c.get_chunk-chunk.result c.high_bits.result
-      p (start_of g.row.N c.max-position.result p) (omega arith) c.if-position-end.false (omega (arith, c.len.ensures.value)) (start_near g.row.N c.max-position.result p)
-      (rw (start_chunk g.row.N c.max-position.result p) (shown g c))
-      (first_loaded g.row.N c.max-position.result c.min-end.result c.get_chunk-chunk.result c.load_word-word.result c.high_bits.result p
-        (rw c.word_base-base.ensures at c.load_word-word.ensures.inside) (rw c.word_base-base.ensures at c.load_word-word.ensures.past_chunk)
-        (rw c.word_base-base.ensures at c.load_word-word.ensures.past_end) (masked g c)))
+    p (start_of g.row.N c.max-position.result p) (omega arith) c.if-position-end.false (omega (arith, c.len.ensures.value)) (start_near g.row.N c.max-position.result p)
+    (rw (start_chunk g.row.N c.max-position.result p) (shown g c))
+    (first_loaded g.row.N c.max-position.result c.min-end.result c.get_chunk-chunk.result c.load_word-word.result c.high_bits.result p
+    (rw c.word_base-base.ensures at c.load_word-word.ensures.inside) (rw c.word_base-base.ensures at c.load_word-word.ensures.past_chunk)
+    (rw c.word_base-base.ensures at c.load_word-word.ensures.past_end) (masked g c)))
     ∙ ones_between-at m.bit c.max-position.result (max c.args.range.start (8 * g.row.N * m.pruned)) c.min-end.result (min c.args.range.end m.len)
-      (c.max-position.ensures ∙ ap (λ (k : ℕ). max c.args.range.start k) c.pruned_bits.ensures)
-      (c.min-end.ensures ∙ ap (λ (k : ℕ). min c.args.range.end k) c.len.ensures.value)
+    (c.max-position.ensures ∙ ap (λ (k : ℕ). max c.args.range.start k) c.pruned_bits.ensures)
+    (c.min-end.ensures ∙ ap (λ (k : ℕ). min c.args.range.end k) c.len.ensures.value)
 
 pub returns-clause-loads : goal.returns-clause-loads
 returns-clause-loads g c =
