@@ -18,12 +18,31 @@ value_of_digit d h = elim (cases_eq d 1) [
 -- a byte is the one with its own bits
 pub byte_is : (x : ℕ) → x < 256 → byte_of (λ t. eqb (bit_at x t) 1) ≡ x
 byte_is x h =
-    omega (arith, value_of_digit (x / 1 % 2), value_of_digit (x / 2 % 2), value_of_digit (x / 4 % 2), value_of_digit (x / 8 % 2), value_of_digit (x / 16 % 2), value_of_digit (x / 32 % 2), value_of_digit (x / 64 % 2), value_of_digit (x / 128 % 2))
+    omega (
+      arith,
+      value_of_digit (x / 1 % 2),
+      value_of_digit (x / 2 % 2),
+      value_of_digit (x / 4 % 2),
+      value_of_digit (x / 8 % 2),
+      value_of_digit (x / 16 % 2),
+      value_of_digit (x / 32 % 2),
+      value_of_digit (x / 64 % 2),
+      value_of_digit (x / 128 % 2),
+    )
 
 -- bytes with the same bits are equal
 pub byte_same : (f g : ℕ → Bool) → ((t : ℕ) → t < 8 → f t ≡ g t) → byte_of f ≡ byte_of g
 byte_same f g h =
-    rw (h 0 (omega arith), h 1 (omega arith), h 2 (omega arith), h 3 (omega arith), h 4 (omega arith), h 5 (omega arith), h 6 (omega arith), h 7 (omega arith)) refl
+    rw (
+      h 0 (omega arith),
+      h 1 (omega arith),
+      h 2 (omega arith),
+      h 3 (omega arith),
+      h 4 (omega arith),
+      h 5 (omega arith),
+      h 6 (omega arith),
+      h 7 (omega arith),
+    ) refl
 
 pub map_range_same : {X : Type 0} (f g : ℕ → X) (a m : ℕ) → ((j : ℕ) → a ≤ j → j < a + m → f j ≡ g j)
     → map f (range_with_len a m) ≡ map g (range_with_len a m)
@@ -48,7 +67,9 @@ bytes_are n c bit l r h =
     ext_get_or 0 c (map (λ j. byte_of (λ t. bit (8 * j + t))) (range_with_len 0 n)) (l ∙ sym (length-map-range_with_len (λ j. byte_of (λ t. bit (8 * j + t))) 0 n)) (λ j b.
     let s : j < n = omega arith in
     sym (byte_is (get_or c j 0) (r j))
-    ∙ byte_same (λ t. eqb (bit_at (get_or c j 0) t) 1) (λ t. bit (8 * j + t)) (λ t w. sym (chunk_bit_in_byte n c j t s w) ∙ h (8 * j + t) (omega arith))
+    ∙ byte_same (λ t. eqb (bit_at (get_or c j 0) t) 1) (λ t. bit (8 * j + t)) (λ t w.
+    sym (chunk_bit_in_byte n c j t s w)
+    ∙ h (8 * j + t) (omega arith))
     ∙ sym (get_or-map-range_with_len (λ j. byte_of (λ t. bit (8 * j + t))) 0 n j j 0 s (omega arith)))
 
 digit_below : (x : Bool) → bit_value x < 2

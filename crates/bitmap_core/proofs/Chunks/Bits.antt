@@ -45,8 +45,15 @@ cleared n old new at p past here kept i =
     elim (cases_lt (i / 8 % n) (at / 8)) [
       | inl h ↦ (λ _. ap (λ x. eqb (bit_at x (i % 8)) 1) (kept (i / 8 % n) h), λ q. absurd (omega arith))
       | inr h ↦ elim (cases_eq (i / 8 % n) (at / 8)) [
-        | inl e ↦
-            (λ q. ap (λ k. eqb (bit_at (get_or new k 0) (i % 8)) 1) e ∙ ap (λ x. eqb (bit_at x (i % 8)) 1) here ∙ ap (λ x. eqb x 1) (low_bit_below _ (at % 8) (i % 8) (omega arith)) ∙ ap (λ k. eqb (bit_at (get_or old k 0) (i % 8)) 1) (sym e), λ q. ap (λ k. eqb (bit_at (get_or new k 0) (i % 8)) 1) e ∙ ap (λ x. eqb (bit_at x (i % 8)) 1) here ∙ ap (λ x. eqb x 1) (low_bit_above _ (at % 8) (i % 8) (omega arith)))
+        | inl e ↦ (
+          λ q. ap (λ k. eqb (bit_at (get_or new k 0) (i % 8)) 1) e
+              ∙ ap (λ x. eqb (bit_at x (i % 8)) 1) here
+              ∙ ap (λ x. eqb x 1) (low_bit_below _ (at % 8) (i % 8) (omega arith))
+              ∙ ap (λ k. eqb (bit_at (get_or old k 0) (i % 8)) 1) (sym e),
+          λ q. ap (λ k. eqb (bit_at (get_or new k 0) (i % 8)) 1) e
+              ∙ ap (λ x. eqb (bit_at x (i % 8)) 1) here
+              ∙ ap (λ x. eqb x 1) (low_bit_above _ (at % 8) (i % 8) (omega arith)),
+        )
         | inr e ↦ (λ q. absurd (omega arith), λ q. bit_of_zero_byte _ (i % 8) (past (i / 8 % n) (omega arith) w))
       ]
     ]

@@ -29,8 +29,10 @@ pub same_bits_decided : (n : ℕ) (r : Bool) (xs ys : List (List ℕ)) → 0 < n
 same_bits_decided n r xs ys p l f g d = (λ q k. ap (λ zs. bit_of n zs k) (d.0 q), λ h. d.1 (chunks_from_bits n xs ys p l f g h))
 
 append_split : {A : Type 0} (fs gs xs ys : List A) → length fs ≡ length xs → fs ++ gs ≡ xs ++ ys → (fs ≡ xs) × (gs ≡ ys)
-append_split fs gs xs ys l e =
-    (sym (take-append_seam fs gs) ∙ ap (λ k. take k (fs ++ gs)) l ∙ ap (λ zs. take (length xs) zs) e ∙ take-append_seam xs ys, sym (drop-append_seam fs gs) ∙ ap (λ k. drop k (fs ++ gs)) l ∙ ap (λ zs. drop (length xs) zs) e ∙ drop-append_seam xs ys)
+append_split fs gs xs ys l e = (
+  sym (take-append_seam fs gs) ∙ ap (λ k. take k (fs ++ gs)) l ∙ ap (λ zs. take (length xs) zs) e ∙ take-append_seam xs ys,
+  sym (drop-append_seam fs gs) ∙ ap (λ k. drop k (fs ++ gs)) l ∙ ap (λ zs. drop (length xs) zs) e ∙ drop-append_seam xs ys,
+)
 
 -- chunks are the same where their bytes are
 chunks_from_bytes : (n : ℕ) (xs ys : List (List ℕ)) → length xs ≡ length ys → AreChunks n xs → AreChunks n ys

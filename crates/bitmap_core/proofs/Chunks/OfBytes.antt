@@ -74,7 +74,8 @@ bit_in-chunks n v k i rest p h =
 pub past_chunk : (n len : ℕ) (xs : List (List ℕ)) (c : List ℕ) → 0 < n → IsChunkCount n (length xs) len
     → (len % (8 * n) ≡ 0 → ⊥)
     → c ≡ get_or xs (len / (8 * n)) c
-    → list_any (chunk_bit n c) (range_with_len (len % (8 * n)) (8 * n - len % (8 * n))) ≡ list_any (bit_of n xs) (range_with_len len (8 * n * length xs - len))
+    → list_any (chunk_bit n c) (range_with_len (len % (8 * n)) (8 * n - len % (8 * n)))
+    ≡ list_any (bit_of n xs) (range_with_len len (8 * n * length xs - len))
 past_chunk n len xs c p k d r =
     let l : length xs ≡ len / (8 * n) + 1 = open_last n (length xs) len p k d in
     let t = div-add-mod len (8 * n) in

@@ -40,7 +40,8 @@ pub stored_chunk : (n : ℕ) (xs : List (List ℕ)) (len : ℕ) (v : List Bool) 
     → c ≡ chunk n (plain_bits v) i
 stored_chunk n xs len v i c p e z r b =
     b
-    ∙ map_range_same (λ j. byte_of (λ t. chunk_bit n c (8 * j + t))) (λ j. byte_of (λ t. get_or v (8 * n * i + 8 * j + t - 8 * n * 0) false)) 0 n (λ j _ h.
+    ∙ map_range_same (λ j. byte_of (λ t. chunk_bit n c (8 * j + t))) (λ j.
+    byte_of (λ t. get_or v (8 * n * i + 8 * j + t - 8 * n * 0) false)) 0 n (λ j _ h.
     byte_same (λ t. chunk_bit n c (8 * j + t)) (λ t. get_or v (8 * n * i + 8 * j + t - 8 * n * 0) false) (λ t s.
     ap (λ x. chunk_bit n x (8 * j + t)) r
     ∙ bit_in_chunk n xs i (8 * j + t) p (omega arith)
@@ -60,7 +61,8 @@ last_whole n xs len v p c e a f =
     (l, q, s, omega (arith, mul-add (8 * n) (length xs - 1) 1, ap (λ x. 8 * n * x) m))
 
 -- without the last chunk
-module _ (n : ℕ) (xs ys : List (List ℕ)) (len : ℕ) (v : List Bool) (p : 0 < n) (c : IsChunkCount n (length xs) len) (e : bits n xs len ≡ v) (a : length v % (8 * n) ≡ 0) (f : 0 < length v) (y : ys ≡ take (length xs - 1) xs) where
+module _ (n : ℕ) (xs ys : List (List ℕ)) (len : ℕ) (v : List Bool) (p : 0 < n) (c : IsChunkCount n (length xs) len)
+    (e : bits n xs len ≡ v) (a : length v % (8 * n) ≡ 0) (f : 0 < length v) (y : ys ≡ take (length xs - 1) xs) where
   kept_count : length ys ≡ length xs - 1
   kept_count = ap length y ∙ length-take-le (length xs - 1) xs (omega arith)
 
@@ -75,7 +77,9 @@ module _ (n : ℕ) (xs ys : List (List ℕ)) (len : ℕ) (v : List Bool) (p : 0 
   pub bits-last : bits n ys (len - 8 * n) ≡ take (length v - 8 * n) v
   bits-last =
       let w = last_whole n xs len v p c e a f in
-      bits-same n xs ys (len - 8 * n) (λ i s. ap (λ zs. bit_of n zs i) y ∙ bit_of-take_in n xs (length xs - 1) i (div_below i (8 * n) (length xs - 1) (omega arith) (omega (arith, w.3))))
+      bits-same n xs ys (len - 8 * n) (λ i s.
+      ap (λ zs. bit_of n zs i) y
+      ∙ bit_of-take_in n xs (length xs - 1) i (div_below i (8 * n) (length xs - 1) (omega arith) (omega (arith, w.3))))
       ∙ sym (take-bits n xs len (len - 8 * n) (omega arith)) ∙ ap (λ u. take (len - 8 * n) u) e ∙ ap (λ m. take (m - 8 * n) v) (sym w.0)
 
 -- a chunk replaced by c

@@ -55,11 +55,14 @@ masked_ones b lo hi w f h s =
     let first = ones_from_split (λ t. eqb (bit_at x t) 1) 0 lo w (omega arith) (omega arith) in
     let second = ones_from_split (λ t. eqb (bit_at x t) 1) lo hi w h s in
     let low : ones_from (λ t. eqb (bit_at x t) 1) 0 (lo - 0) ≡ 0 =
-    ones_from_clear (λ t. eqb (bit_at x t) 1) 0 (lo - 0) (λ t l. ap (λ k. eqb k 1) (masked_out b (2 ^ hi - 2 ^ lo) (0 + t) (bit_at_mask_below lo hi (0 + t) (omega arith)))) in
+    ones_from_clear (λ t. eqb (bit_at x t) 1) 0 (lo - 0) (λ t l.
+    ap (λ k. eqb k 1) (masked_out b (2 ^ hi - 2 ^ lo) (0 + t) (bit_at_mask_below lo hi (0 + t) (omega arith)))) in
     let high : ones_from (λ t. eqb (bit_at x t) 1) hi (w - hi) ≡ 0 =
-    ones_from_clear (λ t. eqb (bit_at x t) 1) hi (w - hi) (λ t l. ap (λ k. eqb k 1) (masked_out b (2 ^ hi - 2 ^ lo) (hi + t) (bit_at_mask_above lo hi (hi + t) (omega arith)))) in
+    ones_from_clear (λ t. eqb (bit_at x t) 1) hi (w - hi) (λ t l.
+    ap (λ k. eqb k 1) (masked_out b (2 ^ hi - 2 ^ lo) (hi + t) (bit_at_mask_above lo hi (hi + t) (omega arith)))) in
     let mid : ones_from (λ t. eqb (bit_at x t) 1) lo (hi - lo) ≡ ones_from (λ t. eqb (bit_at b t) 1) lo (hi - lo) =
-    ones_from_same (λ t. eqb (bit_at x t) 1) (λ t. eqb (bit_at b t) 1) lo lo (hi - lo) (λ t l. ap (λ k. eqb k 1) (masked_in b (2 ^ hi - 2 ^ lo) (lo + t) (bit_at_mask_inside lo hi (lo + t) (omega arith) (omega arith)))) in
+    ones_from_same (λ t. eqb (bit_at x t) 1) (λ t. eqb (bit_at b t) 1) lo lo (hi - lo) (λ t l.
+    ap (λ k. eqb k 1) (masked_in b (2 ^ hi - 2 ^ lo) (lo + t) (bit_at_mask_inside lo hi (lo + t) (omega arith) (omega arith)))) in
     let whole : count_ones x ≡ ones_from (λ t. eqb (bit_at x t) 1) 0 (w - 0) =
     (let z : count_ones x ≡ 0 + count_ones x = omega arith in z)
     ∙ all
@@ -133,7 +136,8 @@ range_parts xs from to h w d =
 pub none_between : (xs : List ℕ) (from to : ℕ) → from < to → to ≤ 8 * length xs → (from / 8 ≡ (to - 1) / 8 → ⊥)
     → none_in (get_or xs (from / 8) 0) (from % 8) 8 ≡ true
     → none_in (get_or xs ((to - 1) / 8) 0) 0 ((to - 1) % 8 + 1) ≡ true
-    → list_all not (chunk_bits (length (slice_range xs (from / 8 + 1) ((to - 1) / 8))) (slice_range xs (from / 8 + 1) ((to - 1) / 8))) ≡ list_all not (slice_range (chunk_bits (length xs) xs) from to)
+    → list_all not (chunk_bits (length (slice_range xs (from / 8 + 1) ((to - 1) / 8))) (slice_range xs (from / 8 + 1) ((to - 1) / 8)))
+    ≡ list_all not (slice_range (chunk_bits (length xs) xs) from to)
 none_between xs from to h w d a b =
     let r = range_parts xs from to h w d in
     none_chunk (length (slice_range xs (from / 8 + 1) ((to - 1) / 8))) (slice_range xs (from / 8 + 1) ((to - 1) / 8))

@@ -29,7 +29,9 @@ pub none_chunk_slice : (n : ℕ) (c : List ℕ) (a b : ℕ) → b ≤ 8 * n
     → list_all not (slice_range (chunk_bits n c) a b) ≡ eqb (ones_from (bit_in c) a (b - a)) 0
 none_chunk_slice n c a b h =
     let l = length-map-range_with_len (chunk_bit n c) 0 (8 * n) in
-    none_slice (chunk_bits n c) (bit_in c) a b (omega arith) (λ i s. get_or-map-range_with_len (chunk_bit n c) 0 (8 * n) i i false (omega arith) (omega arith) ∙ chunk_bit-within n c i (omega arith))
+    none_slice (chunk_bits n c) (bit_in c) a b (omega arith) (λ i s.
+    get_or-map-range_with_len (chunk_bit n c) 0 (8 * n) i i false (omega arith) (omega arith)
+    ∙ chunk_bit-within n c i (omega arith))
 
 -- bit t of byte j
 pub bit_in-at : (bytes : List ℕ) (j t : ℕ) → t < 8 → bit_in bytes (8 * j + t) ≡ eqb (bit_at (get_or bytes j 0) t) 1
@@ -133,7 +135,8 @@ words_and_rest xs words rest e f l m =
     let k : ℕ = length xs / 8 in
     let a : 8 * length xs ≡ 64 * length words + 8 * length rest = omega arith in
     let b : ones_from (bit_in xs) 0 (64 * length words) ≡ ones_from (bit_of 8 words) 0 (64 * length words) =
-    ones_from_same (bit_in xs) (bit_of 8 words) 0 0 (64 * length words) (λ t h. sym (ap (λ ws. bit_of 8 ws (0 + t)) e ∙ bit_of-words (length xs / 8) xs (0 + t) (omega arith))) in
+    ones_from_same (bit_in xs) (bit_of 8 words) 0 0 (64 * length words) (λ t h.
+    sym (ap (λ ws. bit_of 8 ws (0 + t)) e ∙ bit_of-words (length xs / 8) xs (0 + t) (omega arith))) in
     let c : ones_from (bit_in xs) (0 + 64 * length words) (8 * length rest) ≡ ones_from (bit_in rest) 0 (8 * length rest) =
     ones_from_same (bit_in xs) (bit_in rest) (0 + 64 * length words) 0 (8 * length rest) (λ t h.
     let q : 8 * (length xs / 8 * 8) + (0 + t) ≡ 0 + 64 * length words + t = omega arith in
@@ -162,6 +165,13 @@ other_words xs words rest e f l m h =
 pub count-words_and_rest : (xs : List ℕ) (words : List (List ℕ)) (rest : List ℕ) → words ≡ first_chunks 8 (length xs / 8) xs
     → rest ≡ drop (length xs / 8 * 8) xs → length words ≡ length xs / 8
     → length rest ≡ length xs % 8
-    → count_by (λ b. b) (chunk_bits (length xs) xs) ≡ count_by (λ b. b) (bits 8 words (64 * length words)) + count_by (λ b. b) (chunk_bits (length rest) rest)
+    → count_by (λ b. b) (chunk_bits (length xs) xs)
+    ≡ count_by (λ b. b) (bits 8 words (64 * length words)) + count_by (λ b. b) (chunk_bits (length rest) rest)
 count-words_and_rest xs words rest e f l m =
-    omega (arith, count-chunk (length xs) xs, words_and_rest xs words rest e f l m, count-bits 8 words (64 * length words), count-chunk (length rest) rest)
+    omega (
+      arith,
+      count-chunk (length xs) xs,
+      words_and_rest xs words rest e f l m,
+      count-bits 8 words (64 * length words),
+      count-chunk (length rest) rest,
+    )

@@ -82,7 +82,11 @@ chunks_of_73_bits = (omega arith, omega arith)
 
 -- bit 9 put into the second byte
 bit_put : IsBitPut 1 ((5 ∷ []) ∷ (1 ∷ []) ∷ []) ((5 ∷ []) ∷ (3 ∷ []) ∷ []) 9 true
-bit_put = record { here = refl; others = λ j d. same_bits 1 16 (λ k. not (k == 9)) ((5 ∷ []) ∷ (1 ∷ []) ∷ []) ((5 ∷ []) ∷ (3 ∷ []) ∷ []) j refl (λ h. omega arith) refl (is_other j 9 d); count = refl }
+bit_put = record {
+  here = refl;
+  others = λ j d. same_bits 1 16 (λ k. not (k == 9)) ((5 ∷ []) ∷ (1 ∷ []) ∷ []) ((5 ∷ []) ∷ (3 ∷ []) ∷ []) j refl (λ h. omega arith) refl (is_other j 9 d);
+  count = refl;
+}
 
 -- a chunk more is no bit put
 chunk_more_is_not_put : IsBitPut 1 ((5 ∷ []) ∷ []) ((5 ∷ []) ∷ (2 ∷ []) ∷ []) 9 true → ⊥

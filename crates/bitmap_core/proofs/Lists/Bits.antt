@@ -26,7 +26,8 @@ pub bits_are : (n : ℕ) (chunks : List (List ℕ)) (len : ℕ) (v : List Bool) 
     → ((i : ℕ) → i < len → bit_of n chunks i ≡ get_or v i false)
     → bits n chunks len ≡ v
 bits_are n chunks len v l h =
-    ext_get_or false (bits n chunks len) v (length-bits n chunks len ∙ sym l) (λ i b. let s : i < len = omega (arith, length-bits n chunks len) in get_or-bits n chunks len i false s ∙ h i s)
+    ext_get_or false (bits n chunks len) v (length-bits n chunks len ∙ sym l) (λ i b.
+    let s : i < len = omega (arith, length-bits n chunks len) in get_or-bits n chunks len i false s ∙ h i s)
 
 pub bits-none : (n : ℕ) (chunks : List (List ℕ)) → bits n chunks 0 ≡ []
 unfolding bits

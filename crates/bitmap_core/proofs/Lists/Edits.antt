@@ -102,7 +102,11 @@ pub bits-flip : (n : ℕ) (xs ys zs : List (List ℕ)) (len : ℕ) (v : List Boo
     → ((i : ℕ) → i < len → bit_of n ys i ≡ not (bit_of n xs i)) → ((i : ℕ) → i < len → bit_of n zs i ≡ bit_of n ys i)
     → bits n zs len ≡ map not v
 bits-flip n xs ys zs len v e f g =
-    bits_are n zs len (map not v) (length-map v not ∙ len_is n xs len v e) (λ i s. g i s ∙ f i s ∙ ap not (sym (get_or-bits n xs len i false s) ∙ ap (λ x. get_or x i false) e) ∙ sym (get_or-map not v i false false (omega (arith, len_is n xs len v e))))
+    bits_are n zs len (map not v) (length-map v not ∙ len_is n xs len v e) (λ i s.
+    g i s
+    ∙ f i s
+    ∙ ap not (sym (get_or-bits n xs len i false s) ∙ ap (λ x. get_or x i false) e)
+    ∙ sym (get_or-map not v i false false (omega (arith, len_is n xs len v e))))
 
 pub bits-append : (n m : ℕ) (xs ys os : List (List ℕ)) (len more : ℕ) (v w : List Bool) → 0 < n
     → IsChunkCount n (length ys) (len + more) → bits n xs len ≡ v → bits m os more ≡ w

@@ -14,8 +14,12 @@ use Rattle.bitmap_core.proofs.Lists.SetPositions.{ones_between-append, ones_betw
 
 -- what stands behind the front of a list is in it
 Contains-middle : (xs ys : List ℕ) (k : ℕ) → Contains (xs ++ k ∷ ys) k
-Contains-middle xs ys k =
-    (length xs, omega (arith, length-append xs (k ∷ ys)), get_or-append_right xs (k ∷ ys) (length xs) (length xs) k refl (omega arith) ∙ (let z : length xs - length xs ≡ 0 = omega arith in ap (λ i. get_or (k ∷ ys) i k) z))
+Contains-middle xs ys k = (
+  length xs,
+  omega (arith, length-append xs (k ∷ ys)),
+  get_or-append_right xs (k ∷ ys) (length xs) (length xs) k refl (omega arith)
+      ∙ (let z : length xs - length xs ≡ 0 = omega arith in ap (λ i. get_or (k ∷ ys) i k) z),
+)
 
 All-at : (P : ℕ → Type 0) (xs : List ℕ) (k : ℕ) → All P xs → Contains xs k → P k
 All-at P xs k h c = subst P c.2 (h c.0 k c.1)

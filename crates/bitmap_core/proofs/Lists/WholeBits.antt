@@ -15,14 +15,20 @@ pub bits-flip : (n : ℕ) (xs ys zs : List (List ℕ)) (len : ℕ) (v : List Boo
     → ((i : ℕ) → i < len → bit_of n ys i ≡ not (bit_of n xs i)) → ((i : ℕ) → i < len → bit_of n zs i ≡ bit_of n ys i)
     → bits n zs len ≡ map not v
 bits-flip n xs ys zs len v e f g =
-    bits_are n zs len (map not v) (length-map v not ∙ len_is n xs len v e) (λ i s. g i s ∙ f i s ∙ ap not (sym (get_or-bits n xs len i false s) ∙ ap (λ x. get_or x i false) e) ∙ sym (get_or-map not v i false false (omega (arith, len_is n xs len v e))))
+    bits_are n zs len (map not v) (length-map v not ∙ len_is n xs len v e) (λ i s.
+    g i s
+    ∙ f i s
+    ∙ ap not (sym (get_or-bits n xs len i false s) ∙ ap (λ x. get_or x i false) e)
+    ∙ sym (get_or-map not v i false false (omega (arith, len_is n xs len v e))))
 
 pub bits-fill : (n : ℕ) (xs zs : List (List ℕ)) (len : ℕ) (b : Bool) (v : List Bool) → bits n xs len ≡ v
     → ((i : ℕ) → i < len → bit_of n zs i ≡ b)
     → bits n zs len ≡ replicate (length v) b
 bits-fill n xs zs len b v e f =
     let l = len_is n xs len v e in
-    bits_are n zs len (replicate (length v) b) (length-replicate (length v) b ∙ l) (λ i s. f i s ∙ sym (get_or-replicate (length v) i b false (omega arith)))
+    bits_are n zs len (replicate (length v) b) (length-replicate (length v) b ∙ l) (λ i s.
+    f i s
+    ∙ sym (get_or-replicate (length v) i b false (omega arith)))
 
 -- one bit of chunks that were joined
 pub joined_bit : (n : ℕ) (f : Bool → Bool → Bool) (xs os ys : List (List ℕ)) (i : ℕ) → IsCombined n f xs os ys

@@ -47,7 +47,15 @@ pruned-spells n range text p h s =
     let t = sound n range (drop 8 text) s.bits in
     let a = sound-spells n range (drop 8 text) p (AreBytes-drop 8 text h) t in
     let l : length a.bits ≡ number (drop 8 text) = sym (spelling-number n a.bits a.rest a.len_fits) ∙ ap number (sym a.spelled) in
-    record { bitmap = record { pruned = number text; bits = a.bits }; rest = a.rest; spelled = pruned-joined n text a.bits a.rest h s.long a.spelled; len_fits = omega (arith, s.total); pruned_fits = s.count; chunks_fit = a.chunks_fit; admitted = a.admitted }
+    record {
+      bitmap = record { pruned = number text; bits = a.bits };
+      rest = a.rest;
+      spelled = pruned-joined n text a.bits a.rest h s.long a.spelled;
+      len_fits = omega (arith, s.total);
+      pruned_fits = s.count;
+      chunks_fit = a.chunks_fit;
+      admitted = a.admitted;
+    }
 
 pub spells-pruned : (n : ℕ) (range : ℕ → Bool) (b : PrunedBits) (rest : List ℕ) → 0 < n → bit_len n b < 2 ^ 64
     → b.pruned < 2 ^ 64 → range (length b.bits) ≡ true
@@ -59,12 +67,20 @@ spells-pruned n range b rest p l c r =
     let s = sound-none n range (spelling n b.bits ++ rest) (spells-sound n range b.bits rest p k r) in
     let q : number (drop 8 (pruned_spelling n b ++ rest)) ≡ length b.bits = ap number d ∙ spelling-number n b.bits rest k in
     let f : 8 * n * number (pruned_spelling n b ++ rest) ≡ 8 * n * b.pruned = ap (λ x. 8 * n * x) m in
-    record { long = omega (arith, length-append (pruned_spelling n b) rest, length-pruned n b); fits = omega arith; count = omega arith; bits = ap (bits_fault n range) d ∙ s; total = omega arith }
+    record {
+      long = omega (arith, length-append (pruned_spelling n b) rest, length-pruned n b);
+      fits = omega arith;
+      count = omega arith;
+      bits = ap (bits_fault n range) d ∙ s;
+      total = omega arith;
+    }
 
 pub pruned_acceptable : (n : ℕ) (range : ℕ → Bool) (text : List ℕ) → 0 < n → AreBytes text
     → pruned_fault n range text ≡ None ↔ SpellsPruned n range text
-pruned_acceptable n range text p h =
-    (λ e. pruned-spells n range text p h (sound_pruned n range text e), λ a. sound_pruned-none n range text (subst (SoundPruned n range) (sym a.spelled) (spells-pruned n range a.bitmap a.rest p a.len_fits a.pruned_fits a.admitted)))
+pruned_acceptable n range text p h = (
+  λ e. pruned-spells n range text p h (sound_pruned n range text e),
+  λ a. sound_pruned-none n range text (subst (SoundPruned n range) (sym a.spelled) (spells-pruned n range a.bitmap a.rest p a.len_fits a.pruned_fits a.admitted)),
+)
 
 -- such a spelling and what follows it determine the bitmap and what follows
 pub same_pruned_spelling : (n : ℕ) (b c : PrunedBits) (xs ys : List ℕ) → 0 < n → bit_len n b < 2 ^ 64 → bit_len n c < 2 ^ 64
@@ -72,8 +88,12 @@ pub same_pruned_spelling : (n : ℕ) (b c : PrunedBits) (xs ys : List ℕ) → 0
     → (b ≡ c) × (xs ≡ ys)
 same_pruned_spelling n b c xs ys p lb lc fb fc e =
     let k : b.pruned ≡ c.pruned = sym (pruned-number n b xs fb) ∙ ap number e ∙ pruned-number n c ys fc in
-    let s = same_spelling n b.bits c.bits xs ys p (omega arith) (omega arith) (sym (pruned-body n b xs) ∙ ap (drop 8) e ∙ pruned-body n c ys) in
-    (ap (λ x. let y : PrunedBits = record { pruned = x; bits = b.bits } in y) k ∙ ap (λ x. let y : PrunedBits = record { pruned = c.pruned; bits = x } in y) s.0, s.1)
+    let s = same_spelling n b.bits c.bits xs ys p (omega arith) (omega arith) (sym (pruned-body n b xs) ∙ ap (drop 8) e ∙ pruned-body n c ys) in (
+      ap (λ x.
+          let y : PrunedBits = record { pruned = x; bits = b.bits } in
+          y) k ∙ ap (λ x. let y : PrunedBits = record { pruned = c.pruned; bits = x } in y) s.0,
+      s.1,
+    )
 
 -- what the code of a read makes of an accepted text
 pub pruned_read : (n : ℕ) (text : List ℕ) (v : List Bool) (rest : List ℕ) (b : PrunedBits) → AreBytes text → 8 ≤ length text

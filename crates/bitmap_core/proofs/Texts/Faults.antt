@@ -61,7 +61,14 @@ pub sound-spells : (n : ℕ) (range : ℕ → Bool) (text : List ℕ) → 0 < n 
 sound-spells n range text p h s =
     let l = length-value n (number text) (drop 8 text) in
     let b = number-lt text h in
-    record { bits = value n (number text) (drop 8 text); rest = drop (8 + chunk_bytes n text) text; spelled = text-spells n text p h s.whole s.clear; len_fits = omega arith; chunks_fit = omega (arith, count-le n (length (value n (number text) (drop 8 text))) p); admitted = ap range l ∙ s.admitted }
+    record {
+      bits = value n (number text) (drop 8 text);
+      rest = drop (8 + chunk_bytes n text) text;
+      spelled = text-spells n text p h s.whole s.clear;
+      len_fits = omega arith;
+      chunks_fit = omega (arith, count-le n (length (value n (number text) (drop 8 text))) p);
+      admitted = ap range l ∙ s.admitted;
+    }
 
 pub spells-sound : (n : ℕ) (range : ℕ → Bool) (v : List Bool) (rest : List ℕ) → 0 < n → length v < 2 ^ 64
     → range (length v) ≡ true
@@ -72,11 +79,19 @@ spells-sound n range v rest p l r =
     let x = length-spelling n v in
     let c : chunk_bytes n (spelling n v ++ rest) ≡ n * chunk_count n (length v) = ap (λ k. n * chunk_count n k) m in
     let k : chunk_count n (number (spelling n v ++ rest)) ≡ chunk_count n (length v) = ap (chunk_count n) m in
-    record { long = omega arith; admitted = ap range m ∙ r; count = omega (arith, count-le n (length v) p); whole = omega arith; clear = spelling-trailing n v rest p l }
+    record {
+      long = omega arith;
+      admitted = ap range m ∙ r;
+      count = omega (arith, count-le n (length v) p);
+      whole = omega arith;
+      clear = spelling-trailing n v rest p l;
+    }
 
 pub bits_acceptable : (n : ℕ) (range : ℕ → Bool) (text : List ℕ) → 0 < n → AreBytes text → bits_fault n range text ≡ None ↔ SpellsBits n range text
-bits_acceptable n range text p h =
-    (λ e. sound-spells n range text p h (sound n range text e), λ a. sound-none n range text (subst (Sound n range) (sym a.spelled) (spells-sound n range a.bits a.rest p a.len_fits a.admitted)))
+bits_acceptable n range text p h = (
+  λ e. sound-spells n range text p h (sound n range text e),
+  λ a. sound-none n range text (subst (Sound n range) (sym a.spelled) (spells-sound n range a.bits a.rest p a.len_fits a.admitted)),
+)
 
 -- ---- a bitmap with a pruned front
 

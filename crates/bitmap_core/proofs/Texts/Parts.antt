@@ -70,7 +70,8 @@ pub read_past : (n : ℕ) (text : List ℕ) (len : ℕ) (xs : List (List ℕ)) (
     → r ≡ list_any (bit_of n xs) (range_with_len len (8 * n * length xs - len)) → list_any (bit_in (drop 8 text)) (trailing n text) ≡ r
 read_past n text len xs r p l x e =
     sym (e ∙ ap (λ ys. list_any (bit_of n ys) (range_with_len len (8 * n * length ys - len))) x
-    ∙ ap (λ m. list_any (bit_of n (chunks_in n (number text) (drop 8 text))) (range_with_len m (8 * n * length (chunks_in n (number text) (drop 8 text)) - m))) l
+    ∙ ap (λ m.
+    list_any (bit_of n (chunks_in n (number text) (drop 8 text))) (range_with_len m (8 * n * length (chunks_in n (number text) (drop 8 text)) - m))) l
     ∙ same_past n (number text) (drop 8 text) p)
 
 pub trailing_fault : (n : ℕ) (range : ℕ → Bool) (text : List ℕ) → 8 ≤ length text → range (number text) ≡ true

@@ -52,4 +52,5 @@ pub pruned_read_again : {E : Type 0} (n : ℕ) (text : List ℕ) (b : PrunedBits
     → IfOk r (λ c. text ≡ pruned_spelling n c ++ after) → IfOk r (λ c. (bit_len n c < 2 ^ 64) × (c.pruned < 2 ^ 64))
     → IfOk r (λ c. (c ≡ b) × (after ≡ rest))
 pruned_read_again n text b rest after r p l m e f s =
-    ok_both (λ c. text ≡ pruned_spelling n c ++ after) (λ c. (bit_len n c < 2 ^ 64) × (c.pruned < 2 ^ 64)) (λ c. (c ≡ b) × (after ≡ rest)) r f s (λ c t k. same_pruned_spelling n c b after rest p k.0 l k.1 m (sym t ∙ e))
+    ok_both (λ c. text ≡ pruned_spelling n c ++ after) (λ c. (bit_len n c < 2 ^ 64) × (c.pruned < 2 ^ 64)) (λ c. (c ≡ b) × (after ≡ rest)) r f s (λ c t k.
+    same_pruned_spelling n c b after rest p k.0 l k.1 m (sym t ∙ e))

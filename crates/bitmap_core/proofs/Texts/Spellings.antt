@@ -111,8 +111,14 @@ chunks-spell n len body p h l e =
     let inside : i < length xs = rw (length-chunks_in n len body) s in
     let is : get_or xs i [] ≡ take n (drop (n * i) bytes) = get_or-first_chunks n k bytes i s in
     let m = mul-le n (i + 1) k (omega arith) in
-    let wide : length (take n (drop (n * i) bytes)) ≡ n = omega (arith, length-take n (drop (n * i) bytes), length-drop (n * i) bytes, mul-add n i 1) in
-    chunk_is n xs len (bits n xs len) i (get_or xs i []) p refl (zeros n len body p e) inside (get_or_default xs i [] (get_or xs i []) inside) (ap length is ∙ wide) (λ q. rw is (AreBytes-take n (drop (n * i) bytes) (AreBytes-drop (n * i) bytes fits) q)))
+    let wide : length (take n (drop (n * i) bytes)) ≡ n = omega (
+      arith,
+      length-take n (drop (n * i) bytes),
+      length-drop (n * i) bytes,
+      mul-add n i 1,
+    ) in
+    chunk_is n xs len (bits n xs len) i (get_or xs i []) p refl (zeros n len body p e) inside (get_or_default xs i [] (get_or xs i []) inside) (ap length is ∙ wide) (λ q.
+    rw is (AreBytes-take n (drop (n * i) bytes) (AreBytes-drop (n * i) bytes fits) q)))
   where
     mul-le : (c a b : ℕ) → a ≤ b → c * a ≤ c * b
     mul-le c a b q = let e : a + (b - a) ≡ b = omega arith in omega (arith, mul-add c a (b - a), ap (λ x. c * x) e)
@@ -175,7 +181,8 @@ unfolding bits_in
 bits_in-spelling n v rest p h =
     let c = IsChunkCount-ceil n (length v) p in
     let g : 8 * n * chunk_count n (length v) ≡ 8 * (n * chunk_count n (length v)) = grind arith in
-    fill_by_all (bit_in (drop 8 (spelling n v ++ rest))) v (number (spelling n v ++ rest)) false (sym (spelling-number n v rest h)) (λ i s. sym (spelling-bit n v rest i p (omega (arith, spelling-number n v rest h))))
+    fill_by_all (bit_in (drop 8 (spelling n v ++ rest))) v (number (spelling n v ++ rest)) false (sym (spelling-number n v rest h)) (λ i s.
+    sym (spelling-bit n v rest i p (omega (arith, spelling-number n v rest h))))
 
 pub bits_in_spelled : (n : ℕ) (text : List ℕ) (v : List Bool) (rest : List ℕ) → 0 < n → length v < 2 ^ 64
     → text ≡ spelling n v ++ rest
@@ -195,8 +202,15 @@ same_spelling n v w xs ys p lv lw e =
     let l : length v ≡ length w = sym (spelling-number n v xs lv) ∙ ap number e ∙ spelling-number n w ys lw in
     let c = IsChunkCount-ceil n (length v) p in
     let g : 8 * n * chunk_count n (length v) ≡ 8 * (n * chunk_count n (length v)) = grind arith in
-    let same : v ≡ w = ext_get_or false v w l (λ i s. sym (spelling-bit n v xs i p (omega arith)) ∙ ap (λ x. bit_in (drop 8 x) i) e ∙ spelling-bit n w ys i p (rw (← l) (omega arith))) in
-    (same, sym (drop_at (spelling n v) xs (length (spelling n v)) refl) ∙ ap (drop (length (spelling n v))) e ∙ drop_at (spelling n w) ys (length (spelling n v)) (ap (λ x. length (spelling n x)) (sym same)))
+    let same : v ≡ w = ext_get_or false v w l (λ i s.
+    sym (spelling-bit n v xs i p (omega arith))
+    ∙ ap (λ x. bit_in (drop 8 x) i) e
+    ∙ spelling-bit n w ys i p (rw (← l) (omega arith))) in (
+      same,
+      sym (drop_at (spelling n v) xs (length (spelling n v)) refl)
+          ∙ ap (drop (length (spelling n v))) e
+          ∙ drop_at (spelling n w) ys (length (spelling n v)) (ap (λ x. length (spelling n x)) (sym same)),
+    )
 
 -- equal spellings are of equal lists
 pub same_where_spelled : (n : ℕ) (v w : List Bool) → 0 < n → length v < 2 ^ 64 → length w < 2 ^ 64 → spelling n v ≡ spelling n w → v ≡ w

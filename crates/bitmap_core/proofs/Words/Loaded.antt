@@ -71,7 +71,10 @@ module _ (n : ℕ) (m : Meaning) (base lo end : ℕ) (bytes : List ℕ) (word : 
       let w : ones_between (word_bit base word) base (base + 64) ≡ ones_between m.bit lo top = in_word in
       ⊎_elim
       (λ (lt : next < end). let e : top ≡ next = omega arith in rw (w, e) (sym (ones_between-append m.bit lo next end (omega arith) (omega arith))))
-      (λ (ge : end ≤ next). let e : top ≡ end = omega arith in let none : ones_between m.bit next end ≡ [] = ones_between-none m.bit next end ge in rw (w, e, none) (append-nil (ones_between m.bit lo end)))
+      (λ (ge : end ≤ next).
+      let e : top ≡ end = omega arith in
+      let none : ones_between m.bit next end ≡ [] = ones_between-none m.bit next end ge in
+      rw (w, e, none) (append-nil (ones_between m.bit lo end)))
       (cases_lt next end)
 
 -- ---- a word with no bit left

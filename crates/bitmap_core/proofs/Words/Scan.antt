@@ -30,7 +30,8 @@ words_between-le n lo hi =
 
 -- ---- one step on
 
-module _ (n : ℕ) (m : Meaning) (base end : ℕ) (chunk : List ℕ) (loads first : ℕ) (scan : IsScan n m base end chunk loads first) (next : ℕ) (is : next ≡ next_word n base) (inside : next < end) where
+module _ (n : ℕ) (m : Meaning) (base end : ℕ) (chunk : List ℕ) (loads first : ℕ)
+    (scan : IsScan n m base end chunk loads first) (next : ℕ) (is : next ≡ next_word n base) (inside : next < end) where
   step_follows : base < end → Follows n base next
   step_follows h = rw is (follows n base scan.lawful.width.positive (scan.aligned h))
 

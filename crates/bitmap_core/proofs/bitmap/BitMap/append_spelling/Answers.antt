@@ -33,5 +33,16 @@ returns g c =
     let e : c.slices.result.0.now ++ c.slices.result.1.now ≡ map (chunk_of g.row.N c.args.self.now) (range_with_len 0 (chunk_count g.row.N (length c.args.self.now))) =
     c.slices.ensures.items
     ∙ chunks_are g.row.N c.self.inside.chunks.items c.self.inside.len c.args.self.now c.self.invariant.width.positive c.self.invariant.count c.self.invariant.zero c.self.view_is c.slices.ensures.known in
-    rw (c.extend_from_slice-3.ensures.items, c.unwrap-3.ensures, c.extend_from_slice-2.ensures.items, c.unwrap-2.ensures, c.extend_from_slice.ensures.items, c.unwrap.ensures, c.as_flattened.ensures.value, c.as_flattened-2.ensures.value, c.to_be_bytes.ensures, sym (len_is g.row.N c.self.inside.chunks.items c.self.inside.len c.args.self.now c.self.view_is))
+    rw (
+      c.extend_from_slice-3.ensures.items,
+      c.unwrap-3.ensures,
+      c.extend_from_slice-2.ensures.items,
+      c.unwrap-2.ensures,
+      c.extend_from_slice.ensures.items,
+      c.unwrap.ensures,
+      c.as_flattened.ensures.value,
+      c.as_flattened-2.ensures.value,
+      c.to_be_bytes.ensures,
+      sym (len_is g.row.N c.self.inside.chunks.items c.self.inside.len c.args.self.now c.self.view_is),
+    )
     (written g.row.N c.slices.result.0.now c.slices.result.1.now c.args.self.now c.args.out.now.items e)

@@ -7,8 +7,13 @@ use Rattle.bitmap_core.proofs.bitmap.BitMap.combine.Goals as goal
 
 pub combine-requires : goal.combine-requires
 combine-requires g c =
-    let e : c.other.inside.len ≡ c.self.inside.len = sym (len_is _ _ _ _ c.other.view_is) ∙ sym c.requires ∙ len_is _ _ _ _ c.self.view_is in
-    (omega (arith, c.self.invariant.width.fits), (c.self.invariant.width.positive, count_unique g.row.N (length c.self.inside.chunks.items) (length c.other.inside.chunks.items) c.self.inside.len c.self.invariant.count (rw e at c.other.invariant.count)))
+    let e : c.other.inside.len ≡ c.self.inside.len = sym (len_is _ _ _ _ c.other.view_is) ∙ sym c.requires ∙ len_is _ _ _ _ c.self.view_is in (
+      omega (arith, c.self.invariant.width.fits),
+      (
+        c.self.invariant.width.positive,
+        count_unique g.row.N (length c.self.inside.chunks.items) (length c.other.inside.chunks.items) c.self.inside.len c.self.invariant.count (rw e at c.other.invariant.count),
+      ),
+    )
 
 pub invariant_of-self : goal.invariant_of-self
 invariant_of-self g c =

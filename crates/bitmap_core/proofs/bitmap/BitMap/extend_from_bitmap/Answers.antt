@@ -20,7 +20,9 @@ invariant_of-self-2 g c =
 pub returns-clause-ok : goal.returns-clause-ok
 returns-clause-ok g c =
     let o : c.other.inside.len ≡ c.len.result = sym (c.len.ensures.value ∙ len_is _ _ _ _ c.other.view_is) in
-    bits-append g.row.N g.row.M c.self.inside.chunks.items _ c.other.inside.chunks.items c.self.inside.len c.len.result _ _ c.self.invariant.width.positive c.in_ok-append_run.ensures.count c.self.view_is (rw o at c.other.view_is) c.in_ok-append_run.ensures.kept (λ i h s. c.in_ok-append_run.ensures.joined i h s ∙ (ap (λ r. bit_in r (i - c.self.inside.len)) c.bytes.ensures.items ∙ bit_in-flat g.row.M c.other.inside.chunks.items c.other.invariant.width.positive (λ j l. (c.bytes.ensures.known j l).len) (i - c.self.inside.len)))
+    bits-append g.row.N g.row.M c.self.inside.chunks.items _ c.other.inside.chunks.items c.self.inside.len c.len.result _ _ c.self.invariant.width.positive c.in_ok-append_run.ensures.count c.self.view_is (rw o at c.other.view_is) c.in_ok-append_run.ensures.kept (λ i h s.
+    c.in_ok-append_run.ensures.joined i h s
+    ∙ (ap (λ r. bit_in r (i - c.self.inside.len)) c.bytes.ensures.items ∙ bit_in-flat g.row.M c.other.inside.chunks.items c.other.invariant.width.positive (λ j l. (c.bytes.ensures.known j l).len) (i - c.self.inside.len)))
 
 pub returns-in_err-append_run-clause-roomy : goal.returns-in_err-append_run-clause-roomy
 returns-in_err-append_run-clause-roomy g c =

@@ -3,8 +3,10 @@ use Rattle.bitmap_core.proofs.Lists.Bits.{at_within, len_is, get_or-bits}
 use Rattle.bitmap_core.proofs.bitmap.BitMap.get.Goals as goal
 
 pub get_bit-requires : goal.get_bit-requires
-get_bit-requires g c =
-    (omega (arith, c.self.invariant.width.fits), (c.self.invariant.width, at_within _ _ _ _ _ c.self.invariant.width.positive c.self.view_is c.requires c.self.invariant.count))
+get_bit-requires g c = (
+  omega (arith, c.self.invariant.width.fits),
+  (c.self.invariant.width, at_within _ _ _ _ _ c.self.invariant.width.positive c.self.view_is c.requires c.self.invariant.count),
+)
 
 pub returns : goal.returns
 returns g c =

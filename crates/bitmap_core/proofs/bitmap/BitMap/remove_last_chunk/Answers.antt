@@ -11,8 +11,10 @@ overflow_sub-chunk_index g c =
 
 pub chunk_at-chunk-requires : goal.chunk_at-chunk-requires
 chunk_at-chunk-requires g c =
-    let w = last_whole _ _ _ _ c.self.invariant.width.positive c.self.invariant.count c.self.view_is c.requires.aligned c.requires.filled in
-    (omega arith, (omega (arith, c.self.invariant.width.fits), rw (c.chunk_index.ensures, w.1) (omega (arith, w.0, w.3, c.self.invariant.width.positive))))
+    let w = last_whole _ _ _ _ c.self.invariant.width.positive c.self.invariant.count c.self.view_is c.requires.aligned c.requires.filled in (
+      omega arith,
+      (omega (arith, c.self.invariant.width.fits), rw (c.chunk_index.ensures, w.1) (omega (arith, w.0, w.3, c.self.invariant.width.positive))),
+    )
 
 pub overflow_sub-self : goal.overflow_sub-self
 overflow_sub-self g c =

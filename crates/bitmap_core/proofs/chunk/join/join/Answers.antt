@@ -9,4 +9,6 @@ returns-clause-kept g c =
 
 pub returns-clause-joined : goal.returns-clause-joined
 returns-clause-joined g c =
-    opened_joined g.row.N c.args.len (c.args.front.now ++ c.args.back.now) c.args.chunk.now (set c.args.chunk.now (c.args.len / 8 % g.row.N) c.opened_byte.result) c.fill_from.new.chunk c.opened_byte.result c.requires.width.positive c.told-chunk refl (λ t h w. c.opened_byte.ensures.high t h w ∙ ap (λ x. bit_at x (t - c.args.len % 8)) c.byte_at.ensures) (rw c.byte_index-byte.ensures.value at c.fill_from.ensures.kept) (rw c.byte_index-byte.ensures.value at c.fill_from.ensures.filled)
+    opened_joined g.row.N c.args.len (c.args.front.now ++ c.args.back.now) c.args.chunk.now (set c.args.chunk.now (c.args.len / 8 % g.row.N) c.opened_byte.result) c.fill_from.new.chunk c.opened_byte.result c.requires.width.positive c.told-chunk refl (λ t h w.
+    c.opened_byte.ensures.high t h w
+    ∙ ap (λ x. bit_at x (t - c.args.len % 8)) c.byte_at.ensures) (rw c.byte_index-byte.ensures.value at c.fill_from.ensures.kept) (rw c.byte_index-byte.ensures.value at c.fill_from.ensures.filled)

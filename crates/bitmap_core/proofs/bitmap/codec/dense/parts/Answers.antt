@@ -12,8 +12,17 @@ overflow_mul-count g c =
     rw c.chunk_count-count.ensures (omega (arith, bytes-lt g.row.N c.from_be_bytes-len.result c.requires.width.positive c.requires.width.fits c.from_be_bytes-len.type_inv))
 
 pub is_set_past-requires : goal.is_set_past-requires
-is_set_past-requires g c =
-    (omega (arith, c.requires.width.fits), (c.requires.width, rw (c.chunks_of-chunks.ensures, length-first_chunks, c.chunk_count-count.ensures) (IsChunkCount-ceil g.row.N c.from_be_bytes-len.result c.requires.width.positive)))
+is_set_past-requires g c = (
+  omega (arith, c.requires.width.fits),
+  (
+    c.requires.width,
+    rw (
+      c.chunks_of-chunks.ensures,
+      length-first_chunks,
+      c.chunk_count-count.ensures,
+    ) (IsChunkCount-ceil g.row.N c.from_be_bytes-len.result c.requires.width.positive),
+  ),
+)
 
 pub returns-then-is_set_past-clause-refused : goal.returns-then-is_set_past-clause-refused
 returns-then-is_set_past-clause-refused g c =

@@ -15,8 +15,16 @@ push_whole-requires g c =
     let f : length c.args.chunks.now.items ≤ div_ceil c.args.total (8 * g.row.N) =
     more_ceil g.row.N _ _ _ c.requires.width.positive c.requires.count c.requires.order in
     let l : length c.fill_open.new.chunks.items ≡ length c.args.chunks.now.items = c.fill_open.ensures.count ∙ ap length c.reserve.ensures.items in
-    let e = c.chunk_count-count.ensures in
-    (omega (arith, c.requires.width.fits), (c.requires.width, (rw l c.requires.count.0, (rw l f, rw (c.fill_open.ensures.capacity, ← e) (omega (arith, c.args.chunks.now.ok.0, c.in_ok-reserve.ensures.ok, c.reserve.ensures.len))))))
+    let e = c.chunk_count-count.ensures in (
+      omega (arith, c.requires.width.fits),
+      (
+        c.requires.width,
+        (
+          rw l c.requires.count.0,
+          (rw l f, rw (c.fill_open.ensures.capacity, ← e) (omega (arith, c.args.chunks.now.ok.0, c.in_ok-reserve.ensures.ok, c.reserve.ensures.len))),
+        ),
+      ),
+    )
 
 pub returns-clause-count : goal.returns-clause-count
 returns-clause-count g c = rw c.push_whole.ensures.count (IsChunkCount-ceil g.row.N c.args.total c.requires.width.positive)

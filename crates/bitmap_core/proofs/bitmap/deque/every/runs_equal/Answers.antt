@@ -16,8 +16,10 @@ returns-then-slices_equal-2 g c =
     elim c.if-slices_equal.branch [
       | then-slices_equal w ↦
           let near : c.split_at-2.result.0.now ≡ c.split_at.result.1.now =
-          w.slices_equal-then-slices_equal.ensures.0 (sym w.value-is ∙ c.if-slices_equal-2.true) in
-          (λ q. runs_joined c.args.front.now c.args.back.now c.args.longer.now c.args.rest.now c.split_at.result.0.now c.split_at.result.1.now c.split_at-2.result.0.now c.split_at-2.result.1.now a b (c.slices_equal.ensures.0 w.if-slices_equal.true) near (d.0 q), λ e. d.1 (runs_same c.args.front.now c.args.back.now c.args.longer.now c.args.rest.now c.split_at.result.0.now c.split_at.result.1.now c.split_at-2.result.0.now c.split_at-2.result.1.now a b (omega arith) (omega arith) e).2)
+          w.slices_equal-then-slices_equal.ensures.0 (sym w.value-is ∙ c.if-slices_equal-2.true) in (
+            λ q. runs_joined c.args.front.now c.args.back.now c.args.longer.now c.args.rest.now c.split_at.result.0.now c.split_at.result.1.now c.split_at-2.result.0.now c.split_at-2.result.1.now a b (c.slices_equal.ensures.0 w.if-slices_equal.true) near (d.0 q),
+            λ e. d.1 (runs_same c.args.front.now c.args.back.now c.args.longer.now c.args.rest.now c.split_at.result.0.now c.split_at.result.1.now c.split_at-2.result.0.now c.split_at-2.result.1.now a b (omega arith) (omega arith) e).2,
+          )
       | else-slices_equal w ↦ absurd (false≢true (sym w.if-slices_equal.false ∙ sym w.value-is ∙ c.if-slices_equal-2.true))
     ]
 

@@ -7,7 +7,11 @@ use Rattle.bitmap_core.proofs.bitmap.deque.growth.drop_room.Goals as goal
 pub returns-then-len-chunk_width-eq0-clause-count : goal.returns-then-len-chunk_width-eq0-clause-count
 returns-then-len-chunk_width-eq0-clause-count g c =
     let f = IsChunkCount-fewer _ _ _ c.requires.width.positive c.requires.count (rw c.chunk_width.ensures at c.if-len-chunk_width-eq0.true) in
-    rw (c.pop_back.ensures.rest, c.args.chunks.now.ok.0, length-take-le (length c.args.chunks.now.items - 1) c.args.chunks.now.items (omega arith)) f.1
+    rw (
+      c.pop_back.ensures.rest,
+      c.args.chunks.now.ok.0,
+      length-take-le (length c.args.chunks.now.items - 1) c.args.chunks.now.items (omega arith),
+    ) f.1
 
 pub returns-then-len-chunk_width-eq0-clause-same : goal.returns-then-len-chunk_width-eq0-clause-same
 returns-then-len-chunk_width-eq0-clause-same g c =

@@ -5,8 +5,16 @@ use Rattle.bitmap_core.proofs.bitmap.prunable.Prunable.pop_chunk.Goals as goal
 
 pub remove_last_chunk-requires : goal.remove_last_chunk-requires
 remove_last_chunk-requires g c =
-    let b : PrunedBits = record { pruned = c.self.inside.pruned_chunks; bits = c.self.inside.bitmap } in
-    (omega arith, (omega (arith, c.self.invariant.width.fits), (sym (rest_of_len g.row.N b) ∙ ap (λ b. bit_len g.row.N b % (8 * g.row.N)) c.self.view_is ∙ c.requires.aligned, subst (λ b. 0 < length b.bits) (sym c.self.view_is) c.requires.filled)))
+    let b : PrunedBits = record { pruned = c.self.inside.pruned_chunks; bits = c.self.inside.bitmap } in (
+      omega arith,
+      (
+        omega (arith, c.self.invariant.width.fits),
+        (
+          sym (rest_of_len g.row.N b) ∙ ap (λ b. bit_len g.row.N b % (8 * g.row.N)) c.self.view_is ∙ c.requires.aligned,
+          subst (λ b. 0 < length b.bits) (sym c.self.view_is) c.requires.filled,
+        ),
+      ),
+    )
 
 pub returns-clause-value : goal.returns-clause-value
 returns-clause-value g c =

@@ -9,8 +9,13 @@ pub push_chunk-requires : goal.push_chunk-requires
 push_chunk-requires g c =
     let b : PrunedBits = record { pruned = c.self.inside.pruned_chunks; bits = c.self.inside.bitmap } in
     let room : 8 * g.row.N * c.self.inside.pruned_chunks + length c.self.inside.bitmap + 8 * g.row.N < 2 ^ 64 =
-    subst (λ b. bit_len g.row.N b + 8 * g.row.N < 2 ^ 64) (sym c.self.view_is) c.requires.room in
-    (omega arith, (omega (arith, c.self.invariant.width.fits), (sym (rest_of_len g.row.N b) ∙ ap (λ b. bit_len g.row.N b % (8 * g.row.N)) c.self.view_is ∙ c.requires.aligned, omega (arith, room))))
+    subst (λ b. bit_len g.row.N b + 8 * g.row.N < 2 ^ 64) (sym c.self.view_is) c.requires.room in (
+      omega arith,
+      (
+        omega (arith, c.self.invariant.width.fits),
+        (sym (rest_of_len g.row.N b) ∙ ap (λ b. bit_len g.row.N b % (8 * g.row.N)) c.self.view_is ∙ c.requires.aligned, omega (arith, room)),
+      ),
+    )
 
 pub invariant_of-self : goal.invariant_of-self
 invariant_of-self g c =

@@ -22,7 +22,13 @@ returns-clause-found g c =
 pub returns-clause-sized : goal.returns-clause-sized
 returns-clause-sized g c =
     let v : c.in_ok-map.map ≡ bits g.row.N c.in_ok-len.chunks.now c.in_ok-len.len = search rules in
-    omega (arith, ap length v, length-bits g.row.N c.in_ok-len.chunks.now c.in_ok-len.len, c.in_ok-len.ensures.len, number-lt c.args.from.now.now c.parts.ensures.bytes)
+    omega (
+      arith,
+      ap length v,
+      length-bits g.row.N c.in_ok-len.chunks.now c.in_ok-len.len,
+      c.in_ok-len.ensures.len,
+      number-lt c.args.from.now.now c.parts.ensures.bytes,
+    )
 
 pub returns-clause-value : goal.returns-clause-value
 returns-clause-value g c =

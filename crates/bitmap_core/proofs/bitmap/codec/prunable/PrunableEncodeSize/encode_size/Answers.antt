@@ -6,7 +6,11 @@ use Rattle.bitmap_core.proofs.bitmap.codec.prunable.PrunableEncodeSize.encode_si
 
 pub overflow_add-result : goal.overflow_add-result
 overflow_add-result g c =
-    omega (arith, c.encode_size.ensures, spelling-lt g.row.N c.retained.result.now c.retained.ensures.width.positive c.retained.ensures.width.fits (omega (arith, ap length c.retained.ensures.value, c.retained.ensures.bound)))
+    omega (
+      arith,
+      c.encode_size.ensures,
+      spelling-lt g.row.N c.retained.result.now c.retained.ensures.width.positive c.retained.ensures.width.fits (omega (arith, ap length c.retained.ensures.value, c.retained.ensures.bound)),
+    )
 
 pub returns : goal.returns
 returns g c =

@@ -15,4 +15,12 @@ append_spelling-requires g c =
 
 pub returns-clause-items : goal.returns-clause-items
 returns-clause-items g c =
-    rw (c.append_spelling.ensures, c.extend_from_slice.ensures.items, c.unwrap.ensures, c.to_be_bytes.ensures, c.pruned_chunks-count.ensures, c.retained.ensures.value, c.in_ok-reserve.ensures.items) (pruned_written g.row.N c.args.self.now c.args.out.now.items)
+    rw (
+      c.append_spelling.ensures,
+      c.extend_from_slice.ensures.items,
+      c.unwrap.ensures,
+      c.to_be_bytes.ensures,
+      c.pruned_chunks-count.ensures,
+      c.retained.ensures.value,
+      c.in_ok-reserve.ensures.items,
+    ) (pruned_written g.row.N c.args.self.now c.args.out.now.items)

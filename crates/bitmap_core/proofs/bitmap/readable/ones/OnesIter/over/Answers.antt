@@ -19,8 +19,10 @@ returns-then-position-end-clause-positions g c =
 pub load_word-word-requires : goal.load_word-word-requires
 load_word-word-requires g c =
     let p = c.len.ensures.lawful.width.positive in
-    let below = c.if-position-end.false in
-    (omega arith, (c.len.ensures.lawful.width, rw c.word_base-base.ensures (start_of g.row.N c.max-position.result p, (omega (arith, below), omega arith))))
+    let below = c.if-position-end.false in (
+      omega arith,
+      (c.len.ensures.lawful.width, rw c.word_base-base.ensures (start_of g.row.N c.max-position.result p, (omega (arith, below), omega arith))),
+    )
 
 masked : (g : Over) (c : After-high_bits g)
     → IsMasked c.load_word-word.result c.high_bits.result (c.max-position.result - word_start g.row.N c.max-position.result)
