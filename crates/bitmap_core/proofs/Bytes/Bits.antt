@@ -1,11 +1,8 @@
 -- The bits of a byte that is written, flipped or masked.
-use Rattle.std.proofs.Common.{◌≡◌, ◌≢◌, ℕ, ◌-◌, ◌^◌, ◌<◌, ◌≤◌, true, false, not, ◌&&◌, eqb, bit_and, bit_or, bit_xor, w8, ap, ◌∙◌, arith}
+use Rattle.std.proofs.Common.{◌≡◌, ◌≢◌, ℕ, ◌-◌, ◌^◌, ◌<◌, ◌≤◌, true, false, not, ◌&&◌, eqb, bit_and, bit_or, bit_xor, w8, ap, ◌∙◌, arith, zero, suc, ◌+◌, ◌%◌, ◌||◌, refl}
 use Rattle.std.specs.Int.{bit_at}
 use Rattle.std.proofs.lemmas.Nat.Bits.{and_pow, bit_at-lt, bit_at_or, bit_at_and, bit_at_xor, bit_at_not, bit_at-pow_same, bit_at-pow_other, bit_at-zero, bit_at_ones, bit_at_ones_above}
-use Rattle.std.proofs.Common.{◌≡◌, ◌≢◌, ℕ, zero, suc, ◌+◌, ◌-◌, ◌%◌, ◌^◌, ◌<◌, ◌≤◌, true, false, not, ◌&&◌, ◌||◌, eqb, bit_and, bit_or, bit_xor, w8, refl, ap, ◌∙◌, arith}
 use Rattle.std.proofs.Math.Bool.{xor}
-use Rattle.std.specs.Int.{bit_at}
-use Rattle.std.proofs.lemmas.Nat.Bits.{and_pow, bit_at-lt, bit_at_or, bit_at_and, bit_at_not, bit_at_xor, bit_at-pow_same, bit_at-pow_other, bit_at-zero, bit_at_ones, bit_at_ones_above}
 use Rattle.std.proofs.lemmas.Bool.Decides.{nat_tests}
 
 pub bit_test : (b k : ℕ) → not (eqb (bit_and b (2 ^ k)) 0) ≡ eqb (bit_at b k) 1

@@ -80,50 +80,26 @@ pub digit_is : (x : Bool) → eqb (bit_value x) 1 ≡ x
 digit_is true = refl
 digit_is false = refl
 
-module _ (a b c d e f g h : ℕ) (la : a < 2) (lb : b < 2) (lc : c < 2) (ld : d < 2) (le : e < 2) (lf : f < 2) (lg : g < 2) (lh : h < 2) where
-  digit_0 : ((((((((0 + a * 1) + b * 2) + c * 4) + d * 8) + e * 16) + f * 32) + g * 64) + h * 128) / 1 % 2 ≡ a
-  digit_0 = omega arith
+-- the digits of a number of eight digits are those
+module _ (digit : ℕ → ℕ) (below : (t : ℕ) → digit t < 2) where
+  abbrev eight : ℕ
+  eight =
+      (((((((0 + digit 0 * 1) + digit 1 * 2) + digit 2 * 4) + digit 3 * 8) + digit 4 * 16) + digit 5 * 32) + digit 6 * 64) + digit 7 * 128
 
-  digit_1 : ((((((((0 + a * 1) + b * 2) + c * 4) + d * 8) + e * 16) + f * 32) + g * 64) + h * 128) / 2 % 2 ≡ b
-  digit_1 = omega arith
-
-  digit_2 : ((((((((0 + a * 1) + b * 2) + c * 4) + d * 8) + e * 16) + f * 32) + g * 64) + h * 128) / 4 % 2 ≡ c
-  digit_2 = omega arith
-
-  digit_3 : ((((((((0 + a * 1) + b * 2) + c * 4) + d * 8) + e * 16) + f * 32) + g * 64) + h * 128) / 8 % 2 ≡ d
-  digit_3 = omega arith
-
-  digit_4 : ((((((((0 + a * 1) + b * 2) + c * 4) + d * 8) + e * 16) + f * 32) + g * 64) + h * 128) / 16 % 2 ≡ e
-  digit_4 = omega arith
-
-  digit_5 : ((((((((0 + a * 1) + b * 2) + c * 4) + d * 8) + e * 16) + f * 32) + g * 64) + h * 128) / 32 % 2 ≡ f
-  digit_5 = omega arith
-
-  digit_6 : ((((((((0 + a * 1) + b * 2) + c * 4) + d * 8) + e * 16) + f * 32) + g * 64) + h * 128) / 64 % 2 ≡ g
-  digit_6 = omega arith
-
-  digit_7 : ((((((((0 + a * 1) + b * 2) + c * 4) + d * 8) + e * 16) + f * 32) + g * 64) + h * 128) / 128 % 2 ≡ h
-  digit_7 = omega arith
+  digit_of : (t : ℕ) → t < 8 → bit_at eight t ≡ digit t
+  digit_of zero h = let e : eight / 1 % 2 ≡ digit 0 = omega (arith, below) in e
+  digit_of (suc zero) h = let e : eight / 2 % 2 ≡ digit 1 = omega (arith, below) in e
+  digit_of (suc (suc zero)) h = let e : eight / 4 % 2 ≡ digit 2 = omega (arith, below) in e
+  digit_of (suc (suc (suc zero))) h = let e : eight / 8 % 2 ≡ digit 3 = omega (arith, below) in e
+  digit_of (suc (suc (suc (suc zero)))) h = let e : eight / 16 % 2 ≡ digit 4 = omega (arith, below) in e
+  digit_of (suc (suc (suc (suc (suc zero))))) h = let e : eight / 32 % 2 ≡ digit 5 = omega (arith, below) in e
+  digit_of (suc (suc (suc (suc (suc (suc zero)))))) h = let e : eight / 64 % 2 ≡ digit 6 = omega (arith, below) in e
+  digit_of (suc (suc (suc (suc (suc (suc (suc zero))))))) h = let e : eight / 128 % 2 ≡ digit 7 = omega (arith, below) in e
+  digit_of (suc (suc (suc (suc (suc (suc (suc (suc t)))))))) h = absurd (omega arith)
 
 -- the bits of a byte made of bits are those
 pub byte_bit : (bit : ℕ → Bool) (t : ℕ) → t < 8 → bit_at (byte_of bit) t ≡ bit_value (bit t)
-byte_bit bit zero h =
-    digit_0 (bit_value (bit 0)) (bit_value (bit 1)) (bit_value (bit 2)) (bit_value (bit 3)) (bit_value (bit 4)) (bit_value (bit 5)) (bit_value (bit 6)) (bit_value (bit 7)) (digit_below (bit 0)) (digit_below (bit 1)) (digit_below (bit 2)) (digit_below (bit 3)) (digit_below (bit 4)) (digit_below (bit 5)) (digit_below (bit 6)) (digit_below (bit 7))
-byte_bit bit (suc zero) h =
-    digit_1 (bit_value (bit 0)) (bit_value (bit 1)) (bit_value (bit 2)) (bit_value (bit 3)) (bit_value (bit 4)) (bit_value (bit 5)) (bit_value (bit 6)) (bit_value (bit 7)) (digit_below (bit 0)) (digit_below (bit 1)) (digit_below (bit 2)) (digit_below (bit 3)) (digit_below (bit 4)) (digit_below (bit 5)) (digit_below (bit 6)) (digit_below (bit 7))
-byte_bit bit (suc (suc zero)) h =
-    digit_2 (bit_value (bit 0)) (bit_value (bit 1)) (bit_value (bit 2)) (bit_value (bit 3)) (bit_value (bit 4)) (bit_value (bit 5)) (bit_value (bit 6)) (bit_value (bit 7)) (digit_below (bit 0)) (digit_below (bit 1)) (digit_below (bit 2)) (digit_below (bit 3)) (digit_below (bit 4)) (digit_below (bit 5)) (digit_below (bit 6)) (digit_below (bit 7))
-byte_bit bit (suc (suc (suc zero))) h =
-    digit_3 (bit_value (bit 0)) (bit_value (bit 1)) (bit_value (bit 2)) (bit_value (bit 3)) (bit_value (bit 4)) (bit_value (bit 5)) (bit_value (bit 6)) (bit_value (bit 7)) (digit_below (bit 0)) (digit_below (bit 1)) (digit_below (bit 2)) (digit_below (bit 3)) (digit_below (bit 4)) (digit_below (bit 5)) (digit_below (bit 6)) (digit_below (bit 7))
-byte_bit bit (suc (suc (suc (suc zero)))) h =
-    digit_4 (bit_value (bit 0)) (bit_value (bit 1)) (bit_value (bit 2)) (bit_value (bit 3)) (bit_value (bit 4)) (bit_value (bit 5)) (bit_value (bit 6)) (bit_value (bit 7)) (digit_below (bit 0)) (digit_below (bit 1)) (digit_below (bit 2)) (digit_below (bit 3)) (digit_below (bit 4)) (digit_below (bit 5)) (digit_below (bit 6)) (digit_below (bit 7))
-byte_bit bit (suc (suc (suc (suc (suc zero))))) h =
-    digit_5 (bit_value (bit 0)) (bit_value (bit 1)) (bit_value (bit 2)) (bit_value (bit 3)) (bit_value (bit 4)) (bit_value (bit 5)) (bit_value (bit 6)) (bit_value (bit 7)) (digit_below (bit 0)) (digit_below (bit 1)) (digit_below (bit 2)) (digit_below (bit 3)) (digit_below (bit 4)) (digit_below (bit 5)) (digit_below (bit 6)) (digit_below (bit 7))
-byte_bit bit (suc (suc (suc (suc (suc (suc zero)))))) h =
-    digit_6 (bit_value (bit 0)) (bit_value (bit 1)) (bit_value (bit 2)) (bit_value (bit 3)) (bit_value (bit 4)) (bit_value (bit 5)) (bit_value (bit 6)) (bit_value (bit 7)) (digit_below (bit 0)) (digit_below (bit 1)) (digit_below (bit 2)) (digit_below (bit 3)) (digit_below (bit 4)) (digit_below (bit 5)) (digit_below (bit 6)) (digit_below (bit 7))
-byte_bit bit (suc (suc (suc (suc (suc (suc (suc zero))))))) h =
-    digit_7 (bit_value (bit 0)) (bit_value (bit 1)) (bit_value (bit 2)) (bit_value (bit 3)) (bit_value (bit 4)) (bit_value (bit 5)) (bit_value (bit 6)) (bit_value (bit 7)) (digit_below (bit 0)) (digit_below (bit 1)) (digit_below (bit 2)) (digit_below (bit 3)) (digit_below (bit 4)) (digit_below (bit 5)) (digit_below (bit 6)) (digit_below (bit 7))
-byte_bit bit (suc (suc (suc (suc (suc (suc (suc (suc t)))))))) h = absurd (omega arith)
+byte_bit bit t h = digit_of (λ k. bit_value (bit k)) (λ k. digit_below (bit k)) t h
 
 -- the bits of the bytes that bits make are those
 pub chunk_bit_of_bytes : (n : ℕ) (bit : ℕ → Bool) (i : ℕ) → 0 < n → i < 8 * n

@@ -1,5 +1,5 @@
 -- Chunks as bytes, and what a hash is fed.
-use Rattle.std.proofs.Common.{◌≡◌, ℕ, ◌+◌, ◌*◌, ◌/◌, ◌%◌, ◌<◌, Bool, false, List, [], length, get_or, map, eqb, sym, ap, ◌∙◌, inl, inr, arith}
+use Rattle.std.proofs.Common.{◌≡◌, ℕ, ◌+◌, ◌*◌, ◌/◌, ◌%◌, ◌<◌, Bool, false, List, [], ◌++◌, length, get_or, map, eqb, sym, ap, ◌∙◌, inl, inr, arith}
 use Rattle.std.specs.Int.{bit_at, div_ceil}
 use Rattle.std.specs.List.{range_with_len}
 use Rattle.std.proofs.Math.Nat.{mod-eq_of_lt}
@@ -9,6 +9,7 @@ use Rattle.std.proofs.lemmas.List.FromFn.{fill_by_all, length-map-range_with_len
 use Rattle.std.proofs.lemmas.Bool.{cases_lt}
 use Rattle.bitmap_core.specs.Chunk.{chunk_bit, byte_of, chunk_of}
 use Rattle.bitmap_core.specs.Bits.{bit_of, bits, IsChunkCount, IsZeroFrom, AreChunks}
+use Rattle.bitmap_core.specs.Spelling.{chunk_count}
 use Rattle.bitmap_core.proofs.Chunks.Places.{IsChunkCount-ceil, count_unique}
 use Rattle.bitmap_core.proofs.Chunks.Bits.{chunk_bit-mod, mod_parts}
 use Rattle.bitmap_core.proofs.Lists.Bits.{get_or-bits, len_is}
@@ -71,3 +72,9 @@ chunks_are n xs len v p k z e h =
     fill_by_all (chunk_of n v) xs (div_ceil (length v) (8 * n)) [] q (λ i s.
     let t : i < length xs = omega arith in
     chunk_is n xs len v i (get_or xs i []) p e z t (get_or_default xs i [] (get_or xs i []) t) (h i t).len (h i t).bytes)
+
+-- chunks in two slices
+pub slices_are : (n : ℕ) (xs a b : List (List ℕ)) (len : ℕ) (v : List Bool) → 0 < n → IsChunkCount n (length xs) len → IsZeroFrom n xs len
+    → bits n xs len ≡ v → AreChunks n xs → a ++ b ≡ xs
+    → a ++ b ≡ map (chunk_of n v) (range_with_len 0 (chunk_count n (length v)))
+slices_are n xs a b len v p c z e known items = items ∙ chunks_are n xs len v p c z e known

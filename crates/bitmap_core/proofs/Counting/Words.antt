@@ -127,51 +127,46 @@ bit_in-drop k xs t =
     ∙ ap (λ x. eqb (bit_at (get_or xs ((8 * k + t) / 8) 0) x) 1) r
 
 -- bytes are words and a rest
-words_and_rest : (xs : List ℕ) (words : List (List ℕ)) (rest : List ℕ) → words ≡ first_chunks 8 (length xs / 8) xs
-    → rest ≡ drop (length xs / 8 * 8) xs → length words ≡ length xs / 8
-    → length rest ≡ length xs % 8
-    → ones_from (bit_in xs) 0 (8 * length xs) ≡ ones_from (bit_of 8 words) 0 (64 * length words) + ones_from (bit_in rest) 0 (8 * length rest)
-words_and_rest xs words rest e f l m =
-    let k : ℕ = length xs / 8 in
-    let a : 8 * length xs ≡ 64 * length words + 8 * length rest = omega arith in
-    let b : ones_from (bit_in xs) 0 (64 * length words) ≡ ones_from (bit_of 8 words) 0 (64 * length words) =
-    ones_from_same (bit_in xs) (bit_of 8 words) 0 0 (64 * length words) (λ t h.
-    sym (ap (λ ws. bit_of 8 ws (0 + t)) e ∙ bit_of-words (length xs / 8) xs (0 + t) (omega arith))) in
-    let c : ones_from (bit_in xs) (0 + 64 * length words) (8 * length rest) ≡ ones_from (bit_in rest) 0 (8 * length rest) =
-    ones_from_same (bit_in xs) (bit_in rest) (0 + 64 * length words) 0 (8 * length rest) (λ t h.
-    let q : 8 * (length xs / 8 * 8) + (0 + t) ≡ 0 + 64 * length words + t = omega arith in
-    sym (ap (λ r. bit_in r (0 + t)) f ∙ bit_in-drop (length xs / 8 * 8) xs (0 + t) ∙ ap (bit_in xs) q)) in
-    ap (λ x. ones_from (bit_in xs) 0 x) a ∙ ones_from_add (bit_in xs) 0 (64 * length words) (8 * length rest) ∙ omega arith
+module _ (xs : List ℕ) (words : List (List ℕ)) (rest : List ℕ) (front : words ≡ first_chunks 8 (length xs / 8) xs)
+    (back : rest ≡ drop (length xs / 8 * 8) xs) (front_len : length words ≡ length xs / 8) (back_len : length rest ≡ length xs % 8) where
+  front_bit : (t : ℕ) → t < 64 * length words → bit_in xs (0 + t) ≡ bit_of 8 words (0 + t)
+  front_bit t h = sym (ap (λ ws. bit_of 8 ws (0 + t)) front ∙ bit_of-words (length xs / 8) xs (0 + t) (omega arith))
 
--- bytes whose words are zero are zero where the rest is
-pub zero_rest : (xs : List ℕ) (words : List (List ℕ)) (rest : List ℕ) → words ≡ first_chunks 8 (length xs / 8) xs
-    → rest ≡ drop (length xs / 8 * 8) xs → length words ≡ length xs / 8
-    → length rest ≡ length xs % 8
-    → list_all not (bits 8 words (64 * length words)) ≡ true → list_all not (chunk_bits (length rest) rest) ≡ list_all not (chunk_bits (length xs) xs)
-zero_rest xs words rest e f l m h =
-    none_chunk (length rest) rest
-    ∙ rest_zero _ _ _ (words_and_rest xs words rest e f l m) (sym (none_bits 8 words (64 * length words)) ∙ h)
-    ∙ sym (none_chunk (length xs) xs)
+  back_bit : (t : ℕ) → bit_in xs (0 + 64 * length words + t) ≡ bit_in rest (0 + t)
+  back_bit t =
+      let place : 8 * (length xs / 8 * 8) + (0 + t) ≡ 0 + 64 * length words + t = omega arith in
+      sym (ap (λ r. bit_in r (0 + t)) back ∙ bit_in-drop (length xs / 8 * 8) xs (0 + t) ∙ ap (bit_in xs) place)
 
--- bytes with a word that is not zero are not zero
-pub other_words : (xs : List ℕ) (words : List (List ℕ)) (rest : List ℕ) → words ≡ first_chunks 8 (length xs / 8) xs
-    → rest ≡ drop (length xs / 8 * 8) xs → length words ≡ length xs / 8
-    → length rest ≡ length xs % 8
-    → list_all not (bits 8 words (64 * length words)) ≡ false → list_all not (chunk_bits (length xs) xs) ≡ false
-other_words xs words rest e f l m h =
-    none_chunk (length xs) xs ∙ some_left _ _ _ (words_and_rest xs words rest e f l m) (sym (none_bits 8 words (64 * length words)) ∙ h)
+  words_and_rest : ones_from (bit_in xs) 0 (8 * length xs)
+      ≡ ones_from (bit_of 8 words) 0 (64 * length words) + ones_from (bit_in rest) 0 (8 * length rest)
+  words_and_rest =
+      let lengths : 8 * length xs ≡ 64 * length words + 8 * length rest = omega arith in
+      let in_words = ones_from_same (bit_in xs) (bit_of 8 words) 0 0 (64 * length words) front_bit in
+      let in_rest = ones_from_same (bit_in xs) (bit_in rest) (0 + 64 * length words) 0 (8 * length rest) (λ t _. back_bit t) in
+      ap (λ x. ones_from (bit_in xs) 0 x) lengths
+      ∙ ones_from_add (bit_in xs) 0 (64 * length words) (8 * length rest)
+      ∙ omega arith
 
--- the ones of bytes are those of their words and of the rest
-pub count-words_and_rest : (xs : List ℕ) (words : List (List ℕ)) (rest : List ℕ) → words ≡ first_chunks 8 (length xs / 8) xs
-    → rest ≡ drop (length xs / 8 * 8) xs → length words ≡ length xs / 8
-    → length rest ≡ length xs % 8
-    → count_by (λ b. b) (chunk_bits (length xs) xs)
-    ≡ count_by (λ b. b) (bits 8 words (64 * length words)) + count_by (λ b. b) (chunk_bits (length rest) rest)
-count-words_and_rest xs words rest e f l m =
-    omega (
-      arith,
-      count-chunk (length xs) xs,
-      words_and_rest xs words rest e f l m,
-      count-bits 8 words (64 * length words),
-      count-chunk (length rest) rest,
-    )
+  -- bytes whose words are zero are zero where the rest is
+  pub zero_rest : list_all not (bits 8 words (64 * length words)) ≡ true
+      → list_all not (chunk_bits (length rest) rest) ≡ list_all not (chunk_bits (length xs) xs)
+  zero_rest h =
+      none_chunk (length rest) rest
+      ∙ rest_zero _ _ _ words_and_rest (sym (none_bits 8 words (64 * length words)) ∙ h)
+      ∙ sym (none_chunk (length xs) xs)
+
+  -- bytes with a word that is not zero are not zero
+  pub other_words : list_all not (bits 8 words (64 * length words)) ≡ false → list_all not (chunk_bits (length xs) xs) ≡ false
+  other_words h = none_chunk (length xs) xs ∙ some_left _ _ _ words_and_rest (sym (none_bits 8 words (64 * length words)) ∙ h)
+
+  -- the ones of bytes are those of their words and of the rest
+  pub count-words_and_rest : count_by (λ b. b) (chunk_bits (length xs) xs)
+      ≡ count_by (λ b. b) (bits 8 words (64 * length words)) + count_by (λ b. b) (chunk_bits (length rest) rest)
+  count-words_and_rest =
+      omega (
+        arith,
+        count-chunk (length xs) xs,
+        words_and_rest,
+        count-bits 8 words (64 * length words),
+        count-chunk (length rest) rest,
+      )

@@ -1,15 +1,9 @@
 -- What an edit of the chunks does to the list of their bits.
 use Rattle.std.proofs.Common.{◌≡◌, ℕ, ◌+◌, ◌-◌, ◌*◌, ◌/◌, ◌%◌, ◌<◌, ◌≤◌, Bool, false, not, List, [], ◌∷◌, ◌++◌, length, get_or, set, take, replicate, map, sym, ap, ◌∙◌, inl, inr, arith}
-use Rattle.std.proofs.Common.{◌≡◌, ℕ, ◌+◌, ◌-◌, ◌*◌, ◌/◌, ◌%◌, ◌<◌, ◌≤◌, Bool, false, not, List, [], ◌∷◌, ◌++◌, length, get_or, set, map, sym, ap, ◌∙◌, inl, inr, arith}
 use Rattle.std.specs.List.{range_with_len}
 use Rattle.std.proofs.Math.Nat.{mod-eq_of_lt}
 use Rattle.std.proofs.lemmas.Nat.{div-mul-add, mod-mul-add}
 use Rattle.std.proofs.lemmas.List.{get_or-set_same, get_or-set_other, length-set, get_or_append_left, get_or-append_right, length-append, length-map, get_or-map, length-replicate, get_or-replicate, append-nil}
-use Rattle.std.proofs.Common.{◌≡◌, ℕ, ◌+◌, ◌-◌, ◌*◌, ◌/◌, ◌%◌, ◌<◌, Bool, false, List, [], ◌∷◌, ◌++◌, length, get_or, set, map, sym, ap, ◌∙◌, inl, inr, arith}
-use Rattle.std.specs.List.{range_with_len}
-use Rattle.std.proofs.Math.Nat.{mod-eq_of_lt}
-use Rattle.std.proofs.lemmas.Nat.{div-mul-add, mod-mul-add}
-use Rattle.std.proofs.lemmas.List.{get_or-set_same, get_or-set_other, length-set, get_or_append_left, get_or-append_right, length-append}
 use Rattle.std.proofs.lemmas.List.FromFn.{length-map-range_with_len, get_or-map-range_with_len}
 use Rattle.std.proofs.lemmas.Bool.{cases_eq, cases_lt}
 use Rattle.bitmap_core.specs.Chunk.{chunk_bit}
@@ -97,16 +91,6 @@ bits-push_chunk n xs len c v p e k b =
           ∙ sym (get_or-map-range_with_len (chunk_bit n c) 0 (8 * n) (i - len) (i - len) false (omega arith) (omega arith))
           ∙ sym (get_or-append_right v (map (chunk_bit n c) (range_with_len 0 (8 * n))) len i false l s)
     ])
-
-pub bits-flip : (n : ℕ) (xs ys zs : List (List ℕ)) (len : ℕ) (v : List Bool) → bits n xs len ≡ v
-    → ((i : ℕ) → i < len → bit_of n ys i ≡ not (bit_of n xs i)) → ((i : ℕ) → i < len → bit_of n zs i ≡ bit_of n ys i)
-    → bits n zs len ≡ map not v
-bits-flip n xs ys zs len v e f g =
-    bits_are n zs len (map not v) (length-map v not ∙ len_is n xs len v e) (λ i s.
-    g i s
-    ∙ f i s
-    ∙ ap not (sym (get_or-bits n xs len i false s) ∙ ap (λ x. get_or x i false) e)
-    ∙ sym (get_or-map not v i false false (omega (arith, len_is n xs len v e))))
 
 pub bits-append : (n m : ℕ) (xs ys os : List (List ℕ)) (len more : ℕ) (v w : List Bool) → 0 < n
     → IsChunkCount n (length ys) (len + more) → bits n xs len ≡ v → bits m os more ≡ w

@@ -18,7 +18,7 @@ invariant_of-self-2 g c =
     rw (
       c.chunk_width.ensures,
       c.in_ok-push_back.ensures.items,
-    ) (record { width = c.self.invariant.width; count = rw length_push k; zero = IsZeroFrom-count g.row.N (c.self.inside.chunks.items ++ c.args.chunk.now ∷ []) (c.self.inside.len + 8 * g.row.N) c.self.invariant.width.positive (rw (length_push, mul-add) (omega arith)) })
+    ) (record { width = c.self.invariant.width; count = rw length_push k; zero = IsZeroFrom-count _ (c.self.inside.chunks.items ++ c.args.chunk.now ∷ []) (c.self.inside.len + 8 * g.row.N) c.self.invariant.width.positive (rw (length_push, mul-add) (omega arith)) })
 
 pub returns-clause-ok : goal.returns-clause-ok
 returns-clause-ok g c =

@@ -9,14 +9,14 @@ pub overflow_add-total : goal.overflow_add-total
 overflow_add-total c =
     omega (
       arith,
-      more_word c.args.words.now c.loop-word.word-index _ c.load.result c.loop-word.total c.loop-word-test.true c.load.type_inv c.load.ensures c.loop-word.invariant,
+      more_word _ _ _ _ _ c.loop-word-test.true c.load.type_inv c.load.ensures c.loop-word.invariant,
       ones_from_mono (bit_of 8 c.args.words.now) (64 * (c.loop-word.word-index + 1)) (64 * length c.args.words.now) (omega arith),
       count-bits 8 c.args.words.now (64 * length c.args.words.now),
     )
 
 pub loop-word-preserved : goal.loop-word-preserved
 loop-word-preserved c =
-    more_word c.args.words.now c.loop-word.word-index _ c.load.result c.loop-word.total c.loop-word-test.true c.load.type_inv c.load.ensures c.loop-word.invariant
+    more_word _ _ _ _ _ c.loop-word-test.true c.load.type_inv c.load.ensures c.loop-word.invariant
 
 pub returns : goal.returns
 returns c =

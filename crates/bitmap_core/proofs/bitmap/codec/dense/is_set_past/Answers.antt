@@ -9,4 +9,4 @@ returns-then-from-eq0 g c =
 pub returns : goal.returns
 returns g c =
     rw c.chunk_width.ensures at c.is_set_from.ensures
-    ∙ past_chunk g.row.N c.args.len c.args.chunks.now c.index-chunks-chunk_index.result c.requires.width.positive c.requires.count (rw c.chunk_width.ensures at c.if-from-eq0.false) (rw c.chunk_index.ensures at c.index-chunks-chunk_index.is)
+    ∙ past_chunk _ _ _ _ c.requires.width.positive c.requires.count (rw c.chunk_width.ensures at c.if-from-eq0.false) (rw c.chunk_index.ensures at c.index-chunks-chunk_index.is)

@@ -22,5 +22,5 @@ pub returns : goal.returns
 returns g c =
     let b : PrunedBits = record { pruned = c.self.inside.pruned_chunks; bits = c.self.inside.bitmap } in
     let has : HasChunk g.row.N b c.args.index = subst (λ b. HasChunk g.row.N b c.args.index) (sym c.self.view_is) c.requires.retained in
-    chunk_replaced g.row.N b c.args.index c.args.chunk.now c.self.invariant.width.positive has.0 _ c.replace_chunk.ensures.len c.replace_chunk.ensures.bits
+    chunk_replaced _ b _ _ c.self.invariant.width.positive has.0 _ c.replace_chunk.ensures.len c.replace_chunk.ensures.bits
     ∙ ap (λ b. with_chunk g.row.N b c.args.index c.args.chunk.now) c.self.view_is

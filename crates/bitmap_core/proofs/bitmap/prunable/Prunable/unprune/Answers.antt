@@ -8,4 +8,4 @@ invariant_of-self-2 g c =
     let b : PrunedBits = record { pruned = c.self.inside.pruned_chunks; bits = c.self.inside.bitmap } in
     let fits : length c.args.chunks.now ≤ c.self.inside.pruned_chunks =
     subst (λ b. length c.args.chunks.now ≤ b.pruned) (sym c.self.view_is) c.requires in
-    rw c.in_ok-put_front_chunks.ensures.ok (record { width = c.self.invariant.width; len = omega (arith, len_unpruned g.row.N b c.args.chunks.now c.self.invariant.width.positive fits, c.self.invariant.len) })
+    rw c.in_ok-put_front_chunks.ensures.ok (record { width = c.self.invariant.width; len = omega (arith, len_unpruned _ b _ c.self.invariant.width.positive fits, c.self.invariant.len) })

@@ -9,7 +9,7 @@ overflow_add-result g c =
     omega (
       arith,
       c.encode_size.ensures,
-      spelling-lt g.row.N c.retained.result.now c.retained.ensures.width.positive c.retained.ensures.width.fits (omega (arith, ap length c.retained.ensures.value, c.retained.ensures.bound)),
+      spelling-lt _ c.retained.result.now c.retained.ensures.width.positive c.retained.ensures.width.fits (omega (arith, ap length c.retained.ensures.value, c.retained.ensures.bound)),
     )
 
 pub returns : goal.returns

@@ -39,15 +39,15 @@ invariant_of-result-2 g c =
     rw (c.word_base-base.ensures, c.load_word-word.ensures.counted) (
       first_scan g.row.N m c.max-position.result c.min-end.result c.get_chunk-chunk.result c.len.ensures.lawful
           (omega (arith, c.len.ensures.value)) c.if-position-end.false (omega (arith, c.pruned_bits.ensures)) (shown g c),
-      masked_cut c.load_word-word.result c.high_bits.result _ _ c.min-end.result (masked g c) (rw c.word_base-base.ensures at c.load_word-word.ensures.past_end),
+      masked_cut _ _ _ _ _ (masked g c) (rw c.word_base-base.ensures at c.load_word-word.ensures.past_end),
     )
 
 pub returns-clause-positions : goal.returns-clause-positions
 returns-clause-positions g c =
     let m : Meaning = g.B.Readable.meaning c.args.readable.now in
     let p = c.len.ensures.lawful.width.positive in
-    rw c.word_base-base.ensures (left_loaded g.row.N m (word_start g.row.N c.max-position.result) c.max-position.result c.min-end.result c.get_chunk-chunk.result c.high_bits.result
-    p (start_of g.row.N c.max-position.result p) (omega arith) c.if-position-end.false (omega (arith, c.len.ensures.value)) (start_near g.row.N c.max-position.result p)
+    rw c.word_base-base.ensures (left_loaded _ m (word_start _ _) c.max-position.result c.min-end.result c.get_chunk-chunk.result c.high_bits.result
+    p (start_of _ _ p) (omega arith) c.if-position-end.false (omega (arith, c.len.ensures.value)) (start_near _ _ p)
     (rw (start_chunk g.row.N c.max-position.result p) (shown g c))
     (first_loaded g.row.N c.max-position.result c.min-end.result c.get_chunk-chunk.result c.load_word-word.result c.high_bits.result p
     (rw c.word_base-base.ensures at c.load_word-word.ensures.inside) (rw c.word_base-base.ensures at c.load_word-word.ensures.past_chunk)
@@ -58,4 +58,4 @@ returns-clause-positions g c =
 
 pub returns-clause-loads : goal.returns-clause-loads
 returns-clause-loads g c =
-    rw c.load_word-word.ensures.counted (omega (arith, counted_first g.row.N c.max-position.result c.min-end.result c.len.ensures.lawful.width.positive c.if-position-end.false))
+    rw c.load_word-word.ensures.counted (omega (arith, counted_first _ _ _ c.len.ensures.lawful.width.positive c.if-position-end.false))
