@@ -24,7 +24,12 @@ invariant_of-result g c =
 
 pub returns-clause-ok : goal.returns-clause-ok
 returns-clause-ok g c =
-    let k = IsChunkCount-ceil g.row.N c.args.size c.requires.width.positive in
+    let positive = c.requires.width.positive in
+    let k = IsChunkCount-ceil g.row.N c.args.size positive in
     bits-replicate _ _ _ true (λ i s.
     c.clear_tail.ensures.below i s
-    ∙ rw (c.in_ok-append_copies.ensures.ok, c.new-chunks.ensures.items, c.chunk_count.ensures) (bit_of-ones _ _ i c.requires.width.positive (index_below _ _ _ _ c.requires.width.positive s k)))
+    ∙ rw (
+      c.in_ok-append_copies.ensures.ok,
+      c.new-chunks.ensures.items,
+      c.chunk_count.ensures,
+    ) (bit_of-ones _ _ i positive (index_below _ _ _ _ positive s k)))

@@ -37,9 +37,14 @@ drop_room-requires g c =
 
 pub invariant_of-self : goal.invariant_of-self
 invariant_of-self g c =
+    let held = c.self.invariant in
     let l = len_is _ _ _ _ c.self.view_is in
     let e : c.self.inside.len - 1 + 1 ≡ c.self.inside.len = omega arith in
-    (record { width = c.self.invariant.width; count = c.drop_room.ensures.count; zero = λ i h. c.drop_room.ensures.same i ∙ IsZeroFrom-pop _ _ _ _ _ e c.set_bit.ensures c.self.invariant.zero i h })
+    (record {
+      width = held.width;
+      count = c.drop_room.ensures.count;
+      zero = λ i h. c.drop_room.ensures.same i ∙ IsZeroFrom-pop _ _ _ _ _ e c.set_bit.ensures held.zero i h;
+    })
 
 pub returns : goal.returns
 returns g c =

@@ -23,15 +23,23 @@ overflow_sub-self g c =
 
 pub invariant_of-self : goal.invariant_of-self
 invariant_of-self g c =
+    let held = c.self.invariant in
     let y = c.pop_back.ensures.rest ∙ ap (λ m. take (m - 1) c.self.inside.chunks.items) c.self.inside.chunks.ok.0 in
-    rw c.chunk_width.ensures (record { width = c.self.invariant.width; count = IsChunkCount-last _ _ _ _ _ c.self.invariant.width.positive c.self.invariant.count c.self.view_is c.requires.aligned c.requires.filled y; zero = IsZeroFrom-last _ _ _ _ _ c.self.invariant.width.positive c.self.invariant.count c.self.view_is c.requires.aligned c.requires.filled y })
+    rw c.chunk_width.ensures (record {
+      width = held.width;
+      count = IsChunkCount-last _ _ _ _ _ held.width.positive held.count c.self.view_is c.requires.aligned c.requires.filled y;
+      zero = IsZeroFrom-last _ _ _ _ _ held.width.positive held.count c.self.view_is c.requires.aligned c.requires.filled y;
+    })
 
 pub returns-clause-value : goal.returns-clause-value
 returns-clause-value g c =
+    let index = c.chunk_index.ensures in
     c.chunk_at-chunk.ensures
-    ∙ ap (λ i. chunk g.row.N (plain_bits c.args.self.now) (i - 1)) (c.chunk_index.ensures ∙ ap (λ x. x / (8 * g.row.N)) (sym (len_is _ _ _ _ c.self.view_is)))
+    ∙ ap (λ i. chunk g.row.N (plain_bits c.args.self.now) (i - 1)) (index ∙ ap (λ x. x / (8 * g.row.N)) (sym (len_is _ _ _ _ c.self.view_is)))
 
 pub returns-clause-rest : goal.returns-clause-rest
 returns-clause-rest g c =
+    let held = c.self.invariant in
+    let width = c.chunk_width.ensures in
     let y = c.pop_back.ensures.rest ∙ ap (λ m. take (m - 1) c.self.inside.chunks.items) c.self.inside.chunks.ok.0 in
-    rw c.chunk_width.ensures (bits-last _ _ _ _ _ c.self.invariant.width.positive c.self.invariant.count c.self.view_is c.requires.aligned c.requires.filled y)
+    rw width (bits-last _ _ _ _ _ held.width.positive held.count c.self.view_is c.requires.aligned c.requires.filled y)

@@ -8,5 +8,8 @@ returns-then-from-eq0 g c =
 
 pub returns : goal.returns
 returns g c =
-    rw c.chunk_width.ensures at c.is_set_from.ensures
-    ∙ past_chunk _ _ _ _ c.requires.width.positive c.requires.count (rw c.chunk_width.ensures at c.if-from-eq0.false) (rw c.chunk_index.ensures at c.index-chunks-chunk_index.is)
+    let positive = c.requires.width.positive in
+    let width = c.chunk_width.ensures in
+    let index = c.chunk_index.ensures in
+    rw width at c.is_set_from.ensures
+    ∙ past_chunk _ _ _ _ positive c.requires.count (rw width at c.if-from-eq0.false) (rw index at c.index-chunks-chunk_index.is)

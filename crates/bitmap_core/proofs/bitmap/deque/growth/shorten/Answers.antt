@@ -19,4 +19,7 @@ returns-clause-count g c =
     rw (c.clear_tail.ensures.count, c.truncate.ensures.items, c.chunk_count.ensures, length-take-le _ c.args.chunks.now.items f) k
 
 pub returns-clause-below : goal.returns-clause-below
-returns-clause-below g c = λ i s. c.clear_tail.ensures.below i s ∙ rw (c.truncate.ensures.items, c.chunk_count.ensures) (bit_of-take_in _ _ _ i (index_below _ _ _ _ c.requires.width.positive s (IsChunkCount-ceil _ _ c.requires.width.positive)))
+returns-clause-below g c = λ i s.
+    let positive = c.requires.width.positive in
+    c.clear_tail.ensures.below i s
+    ∙ rw (c.truncate.ensures.items, c.chunk_count.ensures) (bit_of-take_in _ _ _ i (index_below _ _ _ _ positive s (IsChunkCount-ceil _ _ positive)))

@@ -6,10 +6,11 @@ use Rattle.bitmap_core.proofs.bitmap.codec.prunable.PrunableEncodeSize.encode_si
 
 pub overflow_add-result : goal.overflow_add-result
 overflow_add-result g c =
+    let retained = c.retained.ensures in
     omega (
       arith,
       c.encode_size.ensures,
-      spelling-lt _ c.retained.result.now c.retained.ensures.width.positive c.retained.ensures.width.fits (omega (arith, ap length c.retained.ensures.value, c.retained.ensures.bound)),
+      spelling-lt _ c.retained.result.now retained.width.positive retained.width.fits (omega (arith, ap length retained.value, retained.bound)),
     )
 
 pub returns : goal.returns
