@@ -64,7 +64,8 @@ pub bytes_are : (n : ℕ) (c : List ℕ) (bit : ℕ → Bool) → length c ≡ n
     → ((t : ℕ) → t < 8 * n → chunk_bit n c t ≡ bit t)
     → c ≡ map (λ j. byte_of (λ t. bit (8 * j + t))) (range_with_len 0 n)
 bytes_are n c bit l r h =
-    ext_get_or 0 c (map (λ j. byte_of (λ t. bit (8 * j + t))) (range_with_len 0 n)) (l ∙ sym (length-map-range_with_len (λ j. byte_of (λ t. bit (8 * j + t))) 0 n)) (λ j b.
+    let byte : ℕ → ℕ = λ j. byte_of (λ t. bit (8 * j + t)) in
+    ext_get_or 0 c (map byte (range_with_len 0 n)) (l ∙ sym (length-map-range_with_len byte 0 n)) (λ j b.
     let s : j < n = omega arith in
     sym (byte_is (get_or c j 0) (r j))
     ∙ byte_same (λ t. eqb (bit_at (get_or c j 0) t) 1) (λ t. bit (8 * j + t)) (λ t w.

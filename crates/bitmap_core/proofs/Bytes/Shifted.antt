@@ -121,7 +121,8 @@ pub bit_in-right : (front back : List ℕ) (i : ℕ) → bit_in (front ++ back) 
 bit_in-right front back i =
     let q : (8 * length front + i) / 8 - length front ≡ i / 8 = omega arith in
     let r : (8 * length front + i) % 8 ≡ i % 8 = omega arith in
-    ap (λ x. eqb (bit_at x ((8 * length front + i) % 8)) 1) (get_or-append_right front back (length front) ((8 * length front + i) / 8) 0 refl (omega arith) ∙ ap (λ k. get_or back k 0) q)
+    let past = get_or-append_right front back (length front) ((8 * length front + i) / 8) 0 refl (omega arith) in
+    ap (λ x. eqb (bit_at x ((8 * length front + i) % 8)) 1) (past ∙ ap (λ k. get_or back k 0) q)
     ∙ ap (λ k. eqb (bit_at (get_or back (i / 8) 0) k) 1) r
 
 -- ---- chunks filled from a run
@@ -179,7 +180,8 @@ opened_joined n len run old mid new b p l e high kept filled i h =
           let y : i % 8 - len % 8 ≡ (i % (8 * n) - len % (8 * n)) % 8 = omega arith in
           kept i u
           ∙ ap (λ c. chunk_bit n c i) e
-          ∙ ap (λ x. eqb (bit_at x (i % 8)) 1) (ap (λ k. get_or (set old (len / 8 % n) b) k 0) q ∙ get_or-set_same old (len / 8 % n) b 0 (omega arith))
+          ∙ ap (λ x. eqb (bit_at x (i % 8)) 1)
+          (ap (λ k. get_or (set old (len / 8 % n) b) k 0) q ∙ get_or-set_same old (len / 8 % n) b 0 (omega arith))
           ∙ ap (λ x. eqb x 1) (high (i % 8) s (omega arith))
           ∙ ap (λ k. eqb (bit_at (get_or run 0 0) k) 1) y
           ∙ ap (λ k. eqb (bit_at (get_or run k 0) ((i % (8 * n) - len % (8 * n)) % 8)) 1) z
@@ -197,7 +199,8 @@ pub joined_here : (n : ℕ) (xs : List (List ℕ)) (len : ℕ) (run new : List �
 joined_here n xs len run new p w joined i h s =
     let d = div-add-mod len (8 * n) in
     let f = div-add-mod i (8 * n) in
-    let up : len / (8 * n) ≤ i / (8 * n) = (le-div_iff_mul-le {k = 8 * n} {x = len / (8 * n)} {y = i} (omega arith)).1 (omega (arith, div-mul-le_self len (8 * n))) in
+    let start : len / (8 * n) * (8 * n) ≤ i = omega (arith, div-mul-le_self len (8 * n)) in
+    let up : len / (8 * n) ≤ i / (8 * n) = (le-div_iff_mul-le {k = 8 * n} {x = len / (8 * n)} {y = i} (omega arith)).1 start in
     let q : i / (8 * n) ≡ len / (8 * n) = omega arith in
     let m = ap (λ x. 8 * n * x) q in
     let e : i % (8 * n) - len % (8 * n) ≡ i - len = omega arith in
@@ -244,4 +247,8 @@ pub bit_in-flat : (n : ℕ) (xs : List (List ℕ)) → 0 < n → AreWide n xs �
 bit_in-flat n xs p h i =
     let d : i / 8 ≡ n * (i / 8 / n) + i / 8 % n = sym (div-add-mod (i / 8) n) in
     let q : i / 8 / n ≡ i / (8 * n) = div-div-eq-div-mul i 8 n in
-    ap (λ x. eqb (bit_at x (i % 8)) 1) (ap (λ k. get_or (flat_map (λ x. x) xs) k 0) d ∙ flat_at n xs h (i / 8 / n) (i / 8 % n) (mod_below (i / 8) n p) ∙ ap (λ c. get_or (get_or xs c []) (i / 8 % n) 0) q)
+    let at : get_or (flat_map (λ x. x) xs) (i / 8) 0 ≡ get_or (get_or xs (i / (8 * n)) []) (i / 8 % n) 0 =
+    ap (λ k. get_or (flat_map (λ x. x) xs) k 0) d
+    ∙ flat_at n xs h (i / 8 / n) (i / 8 % n) (mod_below (i / 8) n p)
+    ∙ ap (λ c. get_or (get_or xs c []) (i / 8 % n) 0) q in
+    ap (λ x. eqb (bit_at x (i % 8)) 1) at

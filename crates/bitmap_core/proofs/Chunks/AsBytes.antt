@@ -24,7 +24,8 @@ pub chunk_of-bit : (n : ℕ) (v : List Bool) (q i : ℕ) → 0 < n → chunk_bit
 chunk_of-bit n v q i p =
     let j : i / 8 % n < n = mod_below (i / 8) n p in
     let m : 8 * n * q + 8 * (i / 8 % n) + i % 8 ≡ 8 * n * q + i % (8 * n) = omega (arith, mod_parts n i p) in
-    ap (λ x. eqb (bit_at x (i % 8)) 1) (get_or-map-range_with_len (λ y. byte_of (λ t. get_or v (8 * n * q + 8 * y + t) false)) 0 n (i / 8 % n) (i / 8 % n) 0 j (omega arith))
+    let byte : ℕ → ℕ = λ y. byte_of (λ t. get_or v (8 * n * q + 8 * y + t) false) in
+    ap (λ x. eqb (bit_at x (i % 8)) 1) (get_or-map-range_with_len byte 0 n (i / 8 % n) (i / 8 % n) 0 j (omega arith))
     ∙ byte_of-bit (λ t. get_or v (8 * n * q + 8 * (i / 8 % n) + t) false) (i % 8) (omega arith)
     ∙ ap (λ x. get_or v x false) m
 
@@ -46,7 +47,8 @@ pub chunk_is : (n : ℕ) (xs : List (List ℕ)) (len : ℕ) (v : List Bool) (i :
     → IsZeroFrom n xs len → i < length xs → c ≡ get_or xs i c → length c ≡ n → ((k : ℕ) → get_or c k 0 < 256)
     → c ≡ chunk_of n v i
 chunk_is n xs len v i c p e z s r l h =
-    fill_by_all (λ j. byte_of (λ t. get_or v (8 * n * i + 8 * j + t) false)) c n 0 l (λ j w. chunk_byte n c j (λ t. get_or v (8 * n * i + 8 * j + t) false) w (h j) (λ t u.
+    let bit : ℕ → ℕ → Bool = λ j t. get_or v (8 * n * i + 8 * j + t) false in
+    fill_by_all (λ j. byte_of (bit j)) c n 0 l (λ j w. chunk_byte n c j (bit j) w (h j) (λ t u.
     let at : 8 * j + t < 8 * n = omega arith in
     let m : 8 * n * i + 8 * j + t ≡ i * (8 * n) + (8 * j + t) = grind arith in
     let q : (8 * n * i + 8 * j + t) / (8 * n) ≡ i = ap (λ x. x / (8 * n)) m ∙ div-mul-add i (8 * n) (8 * j + t) at in

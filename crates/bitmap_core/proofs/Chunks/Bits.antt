@@ -27,7 +27,8 @@ chunk_bit-set_other n chunk bit v p l h i d =
     λ q e. omega (arith, mod_parts n i p, mod_parts n bit p) in
     elim (cases_eq (i / 8 % n) (bit / 8 % n)) [
       | inl e ↦
-          ap (λ x. eqb (bit_at x (i % 8)) 1) (ap (λ b. get_or (set chunk (bit / 8 % n) v) b 0) e ∙ get_or-set_same chunk (bit / 8 % n) v 0 (omega (arith, mod_below (bit / 8) n p)))
+          let byte = get_or-set_same chunk (bit / 8 % n) v 0 (omega (arith, mod_below (bit / 8) n p)) in
+          ap (λ x. eqb (bit_at x (i % 8)) 1) (ap (λ b. get_or (set chunk (bit / 8 % n) v) b 0) e ∙ byte)
           ∙ ap (λ x. eqb x 1) (h (i % 8) (omega arith) (λ q. d (same_rest q e)) ∙ ap (λ b. bit_at (get_or chunk b 0) (i % 8)) (sym e))
       | inr e ↦ ap (λ x. eqb (bit_at x (i % 8)) 1) (get_or-set_other chunk (bit / 8 % n) (i / 8 % n) v 0 e)
     ]
@@ -75,7 +76,13 @@ byte_from_bits n a b j s h g e =
     let r : (j * 8 + t) % 8 ≡ t = mod-mul-add j 8 t w in
     let m : j % n ≡ j = mod-eq_of_lt s in
     let k : (j * 8 + t) / 8 % n ≡ j = ap (λ x. x % n) q ∙ m in
-    bit_same _ _ (bit_at-lt _ t) (bit_at-lt _ t) (ap (λ x. eqb (bit_at (get_or a j 0) x) 1) (sym r) ∙ ap (λ x. eqb (bit_at (get_or a x 0) ((j * 8 + t) % 8)) 1) (sym k) ∙ e (j * 8 + t) ∙ ap (λ x. eqb (bit_at (get_or b x 0) ((j * 8 + t) % 8)) 1) k ∙ ap (λ x. eqb (bit_at (get_or b j 0) x) 1) r))
+    let same : eqb (bit_at (get_or a j 0) t) 1 ≡ eqb (bit_at (get_or b j 0) t) 1 =
+    ap (λ x. eqb (bit_at (get_or a j 0) x) 1) (sym r)
+    ∙ ap (λ x. eqb (bit_at (get_or a x 0) ((j * 8 + t) % 8)) 1) (sym k)
+    ∙ e (j * 8 + t)
+    ∙ ap (λ x. eqb (bit_at (get_or b x 0) ((j * 8 + t) % 8)) 1) k
+    ∙ ap (λ x. eqb (bit_at (get_or b j 0) x) 1) r in
+    bit_same _ _ (bit_at-lt _ t) (bit_at-lt _ t) same)
 
 -- a chunk that repeats one byte whose bits are alike
 pub chunk_bit-fill : (n : ℕ) (v : ℕ) (b : Bool) (i : ℕ) → 0 < n → ((k : ℕ) → k < 8 → eqb (bit_at v k) 1 ≡ b)

@@ -20,7 +20,8 @@ chunks_from_bits n xs ys p l f g h =
     let a = get_or xs i [] in
     let b = get_or ys i [] in
     ext_get_or 0 a b ((f i s).len ∙ sym (g i t).len) (λ j w.
-    byte_from_bits n a b j (omega (arith, (f i s).len)) ((f i s).bytes j) ((g i t).bytes j) (chunk_from_bits n xs ys i a b p s t (get_or_default xs i [] a s) (get_or_default ys i [] b t) h)))
+    byte_from_bits n a b j (omega (arith, (f i s).len)) ((f i s).bytes j) ((g i t).bytes j)
+    (chunk_from_bits n xs ys i a b p s t (get_or_default xs i [] a s) (get_or_default ys i [] b t) h)))
 
 -- a test of runs is one of their bits
 pub same_bits_decided : (n : ℕ) (r : Bool) (xs ys : List (List ℕ)) → 0 < n → length xs ≡ length ys → AreChunks n xs

@@ -93,7 +93,9 @@ pub bits-front : (n : ℕ) (cs xs : List (List ℕ)) (len : ℕ) (v : List Bool)
     → bits n (cs ++ xs) (8 * n * length cs + len) ≡ flat_map (chunk_bits n) cs ++ v
 bits-front n cs xs len v p e =
     let l = length-front_bits n cs in
-    bits_are n (cs ++ xs) (8 * n * length cs + len) (flat_map (chunk_bits n) cs ++ v) (omega (arith, length-append (flat_map (chunk_bits n) cs) v, len_is n xs len v e)) (λ i s. elim (cases_lt i (8 * n * length cs)) [
+    let front : List Bool = flat_map (chunk_bits n) cs in
+    let lengths : length (front ++ v) ≡ 8 * n * length cs + len = omega (arith, length-append front v, len_is n xs len v e) in
+    bits_are n (cs ++ xs) (8 * n * length cs + len) (front ++ v) lengths (λ i s. elim (cases_lt i (8 * n * length cs)) [
       | inl h ↦
           bit_of-front n cs xs i (div_below i (8 * n) (length cs) (omega arith) (omega arith))
           ∙ sym (get_or-front_bits n cs i p h)
@@ -116,4 +118,5 @@ pub put_front_step : (cs xs : List (List ℕ)) (left : ℕ) (c : List ℕ) → 0
     → c ∷ (drop left cs ++ xs) ≡ drop (left - 1) cs ++ xs
 put_front_step cs xs left c p h e =
     let s : suc (left - 1) ≡ left = omega arith in
-    ap (λ ys. ys ++ xs) (ap (λ x. x ∷ drop left cs) e ∙ sym (drop-cons cs (left - 1) c (omega arith) ∙ ap (λ m. get_or cs (left - 1) c ∷ drop m cs) s))
+    let dropped = drop-cons cs (left - 1) c (omega arith) ∙ ap (λ m. get_or cs (left - 1) c ∷ drop m cs) s in
+    ap (λ ys. ys ++ xs) (ap (λ x. x ∷ drop left cs) e ∙ sym dropped)

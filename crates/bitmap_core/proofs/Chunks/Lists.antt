@@ -110,8 +110,11 @@ IsZeroFrom-cleared n xs len c p k d h i s =
     elim (cases_eq (i / (8 * n)) (len / (8 * n))) [
       | inl q ↦ bit_of-set_here n xs (len / (8 * n)) c i f q ∙ h i (let m = ap (λ x. 8 * n * x) q in omega arith)
       | inr q ↦
-          let below : len / (8 * n) ≤ i / (8 * n) = (le-div_iff_mul-le {k = 8 * n} {x = len / (8 * n)} {y = i} (omega arith)).1 (omega (arith, div-mul-le_self len (8 * n))) in
-          let l : length xs ≤ len / (8 * n) + 1 = fewer_chunks (8 * n) (length xs) (len / (8 * n) + 1) len k.1 (rw (mul-add (8 * n) (len / (8 * n)) 1) (omega (arith, mod_below len (8 * n) (omega arith)))) in
+          let start : len / (8 * n) * (8 * n) ≤ i = omega (arith, div-mul-le_self len (8 * n)) in
+          let below : len / (8 * n) ≤ i / (8 * n) = (le-div_iff_mul-le {k = 8 * n} {x = len / (8 * n)} {y = i} (omega arith)).1 start in
+          let next : len ≤ 8 * n * (len / (8 * n) + 1) =
+          rw (mul-add (8 * n) (len / (8 * n)) 1) (omega (arith, mod_below len (8 * n) (omega arith))) in
+          let l : length xs ≤ len / (8 * n) + 1 = fewer_chunks (8 * n) (length xs) (len / (8 * n) + 1) len k.1 next in
           bit_of_past n (set xs (len / (8 * n)) c) i (omega (arith, length-set xs (len / (8 * n)) c))
     ]
 
@@ -128,7 +131,8 @@ chunk_from_bits n xs ys i a b p s w r q h t =
     chunk_bit-mod n a t (i * (8 * n) + t % (8 * n)) p e
     ∙ ap (λ c. chunk_bit n c (i * (8 * n) + t % (8 * n))) (get_or_read xs i a s r [] ∙ ap (λ j. get_or xs j []) (sym k))
     ∙ h (i * (8 * n) + t % (8 * n))
-    ∙ sym (chunk_bit-mod n b t (i * (8 * n) + t % (8 * n)) p e ∙ ap (λ c. chunk_bit n c (i * (8 * n) + t % (8 * n))) (get_or_read ys i b w q [] ∙ ap (λ j. get_or ys j []) (sym k)))
+    ∙ sym
+    (chunk_bit-mod n b t (i * (8 * n) + t % (8 * n)) p e ∙ ap (λ c. chunk_bit n c (i * (8 * n) + t % (8 * n))) (get_or_read ys i b w q [] ∙ ap (λ j. get_or ys j []) (sym k)))
 
 pub IsZeroFrom-append : (n m : ℕ) (ys os : List (List ℕ)) (len more : ℕ) → IsZeroFrom m os more
     → ((i : ℕ) → len ≤ i → i / (8 * n) < length ys → bit_of n ys i ≡ bit_of m os (i - len))

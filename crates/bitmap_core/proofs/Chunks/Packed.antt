@@ -141,7 +141,9 @@ bits-chunk : (n : ℕ) (xs : List (List ℕ)) (i : ℕ) (c : List ℕ) (count : 
 bits-chunk n xs i c count p s r h =
     let l = length-bits n xs (8 * n * i) in
     let m = length-map-range_with_len (chunk_bit n c) 0 count in
-    bits_are n xs (8 * n * i + count) (bits n xs (8 * n * i) ++ map (chunk_bit n c) (range_with_len 0 count)) (omega (arith, length-append (bits n xs (8 * n * i)) (map (chunk_bit n c) (range_with_len 0 count)))) (λ k w. elim (cases_lt k (8 * n * i)) [
+    let before : List Bool = bits n xs (8 * n * i) in
+    let first : List Bool = map (chunk_bit n c) (range_with_len 0 count) in
+    bits_are n xs (8 * n * i + count) (before ++ first) (omega (arith, length-append before first)) (λ k w. elim (cases_lt k (8 * n * i)) [
       | inl q ↦
           sym (get_or-bits n xs (8 * n * i) k false q)
           ∙ sym (get_or_append_left (bits n xs (8 * n * i)) (map (chunk_bit n c) (range_with_len 0 count)) false k (omega arith))

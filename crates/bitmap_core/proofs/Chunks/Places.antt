@@ -63,7 +63,9 @@ IsChunkCount-ceil n len p =
     elim (cases_eq (len % (8 * n)) 0) [
       | inl e ↦ (let q : div_ceil len (8 * n) ≡ len / (8 * n) = omega arith in (rw q (omega arith), rw q (omega arith)))
       | inr e ↦
-          (let q : div_ceil len (8 * n) ≡ len / (8 * n) + 1 = omega arith in (rw (q, mul-add (8 * n) (len / (8 * n)) 1) (omega arith), rw (q, mul-add (8 * n) (len / (8 * n)) 1) (omega arith)))
+          (let q : div_ceil len (8 * n) ≡ len / (8 * n) + 1 = omega arith in
+          let m = mul-add (8 * n) (len / (8 * n)) 1 in
+          (rw (q, m) (omega arith), rw (q, m) (omega arith)))
     ]
 
 -- the chunks of a length, with those that a greater length lacks
@@ -87,7 +89,9 @@ more_ceil n k len total p c h = fewer_chunks (8 * n) k (div_ceil total (8 * n)) 
 pub open_last : (n k len : ℕ) → 0 < n → IsChunkCount n k len → (len % (8 * n) ≡ 0 → ⊥) → k ≡ len / (8 * n) + 1
 open_last n k len p c d =
     let w = last_within n k len p (IsChunkCount-same n k len p c d) in
-    let l = fewer_chunks (8 * n) k (len / (8 * n) + 1) len c.1 (rw (mul-add (8 * n) (len / (8 * n)) 1) (omega (arith, div-add-mod len (8 * n), mod_below len (8 * n) (omega arith)))) in
+    let next : len ≤ 8 * n * (len / (8 * n) + 1) =
+    rw (mul-add (8 * n) (len / (8 * n)) 1) (omega (arith, div-add-mod len (8 * n), mod_below len (8 * n) (omega arith))) in
+    let l = fewer_chunks (8 * n) k (len / (8 * n) + 1) len c.1 next in
     omega arith
 
 pub within_more : (n j k len : ℕ) → len ≤ 8 * n * j → j ≤ k → len ≤ 8 * n * k

@@ -40,8 +40,8 @@ pub stored_chunk : (n : ℕ) (xs : List (List ℕ)) (len : ℕ) (v : List Bool) 
     → c ≡ chunk n (plain_bits v) i
 stored_chunk n xs len v i c p e z r b =
     b
-    ∙ map_range_same (λ j. byte_of (λ t. chunk_bit n c (8 * j + t))) (λ j.
-    byte_of (λ t. get_or v (8 * n * i + 8 * j + t - 8 * n * 0) false)) 0 n (λ j _ h.
+    ∙ map_range_same (λ j. byte_of (λ t. chunk_bit n c (8 * j + t)))
+    (λ j. byte_of (λ t. get_or v (8 * n * i + 8 * j + t - 8 * n * 0) false)) 0 n (λ j _ h.
     byte_same (λ t. chunk_bit n c (8 * j + t)) (λ t. get_or v (8 * n * i + 8 * j + t - 8 * n * 0) false) (λ t s.
     ap (λ x. chunk_bit n x (8 * j + t)) r
     ∙ bit_in_chunk n xs i (8 * j + t) p (omega arith)

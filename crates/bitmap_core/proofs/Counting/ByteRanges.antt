@@ -93,7 +93,8 @@ pub none_in_byte : (xs : List ℕ) (from to : ℕ) → from < to → to ≤ 8 * 
 none_in_byte xs from to h w q =
     let k : (to - 1) % 8 + 1 - from % 8 ≡ to - from = omega arith in
     none_from (λ t. eqb (bit_at (get_or xs (from / 8) 0) t) 1) (from % 8) ((to - 1) % 8 + 1 - from % 8)
-    ∙ ap (λ x. eqb x 0) (sym (range_byte xs (from / 8) from (from % 8) ((to - 1) % 8 + 1) (omega arith) (omega arith)) ∙ ap (λ m. ones_from (bit_in xs) from m) k)
+    ∙ ap (λ x. eqb x 0)
+    (sym (range_byte xs (from / 8) from (from % 8) ((to - 1) % 8 + 1) (omega arith) (omega arith)) ∙ ap (λ m. ones_from (bit_in xs) from m) k)
     ∙ sym (none_chunk_slice (length xs) xs from to w)
 
 -- whether no bit of a byte from place s on and below place e is set

@@ -60,7 +60,8 @@ more_word words j d w total i h f s =
     let r : t % 64 ≡ (64 * j + t) % 64 = omega arith in
     f t l
     ∙ chunk_bit-mod 8 (get_or words j d) t (64 * j + t) (omega arith) r
-    ∙ ap (λ x. chunk_bit 8 x (64 * j + t)) (get_or_default words j d [] i ∙ ap (λ x. get_or words x []) q)) ∙ ap (λ x. ones_from (bit_of 8 words) 0 x) m
+    ∙ ap (λ x. chunk_bit 8 x (64 * j + t))
+    (get_or_default words j d [] i ∙ ap (λ x. get_or words x []) q)) ∙ ap (λ x. ones_from (bit_of 8 words) 0 x) m
 
 -- a byte of zeros keeps that none is set
 pub zero_byte : (bytes : List ℕ) (j : ℕ) → get_or bytes j 0 ≡ 0 → ones_from (bit_in bytes) 0 (8 * j) ≡ 0
@@ -115,7 +116,8 @@ bit_of-words : (k : ℕ) (xs : List ℕ) (i : ℕ) → i < 64 * k → bit_of 8 (
 bit_of-words k xs i h =
     let at : 8 * (i / 64) + i / 8 % 8 ≡ i / 8 = omega arith in
     ap (λ c. chunk_bit 8 c i) (get_or-first_chunks 8 k xs (i / 64) (omega arith))
-    ∙ ap (λ b. eqb (bit_at b (i % 8)) 1) (get_or-take 8 (drop (8 * (i / 64)) xs) (i / 8 % 8) 0 (omega arith) ∙ get_or-drop (8 * (i / 64)) xs (i / 8 % 8) 0 ∙ ap (λ a. get_or xs a 0) at)
+    ∙ ap (λ b. eqb (bit_at b (i % 8)) 1)
+    (get_or-take 8 (drop (8 * (i / 64)) xs) (i / 8 % 8) 0 (omega arith) ∙ get_or-drop (8 * (i / 64)) xs (i / 8 % 8) 0 ∙ ap (λ a. get_or xs a 0) at)
 
 -- the bits from byte k on
 pub bit_in-drop : (k : ℕ) (xs : List ℕ) (t : ℕ) → bit_in (drop k xs) t ≡ bit_in xs (8 * k + t)

@@ -46,7 +46,9 @@ pub bits-extend : (n : ℕ) (xs ys : List (List ℕ)) (len longer : ℕ) (v : Li
     → bits n ys longer ≡ v ++ replicate (longer - length v) false
 bits-extend n xs ys len longer v p z h e =
     let l = len_is n xs len v e in
-    bits_are n ys longer (v ++ replicate (longer - length v) false) (omega (arith, length-append v (replicate (longer - length v) false), length-replicate (longer - length v) false)) (λ i s. elim (cases_lt i len) [
+    let zeros : List Bool = replicate (longer - length v) false in
+    let lengths : length (v ++ zeros) ≡ longer = omega (arith, length-append v zeros, length-replicate (longer - length v) false) in
+    bits_are n ys longer (v ++ zeros) lengths (λ i s. elim (cases_lt i len) [
       | inl w ↦
           h i
           ∙ sym (get_or-bits n xs len i false w)
@@ -55,7 +57,8 @@ bits-extend n xs ys len longer v p z h e =
       | inr w ↦
           h i
           ∙ z i w
-          ∙ sym (get_or-append_right v (replicate (longer - length v) false) len i false l w ∙ get_or-replicate (longer - length v) (i - len) false false (omega arith))
+          ∙ sym
+          (get_or-append_right v (replicate (longer - length v) false) len i false l w ∙ get_or-replicate (longer - length v) (i - len) false false (omega arith))
     ])
 
 pub append_nothing : (v : List Bool) (m : ℕ) → m ≤ length v → v ≡ v ++ replicate (m - length v) false
@@ -73,7 +76,8 @@ bits-push_chunk n xs len c v p e k b =
     let l = len_is n xs len v b in
     let f = full_len n (length xs) len p k e in
     let m = length-map-range_with_len (chunk_bit n c) 0 (8 * n) in
-    bits_are n (xs ++ c ∷ []) (len + 8 * n) (v ++ map (chunk_bit n c) (range_with_len 0 (8 * n))) (omega (arith, length-append v (map (chunk_bit n c) (range_with_len 0 (8 * n))))) (λ i h. elim (cases_lt i len) [
+    let pushed : List Bool = map (chunk_bit n c) (range_with_len 0 (8 * n)) in
+    bits_are n (xs ++ c ∷ []) (len + 8 * n) (v ++ pushed) (omega (arith, length-append v pushed)) (λ i h. elim (cases_lt i len) [
       | inl s ↦
           bit_of-push_in n xs c i (index_below n (length xs) len i p s k)
           ∙ sym (get_or-bits n xs len i false s)

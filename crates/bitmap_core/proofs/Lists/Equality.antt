@@ -31,4 +31,6 @@ pub other_lengths : (n : ℕ) (xs ys : List (List ℕ)) (len len' : ℕ) (v w : 
     → len ≢ len'
     → eqb len len' ≡ pointwise beq v w
 other_lengths n xs ys len len' v w e f d =
-    same_from_decides {P = v ≡ w} (eqb len len') (pointwise beq v w) (decides_from (eqb len len') (λ q. absurd (d ((Decides-eqb len len').0 q))) (λ q h. d (sym (len_is n xs len v e) ∙ ap length h ∙ len_is n ys len' w f))) (pointwise_decides booleans_Decides v w)
+    let apart : v ≡ w → ⊥ = λ h. d (sym (len_is n xs len v e) ∙ ap length h ∙ len_is n ys len' w f) in
+    let lengths = decides_from {P = v ≡ w} (eqb len len') (λ q. absurd (d ((Decides-eqb len len').0 q))) (λ q h. apart h) in
+    same_from_decides {P = v ≡ w} (eqb len len') (pointwise beq v w) lengths (pointwise_decides booleans_Decides v w)

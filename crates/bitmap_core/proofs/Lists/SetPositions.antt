@@ -4,7 +4,7 @@ use Rattle.std.specs.List.{filter, range_with_len}
 use Rattle.bitmap_core.specs.Meaning.{ones_between}
 
 -- n positions from lo on
-abbrev pub run : (ℕ → Bool) → ℕ → ℕ → List ℕ
+abbrev run : (ℕ → Bool) → ℕ → ℕ → List ℕ
 run p lo n = filter p (range_with_len lo n)
 
 cond_append : (b : Bool) (x : ℕ) (xs ys : List ℕ) → cond b (x ∷ (xs ++ ys)) (xs ++ ys) ≡ cond b (x ∷ xs) xs ++ ys

@@ -31,7 +31,7 @@ bits-fill n xs zs len b v e f =
     ∙ sym (get_or-replicate (length v) i b false (omega arith)))
 
 -- one bit of chunks that were joined
-pub joined_bit : (n : ℕ) (f : Bool → Bool → Bool) (xs os ys : List (List ℕ)) (i : ℕ) → IsCombined n f xs os ys
+joined_bit : (n : ℕ) (f : Bool → Bool → Bool) (xs os ys : List (List ℕ)) (i : ℕ) → IsCombined n f xs os ys
     → i / (8 * n) < length xs
     → bit_of n ys i ≡ f (bit_of n xs i) (bit_of n os i)
 joined_bit n f xs os ys i j s = j.bits (i / (8 * n)) s i
@@ -49,7 +49,8 @@ bits-zip n f xs os ys len v w p k j e g =
     joined_bit n f xs os ys i j (index_below n (length xs) len i p s k)
     ∙ ap (λ x. f x (bit_of n os i)) a
     ∙ ap (λ x. f (get_or v i false) x) b
-    ∙ sym (get_or-map (λ (p : Bool × Bool). f p.0 p.1) (zip v w) i (false, false) false (omega arith) ∙ ap (λ (p : Bool × Bool). f p.0 p.1) (get_or-zip v w i (false, false) (omega arith) (omega arith))))
+    ∙ sym
+    (get_or-map (λ (p : Bool × Bool). f p.0 p.1) (zip v w) i (false, false) false (omega arith) ∙ ap (λ (p : Bool × Bool). f p.0 p.1) (get_or-zip v w i (false, false) (omega arith) (omega arith))))
 
 -- where both end in zeros, so do the chunks that they make
 pub IsZeroFrom-zip : (n : ℕ) (f : Bool → Bool → Bool) (xs os ys : List (List ℕ)) (len : ℕ) → f false false ≡ false
@@ -85,4 +86,6 @@ pub joined_runs : (n : ℕ) (f : Bool → Bool → Bool) (fs gs os ps xs ys olds
     → os ++ ps ≡ others → news ≡ xs ++ ys → length fs ≡ length os → IsCombined n f fs os xs → IsCombined n f gs ps ys
     → IsCombined n f olds others news
 joined_runs n f fs gs os ps xs ys olds others news a b c e j k =
-    subst (λ zs. IsCombined n f zs others news) (sym a) (subst (λ zs. IsCombined n f (fs ++ gs) zs news) b (subst (λ zs. IsCombined n f (fs ++ gs) (os ++ ps) zs) (sym c) (IsCombined-append n f fs gs os ps xs ys e j k)))
+    let parts : IsCombined n f (fs ++ gs) (os ++ ps) (xs ++ ys) = IsCombined-append n f fs gs os ps xs ys e j k in
+    let whole : IsCombined n f (fs ++ gs) (os ++ ps) news = subst (λ zs. IsCombined n f (fs ++ gs) (os ++ ps) zs) (sym c) parts in
+    subst (λ zs. IsCombined n f zs others news) (sym a) (subst (λ zs. IsCombined n f (fs ++ gs) zs news) b whole)

@@ -44,7 +44,8 @@ bit_pushed n b x k h = elim (cases_order k (bit_len n b)) [
   | inr (inl l) ↦
       rw (ne_eqb k (bit_len n b) (λ e. absurd (omega arith))) (get_or_append_left b.bits (x ∷ []) false (k - pruned_bits n b) (omega arith))
   | inr (inr l) ↦
-      rw (ne_eqb k (bit_len n b) (λ e. absurd (omega arith))) (get_or_past (b.bits ++ x ∷ []) (k - pruned_bits n b) false (omega (arith, length-append b.bits (x ∷ []))) ∙ sym (bit_past n b k (omega arith)))
+      let past = get_or_past (b.bits ++ x ∷ []) (k - pruned_bits n b) false (omega (arith, length-append b.bits (x ∷ []))) in
+      rw (ne_eqb k (bit_len n b) (λ e. absurd (omega arith))) (past ∙ sym (bit_past n b k (omega arith)))
 ]
 
 pub bit_truncated : (n : ℕ) (b : PrunedBits) (len k : ℕ) → pruned_bits n b ≤ k
@@ -52,7 +53,8 @@ pub bit_truncated : (n : ℕ) (b : PrunedBits) (len k : ℕ) → pruned_bits n b
 bit_truncated n b len k h = elim (cases_lt k len) [
   | inl l ↦ rw (lt-ltb k len l) (get_or-take (len - pruned_bits n b) b.bits (k - pruned_bits n b) false (omega arith))
   | inr l ↦
-      rw (le-ltb k len l) (get_or_past (take (len - pruned_bits n b) b.bits) (k - pruned_bits n b) false (omega (arith, length-take (len - pruned_bits n b) b.bits)))
+      let fewer = length-take (len - pruned_bits n b) b.bits in
+      rw (le-ltb k len l) (get_or_past (take (len - pruned_bits n b) b.bits) (k - pruned_bits n b) false (omega (arith, fewer)))
 ]
 
 pub popped_is : (n : ℕ) (b : PrunedBits) → popped b ≡ truncated n b (bit_len n b - 1)
@@ -68,7 +70,9 @@ bit_set n b j x k ok h = elim (cases_eq k j) [
 pub bit_pruned : (n : ℕ) (b : PrunedBits) (i k : ℕ) → b.pruned ≤ i → 8 * n * i ≤ k → bit_at n (pruned_to n b i) k ≡ bit_at n b k
 bit_pruned n b i k l h = elim (cases_lt b.pruned i) [
   | inl m ↦
-      rw (lt-ltb b.pruned i m) (get_or-drop (8 * n * (i - b.pruned)) b.bits (k - 8 * n * i) false ∙ ap (λ j. get_or b.bits j false) (let f = front_of (8 * n) b.pruned i l in omega arith))
+      let front = front_of (8 * n) b.pruned i l in
+      let place : 8 * n * (i - b.pruned) + (k - 8 * n * i) ≡ k - pruned_bits n b = omega arith in
+      rw (lt-ltb b.pruned i m) (get_or-drop (8 * n * (i - b.pruned)) b.bits (k - 8 * n * i) false ∙ ap (λ j. get_or b.bits j false) place)
   | inr m ↦ rw (le-ltb b.pruned i m) refl
 ]
 
@@ -102,14 +106,18 @@ module _ (n : ℕ) (b : PrunedBits) (chunks : List (List ℕ)) (p : 0 < n) (fits
   bit_unpruned_high : (k : ℕ) → pruned_bits n b ≤ k → bit_at n (unpruned n b chunks) k ≡ bit_at n b k
   bit_unpruned_high k l =
       let f = front_of (8 * n) (length chunks) b.pruned fits in
-      get_or-append_right (flat_map (chunk_bits n) chunks) b.bits (8 * n * length chunks) (k - 8 * n * (b.pruned - length chunks)) false (length-front_bits n chunks) (omega arith)
+      let put : List Bool = flat_map (chunk_bits n) chunks in
+      let place : ℕ = k - 8 * n * (b.pruned - length chunks) in
+      get_or-append_right put b.bits (8 * n * length chunks) place false (length-front_bits n chunks) (omega arith)
       ∙ ap (λ j. get_or b.bits j false) (omega arith)
 
-  pub bit_unpruned_low : (k : ℕ) → 8 * n * (b.pruned - length chunks) ≤ k → k < pruned_bits n b
+  bit_unpruned_low : (k : ℕ) → 8 * n * (b.pruned - length chunks) ≤ k → k < pruned_bits n b
       → bit_at n (unpruned n b chunks) k ≡ bit_of n chunks (k - 8 * n * (b.pruned - length chunks))
   bit_unpruned_low k l h =
       let f = front_of (8 * n) (length chunks) b.pruned fits in
-      get_or_append_left (flat_map (chunk_bits n) chunks) b.bits false (k - 8 * n * (b.pruned - length chunks)) (omega (arith, length-front_bits n chunks))
+      let put : List Bool = flat_map (chunk_bits n) chunks in
+      let place : ℕ = k - 8 * n * (b.pruned - length chunks) in
+      get_or_append_left put b.bits false place (omega (arith, length-front_bits n chunks))
       ∙ get_or-front_bits n chunks (k - 8 * n * (b.pruned - length chunks)) p (omega arith)
 
 -- a chunk replaced among the retained bits, counted from the first retained chunk
@@ -189,7 +197,9 @@ unpruned_pruned n b i p low high =
     let front : 8 * n * (pruned_to n b i).pruned ≡ 8 * n * i = ap (λ m. 8 * n * m) c in
     let before : 8 * n * ((pruned_to n b i).pruned - length (map (chunk n b) (range_with_len b.pruned (i - b.pruned)))) ≡ 8 * n * b.pruned =
     ap (λ m. 8 * n * m) e in
-    same_bitmap n (unpruned n (pruned_to n b i) (map (chunk n b) (range_with_len b.pruned (i - b.pruned)))) b e (len_unpruned n (pruned_to n b i) _ p fits ∙ len_pruned_to n b i high) (λ k r. elim (cases_lt k (8 * n * i)) [
+    let put : List (List ℕ) = map (chunk n b) (range_with_len b.pruned (i - b.pruned)) in
+    let len : bit_len n (unpruned n (pruned_to n b i) put) ≡ bit_len n b = len_unpruned n (pruned_to n b i) _ p fits ∙ len_pruned_to n b i high in
+    same_bitmap n (unpruned n (pruned_to n b i) put) b e len (λ k r. elim (cases_lt k (8 * n * i)) [
       | inl h ↦
           bit_unpruned_low n (pruned_to n b i) _ p fits k (omega (arith, r.0, before)) (omega (arith, front))
           ∙ ap (λ d. bit_of n (map (chunk n b) (range_with_len b.pruned (i - b.pruned))) d) (ap (λ m. k - m) before)

@@ -5,6 +5,7 @@ use Rattle.std.proofs.Math.Nat.{div-add-mod, lt_of_mul-lt-mul_left, mul-add, mul
 use Rattle.std.proofs.lemmas.List.{ext_get_or, get_or_past}
 use Rattle.std.proofs.lemmas.List.FromFn.{length-map-range_with_len, get_or-map-range_with_len}
 use Rattle.std.proofs.lemmas.Nat.{mul-le}
+use Rattle.bitmap_core.specs.Bits.{IsChunkCount}
 use Rattle.bitmap_core.specs.Chunk.{byte_of, chunk_bit}
 use Rattle.bitmap_core.specs.PrunedBits.{PrunedBits, plain_bits, pruned_bits, bit_len, bit_at, HasBit, HasChunk, from_bits, chunk}
 use Rattle.bitmap_core.proofs.Chunks.Places.{IsChunkCount-ceil, count_unique}
@@ -34,7 +35,9 @@ ceil_above_index n len i p h = let c = IsChunkCount-ceil n len p in lt_of_mul-lt
 -- room for len bits in the retained chunks, from the room in all
 pub ceil_front : (n p l : ℕ) → 0 < n → 8 * n * div_ceil (8 * n * p + l) (8 * n) ≡ 8 * n * p + 8 * n * div_ceil l (8 * n)
 ceil_front n p l h =
-    ap (λ k. 8 * n * k) (count_unique n (div_ceil (8 * n * p + l) (8 * n)) (p + div_ceil l (8 * n)) (8 * n * p + l) (IsChunkCount-ceil n (8 * n * p + l) h) (IsChunkCount-front n p (div_ceil l (8 * n)) l (IsChunkCount-ceil n l h)))
+    let whole : IsChunkCount n (div_ceil (8 * n * p + l) (8 * n)) (8 * n * p + l) = IsChunkCount-ceil n (8 * n * p + l) h in
+    let parts : IsChunkCount n (p + div_ceil l (8 * n)) (8 * n * p + l) = IsChunkCount-front n p (div_ceil l (8 * n)) l (IsChunkCount-ceil n l h) in
+    ap (λ k. 8 * n * k) (count_unique n (div_ceil (8 * n * p + l) (8 * n)) (p + div_ceil l (8 * n)) (8 * n * p + l) whole parts)
     ∙ mul-add (8 * n) p (div_ceil l (8 * n))
 
 -- a retained chunk, counted from the first retained one
@@ -106,5 +109,9 @@ last_chunk_of_bits n b p a f =
 -- the bits of a chunk's bytes are the chunk's bits
 pub chunk_bit_of_chunk : (n : ℕ) (b : PrunedBits) (i t : ℕ) → 0 < n → t < 8 * n → chunk_bit n (chunk n b i) t ≡ bit_at n b (8 * n * i + t)
 chunk_bit_of_chunk n b i t p h =
-    ap (λ c. chunk_bit n c t) (map_range_same (λ j. byte_of (λ s. bit_at n b (8 * n * i + 8 * j + s))) (λ j. byte_of (λ s. bit_at n b (8 * n * i + (8 * j + s)))) 0 n (λ j _ _. byte_same (λ s. bit_at n b (8 * n * i + 8 * j + s)) (λ s. bit_at n b (8 * n * i + (8 * j + s))) (λ s _. ap (λ k. bit_at n b k) (omega arith))))
+    ap (λ c. chunk_bit n c t) (map_range_same
+    (λ j. byte_of (λ s. bit_at n b (8 * n * i + 8 * j + s)))
+    (λ j. byte_of (λ s. bit_at n b (8 * n * i + (8 * j + s)))) 0 n
+    (λ j _ _. byte_same (λ s. bit_at n b (8 * n * i + 8 * j + s)) (λ s. bit_at n b (8 * n * i + (8 * j + s)))
+    (λ s _. ap (λ k. bit_at n b k) (omega arith))))
     ∙ chunk_bit_of_bytes n (λ s. bit_at n b (8 * n * i + s)) t p h

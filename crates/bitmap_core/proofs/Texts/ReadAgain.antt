@@ -38,7 +38,8 @@ pub read_again : {E : Type 0} (n : ℕ) (text : List ℕ) (v : List Bool) (rest 
     → IfOk r (λ w. length w < 2 ^ 64)
     → IfOk r (λ w. (w ≡ v) × (after ≡ rest))
 read_again n text v rest after r p l e f s =
-    ok_both (λ w. text ≡ spelling n w ++ after) (λ w. length w < 2 ^ 64) (λ w. (w ≡ v) × (after ≡ rest)) r f s (λ w t k. same_spelling n w v after rest p k l (sym t ∙ e))
+    ok_both (λ w. text ≡ spelling n w ++ after) (λ w. length w < 2 ^ 64) (λ w. (w ≡ v) × (after ≡ rest)) r f s
+    (λ w t k. same_spelling n w v after rest p k l (sym t ∙ e))
 
 -- the same of bitmaps with a pruned front
 pub pruned_spelled_none : (n : ℕ) (range : ℕ → Bool) (text : List ℕ) (b : PrunedBits) (rest : List ℕ) → 0 < n
@@ -52,5 +53,6 @@ pub pruned_read_again : {E : Type 0} (n : ℕ) (text : List ℕ) (b : PrunedBits
     → IfOk r (λ c. text ≡ pruned_spelling n c ++ after) → IfOk r (λ c. (bit_len n c < 2 ^ 64) × (c.pruned < 2 ^ 64))
     → IfOk r (λ c. (c ≡ b) × (after ≡ rest))
 pruned_read_again n text b rest after r p l m e f s =
-    ok_both (λ c. text ≡ pruned_spelling n c ++ after) (λ c. (bit_len n c < 2 ^ 64) × (c.pruned < 2 ^ 64)) (λ c. (c ≡ b) × (after ≡ rest)) r f s (λ c t k.
+    ok_both (λ c. text ≡ pruned_spelling n c ++ after) (λ c. (bit_len n c < 2 ^ 64) × (c.pruned < 2 ^ 64))
+    (λ c. (c ≡ b) × (after ≡ rest)) r f s (λ c t k.
     same_pruned_spelling n c b after rest p k.0 l k.1 m (sym t ∙ e))

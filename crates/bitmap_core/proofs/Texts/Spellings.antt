@@ -95,7 +95,8 @@ same_past n len body p =
     let c : 8 * n * chunk_count n len ≡ 8 * (n * chunk_count n len) = grind arith in
     omega arith in
     ap (λ m. list_any (bit_of n (chunks_in n len body)) (range_with_len len m)) g
-    ∙ any_range-same (bit_of n (chunks_in n len body)) (bit_in body) len (8 * (n * chunk_count n len) - len) (λ i a b. bit_of-chunks_in n len body i p (omega arith))
+    ∙ any_range-same (bit_of n (chunks_in n len body)) (bit_in body) len (8 * (n * chunk_count n len) - len) (λ i a b.
+    bit_of-chunks_in n len body i p (omega arith))
 
 -- chunks with no bit past the length are the chunks of the bits that they have
 chunks-spell : (n len : ℕ) (body : List ℕ) → 0 < n → AreBytes body → n * chunk_count n len ≤ length body
@@ -117,7 +118,8 @@ chunks-spell n len body p h l e =
       length-drop (n * i) bytes,
       mul-add n i 1,
     ) in
-    chunk_is n xs len (bits n xs len) i (get_or xs i []) p refl (zeros n len body p e) inside (get_or_default xs i [] (get_or xs i []) inside) (ap length is ∙ wide) (λ q.
+    chunk_is n xs len (bits n xs len) i (get_or xs i []) p refl (zeros n len body p e) inside
+    (get_or_default xs i [] (get_or xs i []) inside) (ap length is ∙ wide) (λ q.
     rw is (AreBytes-take n (drop (n * i) bytes) (AreBytes-drop (n * i) bytes fits) q)))
   where
     mul-le : (c a b : ℕ) → a ≤ b → c * a ≤ c * b
@@ -145,7 +147,8 @@ pub text-spells : (n : ℕ) (text : List ℕ) → 0 < n → AreBytes text → 8 
 unfolding value
 text-spells n text p h l e =
     joined n (number text) (chunk_bytes n text) text (drop 8 text) (chunks_in n (number text) (drop 8 text)) _ (number_of_text text h (omega arith))
-    (first_chunks-all n (chunk_count n (number text)) (take (chunk_bytes n text) (drop 8 text)) (omega (arith, length-take (chunk_bytes n text) (drop 8 text), length-drop 8 text)))
+    (first_chunks-all n (chunk_count n (number text)) (take (chunk_bytes n text) (drop 8 text))
+    (omega (arith, length-take (chunk_bytes n text) (drop 8 text), length-drop 8 text)))
     (chunks-spell n (number text) (drop 8 text) p (AreBytes-drop 8 text h) (omega (arith, length-drop 8 text)) e)
     (length-bits n _ (number text))
     ∙ ap (λ x. spelling n (bits n (chunks_in n (number text) (drop 8 text)) (number text)) ++ x) (drop-drop (chunk_bytes n text) 8 text)
@@ -192,7 +195,9 @@ bits_in_spelled n text v rest p h e = bits_in-spelling n v rest p h ∙ ap bits_
 pub spelling-trailing : (n : ℕ) (v : List Bool) (rest : List ℕ) → 0 < n → length v < 2 ^ 64
     → list_any (bit_in (drop 8 (spelling n v ++ rest))) (trailing n (spelling n v ++ rest)) ≡ false
 spelling-trailing n v rest p h =
-    rw (spelling-number n v rest h) (any_range_none (bit_in (drop 8 (spelling n v ++ rest))) (length v) (8 * (n * chunk_count n (length v)) - length v) (λ i l s. spelling-bit n v rest i p (omega arith) ∙ get_or_past v i false l))
+    let more : ℕ = 8 * (n * chunk_count n (length v)) - length v in
+    let bit : ℕ → Bool = bit_in (drop 8 (spelling n v ++ rest)) in
+    rw (spelling-number n v rest h) (any_range_none bit (length v) more (λ i l s. spelling-bit n v rest i p (omega arith) ∙ get_or_past v i false l))
 
 -- a spelling and what follows it determine the bits and what follows
 pub same_spelling : (n : ℕ) (v w : List Bool) (xs ys : List ℕ) → 0 < n → length v < 2 ^ 64 → length w < 2 ^ 64

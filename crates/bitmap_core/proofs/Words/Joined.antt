@@ -23,7 +23,9 @@ joined_word_bit run at s b t f h w low high = elim (cases_lt (t + s) 64) [
       let c : (t + s) / 8 < 8 = omega arith in
       let q : at + (t + s) / 8 ≡ (8 * at + s + t) / 8 = omega arith in
       let r : (t + s) % 8 ≡ (8 * at + s + t) % 8 = omega arith in
-      ap (λ x. eqb x 1) (low u ∙ word_bit (take 8 (drop at run)) (t + s) (piece_fits run at f) u ∙ ap (λ x. bit_at x ((t + s) % 8)) (get_or-take 8 (drop at run) ((t + s) / 8) 0 c ∙ get_or-drop at run ((t + s) / 8) 0))
+      ap (λ x. eqb x 1) (low u)
+      ∙ ap (λ x. eqb x 1) (word_bit (take 8 (drop at run)) (t + s) (piece_fits run at f) u)
+      ∙ ap (λ x. eqb (bit_at x ((t + s) % 8)) 1) (get_or-take 8 (drop at run) ((t + s) / 8) 0 c ∙ get_or-drop at run ((t + s) / 8) 0)
       ∙ ap (λ k. eqb (bit_at (get_or run k 0) ((t + s) % 8)) 1) q
       ∙ ap (λ k. eqb (bit_at (get_or run ((8 * at + s + t) / 8) 0) k) 1) r
   | inr u ↦

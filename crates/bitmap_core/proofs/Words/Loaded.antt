@@ -109,7 +109,8 @@ masked_cut word masked k base end m c i h a = masked_false word masked k i m h (
 
 -- the first word without its bits before the range
 pub first_loaded : (n first end : ℕ) (bytes : List ℕ) (word masked : ℕ) → 0 < n →
-    ((i : ℕ) → i < 64 → word_start n first + i < end → word_start n first % (8 * n) + i < 8 * n → eqb (bit_at word i) 1 ≡ chunk_bit n bytes (word_start n first % (8 * n) + i)) →
+    ((i : ℕ) → i < 64 → word_start n first + i < end → word_start n first % (8 * n) + i < 8 * n
+    → eqb (bit_at word i) 1 ≡ chunk_bit n bytes (word_start n first % (8 * n) + i)) →
     ((i : ℕ) → i < 64 → 8 * n ≤ word_start n first % (8 * n) + i → eqb (bit_at word i) 1 ≡ false) →
     IsCut (word_start n first) word end →
     IsMasked word masked (first - word_start n first) →

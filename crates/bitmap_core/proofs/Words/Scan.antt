@@ -39,7 +39,10 @@ module _ (n : ℕ) (m : Meaning) (base end : ℕ) (chunk : List ℕ) (loads firs
   step_after =
       ⊎_elim
       (λ (s : Stays (8 * n) base (next_word n base)). let r = s.is in omega arith)
-      (λ (s : Leaves (8 * n) base (next_word n base)). let r = s.is in let b = mod_below base (8 * n) (omega (arith, scan.lawful.width.positive)) in omega arith)
+      (λ (s : Leaves (8 * n) base (next_word n base)).
+      let r = s.is in
+      let b = mod_below base (8 * n) (omega (arith, scan.lawful.width.positive)) in
+      omega arith)
       (next_cases n base scan.lawful.width.positive)
 
   step_before : base < end
@@ -48,7 +51,9 @@ module _ (n : ℕ) (m : Meaning) (base end : ℕ) (chunk : List ℕ) (loads firs
   step_shown : (next % (8 * n) ≡ 0 → ⊥) → ShowsChunk n m (next / (8 * n)) chunk
   step_shown ne =
       ⊎_elim
-      (λ (s : Stays (8 * n) base (next_word n base)). let e : next / (8 * n) ≡ base / (8 * n) = ap (λ (k : ℕ). k / (8 * n)) is ∙ s.chunk in rw e (scan.shown step_before))
+      (λ (s : Stays (8 * n) base (next_word n base)).
+      let e : next / (8 * n) ≡ base / (8 * n) = ap (λ (k : ℕ). k / (8 * n)) is ∙ s.chunk in
+      rw e (scan.shown step_before))
       (λ (s : Leaves (8 * n) base (next_word n base)). absurd (ne (ap (λ (k : ℕ). k % (8 * n)) is ∙ s.within)))
       (next_cases n base scan.lawful.width.positive)
 

@@ -12,7 +12,8 @@ combine-requires g c =
       omega (arith, held.width.fits),
       (
         held.width.positive,
-        count_unique g.row.N (length c.self.inside.chunks.items) (length c.other.inside.chunks.items) c.self.inside.len held.count (rw e at c.other.invariant.count),
+        count_unique g.row.N (length c.self.inside.chunks.items) (length c.other.inside.chunks.items) c.self.inside.len held.count
+            (rw e at c.other.invariant.count),
       ),
     )
 
@@ -30,4 +31,5 @@ pub returns : goal.returns
 returns g c =
     let held = c.self.invariant in
     let e : c.other.inside.len ≡ c.self.inside.len = sym (len_is _ _ _ _ c.other.view_is) ∙ sym c.requires ∙ len_is _ _ _ _ c.self.view_is in
-    bits-zip g.row.N _ c.self.inside.chunks.items c.other.inside.chunks.items c.combine.new.chunks.items c.self.inside.len _ _ held.width.positive held.count c.combine.ensures c.self.view_is (ap (λ k. bits g.row.N c.other.inside.chunks.items k) (sym e) ∙ c.other.view_is)
+    bits-zip g.row.N _ c.self.inside.chunks.items c.other.inside.chunks.items c.combine.new.chunks.items c.self.inside.len _ _ held.width.positive held.count c.combine.ensures c.self.view_is
+    (ap (λ k. bits g.row.N c.other.inside.chunks.items k) (sym e) ∙ c.other.view_is)

@@ -8,7 +8,8 @@ pub count_ones-requires : goal.count_ones-requires
 count_ones-requires g c =
     let held = c.self.invariant in
     let e = count-bits g.row.N c.self.inside.chunks.items (8 * g.row.N * length c.self.inside.chunks.items) in
-    let b = ones_from_bound (bit_of g.row.N c.self.inside.chunks.items) c.self.inside.len (8 * g.row.N * length c.self.inside.chunks.items) held.zero in
+    let b = ones_from_bound (bit_of g.row.N c.self.inside.chunks.items) c.self.inside.len
+    (8 * g.row.N * length c.self.inside.chunks.items) held.zero in
     (omega (arith, held.width.fits), (held.width.positive, omega arith))
 
 pub returns : goal.returns

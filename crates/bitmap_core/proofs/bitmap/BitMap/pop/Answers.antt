@@ -50,4 +50,5 @@ pub returns : goal.returns
 returns g c =
     let l = len_is _ _ _ _ c.self.view_is in
     let e : c.self.inside.len - 1 + 1 ≡ c.self.inside.len = omega arith in
-    rw c.get_bit-bit.ensures (bits-pop _ _ _ _ _ _ e (λ i h. c.drop_room.ensures.same i ∙ c.set_bit.ensures.others i (λ q. absurd (omega arith))) c.self.view_is)
+    rw c.get_bit-bit.ensures
+    (bits-pop _ _ _ _ _ _ e (λ i h. c.drop_room.ensures.same i ∙ c.set_bit.ensures.others i (λ q. absurd (omega arith))) c.self.view_is)

@@ -20,5 +20,6 @@ returns-clause-ok g c =
     elim c.if-bit.branch [
       | then-bit w ↦ rw (w.self-inside-is, w.if-bit.true) (bits-push _ _ _ _ _ _ w.set_bit.ensures e)
       | else-bit w ↦
-          rw (w.self-inside-is, w.if-bit.false) (bits-push _ _ _ _ _ _ (IsBitPut_same _ _ _ _ (c.in_ok-make_room.ensures.same _ ∙ held.zero _ (omega arith))) e)
+          rw (w.self-inside-is, w.if-bit.false)
+          (bits-push _ _ _ _ _ _ (IsBitPut_same _ _ _ _ (c.in_ok-make_room.ensures.same _ ∙ held.zero _ (omega arith))) e)
     ]

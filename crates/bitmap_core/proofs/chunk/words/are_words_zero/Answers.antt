@@ -16,4 +16,5 @@ loop-word-preserved c =
 pub returns : goal.returns
 returns c =
     let e : c.loop-word.word-index ≡ length c.args.words.now = omega arith in
-    sym (none_bits 8 c.args.words.now (64 * length _) ∙ ap (λ x. eqb x 0) (sym (ap (λ k. ones_from (bit_of 8 c.args.words.now) 0 (64 * k)) e) ∙ c.loop-word.invariant))
+    let none = sym (ap (λ k. ones_from (bit_of 8 c.args.words.now) 0 (64 * k)) e) ∙ c.loop-word.invariant in
+    sym (none_bits 8 c.args.words.now (64 * length _) ∙ ap (λ x. eqb x 0) none)

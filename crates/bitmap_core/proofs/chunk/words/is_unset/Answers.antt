@@ -13,7 +13,9 @@ returns-then-is_byte_unset-2 c =
     elim c.if-is_byte_unset.branch [
       | then-is_byte_unset w ↦
           c.is_zero.ensures
-          ∙ none_between _ _ _ c.if-from-to.false c.requires c.if-first-last.false (sym c.is_byte_unset-2.ensures ∙ w.if-is_byte_unset.true) (sym w.is_byte_unset-then-is_byte_unset.ensures ∙ sym w.value-is ∙ c.if-is_byte_unset-2.true)
+          ∙ none_between _ _ _ c.if-from-to.false c.requires c.if-first-last.false
+          (sym c.is_byte_unset-2.ensures ∙ w.if-is_byte_unset.true)
+          (sym w.is_byte_unset-then-is_byte_unset.ensures ∙ sym w.value-is ∙ c.if-is_byte_unset-2.true)
       | else-is_byte_unset w ↦ absurd (false≢true (sym w.if-is_byte_unset.false ∙ sym w.value-is ∙ c.if-is_byte_unset-2.true))
     ]
 
@@ -21,7 +23,8 @@ pub returns-else-is_byte_unset-2 : goal.returns-else-is_byte_unset-2
 returns-else-is_byte_unset-2 c =
     c.if-is_byte_unset-2.false ∙ sym (elim c.if-is_byte_unset.branch [
       | then-is_byte_unset w ↦
-          some_last _ _ _ c.if-from-to.false c.requires c.if-first-last.false (sym w.is_byte_unset-then-is_byte_unset.ensures ∙ sym w.value-is ∙ c.if-is_byte_unset-2.false)
+          some_last _ _ _ c.if-from-to.false c.requires c.if-first-last.false
+          (sym w.is_byte_unset-then-is_byte_unset.ensures ∙ sym w.value-is ∙ c.if-is_byte_unset-2.false)
       | else-is_byte_unset w ↦
           some_first _ _ _ c.if-from-to.false c.requires c.if-first-last.false (sym c.is_byte_unset-2.ensures ∙ w.if-is_byte_unset.false)
     ])

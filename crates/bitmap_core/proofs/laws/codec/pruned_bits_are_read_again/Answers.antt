@@ -7,10 +7,12 @@ pub returns-clause-found : goal.returns-clause-found
 returns-clause-found g c = λ rest e.
     let positive = c.len.ensures.width.positive in
     let read = c.read_cfg.ensures in
-    pruned_read_again _ c.args.from.now.now c.args.map.now rest _ _ positive c.len.ensures.bound (omega (arith, c.pruned_chunks.ensures, c.pruned_chunks.type_inv)) e read.found read.sized
+    pruned_read_again _ c.args.from.now.now c.args.map.now rest _ _ positive c.len.ensures.bound
+    (omega (arith, c.pruned_chunks.ensures, c.pruned_chunks.type_inv)) e read.found read.sized
 
 pub returns-clause-refused : goal.returns-clause-refused
 returns-clause-refused g c = λ rest e a.
     let positive = c.len.ensures.width.positive in
     let read = c.read_cfg.ensures in
-    err_is_memory _ _ read.refused (pruned_spelled_none _ (admits _) c.args.from.now.now c.args.map.now rest positive c.len.ensures.bound (omega (arith, c.pruned_chunks.ensures, c.pruned_chunks.type_inv)) a e)
+    err_is_memory _ _ read.refused
+    (pruned_spelled_none _ (admits _) c.args.from.now.now c.args.map.now rest positive c.len.ensures.bound (omega (arith, c.pruned_chunks.ensures, c.pruned_chunks.type_inv)) a e)

@@ -10,7 +10,8 @@ use Rattle.bitmap_core.proofs.bitmap.codec.dense.parts.Goals as goal
 pub overflow_mul-count : goal.overflow_mul-count
 overflow_mul-count g c =
     let positive = c.requires.width.positive in
-    rw c.chunk_count-count.ensures (omega (arith, bytes-lt g.row.N c.from_be_bytes-len.result positive c.requires.width.fits c.from_be_bytes-len.type_inv))
+    rw c.chunk_count-count.ensures
+    (omega (arith, bytes-lt g.row.N c.from_be_bytes-len.result positive c.requires.width.fits c.from_be_bytes-len.type_inv))
 
 pub is_set_past-requires : goal.is_set_past-requires
 is_set_past-requires g c = (
@@ -56,7 +57,9 @@ returns-clause-accepted g c =
       count = omega (arith, len, c.from_be_bytes-len.type_inv, count-le g.row.N (number c.args.text.now) positive);
       whole = read_whole g.row.N c.args.text.now _ _ count body long whole;
       clear =
-          read_past g.row.N c.args.text.now _ _ false positive len (read_chunks g.row.N c.args.text.now _ _ count body _ _ bytes c.chunks_of-chunks.ensures) (sym c.if-is_set_past.false ∙ c.is_set_past.ensures);
+          read_past g.row.N c.args.text.now _ _ false positive len
+          (read_chunks g.row.N c.args.text.now _ _ count body _ _ bytes c.chunks_of-chunks.ensures)
+          (sym c.if-is_set_past.false ∙ c.is_set_past.ensures);
     })
 
 pub returns-clause-rest : goal.returns-clause-rest

@@ -24,7 +24,8 @@ returns-then-is_none-clause-refused g c =
     let p = c.in_ok-pruned_chunks.ensures in
     let many : 2 ^ 64 ≤ c.in_ok-pruned_chunks.pruned_bits + c.in_ok-len.len = search rules in
     let len = c.in_ok-len.ensures.len ∙ ap number p.body in
-    pruned_total_fault _ (admits _) c.args.text.now p.long p.fits (number-lt _ c.count_part.ensures.bytes) (ap (bits_fault _ (admits _)) (sym p.body) ∙ c.in_ok-len.ensures.accepted) (omega (arith, p.pruned, len, many))
+    pruned_total_fault _ (admits _) c.args.text.now p.long p.fits (number-lt _ c.count_part.ensures.bytes)
+    (ap (bits_fault _ (admits _)) (sym p.body) ∙ c.in_ok-len.ensures.accepted) (omega (arith, p.pruned, len, many))
 
 pub returns-clause-accepted : goal.returns-clause-accepted
 returns-clause-accepted g c =

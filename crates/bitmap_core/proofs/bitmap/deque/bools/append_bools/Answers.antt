@@ -18,7 +18,8 @@ loop-i-preserved g c =
     record {
       left = omega (arith, mul-add (8 * g.row.N) c.loop-i.i 1, loop.left, c.min-count.ensures, c.chunk_width-width.ensures);
       items =
-          bools-chunk _ _ _ _ _ _ _ _ _ _ positive c.requires.count (omega (arith, c.args.chunks.now.ok.0)) c.index.ensures loop.left (omega (arith, c.min-count.ensures, c.chunk_width-width.ensures)) loop.items c.append_bools.ensures.items;
+          bools-chunk _ _ _ _ _ _ _ _ _ _ positive c.requires.count (omega (arith, c.args.chunks.now.ok.0)) c.index.ensures loop.left
+          (omega (arith, c.min-count.ensures, c.chunk_width-width.ensures)) loop.items c.append_bools.ensures.items;
       len = omega (arith, loop.left, loop.len, c.append_bools.ensures.len, c.min-count.ensures);
       capacity = omega arith;
     }

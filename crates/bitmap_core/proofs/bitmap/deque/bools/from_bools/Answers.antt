@@ -12,7 +12,9 @@ loop-i-preserved g c =
       len = omega arith;
       room = omega arith;
       bits =
-          chunks-more _ _ _ _ _ _ _ _ positive (omega (arith, c.loop-i.chunks.ok.0)) (ap (λ w. w * c.loop-i.i) c.chunk_width-width.ensures) (omega (arith, c.min-size.ensures, c.chunk_width-width.ensures)) c.from_bools.ensures loop.bits c.push_back_reserved.ensures.items;
+          chunks-more _ _ _ _ _ _ _ _ positive (omega (arith, c.loop-i.chunks.ok.0))
+          (ap (λ w. w * c.loop-i.i) c.chunk_width-width.ensures)
+          (omega (arith, c.min-size.ensures, c.chunk_width-width.ensures)) c.from_bools.ensures loop.bits c.push_back_reserved.ensures.items;
     }
 
 pub returns-clause-bits : goal.returns-clause-bits

@@ -18,7 +18,8 @@ returns-then-len-chunk_width-eq0-clause-same g c =
     let positive = c.requires.width.positive in
     let width = c.chunk_width.ensures in
     let f = IsChunkCount-fewer _ _ _ positive c.requires.count (rw width at c.if-len-chunk_width-eq0.true) in
-    rw (c.pop_back.ensures.rest, c.args.chunks.now.ok.0) (bit_of-drop_last _ _ _ positive c.requires.zero f.2 (rw width at c.if-len-chunk_width-eq0.true))
+    rw (c.pop_back.ensures.rest, c.args.chunks.now.ok.0)
+    (bit_of-drop_last _ _ _ positive c.requires.zero f.2 (rw width at c.if-len-chunk_width-eq0.true))
 
 pub returns-else-len-chunk_width-eq0-clause-count : goal.returns-else-len-chunk_width-eq0-clause-count
 returns-else-len-chunk_width-eq0-clause-count g c =

@@ -12,4 +12,5 @@ returns-clause-roomy g c = λ h.
       bits = c.self.inside.bitmap;
     }) + length c.args.other.now ≤ 8 * g.row.N * div_ceil (8 * g.row.N * c.self.inside.pruned_chunks + length c.self.inside.bitmap) (8 * g.row.N) =
     subst (λ b. bit_len g.row.N b + length c.args.other.now ≤ 8 * g.row.N * div_ceil (bit_len g.row.N b) (8 * g.row.N)) (sym c.self.view_is) h in
-    c.extend_from_bitmap.ensures.roomy (omega (arith, room, ceil_front g.row.N c.self.inside.pruned_chunks (length c.self.inside.bitmap) held.width.positive))
+    c.extend_from_bitmap.ensures.roomy
+    (omega (arith, room, ceil_front g.row.N c.self.inside.pruned_chunks (length c.self.inside.bitmap) held.width.positive))

@@ -12,4 +12,5 @@ returns-clause-roomy g c = λ h.
     let front : c.pruned_bits-pruned.result ≡ 8 * g.row.N * c.self.inside.pruned_chunks =
     c.pruned_bits-pruned.ensures
     ∙ ap (λ b. pruned_bits g.row.N b) (sym c.self.view_is) in
-    c.extend_to.ensures.roomy (omega (arith, room, front, ceil_front g.row.N c.self.inside.pruned_chunks (length c.self.inside.bitmap) held.width.positive))
+    c.extend_to.ensures.roomy
+    (omega (arith, room, front, ceil_front g.row.N c.self.inside.pruned_chunks (length c.self.inside.bitmap) held.width.positive))

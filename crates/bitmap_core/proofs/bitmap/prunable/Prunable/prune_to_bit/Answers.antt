@@ -13,5 +13,6 @@ invariant_of-self g c =
     let f = front_of (8 * g.row.N) c.self.inside.pruned_chunks c.to_chunk_index-index.result (omega arith) in
     rw c.drop_front_chunks.ensures (record {
       width = held.width;
-      len = rw length-drop (omega (arith, f, held.len, ap (λ x. 8 * g.row.N * x) c.to_chunk_index-index.ensures, div-add-mod c.args.bit (8 * g.row.N)));
+      len = rw length-drop
+          (omega (arith, f, held.len, ap (λ x. 8 * g.row.N * x) c.to_chunk_index-index.ensures, div-add-mod c.args.bit (8 * g.row.N)));
     })

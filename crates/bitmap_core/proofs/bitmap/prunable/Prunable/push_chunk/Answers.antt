@@ -24,5 +24,6 @@ invariant_of-self g c =
     subst (λ b. bit_len g.row.N b + 8 * g.row.N < 2 ^ 64) (sym c.self.view_is) c.requires.room in
     (record {
       width = held.width;
-      len = either_way c.push_chunk.result (on_ok_weaker c.push_chunk.result (fits_with_chunk _ _ _ _ _ room) c.push_chunk.ensures.ok) (on_err_weaker c.push_chunk.result (λ e. rw e held.len) c.push_chunk.ensures.err);
+      len = either_way c.push_chunk.result (on_ok_weaker c.push_chunk.result (fits_with_chunk _ _ _ _ _ room) c.push_chunk.ensures.ok)
+          (on_err_weaker c.push_chunk.result (λ e. rw e held.len) c.push_chunk.ensures.err);
     })

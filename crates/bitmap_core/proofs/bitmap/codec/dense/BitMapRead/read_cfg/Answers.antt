@@ -32,4 +32,5 @@ returns-clause-sized g c =
 
 pub returns-clause-value : goal.returns-clause-value
 returns-clause-value g c =
-    bits_in_spelled _ c.args.from.now.now c.in_ok-map.map c.in_ok-len.rest.now c.requires.positive (returns-clause-sized g c) (returns-clause-found g c)
+    bits_in_spelled _ c.args.from.now.now c.in_ok-map.map c.in_ok-len.rest.now c.requires.positive (returns-clause-sized g c)
+    (returns-clause-found g c)

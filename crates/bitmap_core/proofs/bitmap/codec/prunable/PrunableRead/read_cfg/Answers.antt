@@ -9,7 +9,8 @@ use Rattle.bitmap_core.proofs.bitmap.codec.prunable.PrunableRead.read_cfg.Goals 
 pub from_chunks-requires : goal.from_chunks-requires
 from_chunks-requires g c =
     let e = c.in_ok-pruned_chunks.ensures in
-    let r = read_is _ _ _ _ _ _ c.requires.positive (AreBytes-drop 8 c.args.from.now.now c.pruned_parts.ensures.bytes) e.bits_accepted e.len e.chunks e.rest in
+    let r = read_is _ _ _ _ _ _ c.requires.positive
+    (AreBytes-drop 8 c.args.from.now.now c.pruned_parts.ensures.bytes) e.bits_accepted e.len e.chunks e.rest in
     (omega (arith, c.requires.fits), (omega arith, (c.requires, (r.count, r.zero))))
 
 pub from_parts-requires : goal.from_parts-requires
@@ -24,9 +25,11 @@ pub returns-clause-found : goal.returns-clause-found
 returns-clause-found g c =
     let parts = c.in_ok-pruned_chunks in
     let e = parts.ensures in
-    let r = read_is _ _ _ _ _ _ c.requires.positive (AreBytes-drop 8 c.args.from.now.now c.pruned_parts.ensures.bytes) e.bits_accepted e.len e.chunks e.rest in
+    let r = read_is _ _ _ _ _ _ c.requires.positive
+    (AreBytes-drop 8 c.args.from.now.now c.pruned_parts.ensures.bytes) e.bits_accepted e.len e.chunks e.rest in
     let v : c.in_ok-bits.bits ≡ bits g.row.N parts.chunks.now parts.len = search rules in
-    pruned_read _ c.args.from.now.now (bits _ _ _) parts.rest.now c.from_parts.result c.pruned_parts.ensures.bytes e.long r.spelled (ap (λ x. x.pruned) c.from_parts.ensures ∙ e.pruned) (ap (λ x. x.bits) c.from_parts.ensures ∙ v)
+    pruned_read _ c.args.from.now.now (bits _ _ _) parts.rest.now c.from_parts.result c.pruned_parts.ensures.bytes e.long r.spelled
+    (ap (λ x. x.pruned) c.from_parts.ensures ∙ e.pruned) (ap (λ x. x.bits) c.from_parts.ensures ∙ v)
 
 pub returns-clause-value : goal.returns-clause-value
 returns-clause-value g c =
@@ -35,4 +38,7 @@ returns-clause-value g c =
     let l : length c.in_ok-bits.bits ≡ parts.len =
     ap length v
     ∙ length-bits g.row.N parts.chunks.now parts.len in
-    pruned_in_spelled _ c.args.from.now.now c.from_parts.result parts.rest.now c.requires.positive (omega (arith, l, ap (λ x. length x.bits) c.from_parts.ensures, parts.ensures.total)) (omega (arith, ap (λ x. x.pruned) c.from_parts.ensures, parts.ensures.pruned, number-lt c.args.from.now.now c.pruned_parts.ensures.bytes)) (returns-clause-found g c)
+    pruned_in_spelled _ c.args.from.now.now c.from_parts.result parts.rest.now c.requires.positive
+    (omega (arith, l, ap (λ x. length x.bits) c.from_parts.ensures, parts.ensures.total))
+    (omega (arith, ap (λ x. x.pruned) c.from_parts.ensures, parts.ensures.pruned, number-lt c.args.from.now.now c.pruned_parts.ensures.bytes))
+    (returns-clause-found g c)
