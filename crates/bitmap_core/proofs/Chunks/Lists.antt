@@ -131,8 +131,8 @@ chunk_from_bits n xs ys i a b p s w r q h t =
     chunk_bit-mod n a t (i * (8 * n) + t % (8 * n)) p e
     ∙ ap (λ c. chunk_bit n c (i * (8 * n) + t % (8 * n))) (get_or_read xs i a s r [] ∙ ap (λ j. get_or xs j []) (sym k))
     ∙ h (i * (8 * n) + t % (8 * n))
-    ∙ sym
-    (chunk_bit-mod n b t (i * (8 * n) + t % (8 * n)) p e ∙ ap (λ c. chunk_bit n c (i * (8 * n) + t % (8 * n))) (get_or_read ys i b w q [] ∙ ap (λ j. get_or ys j []) (sym k)))
+    ∙ sym (ap (λ c. chunk_bit n c (i * (8 * n) + t % (8 * n))) (get_or_read ys i b w q [] ∙ ap (λ j. get_or ys j []) (sym k)))
+    ∙ sym (chunk_bit-mod n b t (i * (8 * n) + t % (8 * n)) p e)
 
 pub IsZeroFrom-append : (n m : ℕ) (ys os : List (List ℕ)) (len more : ℕ) → IsZeroFrom m os more
     → ((i : ℕ) → len ≤ i → i / (8 * n) < length ys → bit_of n ys i ≡ bit_of m os (i - len))

@@ -38,8 +38,9 @@ byte_place n i p = ap (λ q. n * q + i / 8 % n) (sym (div-div-eq-div-mul i 8 n))
 pub bit_of-first_chunks : (n k : ℕ) (xs : List ℕ) (i : ℕ) → 0 < n → i / (8 * n) < k → bit_of n (first_chunks n k xs) i ≡ bit_in xs i
 bit_of-first_chunks n k xs i p h =
     ap (λ c. chunk_bit n c i) (get_or-first_chunks n k xs (i / (8 * n)) h)
-    ∙ ap (λ b. eqb (bit_at b (i % 8)) 1)
-    (get_or-take n (drop (n * (i / (8 * n))) xs) (i / 8 % n) 0 (mod_below (i / 8) n p) ∙ get_or-drop (n * (i / (8 * n))) xs (i / 8 % n) 0 ∙ ap (λ a. get_or xs a 0) (byte_place n i p))
+    ∙ ap (λ b. eqb (bit_at b (i % 8)) 1) (get_or-take n (drop (n * (i / (8 * n))) xs) (i / 8 % n) 0 (mod_below (i / 8) n p))
+    ∙ ap (λ b. eqb (bit_at b (i % 8)) 1) (get_or-drop (n * (i / (8 * n))) xs (i / 8 % n) 0)
+    ∙ ap (λ a. eqb (bit_at (get_or xs a 0) (i % 8)) 1) (byte_place n i p)
 
 -- as many bytes as k chunks have
 pub chunks-exact : (n k : ℕ) (xs : List ℕ) → 0 < n → length xs ≡ n * k → first_chunks n (length xs / n) xs ≡ first_chunks n k xs

@@ -116,8 +116,9 @@ bit_of-words : (k : ℕ) (xs : List ℕ) (i : ℕ) → i < 64 * k → bit_of 8 (
 bit_of-words k xs i h =
     let at : 8 * (i / 64) + i / 8 % 8 ≡ i / 8 = omega arith in
     ap (λ c. chunk_bit 8 c i) (get_or-first_chunks 8 k xs (i / 64) (omega arith))
-    ∙ ap (λ b. eqb (bit_at b (i % 8)) 1)
-    (get_or-take 8 (drop (8 * (i / 64)) xs) (i / 8 % 8) 0 (omega arith) ∙ get_or-drop (8 * (i / 64)) xs (i / 8 % 8) 0 ∙ ap (λ a. get_or xs a 0) at)
+    ∙ ap (λ b. eqb (bit_at b (i % 8)) 1) (get_or-take 8 (drop (8 * (i / 64)) xs) (i / 8 % 8) 0 (omega arith))
+    ∙ ap (λ b. eqb (bit_at b (i % 8)) 1) (get_or-drop (8 * (i / 64)) xs (i / 8 % 8) 0)
+    ∙ ap (λ a. eqb (bit_at (get_or xs a 0) (i % 8)) 1) at
 
 -- the bits from byte k on
 pub bit_in-drop : (k : ℕ) (xs : List ℕ) (t : ℕ) → bit_in (drop k xs) t ≡ bit_in xs (8 * k + t)

@@ -57,8 +57,8 @@ bits-extend n xs ys len longer v p z h e =
       | inr w ↦
           h i
           ∙ z i w
-          ∙ sym
-          (get_or-append_right v (replicate (longer - length v) false) len i false l w ∙ get_or-replicate (longer - length v) (i - len) false false (omega arith))
+          ∙ sym (get_or-replicate (longer - length v) (i - len) false false (omega arith))
+          ∙ sym (get_or-append_right v (replicate (longer - length v) false) len i false l w)
     ])
 
 pub append_nothing : (v : List Bool) (m : ℕ) → m ≤ length v → v ≡ v ++ replicate (m - length v) false

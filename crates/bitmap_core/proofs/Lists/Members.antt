@@ -96,5 +96,5 @@ module _ (v : List Bool) (positions : List ℕ) (is : positions ≡ filter (λ k
   positions-count =
       ap length is
       ∙ run_count (λ k. get_or v k false) 0 (length v)
-      ∙ sym
-      (ap (count_by (λ b. b)) (fill_by_all (λ k. get_or v k false) v (length v) false refl (λ k h. refl)) ∙ count_map (λ k. get_or v k false) 0 (length v))
+      ∙ sym (count_map (λ k. get_or v k false) 0 (length v))
+      ∙ sym (ap (count_by (λ b. b)) (fill_by_all (λ k. get_or v k false) v (length v) false refl (λ k h. refl)))

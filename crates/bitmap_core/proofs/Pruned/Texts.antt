@@ -79,7 +79,9 @@ pub pruned_acceptable : (n : ℕ) (range : ℕ → Bool) (text : List ℕ) → 0
     → pruned_fault n range text ≡ None ↔ SpellsPruned n range text
 pruned_acceptable n range text p h = (
   λ e. pruned-spells n range text p h (sound_pruned n range text e),
-  λ a. sound_pruned-none n range text (subst (SoundPruned n range) (sym a.spelled) (spells-pruned n range a.bitmap a.rest p a.len_fits a.pruned_fits a.admitted)),
+  λ a.
+      let spelled = spells-pruned n range a.bitmap a.rest p a.len_fits a.pruned_fits a.admitted in
+      sound_pruned-none n range text (subst (SoundPruned n range) (sym a.spelled) spelled),
 )
 
 -- such a spelling and what follows it determine the bitmap and what follows

@@ -19,7 +19,11 @@ invariant_of-self-2 g c =
     rw (
       c.chunk_width.ensures,
       c.in_ok-push_back.ensures.items,
-    ) (record { width = held.width; count = rw length_push k; zero = IsZeroFrom-count _ (c.self.inside.chunks.items ++ c.args.chunk.now ∷ []) (c.self.inside.len + 8 * g.row.N) held.width.positive (rw (length_push, mul-add) (omega arith)) })
+    ) (record {
+      width = held.width;
+      count = rw length_push k;
+      zero = IsZeroFrom-count _ _ _ held.width.positive (rw (length_push, mul-add) (omega arith));
+    })
 
 pub returns-clause-ok : goal.returns-clause-ok
 returns-clause-ok g c =

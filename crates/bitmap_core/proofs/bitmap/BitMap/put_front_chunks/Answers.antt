@@ -13,7 +13,11 @@ invariant_of-self-2 g c =
     rw (
       c.chunk_width.ensures,
       c.in_ok-put_front.ensures.ok,
-    ) (record { width = held.width; count = rw length-append (IsChunkCount-front _ _ _ _ held.count); zero = IsZeroFrom-front _ _ _ _ held.width.positive held.zero })
+    ) (record {
+      width = held.width;
+      count = rw length-append (IsChunkCount-front _ _ _ _ held.count);
+      zero = IsZeroFrom-front _ _ _ _ held.width.positive held.zero;
+    })
 
 pub returns-clause-ok : goal.returns-clause-ok
 returns-clause-ok g c = rw (c.chunk_width.ensures, c.in_ok-put_front.ensures.ok) (bits-front _ _ _ _ _ c.self.invariant.width.positive c.self.view_is)

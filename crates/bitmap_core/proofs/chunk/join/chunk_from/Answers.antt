@@ -16,7 +16,8 @@ returns-then-at-front g c = λ i.
 
 pub returns-then-at-front-2 : goal.returns-then-at-front-2
 returns-then-at-front-2 g c = λ i.
-    let e : 8 * length c.args.front.now + (8 * (c.args.bit / 8 - length c.args.front.now) + (c.args.bit % 8 + i % (8 * g.row.N))) ≡ c.args.bit + i % (8 * g.row.N) =
+    let e : 8 * length c.args.front.now + (8 * (c.args.bit / 8 - length c.args.front.now) + (c.args.bit % 8 + i % (8 * g.row.N)))
+    ≡ c.args.bit + i % (8 * g.row.N) =
     omega (arith, div-add-mod c.args.bit 8) in
     c.chunk_within-then-at-front-2.ensures i
     ∙ bit_in-rest c.args.back.now (c.args.bit / 8 - length c.args.front.now) (c.args.bit % 8 + i % (8 * g.row.N))

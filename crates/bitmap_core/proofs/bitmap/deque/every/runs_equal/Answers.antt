@@ -21,7 +21,9 @@ returns-then-slices_equal-2 g c =
       | then-slices_equal w ↦
           let joins : near ≡ high =
           w.slices_equal-then-slices_equal.ensures.0 (sym w.value-is ∙ c.if-slices_equal-2.true) in (
-            λ q. runs_joined c.args.front.now _ _ c.args.rest.now low high near far a b (c.slices_equal.ensures.0 w.if-slices_equal.true) joins (d.0 q),
+            λ q.
+                let begins = c.slices_equal.ensures.0 w.if-slices_equal.true in
+                runs_joined c.args.front.now _ _ c.args.rest.now low high near far a b begins joins (d.0 q),
             λ e. d.1 (runs_same c.args.front.now _ _ c.args.rest.now low high near far a b (omega arith) (omega arith) e).2,
           )
       | else-slices_equal w ↦ absurd (false≢true (sym w.if-slices_equal.false ∙ sym w.value-is ∙ c.if-slices_equal-2.true))
