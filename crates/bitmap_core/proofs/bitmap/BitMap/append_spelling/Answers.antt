@@ -1,7 +1,4 @@
-use Rattle.std.proofs.Common.{◌≡◌, ◌++◌, ◌∙◌, sym, arith, length, map}
-use Rattle.std.specs.List.{range_with_len}
-use Rattle.bitmap_core.specs.Chunk.{chunk_of}
-use Rattle.bitmap_core.specs.Spelling.{chunk_count}
+use Rattle.std.proofs.Common.{sym, arith}
 use Rattle.bitmap_core.proofs.Lists.Bits.{len_is}
 use Rattle.bitmap_core.proofs.Chunks.AsBytes.{slices_are}
 use Rattle.bitmap_core.proofs.Texts.Spellings.{length-spelling}

@@ -1,4 +1,4 @@
-use Rattle.std.proofs.Common.{arith, rules, ◌≡◌, ◌∙◌, ap, length, drop}
+use Rattle.std.proofs.Common.{arith, rules, ◌≡◌, ◌∙◌, ap, length}
 use Rattle.bitmap_core.specs.Bits.{bits}
 use Rattle.bitmap_core.proofs.Lists.Bits.{length-bits}
 use Rattle.bitmap_core.proofs.Texts.Spellings.{AreBytes-drop, number-lt}
