@@ -44,6 +44,7 @@ byte_same f g h =
       h 7 (omega arith),
     ) refl
 
+-- functions that agree on a range of numbers give the same list
 pub map_range_same : {X : Type 0} (f g : ℕ → X) (a m : ℕ) → ((j : ℕ) → a ≤ j → j < a + m → f j ≡ g j)
     → map f (range_with_len a m) ≡ map g (range_with_len a m)
 map_range_same f g a zero h = refl

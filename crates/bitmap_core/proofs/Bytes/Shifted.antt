@@ -17,11 +17,13 @@ use Rattle.bitmap_core.proofs.Chunks.Lists.{bit_of-set_here, bit_of-push_here}
 
 -- ---- shifted bytes
 
+-- a number shifted down
 pub bit_at_shr : (x k i : ℕ) → bit_at (x / 2 ^ k) i ≡ bit_at x (i + k)
 bit_at_shr x k i =
     let e : k + i ≡ i + k = omega arith in
     ap (λ y. y % 2) (div-div-eq-div-mul x (2 ^ k) (2 ^ i) ∙ ap (λ w. x / w) (sym (pow-add 2 k i)) ∙ ap (λ m. x / 2 ^ m) e)
 
+-- a number cut to w bits
 pub bit_at_mod : (w x i : ℕ) → i < w → bit_at (x % 2 ^ w) i ≡ bit_at x i
 bit_at_mod w x i h =
     let e : x / 2 ^ w * 2 ^ w + x % 2 ^ w ≡ x = ap (λ y. y + x % 2 ^ w) (mul_comm (x / 2 ^ w) (2 ^ w)) ∙ div-add-mod x (2 ^ w) in
@@ -105,6 +107,7 @@ joined_bit run at s b t h w low high = elim (cases_lt (t + s) 8) [
       ∙ ap (λ k. eqb (bit_at (get_or run ((8 * at + s + t) / 8) 0) k) 1) r
 ]
 
+-- the bits of a run from byte at on
 pub bit_in-rest : (run : List ℕ) (at i : ℕ) → bit_in (take (length run - at) (drop at run)) i ≡ bit_in run (8 * at + i)
 bit_in-rest run at i =
     let q : at + i / 8 ≡ (8 * at + i) / 8 = omega arith in
@@ -114,6 +117,7 @@ bit_in-rest run at i =
     ∙ ap (λ k. eqb (bit_at (get_or run k 0) (i % 8)) 1) q
     ∙ ap (λ k. eqb (bit_at (get_or run ((8 * at + i) / 8) 0) k) 1) r
 
+-- the bits of two runs, one behind the other
 pub bit_in-left : (front back : List ℕ) (i : ℕ) → i / 8 < length front → bit_in (front ++ back) i ≡ bit_in front i
 bit_in-left front back i h = ap (λ x. eqb (bit_at x (i % 8)) 1) (get_or_append_left front back 0 (i / 8) h)
 
@@ -127,6 +131,7 @@ bit_in-right front back i =
 
 -- ---- chunks filled from a run
 
+-- a chunk whose bytes past the first ones are filled from a run, and the bytes before them kept
 pub filled_bits : (n from bit : ℕ) (run chunk : List ℕ) → 0 < n
     → ((k t : ℕ) → from ≤ k → k < n → t < 8 → eqb (bit_at (get_or chunk k 0) t) 1 ≡ bit_in run (bit + (8 * (k - from) + t)))
     → (i : ℕ) → 8 * from ≤ i % (8 * n)
@@ -192,6 +197,7 @@ opened_joined n len run old mid new b p l e high kept filled i h =
 
 -- ---- chunks of a deque, the first written in part
 
+-- the chunk that was open goes on with the run
 pub joined_here : (n : ℕ) (xs : List (List ℕ)) (len : ℕ) (run new : List ℕ) → 0 < n → len / (8 * n) < length xs
     → ((i : ℕ) → len % (8 * n) ≤ i % (8 * n) → chunk_bit n new i ≡ bit_in run (i % (8 * n) - len % (8 * n))) → (i : ℕ) → len ≤ i
     → i / (8 * n) < len / (8 * n) + 1
@@ -206,6 +212,7 @@ joined_here n xs len run new p w joined i h s =
     let e : i % (8 * n) - len % (8 * n) ≡ i - len = omega arith in
     bit_of-set_here n xs (len / (8 * n)) new i w q ∙ joined i (omega arith) ∙ ap (bit_in run) e
 
+-- where no chunk is open, the chunks have no bit past the length
 pub joined_full : (n : ℕ) (xs : List (List ℕ)) (len : ℕ) (run : List ℕ) → 0 < n → IsChunkCount n (length xs) len
     → len % (8 * n) ≡ 0 → (i : ℕ) → len ≤ i → i / (8 * n) < length xs
     → bit_of n xs i ≡ bit_in run (i - len)
@@ -243,6 +250,7 @@ flat_at n (x ∷ xs) h (suc c) j w =
     ∙ ap (λ k. get_or (flat_map (λ x. x) xs) k 0) e
     ∙ flat_at n xs (λ i s. h (suc i) (omega arith)) c j w
 
+-- a bit of the run is that of the chunk
 pub bit_in-flat : (n : ℕ) (xs : List (List ℕ)) → 0 < n → AreWide n xs → (i : ℕ) → bit_in (flat_map (λ x. x) xs) i ≡ bit_of n xs i
 bit_in-flat n xs p h i =
     let d : i / 8 ≡ n * (i / 8 / n) + i / 8 % n = sym (div-add-mod (i / 8) n) in

@@ -10,9 +10,11 @@ use Rattle.std.proofs.lemmas.Bool.{cases_eq, cases_lt}
 use Rattle.bitmap_core.specs.Chunk.{chunk_bit}
 use Rattle.bitmap_core.proofs.Bytes.Bits.{bit_of_zero_byte, low_bit_below, low_bit_above, bit_same}
 
+-- a place in a chunk is one in its byte
 pub mod_parts : (n i : ℕ) → 0 < n → i % (8 * n) ≡ (i / 8 % n) * 8 + i % 8
 mod_parts n i p = ap (λ w. i % w) (omega arith) ∙ mod-mul i {m = n} {c = 8} p (omega arith)
 
+-- the bits of the byte that is written, and the others
 pub chunk_bit-set_here : (n : ℕ) (chunk : List ℕ) (bit v : ℕ) → 0 < n → length chunk ≡ n
     → chunk_bit n (set chunk (bit / 8 % n) v) bit ≡ eqb (bit_at v (bit % 8)) 1
 chunk_bit-set_here n chunk bit v p l =
@@ -33,6 +35,7 @@ chunk_bit-set_other n chunk bit v p l h i d =
       | inr e ↦ ap (λ x. eqb (bit_at x (i % 8)) 1) (get_or-set_other chunk (bit / 8 % n) (i / 8 % n) v 0 e)
     ]
 
+-- the bits below a place kept, and the others zero, where the byte there is masked and the bytes past it are zero
 pub cleared : (n : ℕ) (old new : List ℕ) (at : ℕ) → 0 < n → ((k : ℕ) → at / 8 < k → k < n → get_or new k 0 ≡ 0)
     → get_or new (at / 8) 0 ≡ bit_and (get_or old (at / 8) 0) (2 ^ (at % 8) - 1)
     → ((k : ℕ) → k < at / 8 → get_or new k 0 ≡ get_or old k 0) → (i : ℕ)
@@ -59,6 +62,7 @@ cleared n old new at p past here kept i =
       ]
     ]
 
+-- positions a whole number of chunks apart have the same bit of a chunk
 pub chunk_bit-mod : (n : ℕ) (chunk : List ℕ) (i j : ℕ) → 0 < n → i % (8 * n) ≡ j % (8 * n) → chunk_bit n chunk i ≡ chunk_bit n chunk j
 chunk_bit-mod n chunk i j p e =
     let a = mod_parts n i p in
@@ -67,6 +71,7 @@ chunk_bit-mod n chunk i j p e =
     let r : i % 8 ≡ j % 8 = omega arith in
     ap (λ k. eqb (bit_at (get_or chunk k 0) (i % 8)) 1) q ∙ ap (λ t. eqb (bit_at (get_or chunk (j / 8 % n) 0) t) 1) r
 
+-- chunks with the same bits have the same bytes
 pub byte_from_bits : (n : ℕ) (a b : List ℕ) (j : ℕ) → j < n → get_or a j 0 < 256 → get_or b j 0 < 256
     → ((i : ℕ) → chunk_bit n a i ≡ chunk_bit n b i)
     → get_or a j 0 ≡ get_or b j 0

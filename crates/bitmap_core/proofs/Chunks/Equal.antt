@@ -47,6 +47,7 @@ chunks_from_bytes n (x ∷ xs) (y ∷ ys) l f g e =
     ap (λ z. z ∷ xs) s.0
     ∙ ap (λ zs. y ∷ zs) (chunks_from_bytes n xs ys (omega arith) (λ i h. f (suc i) (omega arith)) (λ i h. g (suc i) (omega arith)) s.1)
 
+-- chunks are the same where their bytes are
 pub bytes_decided : (n : ℕ) (r : Bool) (xs ys : List (List ℕ)) → length xs ≡ length ys → AreChunks n xs → AreChunks n ys
     → r ≡ pointwise eqb (flat_map (λ x. x) xs) (flat_map (λ x. x) ys)
     → Decides r (xs ≡ ys)
@@ -54,6 +55,7 @@ bytes_decided n r xs ys l f g e =
     let d = pointwise_decides Decides-eqb (flat_map (λ x. x) xs) (flat_map (λ x. x) ys) in
     (λ q. chunks_from_bytes n xs ys l f g (d.0 (sym e ∙ q)), λ q. e ∙ d.1 (ap (λ zs. flat_map (λ x. x) zs) q))
 
+-- a list is its two parts
 pub parts_of : {A : Type 0} (xs low high : List A) (k : ℕ) → low ≡ take k xs → high ≡ drop k xs → xs ≡ low ++ high
 parts_of xs low high k e f = sym (ap (λ x. x ++ high) e ∙ ap (λ x. take k xs ++ x) f ∙ take-append-drop k xs)
 
@@ -81,5 +83,6 @@ runs_joined front back longer rest low high near far a b p q r =
 pub lists_decided : {A : Type 0} (r : Bool) (xs ys us vs : List A) → us ≡ xs → vs ≡ ys → Decides r (us ≡ vs) → Decides r (xs ≡ ys)
 lists_decided r xs ys us vs e f d = (λ q. sym e ∙ d.0 q ∙ f, λ q. d.1 (e ∙ q ∙ sym f))
 
+-- the same, with the lists turned round
 pub lists_decided_back : {A : Type 0} (r : Bool) (xs ys us vs : List A) → us ≡ xs → vs ≡ ys → Decides r (vs ≡ us) → Decides r (xs ≡ ys)
 lists_decided_back r xs ys us vs e f d = (λ q. sym e ∙ sym (d.0 q) ∙ f, λ q. d.1 (f ∙ sym q ∙ sym e))

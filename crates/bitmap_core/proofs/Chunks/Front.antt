@@ -26,6 +26,7 @@ bit_of-drop n xs k i p =
     ap (λ c. chunk_bit n c i) (get_or-drop k xs (i / (8 * n)) [] ∙ ap (λ j. get_or xs j []) (sym (quotient_up n k i p)))
     ∙ chunk_bit-mod n (get_or xs ((8 * n * k + i) / (8 * n)) []) i (8 * n * k + i) p (sym (rest_up n k i))
 
+-- the chunks dropped from the front take their bits with them, and zeros and counts stay right
 pub bits-drop : (n : ℕ) (xs : List (List ℕ)) (k len : ℕ) (v : List Bool) → 0 < n → 8 * n * k ≤ len → bits n xs len ≡ v
     → bits n (drop k xs) (len - 8 * n * k) ≡ drop (8 * n * k) v
 bits-drop n xs k len v p h e =
@@ -89,6 +90,7 @@ get_or-front_bits n cs i p h =
     ∙ get_or-map-range_with_len (chunk_bit n (get_or cs (i / (8 * n)) [])) 0 (8 * n) (i % (8 * n)) (i % (8 * n)) false r (omega arith)
     ∙ chunk_bit-mod n (get_or cs (i / (8 * n)) []) (i % (8 * n)) i p (mod-mod i (8 * n))
 
+-- the chunks put in front bring their bits, and zeros and counts stay right
 pub bits-front : (n : ℕ) (cs xs : List (List ℕ)) (len : ℕ) (v : List Bool) → 0 < n → bits n xs len ≡ v
     → bits n (cs ++ xs) (8 * n * length cs + len) ≡ flat_map (chunk_bits n) cs ++ v
 bits-front n cs xs len v p e =

@@ -11,6 +11,7 @@ use Rattle.bitmap_core.proofs.Bytes.Bits.{bit_of_zero_byte, bit_of_full_byte}
 use Rattle.bitmap_core.proofs.Chunks.Places.{same_place, below_div, IsChunkCount-same, last_within, full_len, fewer_chunks, IsChunkCount-missing}
 use Rattle.bitmap_core.proofs.Chunks.Bits.{chunk_bit-mod}
 
+-- the bits of the chunk that is written, and the others
 pub bit_of-set_here : (n : ℕ) (chunks : List (List ℕ)) (at : ℕ) (chunk : List ℕ) (i : ℕ) → at < length chunks → i / (8 * n) ≡ at
     → bit_of n (set chunks at chunk) i ≡ chunk_bit n chunk i
 bit_of-set_here n chunks at chunk i h e =
@@ -20,6 +21,7 @@ pub bit_of-set_other : (n : ℕ) (chunks : List (List ℕ)) (at : ℕ) (chunk : 
     → bit_of n (set chunks at chunk) i ≡ bit_of n chunks i
 bit_of-set_other n chunks at chunk i e = ap (λ c. chunk_bit n c i) (get_or-set_other chunks at (i / (8 * n)) chunk [] e)
 
+-- a bit written to its chunk is put to the list
 pub IsBitPut-chunk : (n : ℕ) (xs : List (List ℕ)) (i : ℕ) (b : Bool) (old new : List ℕ) → 0 < n → i / (8 * n) < length xs
     → old ≡ get_or xs (i / (8 * n)) old → IsBitWritten n old new i b
     → IsBitPut n xs (set xs (i / (8 * n)) new) i b
@@ -42,11 +44,13 @@ IsBitPut-flip n xs i old new p w r h =
     let e : chunk_bit n old i ≡ bit_of n xs i = ap (λ c. chunk_bit n c i) (get_or_read xs (i / (8 * n)) old w r []) in
     subst (λ b. IsBitPut n xs (set xs (i / (8 * n)) new) i (not b)) e (IsBitPut-chunk n xs i (not (chunk_bit n old i)) old new p w r h)
 
+-- a bit put below the length leaves zeros past it
 pub IsZeroFrom-put : (n : ℕ) (xs ys : List (List ℕ)) (i : ℕ) (b : Bool) (len : ℕ) → IsBitPut n xs ys i b → i < len
     → IsZeroFrom n xs len
     → IsZeroFrom n ys len
 IsZeroFrom-put n xs ys i b len p h z j s = p.others j (λ q. absurd (omega arith)) ∙ z j s
 
+-- a bit that stood already is put
 pub IsBitPut_same : (n : ℕ) (xs : List (List ℕ)) (i : ℕ) (b : Bool) → bit_of n xs i ≡ b → IsBitPut n xs xs i b
 IsBitPut_same n xs i b h = record { here = h; others = λ j d. refl; count = refl }
 
@@ -83,6 +87,7 @@ bit_of-drop_last n xs len p z q e i = elim (cases_lt (i / (8 * n)) (length xs - 
   | inr h ↦ bit_of-take_past n xs (length xs - 1) i h ∙ sym (z i (below_div (8 * n) len i e (omega arith)))
 ]
 
+-- the last bit put to false is zero past the shorter length
 pub IsZeroFrom-pop : (n : ℕ) (xs ys : List (List ℕ)) (last len : ℕ) → last + 1 ≡ len → IsBitPut n xs ys last false
     → IsZeroFrom n xs len
     → IsZeroFrom n ys last
@@ -91,15 +96,18 @@ IsZeroFrom-pop n xs ys last len e p z i h = elim (cases_eq i last) [
   | inr q ↦ p.others i q ∙ z i (omega arith)
 ]
 
+-- the bits before a chunk that is pushed, and its own
 pub bit_of-push_in : (n : ℕ) (xs : List (List ℕ)) (c : List ℕ) (i : ℕ) → i / (8 * n) < length xs → bit_of n (xs ++ c ∷ []) i ≡ bit_of n xs i
 bit_of-push_in n xs c i h = ap (λ x. chunk_bit n x i) (get_or_append_left xs (c ∷ []) [] (i / (8 * n)) h)
 
 pub bit_of-push_here : (n : ℕ) (xs : List (List ℕ)) (c : List ℕ) (i : ℕ) → i / (8 * n) ≡ length xs → bit_of n (xs ++ c ∷ []) i ≡ chunk_bit n c i
 bit_of-push_here n xs c i e = ap (λ x. chunk_bit n x i) (ap (λ a. get_or (xs ++ c ∷ []) a []) e ∙ get_or_push xs c [] (length xs) refl)
 
+-- past the chunks every bit is zero
 pub IsZeroFrom-count : (n : ℕ) (xs : List (List ℕ)) (len : ℕ) → 0 < n → 8 * n * length xs ≤ len → IsZeroFrom n xs len
 IsZeroFrom-count n xs len p h i s = bit_of_past n xs i ((le-div_iff_mul-le {k = 8 * n} {x = length xs} {y = i} (omega arith)).1 (grind arith))
 
+-- with the last chunk cleared from the length on, every bit past the length is zero
 pub IsZeroFrom-cleared : (n : ℕ) (xs : List (List ℕ)) (len : ℕ) (c : List ℕ) → 0 < n → IsChunkCount n (length xs) len
     → (len % (8 * n) ≡ 0 → ⊥) → ((i : ℕ) → len % (8 * n) ≤ i % (8 * n) → chunk_bit n c i ≡ false)
     → IsZeroFrom n (set xs (len / (8 * n)) c) len
@@ -118,9 +126,11 @@ IsZeroFrom-cleared n xs len c p k d h i s =
           bit_of_past n (set xs (len / (8 * n)) c) i (omega (arith, length-set xs (len / (8 * n)) c))
     ]
 
+-- where the last chunk is full, no bit stands past the length
 pub IsZeroFrom-full : (n : ℕ) (xs : List (List ℕ)) (len : ℕ) → 0 < n → IsChunkCount n (length xs) len → len % (8 * n) ≡ 0 → IsZeroFrom n xs len
 IsZeroFrom-full n xs len p k e = IsZeroFrom-count n xs len p (omega (arith, full_len n (length xs) len p k e))
 
+-- lists of chunks with the same bits have chunks with the same bits
 pub chunk_from_bits : (n : ℕ) (xs ys : List (List ℕ)) (i : ℕ) (a b : List ℕ) → 0 < n → i < length xs → i < length ys
     → a ≡ get_or xs i a → b ≡ get_or ys i b → ((k : ℕ) → bit_of n xs k ≡ bit_of n ys k) → (t : ℕ)
     → chunk_bit n a t ≡ chunk_bit n b t
@@ -134,6 +144,7 @@ chunk_from_bits n xs ys i a b p s w r q h t =
     ∙ sym (ap (λ c. chunk_bit n c (i * (8 * n) + t % (8 * n))) (get_or_read ys i b w q [] ∙ ap (λ j. get_or ys j []) (sym k)))
     ∙ sym (chunk_bit-mod n b t (i * (8 * n) + t % (8 * n)) p e)
 
+-- where the appended bits are zero past their length, so are the joined ones
 pub IsZeroFrom-append : (n m : ℕ) (ys os : List (List ℕ)) (len more : ℕ) → IsZeroFrom m os more
     → ((i : ℕ) → len ≤ i → i / (8 * n) < length ys → bit_of n ys i ≡ bit_of m os (i - len))
     → IsZeroFrom n ys (len + more)

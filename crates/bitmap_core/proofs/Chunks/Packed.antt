@@ -179,6 +179,7 @@ bools-chunk n xs i c len left count old a b p k s r l m f g =
     ∙ append_assoc old (bits n xs (8 * n * i)) (map (chunk_bit n c) (range_with_len 0 count))
     ∙ ap (λ x. old ++ x) (sym (bits-chunk n xs i c count p s r (omega arith)) ∙ ap (λ x. bits n xs x) (sym e))
 
+-- nothing is appended of no bits
 pub bools-none : (n : ℕ) (xs : List (List ℕ)) (len : ℕ) (old : List Bool) → old ≡ old ++ bits n xs (len - len)
 bools-none n xs len old =
     let e : len - len ≡ 0 = omega arith in

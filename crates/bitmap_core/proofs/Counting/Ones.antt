@@ -15,6 +15,7 @@ abbrev pub ones_from : (ℕ → Bool) → ℕ → ℕ → ℕ
 ones_from f a zero = 0
 ones_from f a (suc k) = cond (f a) 1 0 + ones_from f (a + 1) k
 
+-- a range in two parts
 pub ones_from_add : (f : ℕ → Bool) (a m k : ℕ) → ones_from f a (m + k) ≡ ones_from f a m + ones_from f (a + m) k
 ones_from_add f a zero k =
     let e : zero + k ≡ k = omega arith in
@@ -28,6 +29,7 @@ ones_from_add f a (suc m) k =
     ap (λ x. ones_from f a x) e
     ∙ (let j : ones_from f (a + 1) (m + k) ≡ ones_from f (a + 1) m + ones_from f (a + suc m) k = i ∙ ap (λ x. ones_from f (a + 1) m + ones_from f x k) s in omega arith)
 
+-- functions that agree on a range count alike
 pub ones_from_same : (f g : ℕ → Bool) (a b k : ℕ) → ((t : ℕ) → t < k → f (a + t) ≡ g (b + t)) → ones_from f a k ≡ ones_from g b k
 ones_from_same f g a b zero h = refl
 ones_from_same f g a b (suc k) h =
@@ -52,6 +54,7 @@ pub ones_from_le : (f : ℕ → Bool) (a k : ℕ) → ones_from f a k ≤ k
 ones_from_le f a zero = omega arith
 ones_from_le f a (suc k) = omega (arith, ones_from_le f (a + 1) k, cond_le (f a))
 
+-- where no place from len on passes, no more than len do
 pub ones_from_bound : (f : ℕ → Bool) (len m : ℕ) → ((t : ℕ) → len ≤ t → f t ≡ false) → ones_from f 0 m ≤ len
 ones_from_bound f len m h = elim (cases_lt len m) [
   | inl s ↦ (let e : len + (m - len) ≡ m = omega arith in
@@ -73,6 +76,7 @@ ones_from_all f len m s h =
 bit_worth : (m : ℕ) → m < 2 → m ≡ cond (eqb m 1) 1 0
 bit_worth m h = grind (arith, nat_tests)
 
+-- the ones of a number are those of its places
 pub ones_bits : (n a k : ℕ) → n / 2 ^ a < 2 ^ k → count_ones (n / 2 ^ a) ≡ ones_from (λ t. eqb (bit_at n t) 1) a k
 ones_bits n a zero h = let l = ones-le 0 (n / 2 ^ a) h in omega arith
 ones_bits n a (suc k) h =

@@ -111,6 +111,7 @@ ones_of_other n h = elim (cases_lt 0 (count_ones n)) [
 
 -- ---- sums that are zero
 
+-- whether a sum of two counts is zero
 pub rest_zero : (a b c : ℕ) → a ≡ b + c → eqb b 0 ≡ true → eqb c 0 ≡ eqb a 0
 rest_zero a b c e h = let z : b ≡ 0 = eqb-true b 0 h in ap (λ x. eqb x 0) (omega arith)
 

@@ -13,6 +13,7 @@ use Rattle.bitmap_core.proofs.Chunks.Bits.{chunk_bit-mod}
 use Rattle.bitmap_core.proofs.Lists.Bits.{get_or-bits, bits-more, bits_are, bits-same, len_is, take-bits}
 use Rattle.bitmap_core.proofs.Chunks.Lists.{bit_of-push_in, bit_of-push_here}
 
+-- a bit put, pushed and popped
 pub bits-put : (n : ℕ) (xs ys : List (List ℕ)) (i : ℕ) (b : Bool) (len : ℕ) (v : List Bool) → IsBitPut n xs ys i b
     → bits n xs len ≡ v → i < len
     → bits n ys len ≡ set v i b
@@ -61,14 +62,17 @@ bits-extend n xs ys len longer v p z h e =
           ∙ sym (get_or-append_right v (replicate (longer - length v) false) len i false l w)
     ])
 
+-- a list that is long enough is lengthened by nothing
 pub append_nothing : (v : List Bool) (m : ℕ) → m ≤ length v → v ≡ v ++ replicate (m - length v) false
 append_nothing v m h = let e : m - length v ≡ 0 = omega arith in sym (ap (λ k. v ++ replicate k false) e ∙ append-nil v)
 
+-- the bits below a shorter length
 pub bits-take : (n : ℕ) (xs ys : List (List ℕ)) (len shorter : ℕ) (v : List Bool) → shorter ≤ len
     → ((i : ℕ) → i < shorter → bit_of n ys i ≡ bit_of n xs i) → bits n xs len ≡ v
     → bits n ys shorter ≡ take shorter v
 bits-take n xs ys len shorter v p h e = bits-same n xs ys shorter h ∙ sym (take-bits n xs len shorter p) ∙ ap (λ x. take shorter x) e
 
+-- a whole chunk pushed
 pub bits-push_chunk : (n : ℕ) (xs : List (List ℕ)) (len : ℕ) (c : List ℕ) (v : List Bool) → 0 < n → len % (8 * n) ≡ 0
     → IsChunkCount n (length xs) len → bits n xs len ≡ v
     → bits n (xs ++ c ∷ []) (len + 8 * n) ≡ v ++ map (chunk_bit n c) (range_with_len 0 (8 * n))
@@ -96,6 +100,7 @@ bits-push_chunk n xs len c v p e k b =
           ∙ sym (get_or-append_right v (map (chunk_bit n c) (range_with_len 0 (8 * n))) len i false l s)
     ])
 
+-- the bits of one list behind those of another
 pub bits-append : (n m : ℕ) (xs ys os : List (List ℕ)) (len more : ℕ) (v w : List Bool) → 0 < n
     → IsChunkCount n (length ys) (len + more) → bits n xs len ≡ v → bits m os more ≡ w
     → ((i : ℕ) → i < len → bit_of n ys i ≡ bit_of n xs i)

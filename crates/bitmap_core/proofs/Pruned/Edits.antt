@@ -57,6 +57,7 @@ bit_truncated n b len k h = elim (cases_lt k len) [
       rw (le-ltb k len l) (get_or_past (take (len - pruned_bits n b) b.bits) (k - pruned_bits n b) false (omega (arith, fewer)))
 ]
 
+-- a pop is a truncation
 pub popped_is : (n : ℕ) (b : PrunedBits) → popped b ≡ truncated n b (bit_len n b - 1)
 popped_is n b = same_pruned (popped b) (truncated n b (bit_len n b - 1)) refl (ap (λ m. take m b.bits) (omega arith))
 

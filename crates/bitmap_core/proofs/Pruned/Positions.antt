@@ -12,6 +12,7 @@ use Rattle.bitmap_core.proofs.Chunks.Places.{IsChunkCount-ceil, count_unique}
 use Rattle.bitmap_core.proofs.Chunks.Front.{IsChunkCount-front}
 use Rattle.bitmap_core.proofs.Bytes.Made.{byte_same, chunk_bit_of_bytes, map_range_same}
 
+-- bitmaps are the same where their two parts are
 pub same_pruned : (a b : PrunedBits) → a.pruned ≡ b.pruned → a.bits ≡ b.bits → a ≡ b
 same_pruned a b p q i = record { pruned = p i; bits = q i }
 
@@ -72,6 +73,7 @@ same_from_bits n b bit h =
     ∙ (h (pruned_bits n b + i) (omega arith, omega arith)
     ∙ ap (λ j. get_or b.bits j false) back)))
 
+-- bitmaps are the same where the bits at every position are
 pub same_bitmap : (n : ℕ) (a b : PrunedBits) → a.pruned ≡ b.pruned → bit_len n a ≡ bit_len n b
     → ((k : ℕ) → HasBit n b k → bit_at n a k ≡ bit_at n b k)
     → a ≡ b

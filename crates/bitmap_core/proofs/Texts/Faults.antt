@@ -35,6 +35,7 @@ pub record Sound (n : ℕ) (range : ℕ → Bool) (text : List ℕ) : Type 0 whe
   pub whole : 8 + chunk_bytes n text ≤ length text
   pub clear : list_any (bit_in (drop 8 text)) (trailing n text) ≡ false
 
+-- a text without a fault has all of this, and a text that has it has no fault
 pub sound : (n : ℕ) (range : ℕ → Bool) (text : List ℕ) → bits_fault n range text ≡ None → Sound n range text
 unfolding bits_fault
 sound n range text e =
@@ -49,6 +50,7 @@ pub sound-none : (n : ℕ) (range : ℕ → Bool) (text : List ℕ) → Sound n 
 unfolding bits_fault
 sound-none n range text s = rw (le-ltb _ _ s.long, s.admitted, lt-ltb _ _ s.count, le-ltb _ _ s.whole, s.clear) refl
 
+-- no more chunks than bits
 pub count-le : (n len : ℕ) → 0 < n → chunk_count n len ≤ len
 count-le n len p =
     let c = IsChunkCount-ceil n len p in

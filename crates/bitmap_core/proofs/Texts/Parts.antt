@@ -74,6 +74,7 @@ read_past n text len xs r p l x e =
     list_any (bit_of n (chunks_in n (number text) (drop 8 text))) (range_with_len m (8 * n * length (chunks_in n (number text) (drop 8 text)) - m))) l
     ∙ same_past n (number text) (drop 8 text) p)
 
+-- the fault of a text whose last chunk has a bit past its length
 pub trailing_fault : (n : ℕ) (range : ℕ → Bool) (text : List ℕ) → 8 ≤ length text → range (number text) ≡ true
     → chunk_count n (number text) < 2 ^ 64 → 8 + chunk_bytes n text ≤ length text
     → list_any (bit_in (drop 8 text)) (trailing n text) ≡ true

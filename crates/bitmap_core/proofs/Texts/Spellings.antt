@@ -36,6 +36,7 @@ AreBytes-take a text h i = elim (cases_lt i a) [
   | inr l ↦ rw (get_or_past (take a text) i 0 (omega (arith, length-take a text))) (omega arith)
 ]
 
+-- a text begins with the bytes of its number
 pub number_of_text : (text : List ℕ) → AreBytes text → 8 ≤ length text → text ≡ to_be_bytes w64 (number text) ++ drop 8 text
 number_of_text text h l =
     sym (take-append-drop 8 text)
@@ -44,6 +45,7 @@ number_of_text text h l =
 pub number-lt : (text : List ℕ) → AreBytes text → number text < 2 ^ 64
 number-lt text h = let f = AreBytes-take 8 text h in omega (arith, f 0, f 1, f 2, f 3, f 4, f 5, f 6, f 7)
 
+-- the number that is spelled is read
 pub number-again : (m : ℕ) (rest : List ℕ) → m < 2 ^ 64 → number (to_be_bytes w64 m ++ rest) ≡ m
 number-again m rest h = ap (from_be_bytes w64) (take_at (to_be_bytes w64 m) rest 8 refl) ∙ from_be_bytes-to_be_bytes_8 m h
 

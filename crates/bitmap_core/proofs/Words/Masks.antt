@@ -12,6 +12,7 @@ use Rattle.bitmap_core.specs.Chunk.{chunk_bit}
 
 -- ---- a word of a chunk
 
+-- a bit of the chunk from a byte on
 pub rest_bit : (n : ℕ) (chunk : List ℕ) (byte t : ℕ) → 8 * byte + t < 8 * n
     → eqb (bit_at (get_or (drop byte chunk) (t / 8) 0) (t % 8)) 1 ≡ chunk_bit n chunk (8 * byte + t)
 rest_bit n chunk byte t h =
@@ -23,6 +24,7 @@ rest_bit n chunk byte t h =
 
 -- ---- a part of a word
 
+-- the mask of the lowest bits
 pub low_mask : (count : ℕ) → count < 64 → 1 * 2 ^ count % 2 ^ 64 - 1 ≡ 2 ^ count - 1
 low_mask count h = let p : 2 ^ count < 2 ^ 64 = pow-lt h in omega arith
 
@@ -38,6 +40,7 @@ high_bit_cut word start t h a = omega (arith, high_mask word start t h, bit_at_m
 
 -- ---- the lowest bit of a word
 
+-- the lowest one of a word
 pub lowest : (word : ℕ) → 0 < word → word < 2 ^ 64
     → (trailing_zeros w64 word < 64) × (bit_at word (trailing_zeros w64 word) ≡ 1) × ((t : ℕ) → t < trailing_zeros w64 word → bit_at word t ≡ 0)
 lowest word h f = bit_at-trailing_zeros w64 word h f

@@ -9,6 +9,7 @@ use Rattle.bitmap_core.specs.Meaning.{starts_word, next_word, word_start}
 start_aligned : (n k : ℕ) → starts_word n k ≡ true → (k % (8 * n)) % 64 ≡ 0
 start_aligned n k h = eqb-true ((k % (8 * n)) % 64) 0 h
 
+-- a word begins with a byte
 pub start_bytes : (n k : ℕ) → starts_word n k ≡ true → 8 * (k % (8 * n) / 8) ≡ k % (8 * n)
 start_bytes n k h = let e = start_aligned n k h in omega arith
 
@@ -45,6 +46,7 @@ next_cases n k p =
     (λ (ge : 8 * n ≤ k % (8 * n) + 64). let e = le-ltb (k % (8 * n) + 64) (8 * n) ge in inr (rw e (leaves (8 * n) k (omega arith) ge)))
     (cases_lt (k % (8 * n) + 64) (8 * n))
 
+-- the next word begins further on
 pub end_near : (n k : ℕ) → 0 < n → k < next_word n k
 end_near n k p =
     ⊎_elim
