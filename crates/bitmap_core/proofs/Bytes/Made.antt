@@ -17,15 +17,39 @@ value_of_digit d h = elim (cases_eq d 1) [
 
 -- a byte is the one with its own bits
 pub byte_is : (x : ℕ) → x < 256 → byte_of (λ t. eqb (bit_at x t) 1) ≡ x
-byte_is x h = omega (arith, value_of_digit (x / 1 % 2), value_of_digit (x / 2 % 2), value_of_digit (x / 4 % 2), value_of_digit (x / 8 % 2), value_of_digit (x / 16 % 2), value_of_digit (x / 32 % 2), value_of_digit (x / 64 % 2), value_of_digit (x / 128 % 2))
+byte_is x h =
+    omega (
+      arith,
+      value_of_digit (x / 1 % 2),
+      value_of_digit (x / 2 % 2),
+      value_of_digit (x / 4 % 2),
+      value_of_digit (x / 8 % 2),
+      value_of_digit (x / 16 % 2),
+      value_of_digit (x / 32 % 2),
+      value_of_digit (x / 64 % 2),
+      value_of_digit (x / 128 % 2),
+    )
 
 -- bytes with the same bits are equal
 pub byte_same : (f g : ℕ → Bool) → ((t : ℕ) → t < 8 → f t ≡ g t) → byte_of f ≡ byte_of g
-byte_same f g h = rw (h 0 (omega arith), h 1 (omega arith), h 2 (omega arith), h 3 (omega arith), h 4 (omega arith), h 5 (omega arith), h 6 (omega arith), h 7 (omega arith)) refl
+byte_same f g h =
+    rw (
+      h 0 (omega arith),
+      h 1 (omega arith),
+      h 2 (omega arith),
+      h 3 (omega arith),
+      h 4 (omega arith),
+      h 5 (omega arith),
+      h 6 (omega arith),
+      h 7 (omega arith),
+    ) refl
 
-pub map_range_same : {X : Type 0} (f g : ℕ → X) (a m : ℕ) → ((j : ℕ) → a ≤ j → j < a + m → f j ≡ g j) → map f (range_with_len a m) ≡ map g (range_with_len a m)
+-- functions that agree on a range of numbers give the same list
+pub map_range_same : {X : Type 0} (f g : ℕ → X) (a m : ℕ) → ((j : ℕ) → a ≤ j → j < a + m → f j ≡ g j)
+    → map f (range_with_len a m) ≡ map g (range_with_len a m)
 map_range_same f g a zero h = refl
-map_range_same f g a (suc m) h = rw (h a (omega arith) (omega arith)) (ap (λ ys. g a ∷ ys) (map_range_same f g (a + 1) m (λ j l r. h j (omega arith) (omega arith))))
+map_range_same f g a (suc m) h =
+    rw (h a (omega arith) (omega arith)) (ap (λ ys. g a ∷ ys) (map_range_same f g (a + 1) m (λ j l r. h j (omega arith) (omega arith))))
 
 -- bit t of byte j of a chunk
 chunk_bit_in_byte : (n : ℕ) (c : List ℕ) (j t : ℕ) → j < n → t < 8 → chunk_bit n c (8 * j + t) ≡ eqb (bit_at (get_or c j 0) t) 1
@@ -37,12 +61,17 @@ chunk_bit_in_byte n c j t h s =
     ap (λ x. eqb (bit_at (get_or c x 0) ((8 * j + t) % 8)) 1) k ∙ ap (λ x. eqb (bit_at (get_or c j 0) x) 1) r
 
 -- a chunk is the list of the bytes that its bits make
-pub bytes_are : (n : ℕ) (c : List ℕ) (bit : ℕ → Bool) → length c ≡ n → ((j : ℕ) → get_or c j 0 < 256) → ((t : ℕ) → t < 8 * n → chunk_bit n c t ≡ bit t) → c ≡ map (λ j. byte_of (λ t. bit (8 * j + t))) (range_with_len 0 n)
+pub bytes_are : (n : ℕ) (c : List ℕ) (bit : ℕ → Bool) → length c ≡ n → ((j : ℕ) → get_or c j 0 < 256)
+    → ((t : ℕ) → t < 8 * n → chunk_bit n c t ≡ bit t)
+    → c ≡ map (λ j. byte_of (λ t. bit (8 * j + t))) (range_with_len 0 n)
 bytes_are n c bit l r h =
-    ext_get_or 0 c (map (λ j. byte_of (λ t. bit (8 * j + t))) (range_with_len 0 n)) (l ∙ sym (length-map-range_with_len (λ j. byte_of (λ t. bit (8 * j + t))) 0 n)) (λ j b.
+    let byte : ℕ → ℕ = λ j. byte_of (λ t. bit (8 * j + t)) in
+    ext_get_or 0 c (map byte (range_with_len 0 n)) (l ∙ sym (length-map-range_with_len byte 0 n)) (λ j b.
     let s : j < n = omega arith in
     sym (byte_is (get_or c j 0) (r j))
-    ∙ byte_same (λ t. eqb (bit_at (get_or c j 0) t) 1) (λ t. bit (8 * j + t)) (λ t w. sym (chunk_bit_in_byte n c j t s w) ∙ h (8 * j + t) (omega arith))
+    ∙ byte_same (λ t. eqb (bit_at (get_or c j 0) t) 1) (λ t. bit (8 * j + t)) (λ t w.
+    sym (chunk_bit_in_byte n c j t s w)
+    ∙ h (8 * j + t) (omega arith))
     ∙ sym (get_or-map-range_with_len (λ j. byte_of (λ t. bit (8 * j + t))) 0 n j j 0 s (omega arith)))
 
 digit_below : (x : Bool) → bit_value x < 2
@@ -53,49 +82,35 @@ pub digit_is : (x : Bool) → eqb (bit_value x) 1 ≡ x
 digit_is true = refl
 digit_is false = refl
 
-module _ (a b c d e f g h : ℕ) (la : a < 2) (lb : b < 2) (lc : c < 2) (ld : d < 2) (le : e < 2) (lf : f < 2) (lg : g < 2) (lh : h < 2) where
-  digit_0 : ((((((((0 + a * 1) + b * 2) + c * 4) + d * 8) + e * 16) + f * 32) + g * 64) + h * 128) / 1 % 2 ≡ a
-  digit_0 = omega arith
+-- the digits of a number of eight digits are those
+module _ (digit : ℕ → ℕ) (below : (t : ℕ) → digit t < 2) where
+  abbrev eight : ℕ
+  eight =
+      (((((((0 + digit 0 * 1) + digit 1 * 2) + digit 2 * 4) + digit 3 * 8) + digit 4 * 16) + digit 5 * 32) + digit 6 * 64) + digit 7 * 128
 
-  digit_1 : ((((((((0 + a * 1) + b * 2) + c * 4) + d * 8) + e * 16) + f * 32) + g * 64) + h * 128) / 2 % 2 ≡ b
-  digit_1 = omega arith
-
-  digit_2 : ((((((((0 + a * 1) + b * 2) + c * 4) + d * 8) + e * 16) + f * 32) + g * 64) + h * 128) / 4 % 2 ≡ c
-  digit_2 = omega arith
-
-  digit_3 : ((((((((0 + a * 1) + b * 2) + c * 4) + d * 8) + e * 16) + f * 32) + g * 64) + h * 128) / 8 % 2 ≡ d
-  digit_3 = omega arith
-
-  digit_4 : ((((((((0 + a * 1) + b * 2) + c * 4) + d * 8) + e * 16) + f * 32) + g * 64) + h * 128) / 16 % 2 ≡ e
-  digit_4 = omega arith
-
-  digit_5 : ((((((((0 + a * 1) + b * 2) + c * 4) + d * 8) + e * 16) + f * 32) + g * 64) + h * 128) / 32 % 2 ≡ f
-  digit_5 = omega arith
-
-  digit_6 : ((((((((0 + a * 1) + b * 2) + c * 4) + d * 8) + e * 16) + f * 32) + g * 64) + h * 128) / 64 % 2 ≡ g
-  digit_6 = omega arith
-
-  digit_7 : ((((((((0 + a * 1) + b * 2) + c * 4) + d * 8) + e * 16) + f * 32) + g * 64) + h * 128) / 128 % 2 ≡ h
-  digit_7 = omega arith
+  digit_of : (t : ℕ) → t < 8 → bit_at eight t ≡ digit t
+  digit_of zero h = let e : eight / 1 % 2 ≡ digit 0 = omega (arith, below) in e
+  digit_of (suc zero) h = let e : eight / 2 % 2 ≡ digit 1 = omega (arith, below) in e
+  digit_of (suc (suc zero)) h = let e : eight / 4 % 2 ≡ digit 2 = omega (arith, below) in e
+  digit_of (suc (suc (suc zero))) h = let e : eight / 8 % 2 ≡ digit 3 = omega (arith, below) in e
+  digit_of (suc (suc (suc (suc zero)))) h = let e : eight / 16 % 2 ≡ digit 4 = omega (arith, below) in e
+  digit_of (suc (suc (suc (suc (suc zero))))) h = let e : eight / 32 % 2 ≡ digit 5 = omega (arith, below) in e
+  digit_of (suc (suc (suc (suc (suc (suc zero)))))) h = let e : eight / 64 % 2 ≡ digit 6 = omega (arith, below) in e
+  digit_of (suc (suc (suc (suc (suc (suc (suc zero))))))) h = let e : eight / 128 % 2 ≡ digit 7 = omega (arith, below) in e
+  digit_of (suc (suc (suc (suc (suc (suc (suc (suc t)))))))) h = absurd (omega arith)
 
 -- the bits of a byte made of bits are those
 pub byte_bit : (bit : ℕ → Bool) (t : ℕ) → t < 8 → bit_at (byte_of bit) t ≡ bit_value (bit t)
-byte_bit bit zero h = digit_0 (bit_value (bit 0)) (bit_value (bit 1)) (bit_value (bit 2)) (bit_value (bit 3)) (bit_value (bit 4)) (bit_value (bit 5)) (bit_value (bit 6)) (bit_value (bit 7)) (digit_below (bit 0)) (digit_below (bit 1)) (digit_below (bit 2)) (digit_below (bit 3)) (digit_below (bit 4)) (digit_below (bit 5)) (digit_below (bit 6)) (digit_below (bit 7))
-byte_bit bit (suc zero) h = digit_1 (bit_value (bit 0)) (bit_value (bit 1)) (bit_value (bit 2)) (bit_value (bit 3)) (bit_value (bit 4)) (bit_value (bit 5)) (bit_value (bit 6)) (bit_value (bit 7)) (digit_below (bit 0)) (digit_below (bit 1)) (digit_below (bit 2)) (digit_below (bit 3)) (digit_below (bit 4)) (digit_below (bit 5)) (digit_below (bit 6)) (digit_below (bit 7))
-byte_bit bit (suc (suc zero)) h = digit_2 (bit_value (bit 0)) (bit_value (bit 1)) (bit_value (bit 2)) (bit_value (bit 3)) (bit_value (bit 4)) (bit_value (bit 5)) (bit_value (bit 6)) (bit_value (bit 7)) (digit_below (bit 0)) (digit_below (bit 1)) (digit_below (bit 2)) (digit_below (bit 3)) (digit_below (bit 4)) (digit_below (bit 5)) (digit_below (bit 6)) (digit_below (bit 7))
-byte_bit bit (suc (suc (suc zero))) h = digit_3 (bit_value (bit 0)) (bit_value (bit 1)) (bit_value (bit 2)) (bit_value (bit 3)) (bit_value (bit 4)) (bit_value (bit 5)) (bit_value (bit 6)) (bit_value (bit 7)) (digit_below (bit 0)) (digit_below (bit 1)) (digit_below (bit 2)) (digit_below (bit 3)) (digit_below (bit 4)) (digit_below (bit 5)) (digit_below (bit 6)) (digit_below (bit 7))
-byte_bit bit (suc (suc (suc (suc zero)))) h = digit_4 (bit_value (bit 0)) (bit_value (bit 1)) (bit_value (bit 2)) (bit_value (bit 3)) (bit_value (bit 4)) (bit_value (bit 5)) (bit_value (bit 6)) (bit_value (bit 7)) (digit_below (bit 0)) (digit_below (bit 1)) (digit_below (bit 2)) (digit_below (bit 3)) (digit_below (bit 4)) (digit_below (bit 5)) (digit_below (bit 6)) (digit_below (bit 7))
-byte_bit bit (suc (suc (suc (suc (suc zero))))) h = digit_5 (bit_value (bit 0)) (bit_value (bit 1)) (bit_value (bit 2)) (bit_value (bit 3)) (bit_value (bit 4)) (bit_value (bit 5)) (bit_value (bit 6)) (bit_value (bit 7)) (digit_below (bit 0)) (digit_below (bit 1)) (digit_below (bit 2)) (digit_below (bit 3)) (digit_below (bit 4)) (digit_below (bit 5)) (digit_below (bit 6)) (digit_below (bit 7))
-byte_bit bit (suc (suc (suc (suc (suc (suc zero)))))) h = digit_6 (bit_value (bit 0)) (bit_value (bit 1)) (bit_value (bit 2)) (bit_value (bit 3)) (bit_value (bit 4)) (bit_value (bit 5)) (bit_value (bit 6)) (bit_value (bit 7)) (digit_below (bit 0)) (digit_below (bit 1)) (digit_below (bit 2)) (digit_below (bit 3)) (digit_below (bit 4)) (digit_below (bit 5)) (digit_below (bit 6)) (digit_below (bit 7))
-byte_bit bit (suc (suc (suc (suc (suc (suc (suc zero))))))) h = digit_7 (bit_value (bit 0)) (bit_value (bit 1)) (bit_value (bit 2)) (bit_value (bit 3)) (bit_value (bit 4)) (bit_value (bit 5)) (bit_value (bit 6)) (bit_value (bit 7)) (digit_below (bit 0)) (digit_below (bit 1)) (digit_below (bit 2)) (digit_below (bit 3)) (digit_below (bit 4)) (digit_below (bit 5)) (digit_below (bit 6)) (digit_below (bit 7))
-byte_bit bit (suc (suc (suc (suc (suc (suc (suc (suc t)))))))) h = absurd (omega arith)
+byte_bit bit t h = digit_of (λ k. bit_value (bit k)) (λ k. digit_below (bit k)) t h
 
 -- the bits of the bytes that bits make are those
-pub chunk_bit_of_bytes : (n : ℕ) (bit : ℕ → Bool) (i : ℕ) → 0 < n → i < 8 * n → chunk_bit n (map (λ j. byte_of (λ t. bit (8 * j + t))) (range_with_len 0 n)) i ≡ bit i
+pub chunk_bit_of_bytes : (n : ℕ) (bit : ℕ → Bool) (i : ℕ) → 0 < n → i < 8 * n
+    → chunk_bit n (map (λ j. byte_of (λ t. bit (8 * j + t))) (range_with_len 0 n)) i ≡ bit i
 chunk_bit_of_bytes n bit i p h =
     let s : i / 8 < n = omega arith in
     let k : i / 8 % n ≡ i / 8 = mod-eq_of_lt s in
-    let byte : get_or (map (λ j. byte_of (λ t. bit (8 * j + t))) (range_with_len 0 n)) (i / 8) 0 ≡ byte_of (λ t. bit (8 * (i / 8) + t)) = get_or-map-range_with_len (λ j. byte_of (λ t. bit (8 * j + t))) 0 n (i / 8) (i / 8) 0 s (omega arith) in
+    let byte : get_or (map (λ j. byte_of (λ t. bit (8 * j + t))) (range_with_len 0 n)) (i / 8) 0 ≡ byte_of (λ t. bit (8 * (i / 8) + t)) =
+    get_or-map-range_with_len (λ j. byte_of (λ t. bit (8 * j + t))) 0 n (i / 8) (i / 8) 0 s (omega arith) in
     ap (λ x. eqb (bit_at (get_or (map (λ j. byte_of (λ t. bit (8 * j + t))) (range_with_len 0 n)) x 0) (i % 8)) 1) k
     ∙ ap (λ x. eqb (bit_at x (i % 8)) 1) byte
     ∙ ap (λ x. eqb x 1) (byte_bit (λ t. bit (8 * (i / 8) + t)) (i % 8) (omega arith))

@@ -10,6 +10,7 @@ use Rattle.bitmap_core.specs.Bits.{IsChunkCount}
 pub same_place : (w i j : ℕ) → i / w ≡ j / w → i % w ≡ j % w → i ≡ j
 same_place w i j q r = omega (arith, div-add-mod i w, div-add-mod j w, ap (λ x. w * x) q)
 
+-- a bit below the length stands in a chunk that is there
 pub index_below : (n k len i : ℕ) → 0 < n → i < len → IsChunkCount n k len → i / (8 * n) < k
 index_below n k len i p h c = (div-lt_iff_lt-mul {k = 8 * n} {x = i} {y = k} (omega arith)).1 (grind arith)
 
@@ -17,6 +18,7 @@ index_below n k len i p h c = (div-lt_iff_lt-mul {k = 8 * n} {x = i} {y = k} (om
 pub below_div : (w len i : ℕ) → len % w ≡ 0 → len / w ≤ i / w → len ≤ i
 below_div w len i e h = let d = div-add-mod len w in let f = div-add-mod i w in grind arith
 
+-- the count of chunks with one bit more, or one less
 pub IsChunkCount-more : (n k len : ℕ) → 0 < n → IsChunkCount n k len → len % (8 * n) ≡ 0 → IsChunkCount n (k + 1) (len + 1)
 IsChunkCount-more n k len p c e = let d = div-add-mod len (8 * n) in (grind arith, grind arith)
 
@@ -33,7 +35,8 @@ quotient_is w q k p a b =
     let s : k < q + 2 = lt_of_mul-lt-mul_left w (rw (mul-add w q 2) (omega arith)) in
     omega arith
 
-pub IsChunkCount-fewer : (n k len : ℕ) → 0 < n → IsChunkCount n k (len + 1) → len % (8 * n) ≡ 0 → (0 < k) × IsChunkCount n (k - 1) len × (len / (8 * n) ≡ k - 1)
+pub IsChunkCount-fewer : (n k len : ℕ) → 0 < n → IsChunkCount n k (len + 1) → len % (8 * n) ≡ 0
+    → (0 < k) × IsChunkCount n (k - 1) len × (len / (8 * n) ≡ k - 1)
 IsChunkCount-fewer n k len p c e =
     let d = div-add-mod len (8 * n) in
     let q : k ≡ len / (8 * n) + 1 = quotient_is (8 * n) (len / (8 * n)) k (omega arith) (omega arith) (omega arith) in
@@ -43,15 +46,18 @@ IsChunkCount-fewer n k len p c e =
 pub IsChunkCount-kept : (n k len : ℕ) → 0 < n → IsChunkCount n k (len + 1) → (len % (8 * n) ≡ 0 → ⊥) → IsChunkCount n k len
 IsChunkCount-kept n k len p c e = let d = div-add-mod len (8 * n) in (grind arith, grind arith)
 
+-- full chunks hold as many bits as the length
 pub full_len : (n k len : ℕ) → 0 < n → IsChunkCount n k len → len % (8 * n) ≡ 0 → len ≡ 8 * n * k
 full_len n k len p c e = let d = div-add-mod len (8 * n) in grind arith
 
 pub IsChunkCount-chunk : (n k len : ℕ) → 0 < n → IsChunkCount n k len → len % (8 * n) ≡ 0 → IsChunkCount n (k + 1) (len + 8 * n)
 IsChunkCount-chunk n k len p c e = let f = full_len n k len p c e in let d = mul-add (8 * n) k 1 in (omega arith, omega arith)
 
+-- chunks that are begun fit where the length fits
 pub fewer_chunks : (w k j len : ℕ) → w * k < len + w → len ≤ w * j → k ≤ j
 fewer_chunks w k j len a b = let s : k < j + 1 = lt_of_mul-lt-mul_left w (rw (mul-add w j 1) (omega arith)) in omega arith
 
+-- a length has one count of chunks
 pub count_unique : (n k j len : ℕ) → IsChunkCount n k len → IsChunkCount n j len → k ≡ j
 count_unique n k j len a b = omega (arith, fewer_chunks (8 * n) k j len a.1 b.0, fewer_chunks (8 * n) j k len b.1 a.0)
 
@@ -61,11 +67,15 @@ IsChunkCount-ceil n len p =
     let r = mod_below len (8 * n) (omega arith) in
     elim (cases_eq (len % (8 * n)) 0) [
       | inl e ↦ (let q : div_ceil len (8 * n) ≡ len / (8 * n) = omega arith in (rw q (omega arith), rw q (omega arith)))
-      | inr e ↦ (let q : div_ceil len (8 * n) ≡ len / (8 * n) + 1 = omega arith in (rw (q, mul-add (8 * n) (len / (8 * n)) 1) (omega arith), rw (q, mul-add (8 * n) (len / (8 * n)) 1) (omega arith)))
+      | inr e ↦
+          (let q : div_ceil len (8 * n) ≡ len / (8 * n) + 1 = omega arith in
+          let m = mul-add (8 * n) (len / (8 * n)) 1 in
+          (rw (q, m) (omega arith), rw (q, m) (omega arith)))
     ]
 
 -- the chunks of a length, with those that a greater length lacks
-pub IsChunkCount-missing : (n k len longer : ℕ) → 0 < n → IsChunkCount n k len → len ≤ longer → IsChunkCount n (k + (div_ceil longer (8 * n) - k)) longer
+pub IsChunkCount-missing : (n k len longer : ℕ) → 0 < n → IsChunkCount n k len → len ≤ longer
+    → IsChunkCount n (k + (div_ceil longer (8 * n) - k)) longer
 IsChunkCount-missing n k len longer p c h =
     let d = IsChunkCount-ceil n longer p in
     let f : k ≤ div_ceil longer (8 * n) = fewer_chunks (8 * n) k (div_ceil longer (8 * n)) len c.1 (omega (arith, d.0)) in
@@ -84,7 +94,9 @@ more_ceil n k len total p c h = fewer_chunks (8 * n) k (div_ceil total (8 * n)) 
 pub open_last : (n k len : ℕ) → 0 < n → IsChunkCount n k len → (len % (8 * n) ≡ 0 → ⊥) → k ≡ len / (8 * n) + 1
 open_last n k len p c d =
     let w = last_within n k len p (IsChunkCount-same n k len p c d) in
-    let l = fewer_chunks (8 * n) k (len / (8 * n) + 1) len c.1 (rw (mul-add (8 * n) (len / (8 * n)) 1) (omega (arith, div-add-mod len (8 * n), mod_below len (8 * n) (omega arith)))) in
+    let next : len ≤ 8 * n * (len / (8 * n) + 1) =
+    rw (mul-add (8 * n) (len / (8 * n)) 1) (omega (arith, div-add-mod len (8 * n), mod_below len (8 * n) (omega arith))) in
+    let l = fewer_chunks (8 * n) k (len / (8 * n) + 1) len c.1 next in
     omega arith
 
 pub within_more : (n j k len : ℕ) → len ≤ 8 * n * j → j ≤ k → len ≤ 8 * n * k

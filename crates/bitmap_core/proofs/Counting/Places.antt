@@ -48,7 +48,8 @@ pub count_map : (f : ℕ → Bool) (a k : ℕ) → count_by (λ b. b) (map f (ra
 count_map f a zero = refl
 count_map f a (suc k) = sum_by-cons (λ b. cond b 1 0) (f a) (map f (range_with_len (a + 1) k)) ∙ ap (λ x. cond (f a) 1 0 + x) (count_map f (a + 1) k)
 
-slice_is : (v : List Bool) (f : ℕ → Bool) (a b : ℕ) → b ≤ length v → ((i : ℕ) → i < b → get_or v i false ≡ f i) → slice_range v a b ≡ map f (range_with_len a (b - a))
+slice_is : (v : List Bool) (f : ℕ → Bool) (a b : ℕ) → b ≤ length v → ((i : ℕ) → i < b → get_or v i false ≡ f i)
+    → slice_range v a b ≡ map f (range_with_len a (b - a))
 slice_is v f a b l h =
     let m = length-map-range_with_len f a (b - a) in
     let d = length-drop {A = Bool} a v in
@@ -56,10 +57,14 @@ slice_is v f a b l h =
     let s : length (slice_range v a b) ≡ b - a = omega arith in
     ext_get_or false (slice_range v a b) (map f (range_with_len a (b - a))) (s ∙ sym m) (λ i w.
     let u : i < b - a = omega arith in
-    get_or-take (b - a) (drop a v) i false u ∙ get_or-drop a v i false ∙ h (a + i) (omega arith) ∙ sym (get_or-map-range_with_len f a (b - a) i (a + i) false u refl))
+    get_or-take (b - a) (drop a v) i false u
+    ∙ get_or-drop a v i false
+    ∙ h (a + i) (omega arith)
+    ∙ sym (get_or-map-range_with_len f a (b - a) i (a + i) false u refl))
 
 -- whether no bit of a range of a list is set, as a count
-pub none_slice : (v : List Bool) (f : ℕ → Bool) (a b : ℕ) → b ≤ length v → ((i : ℕ) → i < b → get_or v i false ≡ f i) → list_all not (slice_range v a b) ≡ eqb (ones_from f a (b - a)) 0
+pub none_slice : (v : List Bool) (f : ℕ → Bool) (a b : ℕ) → b ≤ length v → ((i : ℕ) → i < b → get_or v i false ≡ f i)
+    → list_all not (slice_range v a b) ≡ eqb (ones_from f a (b - a)) 0
 none_slice v f a b l h = ap (λ x. list_all not x) (slice_is v f a b l h) ∙ none_map f a (b - a)
 
 pub none_bits : (n : ℕ) (chunks : List (List ℕ)) (len : ℕ) → list_all not (bits n chunks len) ≡ eqb (ones_from (bit_of n chunks) 0 len) 0
@@ -83,11 +88,13 @@ pub count-not : (v : List Bool) → count_by not v ≡ length v - count_by (λ b
 count-not v = omega (arith, count_both v)
 
 -- the ones of a number, after the places before them
-pub more_ones : (f : ℕ → Bool) (w a k : ℕ) → w < 2 ^ k → ((t : ℕ) → t < k → eqb (bit_at w t) 1 ≡ f (a + t)) → ones_from f 0 a + count_ones w ≡ ones_from f 0 (a + k)
+pub more_ones : (f : ℕ → Bool) (w a k : ℕ) → w < 2 ^ k → ((t : ℕ) → t < k → eqb (bit_at w t) 1 ≡ f (a + t))
+    → ones_from f 0 a + count_ones w ≡ ones_from f 0 (a + k)
 more_ones f w a k h e =
     let z : w / 2 ^ 0 ≡ w = div-one w in
     let s : count_ones w ≡ ones_from (λ t. eqb (bit_at w t) 1) 0 k = ap count_ones (sym z) ∙ ones_bits w 0 k (rw z h) in
-    let t : ones_from (λ t. eqb (bit_at w t) 1) 0 k ≡ ones_from f a k = ones_from_same (λ t. eqb (bit_at w t) 1) f 0 a k (λ t l. (let y : 0 + t ≡ t = omega arith in ap (λ x. eqb (bit_at w x) 1) y) ∙ e t l) in
+    let t : ones_from (λ t. eqb (bit_at w t) 1) 0 k ≡ ones_from f a k =
+    ones_from_same (λ t. eqb (bit_at w t) 1) f 0 a k (λ t l. (let y : 0 + t ≡ t = omega arith in ap (λ x. eqb (bit_at w x) 1) y) ∙ e t l) in
     let o : 0 + a ≡ a = omega arith in
     let r = ones_from_add f 0 a k ∙ ap (λ x. ones_from f 0 a + ones_from f x k) o in
     omega arith
@@ -104,6 +111,7 @@ ones_of_other n h = elim (cases_lt 0 (count_ones n)) [
 
 -- ---- sums that are zero
 
+-- whether a sum of two counts is zero
 pub rest_zero : (a b c : ℕ) → a ≡ b + c → eqb b 0 ≡ true → eqb c 0 ≡ eqb a 0
 rest_zero a b c e h = let z : b ≡ 0 = eqb-true b 0 h in ap (λ x. eqb x 0) (omega arith)
 
@@ -116,11 +124,18 @@ some_right a b c e h = grind (arith, nat_tests)
 -- ---- the bits of a bitmap
 
 -- bits past the length do not count
-pub count-whole : (n : ℕ) (chunks : List (List ℕ)) (len : ℕ) (v : List Bool) → bits n chunks len ≡ v → IsChunkCount n (length chunks) len → IsZeroFrom n chunks len → count_by (λ b. b) (bits n chunks (8 * n * length chunks)) ≡ count_by (λ b. b) v
+pub count-whole : (n : ℕ) (chunks : List (List ℕ)) (len : ℕ) (v : List Bool) → bits n chunks len ≡ v
+    → IsChunkCount n (length chunks) len → IsZeroFrom n chunks len
+    → count_by (λ b. b) (bits n chunks (8 * n * length chunks)) ≡ count_by (λ b. b) v
 count-whole n chunks len v e k z =
-    count-bits n chunks (8 * n * length chunks) ∙ ones_from_all (bit_of n chunks) len (8 * n * length chunks) k.0 z ∙ sym (count-bits n chunks len) ∙ ap (λ (x : List Bool). count_by (λ b. b) x) e
+    count-bits n chunks (8 * n * length chunks)
+    ∙ ones_from_all (bit_of n chunks) len (8 * n * length chunks) k.0 z
+    ∙ sym (count-bits n chunks len)
+    ∙ ap (λ (x : List Bool). count_by (λ b. b) x) e
 
-pub none_range : (n : ℕ) (chunks : List (List ℕ)) (len : ℕ) (v : List Bool) (a b : ℕ) → bits n chunks len ≡ v → b ≤ length v → list_all (λ i. not (bit_of n chunks i)) (range_with_len a (b - a)) ≡ list_all not (slice_range v a b)
+pub none_range : (n : ℕ) (chunks : List (List ℕ)) (len : ℕ) (v : List Bool) (a b : ℕ) → bits n chunks len ≡ v → b ≤ length v
+    → list_all (λ i. not (bit_of n chunks i)) (range_with_len a (b - a)) ≡ list_all not (slice_range v a b)
 none_range n chunks len v a b e h =
     let l = len_is n chunks len v e in
-    none_from (bit_of n chunks) a (b - a) ∙ sym (none_slice v (bit_of n chunks) a b h (λ i s. ap (λ x. get_or x i false) (sym e) ∙ get_or-bits n chunks len i false (omega arith)))
+    none_from (bit_of n chunks) a (b - a)
+    ∙ sym (none_slice v (bit_of n chunks) a b h (λ i s. ap (λ x. get_or x i false) (sym e) ∙ get_or-bits n chunks len i false (omega arith)))

@@ -25,10 +25,13 @@ count-chunk n c = count_map (chunk_bit n c) 0 (8 * n) ∙ ones_from_chunk n c
 pub none_chunk : (n : ℕ) (c : List ℕ) → list_all not (chunk_bits n c) ≡ eqb (ones_from (bit_in c) 0 (8 * n)) 0
 none_chunk n c = none_map (chunk_bit n c) 0 (8 * n) ∙ ap (λ x. eqb x 0) (ones_from_chunk n c)
 
-pub none_chunk_slice : (n : ℕ) (c : List ℕ) (a b : ℕ) → b ≤ 8 * n → list_all not (slice_range (chunk_bits n c) a b) ≡ eqb (ones_from (bit_in c) a (b - a)) 0
+pub none_chunk_slice : (n : ℕ) (c : List ℕ) (a b : ℕ) → b ≤ 8 * n
+    → list_all not (slice_range (chunk_bits n c) a b) ≡ eqb (ones_from (bit_in c) a (b - a)) 0
 none_chunk_slice n c a b h =
     let l = length-map-range_with_len (chunk_bit n c) 0 (8 * n) in
-    none_slice (chunk_bits n c) (bit_in c) a b (omega arith) (λ i s. get_or-map-range_with_len (chunk_bit n c) 0 (8 * n) i i false (omega arith) (omega arith) ∙ chunk_bit-within n c i (omega arith))
+    none_slice (chunk_bits n c) (bit_in c) a b (omega arith) (λ i s.
+    get_or-map-range_with_len (chunk_bit n c) 0 (8 * n) i i false (omega arith) (omega arith)
+    ∙ chunk_bit-within n c i (omega arith))
 
 -- bit t of byte j
 pub bit_in-at : (bytes : List ℕ) (j t : ℕ) → t < 8 → bit_in bytes (8 * j + t) ≡ eqb (bit_at (get_or bytes j 0) t) 1
@@ -38,37 +41,54 @@ bit_in-at bytes j t h =
     ap (λ x. eqb (bit_at (get_or bytes x 0) ((8 * j + t) % 8)) 1) q ∙ ap (λ x. eqb (bit_at (get_or bytes j 0) x) 1) r
 
 -- one more byte counted
-pub more_byte : (bytes : List ℕ) (j b total : ℕ) → get_or bytes j 0 ≡ b → b < 256 → total ≡ ones_from (bit_in bytes) 0 (8 * j) → total + count_ones b ≡ ones_from (bit_in bytes) 0 (8 * (j + 1))
+pub more_byte : (bytes : List ℕ) (j b total : ℕ) → get_or bytes j 0 ≡ b → b < 256 → total ≡ ones_from (bit_in bytes) 0 (8 * j)
+    → total + count_ones b ≡ ones_from (bit_in bytes) 0 (8 * (j + 1))
 more_byte bytes j b total e h s =
     let m : 8 * j + 8 ≡ 8 * (j + 1) = omega arith in
-    ap (λ x. x + count_ones b) s ∙ more_ones (bit_in bytes) b (8 * j) 8 h (λ t l. sym (bit_in-at bytes j t l ∙ ap (λ x. eqb (bit_at x t) 1) e)) ∙ ap (λ x. ones_from (bit_in bytes) 0 x) m
+    ap (λ x. x + count_ones b) s
+    ∙ more_ones (bit_in bytes) b (8 * j) 8 h (λ t l. sym (bit_in-at bytes j t l ∙ ap (λ x. eqb (bit_at x t) 1) e))
+    ∙ ap (λ x. ones_from (bit_in bytes) 0 x) m
 
 -- one more word counted
-pub more_word : (words : List (List ℕ)) (j : ℕ) (d : List ℕ) (w total : ℕ) → j < length words → w < 2 ^ 64 → ((t : ℕ) → t < 64 → eqb (bit_at w t) 1 ≡ chunk_bit 8 (get_or words j d) t) → total ≡ ones_from (bit_of 8 words) 0 (64 * j) → total + count_ones w ≡ ones_from (bit_of 8 words) 0 (64 * (j + 1))
+pub more_word : (words : List (List ℕ)) (j : ℕ) (d : List ℕ) (w total : ℕ) → j < length words → w < 2 ^ 64
+    → ((t : ℕ) → t < 64 → eqb (bit_at w t) 1 ≡ chunk_bit 8 (get_or words j d) t) → total ≡ ones_from (bit_of 8 words) 0 (64 * j)
+    → total + count_ones w ≡ ones_from (bit_of 8 words) 0 (64 * (j + 1))
 more_word words j d w total i h f s =
     let m : 64 * j + 64 ≡ 64 * (j + 1) = omega arith in
     ap (λ x. x + count_ones w) s ∙ more_ones (bit_of 8 words) w (64 * j) 64 h (λ t l.
     let q : j ≡ (64 * j + t) / 64 = omega arith in
     let r : t % 64 ≡ (64 * j + t) % 64 = omega arith in
-    f t l ∙ chunk_bit-mod 8 (get_or words j d) t (64 * j + t) (omega arith) r ∙ ap (λ x. chunk_bit 8 x (64 * j + t)) (get_or_default words j d [] i ∙ ap (λ x. get_or words x []) q)) ∙ ap (λ x. ones_from (bit_of 8 words) 0 x) m
+    f t l
+    ∙ chunk_bit-mod 8 (get_or words j d) t (64 * j + t) (omega arith) r
+    ∙ ap (λ x. chunk_bit 8 x (64 * j + t))
+    (get_or_default words j d [] i ∙ ap (λ x. get_or words x []) q)) ∙ ap (λ x. ones_from (bit_of 8 words) 0 x) m
 
 -- a byte of zeros keeps that none is set
-pub zero_byte : (bytes : List ℕ) (j : ℕ) → get_or bytes j 0 ≡ 0 → ones_from (bit_in bytes) 0 (8 * j) ≡ 0 → ones_from (bit_in bytes) 0 (8 * (j + 1)) ≡ 0
+pub zero_byte : (bytes : List ℕ) (j : ℕ) → get_or bytes j 0 ≡ 0 → ones_from (bit_in bytes) 0 (8 * j) ≡ 0
+    → ones_from (bit_in bytes) 0 (8 * (j + 1)) ≡ 0
 zero_byte bytes j e s = let m = more_byte bytes j 0 0 e (omega arith) (sym s) in let o = ones_of_zero 0 refl in omega arith
 
 -- another byte has a bit that is set
-pub other_byte : (bytes : List ℕ) (j : ℕ) → j < length bytes → get_or bytes j 0 < 256 → (get_or bytes j 0 ≡ 0 → ⊥) → ones_from (bit_in bytes) 0 (8 * j) ≡ 0 → list_all not (chunk_bits (length bytes) bytes) ≡ false
+pub other_byte : (bytes : List ℕ) (j : ℕ) → j < length bytes → get_or bytes j 0 < 256 → (get_or bytes j 0 ≡ 0 → ⊥)
+    → ones_from (bit_in bytes) 0 (8 * j) ≡ 0
+    → list_all not (chunk_bits (length bytes) bytes) ≡ false
 other_byte bytes j l h e s =
     let m = more_byte bytes j (get_or bytes j 0) 0 refl h (sym s) in
     let o = ones_of_other (get_or bytes j 0) e in
     none_chunk (length bytes) bytes ∙ found (bit_in bytes) (8 * (j + 1)) (8 * length bytes) (omega arith) (omega arith)
 
 -- a word of zeros keeps that none is set
-pub zero_word : (words : List (List ℕ)) (j : ℕ) (d : List ℕ) (w : ℕ) → j < length words → w < 2 ^ 64 → ((t : ℕ) → t < 64 → eqb (bit_at w t) 1 ≡ chunk_bit 8 (get_or words j d) t) → w ≡ 0 → ones_from (bit_of 8 words) 0 (64 * j) ≡ 0 → ones_from (bit_of 8 words) 0 (64 * (j + 1)) ≡ 0
+pub zero_word : (words : List (List ℕ)) (j : ℕ) (d : List ℕ) (w : ℕ) → j < length words → w < 2 ^ 64
+    → ((t : ℕ) → t < 64 → eqb (bit_at w t) 1 ≡ chunk_bit 8 (get_or words j d) t) → w ≡ 0
+    → ones_from (bit_of 8 words) 0 (64 * j) ≡ 0
+    → ones_from (bit_of 8 words) 0 (64 * (j + 1)) ≡ 0
 zero_word words j d w l h f e s = let m = more_word words j d w 0 l h f (sym s) in let o = ones_of_zero w e in omega arith
 
 -- another word has a bit that is set
-pub other_word : (words : List (List ℕ)) (j : ℕ) (d : List ℕ) (w : ℕ) → j < length words → w < 2 ^ 64 → ((t : ℕ) → t < 64 → eqb (bit_at w t) 1 ≡ chunk_bit 8 (get_or words j d) t) → (w ≡ 0 → ⊥) → ones_from (bit_of 8 words) 0 (64 * j) ≡ 0 → list_all not (bits 8 words (64 * length words)) ≡ false
+pub other_word : (words : List (List ℕ)) (j : ℕ) (d : List ℕ) (w : ℕ) → j < length words → w < 2 ^ 64
+    → ((t : ℕ) → t < 64 → eqb (bit_at w t) 1 ≡ chunk_bit 8 (get_or words j d) t) → (w ≡ 0 → ⊥)
+    → ones_from (bit_of 8 words) 0 (64 * j) ≡ 0
+    → list_all not (bits 8 words (64 * length words)) ≡ false
 other_word words j d w l h f e s =
     let m = more_word words j d w 0 l h f (sym s) in
     let o = ones_of_other w e in
@@ -77,7 +97,8 @@ other_word words j d w l h f e s =
 -- ---- eight bytes as a word
 
 -- bit t of a word read from eight bytes, as a chunk's
-pub word_chunk_bit : (bytes : List ℕ) (t : ℕ) → ((i : ℕ) → get_or bytes i 0 < 256) → t < 64 → eqb (bit_at (from_le_bytes w64 bytes) t) 1 ≡ chunk_bit 8 bytes t
+pub word_chunk_bit : (bytes : List ℕ) (t : ℕ) → ((i : ℕ) → get_or bytes i 0 < 256) → t < 64
+    → eqb (bit_at (from_le_bytes w64 bytes) t) 1 ≡ chunk_bit 8 bytes t
 word_chunk_bit bytes t h s =
     let m : t / 8 ≡ t / 8 % 8 = omega arith in
     ap (λ x. eqb x 1) (word_bit bytes t h s) ∙ ap (λ x. eqb (bit_at (get_or bytes x 0) (t % 8)) 1) m
@@ -87,46 +108,68 @@ word_chunk_bit bytes t h s =
 pub get_or-first_chunks : (n k : ℕ) (xs : List ℕ) (i : ℕ) → i < k → get_or (first_chunks n k xs) i [] ≡ take n (drop (n * i) xs)
 get_or-first_chunks n zero xs i s = absurd (omega arith)
 get_or-first_chunks n (suc k) xs zero s = ap (λ a. take n (drop a xs)) (let e : 0 ≡ n * 0 = omega arith in e)
-get_or-first_chunks n (suc k) xs (suc i) s = let e : n + n * i ≡ n * suc i = omega (arith, mul-add n i 1) in get_or-first_chunks n k (drop n xs) i (omega arith) ∙ ap (take n) (drop-drop (n * i) n xs ∙ ap (λ a. drop a xs) e)
+get_or-first_chunks n (suc k) xs (suc i) s =
+    let e : n + n * i ≡ n * suc i = omega (arith, mul-add n i 1) in
+    get_or-first_chunks n k (drop n xs) i (omega arith) ∙ ap (take n) (drop-drop (n * i) n xs ∙ ap (λ a. drop a xs) e)
 
 bit_of-words : (k : ℕ) (xs : List ℕ) (i : ℕ) → i < 64 * k → bit_of 8 (first_chunks 8 k xs) i ≡ bit_in xs i
 bit_of-words k xs i h =
     let at : 8 * (i / 64) + i / 8 % 8 ≡ i / 8 = omega arith in
     ap (λ c. chunk_bit 8 c i) (get_or-first_chunks 8 k xs (i / 64) (omega arith))
-    ∙ ap (λ b. eqb (bit_at b (i % 8)) 1) (get_or-take 8 (drop (8 * (i / 64)) xs) (i / 8 % 8) 0 (omega arith) ∙ get_or-drop (8 * (i / 64)) xs (i / 8 % 8) 0 ∙ ap (λ a. get_or xs a 0) at)
+    ∙ ap (λ b. eqb (bit_at b (i % 8)) 1) (get_or-take 8 (drop (8 * (i / 64)) xs) (i / 8 % 8) 0 (omega arith))
+    ∙ ap (λ b. eqb (bit_at b (i % 8)) 1) (get_or-drop (8 * (i / 64)) xs (i / 8 % 8) 0)
+    ∙ ap (λ a. eqb (bit_at (get_or xs a 0) (i % 8)) 1) at
 
 -- the bits from byte k on
 pub bit_in-drop : (k : ℕ) (xs : List ℕ) (t : ℕ) → bit_in (drop k xs) t ≡ bit_in xs (8 * k + t)
 bit_in-drop k xs t =
     let q : k + t / 8 ≡ (8 * k + t) / 8 = omega arith in
     let r : t % 8 ≡ (8 * k + t) % 8 = omega arith in
-    ap (λ b. eqb (bit_at b (t % 8)) 1) (get_or-drop k xs (t / 8) 0) ∙ ap (λ x. eqb (bit_at (get_or xs x 0) (t % 8)) 1) q ∙ ap (λ x. eqb (bit_at (get_or xs ((8 * k + t) / 8) 0) x) 1) r
+    ap (λ b. eqb (bit_at b (t % 8)) 1) (get_or-drop k xs (t / 8) 0)
+    ∙ ap (λ x. eqb (bit_at (get_or xs x 0) (t % 8)) 1) q
+    ∙ ap (λ x. eqb (bit_at (get_or xs ((8 * k + t) / 8) 0) x) 1) r
 
 -- bytes are words and a rest
-words_and_rest : (xs : List ℕ) (words : List (List ℕ)) (rest : List ℕ) → words ≡ first_chunks 8 (length xs / 8) xs → rest ≡ drop (length xs / 8 * 8) xs → length words ≡ length xs / 8 → length rest ≡ length xs % 8
-    → ones_from (bit_in xs) 0 (8 * length xs) ≡ ones_from (bit_of 8 words) 0 (64 * length words) + ones_from (bit_in rest) 0 (8 * length rest)
-words_and_rest xs words rest e f l m =
-    let k : ℕ = length xs / 8 in
-    let a : 8 * length xs ≡ 64 * length words + 8 * length rest = omega arith in
-    let b : ones_from (bit_in xs) 0 (64 * length words) ≡ ones_from (bit_of 8 words) 0 (64 * length words) = ones_from_same (bit_in xs) (bit_of 8 words) 0 0 (64 * length words) (λ t h. sym (ap (λ ws. bit_of 8 ws (0 + t)) e ∙ bit_of-words (length xs / 8) xs (0 + t) (omega arith))) in
-    let c : ones_from (bit_in xs) (0 + 64 * length words) (8 * length rest) ≡ ones_from (bit_in rest) 0 (8 * length rest) = ones_from_same (bit_in xs) (bit_in rest) (0 + 64 * length words) 0 (8 * length rest) (λ t h.
-    let q : 8 * (length xs / 8 * 8) + (0 + t) ≡ 0 + 64 * length words + t = omega arith in
-    sym (ap (λ r. bit_in r (0 + t)) f ∙ bit_in-drop (length xs / 8 * 8) xs (0 + t) ∙ ap (bit_in xs) q)) in
-    ap (λ x. ones_from (bit_in xs) 0 x) a ∙ ones_from_add (bit_in xs) 0 (64 * length words) (8 * length rest) ∙ omega arith
+module _ (xs : List ℕ) (words : List (List ℕ)) (rest : List ℕ) (front : words ≡ first_chunks 8 (length xs / 8) xs)
+    (back : rest ≡ drop (length xs / 8 * 8) xs) (front_len : length words ≡ length xs / 8) (back_len : length rest ≡ length xs % 8) where
+  front_bit : (t : ℕ) → t < 64 * length words → bit_in xs (0 + t) ≡ bit_of 8 words (0 + t)
+  front_bit t h = sym (ap (λ ws. bit_of 8 ws (0 + t)) front ∙ bit_of-words (length xs / 8) xs (0 + t) (omega arith))
 
--- bytes whose words are zero are zero where the rest is
-pub zero_rest : (xs : List ℕ) (words : List (List ℕ)) (rest : List ℕ) → words ≡ first_chunks 8 (length xs / 8) xs → rest ≡ drop (length xs / 8 * 8) xs → length words ≡ length xs / 8 → length rest ≡ length xs % 8
-    → list_all not (bits 8 words (64 * length words)) ≡ true → list_all not (chunk_bits (length rest) rest) ≡ list_all not (chunk_bits (length xs) xs)
-zero_rest xs words rest e f l m h =
-    none_chunk (length rest) rest ∙ rest_zero _ _ _ (words_and_rest xs words rest e f l m) (sym (none_bits 8 words (64 * length words)) ∙ h) ∙ sym (none_chunk (length xs) xs)
+  back_bit : (t : ℕ) → bit_in xs (0 + 64 * length words + t) ≡ bit_in rest (0 + t)
+  back_bit t =
+      let place : 8 * (length xs / 8 * 8) + (0 + t) ≡ 0 + 64 * length words + t = omega arith in
+      sym (ap (λ r. bit_in r (0 + t)) back ∙ bit_in-drop (length xs / 8 * 8) xs (0 + t) ∙ ap (bit_in xs) place)
 
--- bytes with a word that is not zero are not zero
-pub other_words : (xs : List ℕ) (words : List (List ℕ)) (rest : List ℕ) → words ≡ first_chunks 8 (length xs / 8) xs → rest ≡ drop (length xs / 8 * 8) xs → length words ≡ length xs / 8 → length rest ≡ length xs % 8
-    → list_all not (bits 8 words (64 * length words)) ≡ false → list_all not (chunk_bits (length xs) xs) ≡ false
-other_words xs words rest e f l m h =
-    none_chunk (length xs) xs ∙ some_left _ _ _ (words_and_rest xs words rest e f l m) (sym (none_bits 8 words (64 * length words)) ∙ h)
+  words_and_rest : ones_from (bit_in xs) 0 (8 * length xs)
+      ≡ ones_from (bit_of 8 words) 0 (64 * length words) + ones_from (bit_in rest) 0 (8 * length rest)
+  words_and_rest =
+      let lengths : 8 * length xs ≡ 64 * length words + 8 * length rest = omega arith in
+      let in_words = ones_from_same (bit_in xs) (bit_of 8 words) 0 0 (64 * length words) front_bit in
+      let in_rest = ones_from_same (bit_in xs) (bit_in rest) (0 + 64 * length words) 0 (8 * length rest) (λ t _. back_bit t) in
+      ap (λ x. ones_from (bit_in xs) 0 x) lengths
+      ∙ ones_from_add (bit_in xs) 0 (64 * length words) (8 * length rest)
+      ∙ omega arith
 
--- the ones of bytes are those of their words and of the rest
-pub count-words_and_rest : (xs : List ℕ) (words : List (List ℕ)) (rest : List ℕ) → words ≡ first_chunks 8 (length xs / 8) xs → rest ≡ drop (length xs / 8 * 8) xs → length words ≡ length xs / 8 → length rest ≡ length xs % 8
-    → count_by (λ b. b) (chunk_bits (length xs) xs) ≡ count_by (λ b. b) (bits 8 words (64 * length words)) + count_by (λ b. b) (chunk_bits (length rest) rest)
-count-words_and_rest xs words rest e f l m = omega (arith, count-chunk (length xs) xs, words_and_rest xs words rest e f l m, count-bits 8 words (64 * length words), count-chunk (length rest) rest)
+  -- bytes whose words are zero are zero where the rest is
+  pub zero_rest : list_all not (bits 8 words (64 * length words)) ≡ true
+      → list_all not (chunk_bits (length rest) rest) ≡ list_all not (chunk_bits (length xs) xs)
+  zero_rest h =
+      none_chunk (length rest) rest
+      ∙ rest_zero _ _ _ words_and_rest (sym (none_bits 8 words (64 * length words)) ∙ h)
+      ∙ sym (none_chunk (length xs) xs)
+
+  -- bytes with a word that is not zero are not zero
+  pub other_words : list_all not (bits 8 words (64 * length words)) ≡ false → list_all not (chunk_bits (length xs) xs) ≡ false
+  other_words h = none_chunk (length xs) xs ∙ some_left _ _ _ words_and_rest (sym (none_bits 8 words (64 * length words)) ∙ h)
+
+  -- the ones of bytes are those of their words and of the rest
+  pub count-words_and_rest : count_by (λ b. b) (chunk_bits (length xs) xs)
+      ≡ count_by (λ b. b) (bits 8 words (64 * length words)) + count_by (λ b. b) (chunk_bits (length rest) rest)
+  count-words_and_rest =
+      omega (
+        arith,
+        count-chunk (length xs) xs,
+        words_and_rest,
+        count-bits 8 words (64 * length words),
+        count-chunk (length rest) rest,
+      )

@@ -45,7 +45,12 @@ pruned_goes_on_with_one = refl
 
 -- it is a bitmap
 pruned_is_lawful : IsLawful 1 bitmap
-pruned_is_lawful = record { width = record { positive = omega arith; fits = omega arith }; pruned_within = omega arith; len_fits = omega arith; chunks_fit = omega arith }
+pruned_is_lawful = record {
+  width = record { positive = omega arith; fits = omega arith };
+  pruned_within = omega arith;
+  len_fits = omega arith;
+  chunks_fit = omega arith;
+}
 
 -- one of chunks without bytes is none, nor is one that is longer than u64, nor one that prunes more than it has
 no_bytes_a_chunk : IsLawful 0 bitmap → ⊥
@@ -214,7 +219,12 @@ nothing_left = refl
 -- an iterator over all ten that has loaded the word at 0 out of its chunk, which is 5: one more word is to come, of two
 iterator : IsScan 1 ten 0 10 (5 ∷ []) 1 0
 iterator = record {
-  lawful = record { width = record { positive = omega arith; fits = omega arith }; pruned_within = omega arith; len_fits = omega arith; chunks_fit = omega arith };
+  lawful = record {
+    width = record { positive = omega arith; fits = omega arith };
+    pruned_within = omega arith;
+    len_fits = omega arith;
+    chunks_fit = omega arith;
+  };
   within = omega arith;
   aligned = λ h. refl;
   retained = λ h. omega arith;

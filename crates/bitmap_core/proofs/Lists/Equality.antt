@@ -13,7 +13,10 @@ decides_from : {P : Type 0} (r : Bool) → (r ≡ true → P) → (r ≡ false �
 decides_from true f g = (f, λ _. refl)
 decides_from false f g = (f, λ p. absurd (g refl p))
 
-pub same_values : (n : ℕ) (xs ys : List (List ℕ)) (len len' : ℕ) (v w : List Bool) (r : Bool) → bits n xs len ≡ v → bits n ys len' ≡ w → len ≡ len' → IsZeroFrom n xs len → IsZeroFrom n ys len' → Decides r ((i : ℕ) → bit_of n xs i ≡ bit_of n ys i) → r ≡ pointwise beq v w
+pub same_values : (n : ℕ) (xs ys : List (List ℕ)) (len len' : ℕ) (v w : List Bool) (r : Bool) → bits n xs len ≡ v
+    → bits n ys len' ≡ w → len ≡ len' → IsZeroFrom n xs len → IsZeroFrom n ys len'
+    → Decides r ((i : ℕ) → bit_of n xs i ≡ bit_of n ys i)
+    → r ≡ pointwise beq v w
 same_values n xs ys len len' v w r e f l z y d =
     let g : bits n ys len ≡ w = ap (λ k. bits n ys k) l ∙ f in
     same_from_decides {P = v ≡ w} r (pointwise beq v w) (
@@ -24,6 +27,10 @@ same_values n xs ys len len' v w r e f l z y d =
       ]),
     ) (pointwise_decides booleans_Decides v w)
 
-pub other_lengths : (n : ℕ) (xs ys : List (List ℕ)) (len len' : ℕ) (v w : List Bool) → bits n xs len ≡ v → bits n ys len' ≡ w → len ≢ len' → eqb len len' ≡ pointwise beq v w
+pub other_lengths : (n : ℕ) (xs ys : List (List ℕ)) (len len' : ℕ) (v w : List Bool) → bits n xs len ≡ v → bits n ys len' ≡ w
+    → len ≢ len'
+    → eqb len len' ≡ pointwise beq v w
 other_lengths n xs ys len len' v w e f d =
-    same_from_decides {P = v ≡ w} (eqb len len') (pointwise beq v w) (decides_from (eqb len len') (λ q. absurd (d ((Decides-eqb len len').0 q))) (λ q h. d (sym (len_is n xs len v e) ∙ ap length h ∙ len_is n ys len' w f))) (pointwise_decides booleans_Decides v w)
+    let apart : v ≡ w → ⊥ = λ h. d (sym (len_is n xs len v e) ∙ ap length h ∙ len_is n ys len' w f) in
+    let lengths = decides_from {P = v ≡ w} (eqb len len') (λ q. absurd (d ((Decides-eqb len len').0 q))) (λ q h. apart h) in
+    same_from_decides {P = v ≡ w} (eqb len len') (pointwise beq v w) lengths (pointwise_decides booleans_Decides v w)

@@ -14,8 +14,12 @@ use Rattle.bitmap_core.proofs.Lists.SetPositions.{ones_between-append, ones_betw
 
 -- what stands behind the front of a list is in it
 Contains-middle : (xs ys : List ℕ) (k : ℕ) → Contains (xs ++ k ∷ ys) k
-Contains-middle xs ys k =
-    (length xs, omega (arith, length-append xs (k ∷ ys)), get_or-append_right xs (k ∷ ys) (length xs) (length xs) k refl (omega arith) ∙ (let z : length xs - length xs ≡ 0 = omega arith in ap (λ i. get_or (k ∷ ys) i k) z))
+Contains-middle xs ys k = (
+  length xs,
+  omega (arith, length-append xs (k ∷ ys)),
+  get_or-append_right xs (k ∷ ys) (length xs) (length xs) k refl (omega arith)
+      ∙ (let z : length xs - length xs ≡ 0 = omega arith in ap (λ i. get_or (k ∷ ys) i k) z),
+)
 
 All-at : (P : ℕ → Type 0) (xs : List ℕ) (k : ℕ) → All P xs → Contains xs k → P k
 All-at P xs k h c = subst P c.2 (h c.0 k c.1)
@@ -42,12 +46,14 @@ module _ (bit : ℕ → Bool) (lo hi : ℕ) where
   has k a b e =
       let split : ones_between bit lo hi ≡ ones_between bit lo k ++ ones_between bit k hi = ones_between-append bit lo k hi a (omega arith) in
       let hit : ones_between bit k hi ≡ k ∷ ones_between bit (k + 1) hi = ones_between-hit bit k hi b e in
-      subst (λ xs. Contains xs k) (sym (split ∙ ap (λ ys. ones_between bit lo k ++ ys) hit)) (Contains-middle (ones_between bit lo k) (ones_between bit (k + 1) hi) k)
+      subst (λ xs. Contains xs k) (sym (split ∙ ap (λ ys. ones_between bit lo k ++ ys) hit))
+      (Contains-middle (ones_between bit lo k) (ones_between bit (k + 1) hi) k)
 
   -- and there is no other
   found : (k : ℕ) → Contains (ones_between bit lo hi) k → (lo ≤ k) × (k < hi) × (bit k ≡ true)
   found k c =
-      let w = All-at (λ x. (lo ≤ x) × (x < lo + (hi - lo))) (ones_between bit lo hi) k (All-filter bit (λ x. (lo ≤ x) × (x < lo + (hi - lo))) (range_with_len lo (hi - lo)) (range_within lo (hi - lo))) c in
+      let InRange : ℕ → Type 0 = λ x. (lo ≤ x) × (x < lo + (hi - lo)) in
+      let w = All-at InRange (ones_between bit lo hi) k (All-filter bit InRange (range_with_len lo (hi - lo)) (range_within lo (hi - lo))) c in
       (w.0, omega (arith, w.0, w.1), All-at (λ x. bit x ≡ true) (ones_between bit lo hi) k (filter_passes bit (range_with_len lo (hi - lo))) c)
 
   ones_between-exact : (k : ℕ) → Contains (ones_between bit lo hi) k ↔ ((lo ≤ k) × (k < hi) × (bit k ≡ true))
@@ -90,4 +96,5 @@ module _ (v : List Bool) (positions : List ℕ) (is : positions ≡ filter (λ k
   positions-count =
       ap length is
       ∙ run_count (λ k. get_or v k false) 0 (length v)
-      ∙ sym (ap (count_by (λ b. b)) (fill_by_all (λ k. get_or v k false) v (length v) false refl (λ k h. refl)) ∙ count_map (λ k. get_or v k false) 0 (length v))
+      ∙ sym (count_map (λ k. get_or v k false) 0 (length v))
+      ∙ sym (ap (count_by (λ b. b)) (fill_by_all (λ k. get_or v k false) v (length v) false refl (λ k h. refl)))

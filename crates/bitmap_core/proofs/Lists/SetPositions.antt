@@ -4,7 +4,7 @@ use Rattle.std.specs.List.{filter, range_with_len}
 use Rattle.bitmap_core.specs.Meaning.{Meaning, ones_between, ones}
 
 -- n positions from lo on
-abbrev pub run : (ℕ → Bool) → ℕ → ℕ → List ℕ
+abbrev run : (ℕ → Bool) → ℕ → ℕ → List ℕ
 run p lo n = filter p (range_with_len lo n)
 
 cond_append : (b : Bool) (x : ℕ) (xs ys : List ℕ) → cond b (x ∷ (xs ++ ys)) (xs ++ ys) ≡ cond b (x ∷ xs) xs ++ ys
@@ -37,17 +37,20 @@ run-length p lo (suc n) = cond_length (p lo) lo (run p (lo + 1) n) n (run-length
 pub ones_between-none : (bit : ℕ → Bool) (lo hi : ℕ) → hi ≤ lo → ones_between bit lo hi ≡ []
 ones_between-none bit lo hi h = let e : hi - lo ≡ 0 = omega arith in rw e
 
-ones_between-step : (bit : ℕ → Bool) (lo hi : ℕ) → lo < hi → ones_between bit lo hi ≡ cond (bit lo) (lo ∷ ones_between bit (lo + 1) hi) (ones_between bit (lo + 1) hi)
+ones_between-step : (bit : ℕ → Bool) (lo hi : ℕ) → lo < hi
+    → ones_between bit lo hi ≡ cond (bit lo) (lo ∷ ones_between bit (lo + 1) hi) (ones_between bit (lo + 1) hi)
 ones_between-step bit lo hi h = let e : hi - lo ≡ suc (hi - (lo + 1)) = omega arith in rw e
 
 pub ones_between-hit : (bit : ℕ → Bool) (lo hi : ℕ) → lo < hi → bit lo ≡ true → ones_between bit lo hi ≡ lo ∷ ones_between bit (lo + 1) hi
 ones_between-hit bit lo hi h e = ones_between-step bit lo hi h ∙ rw e
 
-pub ones_between-append : (bit : ℕ → Bool) (lo mid hi : ℕ) → lo ≤ mid → mid ≤ hi → ones_between bit lo hi ≡ ones_between bit lo mid ++ ones_between bit mid hi
+pub ones_between-append : (bit : ℕ → Bool) (lo mid hi : ℕ) → lo ≤ mid → mid ≤ hi
+    → ones_between bit lo hi ≡ ones_between bit lo mid ++ ones_between bit mid hi
 ones_between-append bit lo mid hi h i =
     let e : hi - lo ≡ (mid - lo) + (hi - mid) = omega arith in
     let d : lo + (mid - lo) ≡ mid = omega arith in
-    let f : run bit lo ((mid - lo) + (hi - mid)) ≡ run bit lo (mid - lo) ++ run bit (lo + (mid - lo)) (hi - mid) = run-append bit lo (mid - lo) (hi - mid) in
+    let f : run bit lo ((mid - lo) + (hi - mid)) ≡ run bit lo (mid - lo) ++ run bit (lo + (mid - lo)) (hi - mid) =
+    run-append bit lo (mid - lo) (hi - mid) in
     ap (run bit lo) e ∙ f ∙ ap (λ (k : ℕ). run bit lo (mid - lo) ++ run bit k (hi - mid)) d
 
 pub ones_between-same : (p q : ℕ → Bool) (lo hi : ℕ) → ((k : ℕ) → lo ≤ k → k < hi → p k ≡ q k) → ones_between p lo hi ≡ ones_between q lo hi
@@ -60,13 +63,17 @@ pub ones_between-length : (p : ℕ → Bool) (lo hi : ℕ) → length (ones_betw
 ones_between-length p lo hi = run-length p lo (hi - lo)
 
 -- the first set position, and those after it
-pub ones_between-first : (p q : ℕ → Bool) (lo t hi : ℕ) → lo ≤ t → t < hi → p t ≡ true → ((k : ℕ) → lo ≤ k → k < t → p k ≡ false) → ((k : ℕ) → lo ≤ k → k ≤ t → q k ≡ false) → ((k : ℕ) → t < k → k < hi → p k ≡ q k) → ones_between p lo hi ≡ t ∷ ones_between q lo hi
+pub ones_between-first : (p q : ℕ → Bool) (lo t hi : ℕ) → lo ≤ t → t < hi → p t ≡ true
+    → ((k : ℕ) → lo ≤ k → k < t → p k ≡ false) → ((k : ℕ) → lo ≤ k → k ≤ t → q k ≡ false)
+    → ((k : ℕ) → t < k → k < hi → p k ≡ q k)
+    → ones_between p lo hi ≡ t ∷ ones_between q lo hi
 ones_between-first p q lo t hi h i at before gone same =
     let left : ones_between p lo hi ≡ ones_between p lo t ++ ones_between p t hi = ones_between-append p lo t hi h (omega arith) in
     let none : ones_between p lo t ≡ [] = ones_between-false p lo t before in
     let hit : ones_between p t hi ≡ t ∷ ones_between p (t + 1) hi = ones_between-hit p t hi i at in
     let rest : ones_between p (t + 1) hi ≡ ones_between q (t + 1) hi = ones_between-same p q (t + 1) hi (λ k a b. same k (omega arith) b) in
-    let right : ones_between q lo hi ≡ ones_between q lo (t + 1) ++ ones_between q (t + 1) hi = ones_between-append q lo (t + 1) hi (omega arith) (omega arith) in
+    let right : ones_between q lo hi ≡ ones_between q lo (t + 1) ++ ones_between q (t + 1) hi =
+    ones_between-append q lo (t + 1) hi (omega arith) (omega arith) in
     let gap : ones_between q lo (t + 1) ≡ [] = ones_between-false q lo (t + 1) (λ k a b. gone k a (omega arith)) in
     rw (left, none, hit, rest, right, gap)
 

@@ -35,6 +35,7 @@ pub record Sound (n : ℕ) (range : ℕ → Bool) (text : List ℕ) : Type 0 whe
   pub whole : 8 + chunk_bytes n text ≤ length text
   pub clear : list_any (bit_in (drop 8 text)) (trailing n text) ≡ false
 
+-- a text without a fault has all of this, and a text that has it has no fault
 pub sound : (n : ℕ) (range : ℕ → Bool) (text : List ℕ) → bits_fault n range text ≡ None → Sound n range text
 unfolding bits_fault
 sound n range text e =
@@ -49,6 +50,7 @@ pub sound-none : (n : ℕ) (range : ℕ → Bool) (text : List ℕ) → Sound n 
 unfolding bits_fault
 sound-none n range text s = rw (le-ltb _ _ s.long, s.admitted, lt-ltb _ _ s.count, le-ltb _ _ s.whole, s.clear) refl
 
+-- no more chunks than bits
 pub count-le : (n len : ℕ) → 0 < n → chunk_count n len ≤ len
 count-le n len p =
     let c = IsChunkCount-ceil n len p in
@@ -61,20 +63,37 @@ pub sound-spells : (n : ℕ) (range : ℕ → Bool) (text : List ℕ) → 0 < n 
 sound-spells n range text p h s =
     let l = length-value n (number text) (drop 8 text) in
     let b = number-lt text h in
-    record { bits = value n (number text) (drop 8 text); rest = drop (8 + chunk_bytes n text) text; spelled = text-spells n text p h s.whole s.clear; len_fits = omega arith; chunks_fit = omega (arith, count-le n (length (value n (number text) (drop 8 text))) p); admitted = ap range l ∙ s.admitted }
+    record {
+      bits = value n (number text) (drop 8 text);
+      rest = drop (8 + chunk_bytes n text) text;
+      spelled = text-spells n text p h s.whole s.clear;
+      len_fits = omega arith;
+      chunks_fit = omega (arith, count-le n (length (value n (number text) (drop 8 text))) p);
+      admitted = ap range l ∙ s.admitted;
+    }
 
-pub spells-sound : (n : ℕ) (range : ℕ → Bool) (v : List Bool) (rest : List ℕ) → 0 < n → length v < 2 ^ 64 → range (length v) ≡ true → Sound n range (spelling n v ++ rest)
+pub spells-sound : (n : ℕ) (range : ℕ → Bool) (v : List Bool) (rest : List ℕ) → 0 < n → length v < 2 ^ 64
+    → range (length v) ≡ true
+    → Sound n range (spelling n v ++ rest)
 spells-sound n range v rest p l r =
     let m = spelling-number n v rest l in
     let w = length-append (spelling n v) rest in
     let x = length-spelling n v in
     let c : chunk_bytes n (spelling n v ++ rest) ≡ n * chunk_count n (length v) = ap (λ k. n * chunk_count n k) m in
     let k : chunk_count n (number (spelling n v ++ rest)) ≡ chunk_count n (length v) = ap (chunk_count n) m in
-    record { long = omega arith; admitted = ap range m ∙ r; count = omega (arith, count-le n (length v) p); whole = omega arith; clear = spelling-trailing n v rest p l }
+    record {
+      long = omega arith;
+      admitted = ap range m ∙ r;
+      count = omega (arith, count-le n (length v) p);
+      whole = omega arith;
+      clear = spelling-trailing n v rest p l;
+    }
 
 pub bits_acceptable : (n : ℕ) (range : ℕ → Bool) (text : List ℕ) → 0 < n → AreBytes text → bits_fault n range text ≡ None ↔ SpellsBits n range text
-bits_acceptable n range text p h =
-    (λ e. sound-spells n range text p h (sound n range text e), λ a. sound-none n range text (subst (Sound n range) (sym a.spelled) (spells-sound n range a.bits a.rest p a.len_fits a.admitted)))
+bits_acceptable n range text p h = (
+  λ e. sound-spells n range text p h (sound n range text e),
+  λ a. sound-none n range text (subst (Sound n range) (sym a.spelled) (spells-sound n range a.bits a.rest p a.len_fits a.admitted)),
+)
 
 -- ---- a bitmap with a pruned front
 
@@ -109,7 +128,9 @@ unfolding or_else
 none_first None g e = (refl, e)
 none_first (Some f) g e = absurd cc
 
-none_later : (n : ℕ) (range : ℕ → Bool) (text : List ℕ) → first_fault (bits_tests n range (drop 8 text) ++ total_tests n text) ≡ None → (bits_fault n range (drop 8 text) ≡ None) × (8 * n * number text + number (drop 8 text) < 2 ^ 64)
+none_later : (n : ℕ) (range : ℕ → Bool) (text : List ℕ)
+    → first_fault (bits_tests n range (drop 8 text) ++ total_tests n text) ≡ None
+    → (bits_fault n range (drop 8 text) ≡ None) × (8 * n * number text + number (drop 8 text) < 2 ^ 64)
 unfolding bits_fault
 none_later n range text e =
     let d = none_first _ _ (sym (first_fault-append (bits_tests n range (drop 8 text)) (total_tests n text)) ∙ e) in
@@ -125,20 +146,29 @@ sound_pruned n range text e =
     record { long = ltb-false _ _ a.0; fits = within_64 _ b.0; count = within_64 _ c.0; bits = d.0; total = d.1 }
 
 -- a bitmap with a pruned front whose count is in order has the faults of its bits, and then that of its total
-pruned_later : (n : ℕ) (range : ℕ → Bool) (text : List ℕ) → 8 ≤ length text → 8 * n * number text < 2 ^ 64 → number text < 2 ^ 64 → pruned_fault n range text ≡ or_else (bits_fault n range (drop 8 text)) (first_fault (total_tests n text))
+pruned_later : (n : ℕ) (range : ℕ → Bool) (text : List ℕ) → 8 ≤ length text → 8 * n * number text < 2 ^ 64
+    → number text < 2 ^ 64
+    → pruned_fault n range text ≡ or_else (bits_fault n range (drop 8 text)) (first_fault (total_tests n text))
 unfolding pruned_fault bits_fault
-pruned_later n range text l w c = rw (le-ltb _ _ l, lt-ltb _ _ w, lt-ltb _ _ c) (first_fault-append (bits_tests n range (drop 8 text)) (total_tests n text))
+pruned_later n range text l w c =
+    rw (le-ltb _ _ l, lt-ltb _ _ w, lt-ltb _ _ c) (first_fault-append (bits_tests n range (drop 8 text)) (total_tests n text))
 
-pub pruned_bits_fault : (n : ℕ) (range : ℕ → Bool) (text : List ℕ) (f : Option Fault) → 8 ≤ length text → 8 * n * number text < 2 ^ 64 → number text < 2 ^ 64 → bits_fault n range (drop 8 text) ≡ f → IsSome f → pruned_fault n range text ≡ f
+pub pruned_bits_fault : (n : ℕ) (range : ℕ → Bool) (text : List ℕ) (f : Option Fault) → 8 ≤ length text
+    → 8 * n * number text < 2 ^ 64 → number text < 2 ^ 64 → bits_fault n range (drop 8 text) ≡ f → IsSome f
+    → pruned_fault n range text ≡ f
 unfolding or_else
 pruned_bits_fault n range text None l w c e d = absurd cc
 pruned_bits_fault n range text (Some f) l w c e d = pruned_later n range text l w c ∙ ap (λ x. or_else x (first_fault (total_tests n text))) e
 
-pub pruned_total_fault : (n : ℕ) (range : ℕ → Bool) (text : List ℕ) → 8 ≤ length text → 8 * n * number text < 2 ^ 64 → number text < 2 ^ 64 → bits_fault n range (drop 8 text) ≡ None → 2 ^ 64 ≤ 8 * n * number text + number (drop 8 text)
+pub pruned_total_fault : (n : ℕ) (range : ℕ → Bool) (text : List ℕ) → 8 ≤ length text → 8 * n * number text < 2 ^ 64
+    → number text < 2 ^ 64 → bits_fault n range (drop 8 text) ≡ None
+    → 2 ^ 64 ≤ 8 * n * number text + number (drop 8 text)
     → pruned_fault n range text ≡ Some (Invalid (codes "Prunable") (codes "total bitmap length (pruned + unpruned) would overflow u64"))
 unfolding or_else
-pruned_total_fault n range text l w c e t = pruned_later n range text l w c ∙ ap (λ x. or_else x (first_fault (total_tests n text))) e ∙ rw (le-ltb _ _ t) refl
+pruned_total_fault n range text l w c e t =
+    pruned_later n range text l w c ∙ ap (λ x. or_else x (first_fault (total_tests n text))) e ∙ rw (le-ltb _ _ t) refl
 
 pub sound_pruned-none : (n : ℕ) (range : ℕ → Bool) (text : List ℕ) → SoundPruned n range text → pruned_fault n range text ≡ None
 unfolding or_else
-sound_pruned-none n range text s = pruned_later n range text s.long s.fits s.count ∙ ap (λ x. or_else x (first_fault (total_tests n text))) s.bits ∙ rw (lt-ltb _ _ s.total) refl
+sound_pruned-none n range text s =
+    pruned_later n range text s.long s.fits s.count ∙ ap (λ x. or_else x (first_fault (total_tests n text))) s.bits ∙ rw (lt-ltb _ _ s.total) refl

@@ -36,12 +36,16 @@ AreBytes-take a text h i = elim (cases_lt i a) [
   | inr l ↦ rw (get_or_past (take a text) i 0 (omega (arith, length-take a text))) (omega arith)
 ]
 
+-- a text begins with the bytes of its number
 pub number_of_text : (text : List ℕ) → AreBytes text → 8 ≤ length text → text ≡ to_be_bytes w64 (number text) ++ drop 8 text
-number_of_text text h l = sym (take-append-drop 8 text) ∙ ap (λ x. x ++ drop 8 text) (sym (be_bytes_8 (take 8 text) (number text) (omega (arith, length-take 8 text)) (AreBytes-take 8 text h) refl))
+number_of_text text h l =
+    sym (take-append-drop 8 text)
+    ∙ ap (λ x. x ++ drop 8 text) (sym (be_bytes_8 (take 8 text) (number text) (omega (arith, length-take 8 text)) (AreBytes-take 8 text h) refl))
 
 pub number-lt : (text : List ℕ) → AreBytes text → number text < 2 ^ 64
 number-lt text h = let f = AreBytes-take 8 text h in omega (arith, f 0, f 1, f 2, f 3, f 4, f 5, f 6, f 7)
 
+-- the number that is spelled is read
 pub number-again : (m : ℕ) (rest : List ℕ) → m < 2 ^ 64 → number (to_be_bytes w64 m ++ rest) ≡ m
 number-again m rest h = ap (from_be_bytes w64) (take_at (to_be_bytes w64 m) rest 8 refl) ∙ from_be_bytes-to_be_bytes_8 m h
 
@@ -67,10 +71,13 @@ bit_of-chunks_in : (n len : ℕ) (body : List ℕ) (i : ℕ) → 0 < n → i < 8
 bit_of-chunks_in n len body i p h =
     let w : i / (8 * n) < chunk_count n len = (div-lt_iff_lt-mul {k = 8 * n} {x = i} {y = chunk_count n len} (omega arith)).1 (grind arith) in
     let b : i / 8 < n * chunk_count n len = omega arith in
-    bit_of-first_chunks n (chunk_count n len) (take (n * chunk_count n len) body) i p w ∙ ap (λ x. eqb (bit_at x (i % 8)) 1) (get_or-take (n * chunk_count n len) body (i / 8) 0 b)
+    bit_of-first_chunks n (chunk_count n len) (take (n * chunk_count n len) body) i p w
+    ∙ ap (λ x. eqb (bit_at x (i % 8)) 1) (get_or-take (n * chunk_count n len) body (i / 8) 0 b)
 
 -- no bit of the chunks stands past the length
-pub zeros : (n len : ℕ) (body : List ℕ) → 0 < n → list_any (bit_in body) (range_with_len len (8 * (n * chunk_count n len) - len)) ≡ false → IsZeroFrom n (chunks_in n len body) len
+pub zeros : (n len : ℕ) (body : List ℕ) → 0 < n
+    → list_any (bit_in body) (range_with_len len (8 * (n * chunk_count n len) - len)) ≡ false
+    → IsZeroFrom n (chunks_in n len body) len
 zeros n len body p e i s =
     elim (cases_lt (i / (8 * n)) (chunk_count n len)) [
       | inl h ↦
@@ -81,17 +88,21 @@ zeros n len body p e i s =
     ]
 
 -- the bits past the length, in the chunks and in the bytes
-pub same_past : (n len : ℕ) (body : List ℕ) → 0 < n → list_any (bit_of n (chunks_in n len body)) (range_with_len len (8 * n * length (chunks_in n len body) - len)) ≡ list_any (bit_in body) (range_with_len len (8 * (n * chunk_count n len) - len))
+pub same_past : (n len : ℕ) (body : List ℕ) → 0 < n
+    → list_any (bit_of n (chunks_in n len body)) (range_with_len len (8 * n * length (chunks_in n len body) - len))
+    ≡ list_any (bit_in body) (range_with_len len (8 * (n * chunk_count n len) - len))
 same_past n len body p =
     let g : 8 * n * length (chunks_in n len body) - len ≡ 8 * (n * chunk_count n len) - len =
     let b = ap (λ x. 8 * n * x) (length-chunks_in n len body) in
     let c : 8 * n * chunk_count n len ≡ 8 * (n * chunk_count n len) = grind arith in
     omega arith in
     ap (λ m. list_any (bit_of n (chunks_in n len body)) (range_with_len len m)) g
-    ∙ any_range-same (bit_of n (chunks_in n len body)) (bit_in body) len (8 * (n * chunk_count n len) - len) (λ i a b. bit_of-chunks_in n len body i p (omega arith))
+    ∙ any_range-same (bit_of n (chunks_in n len body)) (bit_in body) len (8 * (n * chunk_count n len) - len) (λ i a b.
+    bit_of-chunks_in n len body i p (omega arith))
 
 -- chunks with no bit past the length are the chunks of the bits that they have
-chunks-spell : (n len : ℕ) (body : List ℕ) → 0 < n → AreBytes body → n * chunk_count n len ≤ length body → list_any (bit_in body) (range_with_len len (8 * (n * chunk_count n len) - len)) ≡ false
+chunks-spell : (n len : ℕ) (body : List ℕ) → 0 < n → AreBytes body → n * chunk_count n len ≤ length body
+    → list_any (bit_in body) (range_with_len len (8 * (n * chunk_count n len) - len)) ≡ false
     → chunks_in n len body ≡ map (chunk_of n (bits n (chunks_in n len body) len)) (range_with_len 0 (chunk_count n len))
 chunks-spell n len body p h l e =
     let k : ℕ = chunk_count n len in
@@ -103,28 +114,43 @@ chunks-spell n len body p h l e =
     let inside : i < length xs = rw (length-chunks_in n len body) s in
     let is : get_or xs i [] ≡ take n (drop (n * i) bytes) = get_or-first_chunks n k bytes i s in
     let m = mul-le n (i + 1) k (omega arith) in
-    let wide : length (take n (drop (n * i) bytes)) ≡ n = omega (arith, length-take n (drop (n * i) bytes), length-drop (n * i) bytes, mul-add n i 1) in
-    chunk_is n xs len (bits n xs len) i (get_or xs i []) p refl (zeros n len body p e) inside (get_or_default xs i [] (get_or xs i []) inside) (ap length is ∙ wide) (λ q. rw is (AreBytes-take n (drop (n * i) bytes) (AreBytes-drop (n * i) bytes fits) q)))
+    let wide : length (take n (drop (n * i) bytes)) ≡ n = omega (
+      arith,
+      length-take n (drop (n * i) bytes),
+      length-drop (n * i) bytes,
+      mul-add n i 1,
+    ) in
+    chunk_is n xs len (bits n xs len) i (get_or xs i []) p refl (zeros n len body p e) inside
+    (get_or_default xs i [] (get_or xs i []) inside) (ap length is ∙ wide) (λ q.
+    rw is (AreBytes-take n (drop (n * i) bytes) (AreBytes-drop (n * i) bytes fits) q)))
   where
     mul-le : (c a b : ℕ) → a ≤ b → c * a ≤ c * b
     mul-le c a b q = let e : a + (b - a) ≡ b = omega arith in omega (arith, mul-add c a (b - a), ap (λ x. c * x) e)
 
 -- a text by its parts
-joined : (n len a : ℕ) (text body : List ℕ) (chunks : List (List ℕ)) (v : List Bool) → text ≡ to_be_bytes w64 len ++ body → flat_map (λ x. x) chunks ≡ take a body → chunks ≡ map (chunk_of n v) (range_with_len 0 (chunk_count n len)) → length v ≡ len → text ≡ spelling n v ++ drop a body
+joined : (n len a : ℕ) (text body : List ℕ) (chunks : List (List ℕ)) (v : List Bool) → text ≡ to_be_bytes w64 len ++ body
+    → flat_map (λ x. x) chunks ≡ take a body → chunks ≡ map (chunk_of n v) (range_with_len 0 (chunk_count n len))
+    → length v ≡ len
+    → text ≡ spelling n v ++ drop a body
 unfolding spelling
 joined n len a text body chunks v e f c l =
     let flat : List ℕ = flat_map (chunk_of n v) (range_with_len 0 (chunk_count n len)) in
     let g : take a body ≡ flat = sym f ∙ ap (flat_map (λ x. x)) c ∙ flat_map-map (λ x. x) (chunk_of n v) (range_with_len 0 (chunk_count n len)) in
     let b : body ≡ flat ++ drop a body = sym (take-append-drop a body) ∙ ap (λ x. x ++ drop a body) g in
-    e ∙ ap (λ x. to_be_bytes w64 len ++ x) b ∙ sym (append_assoc (to_be_bytes w64 len) flat (drop a body)) ∙ ap (λ m. (to_be_bytes w64 m ++ flat_map (chunk_of n v) (range_with_len 0 (chunk_count n m))) ++ drop a body) (sym l)
+    e
+    ∙ ap (λ x. to_be_bytes w64 len ++ x) b
+    ∙ sym (append_assoc (to_be_bytes w64 len) flat (drop a body))
+    ∙ ap (λ m. (to_be_bytes w64 m ++ flat_map (chunk_of n v) (range_with_len 0 (chunk_count n m))) ++ drop a body) (sym l)
 
 -- a text with no fault in its length and its chunks is spelled so
-pub text-spells : (n : ℕ) (text : List ℕ) → 0 < n → AreBytes text → 8 + chunk_bytes n text ≤ length text → list_any (bit_in (drop 8 text)) (trailing n text) ≡ false
+pub text-spells : (n : ℕ) (text : List ℕ) → 0 < n → AreBytes text → 8 + chunk_bytes n text ≤ length text
+    → list_any (bit_in (drop 8 text)) (trailing n text) ≡ false
     → text ≡ spelling n (value n (number text) (drop 8 text)) ++ drop (8 + chunk_bytes n text) text
 unfolding value
 text-spells n text p h l e =
     joined n (number text) (chunk_bytes n text) text (drop 8 text) (chunks_in n (number text) (drop 8 text)) _ (number_of_text text h (omega arith))
-    (first_chunks-all n (chunk_count n (number text)) (take (chunk_bytes n text) (drop 8 text)) (omega (arith, length-take (chunk_bytes n text) (drop 8 text), length-drop 8 text)))
+    (first_chunks-all n (chunk_count n (number text)) (take (chunk_bytes n text) (drop 8 text))
+    (omega (arith, length-take (chunk_bytes n text) (drop 8 text), length-drop 8 text)))
     (chunks-spell n (number text) (drop 8 text) p (AreBytes-drop 8 text h) (omega (arith, length-drop 8 text)) e)
     (length-bits n _ (number text))
     ∙ ap (λ x. spelling n (bits n (chunks_in n (number text) (drop 8 text)) (number text)) ++ x) (drop-drop (chunk_bytes n text) 8 text)
@@ -133,17 +159,25 @@ text-spells n text p h l e =
 
 pub length-spelling : (n : ℕ) (v : List Bool) → length (spelling n v) ≡ 8 + n * chunk_count n (length v)
 unfolding spelling
-length-spelling n v = length-append (to_be_bytes w64 (length v)) (flat_map (chunk_of n v) (range_with_len 0 (chunk_count n (length v)))) ∙ ap (λ x. 8 + x) (length-range_pieces n (chunk_of n v) 0 (chunk_count n (length v)) (length-chunk_of n v))
+length-spelling n v =
+    length-append (to_be_bytes w64 (length v)) (flat_map (chunk_of n v) (range_with_len 0 (chunk_count n (length v))))
+    ∙ ap (λ x. 8 + x) (length-range_pieces n (chunk_of n v) 0 (chunk_count n (length v)) (length-chunk_of n v))
 
 pub spelling-number : (n : ℕ) (v : List Bool) (rest : List ℕ) → length v < 2 ^ 64 → number (spelling n v ++ rest) ≡ length v
 unfolding spelling
-spelling-number n v rest h = ap number (append_assoc (to_be_bytes w64 (length v)) (flat_map (chunk_of n v) (range_with_len 0 (chunk_count n (length v)))) rest) ∙ number-again (length v) (flat_map (chunk_of n v) (range_with_len 0 (chunk_count n (length v))) ++ rest) h
+spelling-number n v rest h =
+    ap number (append_assoc (to_be_bytes w64 (length v)) (flat_map (chunk_of n v) (range_with_len 0 (chunk_count n (length v)))) rest)
+    ∙ number-again (length v) (flat_map (chunk_of n v) (range_with_len 0 (chunk_count n (length v))) ++ rest) h
 
-spelling-body : (n : ℕ) (v : List Bool) (rest : List ℕ) → drop 8 (spelling n v ++ rest) ≡ flat_map (chunk_of n v) (range_with_len 0 (chunk_count n (length v))) ++ rest
+spelling-body : (n : ℕ) (v : List Bool) (rest : List ℕ)
+    → drop 8 (spelling n v ++ rest) ≡ flat_map (chunk_of n v) (range_with_len 0 (chunk_count n (length v))) ++ rest
 unfolding spelling
-spelling-body n v rest = ap (drop 8) (append_assoc (to_be_bytes w64 (length v)) (flat_map (chunk_of n v) (range_with_len 0 (chunk_count n (length v)))) rest) ∙ drop_at (to_be_bytes w64 (length v)) (flat_map (chunk_of n v) (range_with_len 0 (chunk_count n (length v))) ++ rest) 8 refl
+spelling-body n v rest =
+    ap (drop 8) (append_assoc (to_be_bytes w64 (length v)) (flat_map (chunk_of n v) (range_with_len 0 (chunk_count n (length v)))) rest)
+    ∙ drop_at (to_be_bytes w64 (length v)) (flat_map (chunk_of n v) (range_with_len 0 (chunk_count n (length v))) ++ rest) 8 refl
 
-spelling-bit : (n : ℕ) (v : List Bool) (rest : List ℕ) (i : ℕ) → 0 < n → i < 8 * (n * chunk_count n (length v)) → bit_in (drop 8 (spelling n v ++ rest)) i ≡ get_or v i false
+spelling-bit : (n : ℕ) (v : List Bool) (rest : List ℕ) (i : ℕ) → 0 < n → i < 8 * (n * chunk_count n (length v))
+    → bit_in (drop 8 (spelling n v ++ rest)) i ≡ get_or v i false
 spelling-bit n v rest i p h = ap (λ x. bit_in x i) (spelling-body n v rest) ∙ bit_in-chunks n v (chunk_count n (length v)) i rest p h
 
 -- what is spelled is read off
@@ -152,23 +186,38 @@ unfolding bits_in
 bits_in-spelling n v rest p h =
     let c = IsChunkCount-ceil n (length v) p in
     let g : 8 * n * chunk_count n (length v) ≡ 8 * (n * chunk_count n (length v)) = grind arith in
-    fill_by_all (bit_in (drop 8 (spelling n v ++ rest))) v (number (spelling n v ++ rest)) false (sym (spelling-number n v rest h)) (λ i s. sym (spelling-bit n v rest i p (omega (arith, spelling-number n v rest h))))
+    fill_by_all (bit_in (drop 8 (spelling n v ++ rest))) v (number (spelling n v ++ rest)) false (sym (spelling-number n v rest h)) (λ i s.
+    sym (spelling-bit n v rest i p (omega (arith, spelling-number n v rest h))))
 
-pub bits_in_spelled : (n : ℕ) (text : List ℕ) (v : List Bool) (rest : List ℕ) → 0 < n → length v < 2 ^ 64 → text ≡ spelling n v ++ rest → v ≡ bits_in text
+pub bits_in_spelled : (n : ℕ) (text : List ℕ) (v : List Bool) (rest : List ℕ) → 0 < n → length v < 2 ^ 64
+    → text ≡ spelling n v ++ rest
+    → v ≡ bits_in text
 bits_in_spelled n text v rest p h e = bits_in-spelling n v rest p h ∙ ap bits_in (sym e)
 
-pub spelling-trailing : (n : ℕ) (v : List Bool) (rest : List ℕ) → 0 < n → length v < 2 ^ 64 → list_any (bit_in (drop 8 (spelling n v ++ rest))) (trailing n (spelling n v ++ rest)) ≡ false
+pub spelling-trailing : (n : ℕ) (v : List Bool) (rest : List ℕ) → 0 < n → length v < 2 ^ 64
+    → list_any (bit_in (drop 8 (spelling n v ++ rest))) (trailing n (spelling n v ++ rest)) ≡ false
 spelling-trailing n v rest p h =
-    rw (spelling-number n v rest h) (any_range_none (bit_in (drop 8 (spelling n v ++ rest))) (length v) (8 * (n * chunk_count n (length v)) - length v) (λ i l s. spelling-bit n v rest i p (omega arith) ∙ get_or_past v i false l))
+    let more : ℕ = 8 * (n * chunk_count n (length v)) - length v in
+    let bit : ℕ → Bool = bit_in (drop 8 (spelling n v ++ rest)) in
+    rw (spelling-number n v rest h) (any_range_none bit (length v) more (λ i l s. spelling-bit n v rest i p (omega arith) ∙ get_or_past v i false l))
 
 -- a spelling and what follows it determine the bits and what follows
-pub same_spelling : (n : ℕ) (v w : List Bool) (xs ys : List ℕ) → 0 < n → length v < 2 ^ 64 → length w < 2 ^ 64 → spelling n v ++ xs ≡ spelling n w ++ ys → (v ≡ w) × (xs ≡ ys)
+pub same_spelling : (n : ℕ) (v w : List Bool) (xs ys : List ℕ) → 0 < n → length v < 2 ^ 64 → length w < 2 ^ 64
+    → spelling n v ++ xs ≡ spelling n w ++ ys
+    → (v ≡ w) × (xs ≡ ys)
 same_spelling n v w xs ys p lv lw e =
     let l : length v ≡ length w = sym (spelling-number n v xs lv) ∙ ap number e ∙ spelling-number n w ys lw in
     let c = IsChunkCount-ceil n (length v) p in
     let g : 8 * n * chunk_count n (length v) ≡ 8 * (n * chunk_count n (length v)) = grind arith in
-    let same : v ≡ w = ext_get_or false v w l (λ i s. sym (spelling-bit n v xs i p (omega arith)) ∙ ap (λ x. bit_in (drop 8 x) i) e ∙ spelling-bit n w ys i p (rw (← l) (omega arith))) in
-    (same, sym (drop_at (spelling n v) xs (length (spelling n v)) refl) ∙ ap (drop (length (spelling n v))) e ∙ drop_at (spelling n w) ys (length (spelling n v)) (ap (λ x. length (spelling n x)) (sym same)))
+    let same : v ≡ w = ext_get_or false v w l (λ i s.
+    sym (spelling-bit n v xs i p (omega arith))
+    ∙ ap (λ x. bit_in (drop 8 x) i) e
+    ∙ spelling-bit n w ys i p (rw (← l) (omega arith))) in (
+      same,
+      sym (drop_at (spelling n v) xs (length (spelling n v)) refl)
+          ∙ ap (drop (length (spelling n v))) e
+          ∙ drop_at (spelling n w) ys (length (spelling n v)) (ap (λ x. length (spelling n x)) (sym same)),
+    )
 
 -- equal spellings are of equal lists
 pub same_where_spelled : (n : ℕ) (v w : List Bool) → 0 < n → length v < 2 ^ 64 → length w < 2 ^ 64 → spelling n v ≡ spelling n w → v ≡ w

@@ -14,7 +14,8 @@ use Rattle.bitmap_core.proofs.Words.Starts.{Follows, follows}
 
 -- the word at base has the bits of the bytes from lo up to end, and no others
 pub record IsLoaded (n base lo end : ℕ) (bytes : List ℕ) (word : ℕ) : Type 0 where
-  pub inside : (i : ℕ) → i < 64 → lo ≤ base + i → base + i < end → base % (8 * n) + i < 8 * n → eqb (bit_at word i) 1 ≡ chunk_bit n bytes (base % (8 * n) + i)
+  pub inside : (i : ℕ) → i < 64 → lo ≤ base + i → base + i < end → base % (8 * n) + i < 8 * n
+      → eqb (bit_at word i) 1 ≡ chunk_bit n bytes (base % (8 * n) + i)
   pub before : (i : ℕ) → i < 64 → base + i < lo → eqb (bit_at word i) 1 ≡ false
   pub past_chunk : (i : ℕ) → i < 64 → 8 * n ≤ base % (8 * n) + i → eqb (bit_at word i) 1 ≡ false
   pub past_end : (i : ℕ) → i < 64 → end ≤ base + i → eqb (bit_at word i) 1 ≡ false
@@ -55,9 +56,11 @@ module _ (n : ℕ) (m : Meaning) (base lo end : ℕ) (bytes : List ℕ) (word : 
       let w : ℕ → Bool = word_bit base word in
       let c : lo ≤ top = omega arith in
       let d : top ≤ base + 64 = omega (arith, fo.near) in
-      let one : ones_between w base (base + 64) ≡ ones_between w base lo ++ ones_between w lo (base + 64) = ones_between-append w base lo (base + 64) from (omega arith) in
+      let one : ones_between w base (base + 64) ≡ ones_between w base lo ++ ones_between w lo (base + 64) =
+      ones_between-append w base lo (base + 64) from (omega arith) in
       let none : ones_between w base lo ≡ [] = ones_between-false w base lo (λ k a b. loaded.before (k - base) (omega arith) (omega arith)) in
-      let two : ones_between w lo (base + 64) ≡ ones_between w lo top ++ ones_between w top (base + 64) = ones_between-append w lo top (base + 64) c d in
+      let two : ones_between w lo (base + 64) ≡ ones_between w lo top ++ ones_between w top (base + 64) =
+      ones_between-append w lo top (base + 64) c d in
       let none2 : ones_between w top (base + 64) ≡ [] = ones_between-false w top (base + 64) (λ k a b. past k a b (omega arith)) in
       let three : ones_between w lo top ≡ ones_between m.bit lo top = ones_between-same w m.bit lo top same in
       rw (one, none, two, none2, three) (append-nil (ones_between m.bit lo top))
@@ -68,7 +71,10 @@ module _ (n : ℕ) (m : Meaning) (base lo end : ℕ) (bytes : List ℕ) (word : 
       let w : ones_between (word_bit base word) base (base + 64) ≡ ones_between m.bit lo top = in_word in
       ⊎_elim
       (λ (lt : next < end). let e : top ≡ next = omega arith in rw (w, e) (sym (ones_between-append m.bit lo next end (omega arith) (omega arith))))
-      (λ (ge : end ≤ next). let e : top ≡ end = omega arith in let none : ones_between m.bit next end ≡ [] = ones_between-none m.bit next end ge in rw (w, e, none) (append-nil (ones_between m.bit lo end)))
+      (λ (ge : end ≤ next).
+      let e : top ≡ end = omega arith in
+      let none : ones_between m.bit next end ≡ [] = ones_between-none m.bit next end ge in
+      rw (w, e, none) (append-nil (ones_between m.bit lo end)))
       (cases_lt next end)
 
 -- ---- a word with no bit left
@@ -83,7 +89,9 @@ pub left_none : (n : ℕ) (m : Meaning) (base word end : ℕ) → word ≡ 0 →
 left_none n m base word end e h = left_empty n m base word end e ∙ ones_between-none m.bit (next_word n base) end h
 
 -- what is left stays the same on the way to the next word
-pub left_moved : (n : ℕ) (m : Meaning) (base word end after : ℕ) (new old : List ℕ) → word ≡ 0 → after ≡ next_word n base → new ≡ ones_between m.bit after end → left_from n m base word end ≡ old → new ≡ old
+pub left_moved : (n : ℕ) (m : Meaning) (base word end after : ℕ) (new old : List ℕ) → word ≡ 0 → after ≡ next_word n base
+    → new ≡ ones_between m.bit after end → left_from n m base word end ≡ old
+    → new ≡ old
 left_moved n m base word end after new old z is e f = e ∙ ap (λ (k : ℕ). ones_between m.bit k end) is ∙ sym (left_empty n m base word end z) ∙ f
 
 -- ---- the first word of a range
@@ -101,7 +109,8 @@ masked_cut word masked k base end m c i h a = masked_false word masked k i m h (
 
 -- the first word without its bits before the range
 pub first_loaded : (n first end : ℕ) (bytes : List ℕ) (word masked : ℕ) → 0 < n →
-    ((i : ℕ) → i < 64 → word_start n first + i < end → word_start n first % (8 * n) + i < 8 * n → eqb (bit_at word i) 1 ≡ chunk_bit n bytes (word_start n first % (8 * n) + i)) →
+    ((i : ℕ) → i < 64 → word_start n first + i < end → word_start n first % (8 * n) + i < 8 * n
+    → eqb (bit_at word i) 1 ≡ chunk_bit n bytes (word_start n first % (8 * n) + i)) →
     ((i : ℕ) → i < 64 → 8 * n ≤ word_start n first % (8 * n) + i → eqb (bit_at word i) 1 ≡ false) →
     IsCut (word_start n first) word end →
     IsMasked word masked (first - word_start n first) →
@@ -147,5 +156,7 @@ module _ (old new place : ℕ) (t : IsLowestTaken old new place) where
       (λ k a b. sym (t.others (k - base) (omega arith) (omega arith)))
 
   -- of what is left in a word and after it, the lowest bit is the first
-  pub left_taken : (n : ℕ) (m : Meaning) (base end : ℕ) (before left : List ℕ) → left_from n m base old end ≡ before → before ≡ left → left ≡ (base + place) ∷ left_from n m base new end
+  pub left_taken : (n : ℕ) (m : Meaning) (base end : ℕ) (before left : List ℕ) → left_from n m base old end ≡ before
+      → before ≡ left
+      → left ≡ (base + place) ∷ left_from n m base new end
   left_taken n m base end before left e f = sym f ∙ sym e ∙ ap (λ (l : List ℕ). l ++ ones_between m.bit (next_word n base) end) (taken_first base)

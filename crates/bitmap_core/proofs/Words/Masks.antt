@@ -12,19 +12,24 @@ use Rattle.bitmap_core.specs.Chunk.{chunk_bit}
 
 -- ---- a word of a chunk
 
-pub rest_bit : (n : ℕ) (chunk : List ℕ) (byte t : ℕ) → 8 * byte + t < 8 * n → eqb (bit_at (get_or (drop byte chunk) (t / 8) 0) (t % 8)) 1 ≡ chunk_bit n chunk (8 * byte + t)
+-- a bit of the chunk from a byte on
+pub rest_bit : (n : ℕ) (chunk : List ℕ) (byte t : ℕ) → 8 * byte + t < 8 * n
+    → eqb (bit_at (get_or (drop byte chunk) (t / 8) 0) (t % 8)) 1 ≡ chunk_bit n chunk (8 * byte + t)
 rest_bit n chunk byte t h =
     let q : (8 * byte + t) / 8 ≡ byte + t / 8 = omega arith in
     let r : t % 8 ≡ (8 * byte + t) % 8 = omega arith in
     let m : byte + t / 8 ≡ (8 * byte + t) / 8 % n = sym (ap (λ x. x % n) q ∙ mod-eq_of_lt {n = byte + t / 8} {m = n} (omega arith)) in
-    ap (λ b. eqb (bit_at b (t % 8)) 1) (get_or-drop byte chunk (t / 8) 0 ∙ ap (λ x. get_or chunk x 0) m) ∙ ap (λ x. eqb (bit_at (get_or chunk ((8 * byte + t) / 8 % n) 0) x) 1) r
+    ap (λ b. eqb (bit_at b (t % 8)) 1) (get_or-drop byte chunk (t / 8) 0 ∙ ap (λ x. get_or chunk x 0) m)
+    ∙ ap (λ x. eqb (bit_at (get_or chunk ((8 * byte + t) / 8 % n) 0) x) 1) r
 
 -- ---- a part of a word
 
+-- the mask of the lowest bits
 pub low_mask : (count : ℕ) → count < 64 → 1 * 2 ^ count % 2 ^ 64 - 1 ≡ 2 ^ count - 1
 low_mask count h = let p : 2 ^ count < 2 ^ 64 = pow-lt h in omega arith
 
-high_mask : (word start t : ℕ) → start < 64 → bit_at (bit_and word ((2 ^ 64 - 1) * 2 ^ start % 2 ^ 64)) t ≡ min (bit_at word t) (bit_at (2 ^ 64 - 2 ^ start) t)
+high_mask : (word start t : ℕ) → start < 64
+    → bit_at (bit_and word ((2 ^ 64 - 1) * 2 ^ start % 2 ^ 64)) t ≡ min (bit_at word t) (bit_at (2 ^ 64 - 2 ^ start) t)
 high_mask word start t h = rw (ones_shl 64 start (omega arith)) (bit_at_and word (2 ^ 64 - 2 ^ start) t)
 
 pub high_bit_kept : (word start t : ℕ) → start < 64 → start ≤ t → t < 64 → bit_at (bit_and word ((2 ^ 64 - 1) * 2 ^ start % 2 ^ 64)) t ≡ bit_at word t
@@ -35,7 +40,9 @@ high_bit_cut word start t h a = omega (arith, high_mask word start t h, bit_at_m
 
 -- ---- the lowest bit of a word
 
-pub lowest : (word : ℕ) → 0 < word → word < 2 ^ 64 → (trailing_zeros w64 word < 64) × (bit_at word (trailing_zeros w64 word) ≡ 1) × ((t : ℕ) → t < trailing_zeros w64 word → bit_at word t ≡ 0)
+-- the lowest one of a word
+pub lowest : (word : ℕ) → 0 < word → word < 2 ^ 64
+    → (trailing_zeros w64 word < 64) × (bit_at word (trailing_zeros w64 word) ≡ 1) × ((t : ℕ) → t < trailing_zeros w64 word → bit_at word t ≡ 0)
 lowest word h f = bit_at-trailing_zeros w64 word h f
 
 -- a word whose lowest set bit is at place, less 1
@@ -71,7 +78,10 @@ module _ (word place : ℕ) (set : bit_at word place ≡ 1) (below : (t : ℕ) �
       ∙ sym (ap (λ x. bit_at x t) parts ∙ bit_at_cat_high (word / p) (place + 1) (word % p) t low_fits (omega arith))
 
   less_one_here : bit_at (word - 1) place ≡ 0
-  less_one_here = ap (λ x. bit_at x place) less_one ∙ bit_at_cat_low (word / p) (place + 1) (2 ^ place - 1) place (omega arith) ∙ bit_at_ones_above place place (omega arith)
+  less_one_here =
+      ap (λ x. bit_at x place) less_one
+      ∙ bit_at_cat_low (word / p) (place + 1) (2 ^ place - 1) place (omega arith)
+      ∙ bit_at_ones_above place place (omega arith)
 
   pub without_here : bit_at (bit_and word (word - 1)) place ≡ 0
   without_here = let e = less_one_here in omega (arith, bit_at_and word (word - 1) place)

@@ -41,11 +41,15 @@ bit_at-spelled f (suc k) h t s = ap (λ x. bit_at x t) (spelled-suc f k) ∙ eli
 ]
 
 -- a word of eight bytes has the bits of the bytes that it was made of
-pub word_bits : (bytes word : List ℕ) → ((i : ℕ) → get_or bytes i 0 < 256) → ((k : ℕ) → k < 8 → get_or word k 0 ≡ get_or bytes k 0) → (t : ℕ) → t < 64 → bit_at (from_le_bytes w64 word) t ≡ bit_at (get_or bytes (t / 8) 0) (t % 8)
+pub word_bits : (bytes word : List ℕ) → ((i : ℕ) → get_or bytes i 0 < 256)
+    → ((k : ℕ) → k < 8 → get_or word k 0 ≡ get_or bytes k 0) → (t : ℕ) → t < 64
+    → bit_at (from_le_bytes w64 word) t ≡ bit_at (get_or bytes (t / 8) 0) (t % 8)
 unfolding spelled
 word_bits bytes word h same t s =
-    bit_at-spelled (λ k. get_or word k 0) 7 (λ k m. let e = same k (omega arith) in let b = h k in omega arith) t s ∙ ap (λ b. bit_at b (t % 8)) (same (t / 8) (omega arith))
+    bit_at-spelled (λ k. get_or word k 0) 7 (λ k m. let e = same k (omega arith) in let b = h k in omega arith) t s
+    ∙ ap (λ b. bit_at b (t % 8)) (same (t / 8) (omega arith))
 
 -- and so has one that is read out of them
-pub word_bit : (bytes : List ℕ) (t : ℕ) → ((i : ℕ) → get_or bytes i 0 < 256) → t < 64 → bit_at (from_le_bytes w64 bytes) t ≡ bit_at (get_or bytes (t / 8) 0) (t % 8)
+pub word_bit : (bytes : List ℕ) (t : ℕ) → ((i : ℕ) → get_or bytes i 0 < 256) → t < 64
+    → bit_at (from_le_bytes w64 bytes) t ≡ bit_at (get_or bytes (t / 8) 0) (t % 8)
 word_bit bytes t h s = word_bits bytes bytes h (λ k l. refl) t s

@@ -9,6 +9,7 @@ use Rattle.bitmap_core.specs.Meaning.{starts_word, next_word, word_start}
 start_aligned : (n k : ℕ) → starts_word n k ≡ true → (k % (8 * n)) % 64 ≡ 0
 start_aligned n k h = eqb-true ((k % (8 * n)) % 64) 0 h
 
+-- a word begins with a byte
 pub start_bytes : (n k : ℕ) → starts_word n k ≡ true → 8 * (k % (8 * n) / 8) ≡ k % (8 * n)
 start_bytes n k h = let e = start_aligned n k h in omega arith
 
@@ -45,6 +46,7 @@ next_cases n k p =
     (λ (ge : 8 * n ≤ k % (8 * n) + 64). let e = le-ltb (k % (8 * n) + 64) (8 * n) ge in inr (rw e (leaves (8 * n) k (omega arith) ge)))
     (cases_lt (k % (8 * n) + 64) (8 * n))
 
+-- the next word begins further on
 pub end_near : (n k : ℕ) → 0 < n → k < next_word n k
 end_near n k p =
     ⊎_elim
@@ -89,7 +91,9 @@ inside_none n k next i h f a b =
     let near = f.near in
     let room = f.in_chunk in
     let e : i ≡ k / (8 * n) * (8 * n) + (k % (8 * n) + (i - k)) = omega (arith, div-add-mod' k (8 * n)) in
-    let d : i % (8 * n) ≡ k % (8 * n) + (i - k) = ap (λ (x : ℕ). x % (8 * n)) e ∙ mod-mul-add (k / (8 * n)) (8 * n) (k % (8 * n) + (i - k)) (omega arith) in
+    let d : i % (8 * n) ≡ k % (8 * n) + (i - k) =
+    ap (λ (x : ℕ). x % (8 * n)) e
+    ∙ mod-mul-add (k / (8 * n)) (8 * n) (k % (8 * n) + (i - k)) (omega arith) in
     ne_eqb (i % (8 * n) % 64) 0 (rw d (λ z. omega arith))
 
 -- ---- the word of a position
@@ -102,7 +106,9 @@ start_of n k p =
     let b : k % (8 * n) < 8 * n = mod_below k (8 * n) (omega arith) in
     let c : k % (8 * n) - k % (8 * n) % 64 < 8 * n = omega arith in
     let e : word_start n k ≡ k / (8 * n) * (8 * n) + (k % (8 * n) - k % (8 * n) % 64) = omega (arith, div-add-mod' k (8 * n)) in
-    let d : word_start n k % (8 * n) ≡ k % (8 * n) - k % (8 * n) % 64 = ap (λ (x : ℕ). x % (8 * n)) e ∙ mod-mul-add (k / (8 * n)) (8 * n) (k % (8 * n) - k % (8 * n) % 64) c in
+    let d : word_start n k % (8 * n) ≡ k % (8 * n) - k % (8 * n) % 64 =
+    ap (λ (x : ℕ). x % (8 * n)) e
+    ∙ mod-mul-add (k / (8 * n)) (8 * n) (k % (8 * n) - k % (8 * n) % 64) c in
     eq-eqb (word_start n k % (8 * n) % 64) 0 (rw d (omega arith))
 
 pub start_chunk : (n k : ℕ) → 0 < n → word_start n k / (8 * n) ≡ k / (8 * n)

@@ -12,4 +12,6 @@ pub returns-clause-cleared : goal.returns-clause-cleared
 returns-clause-cleared c = let l = lowest c.args.word.now c.requires (omega arith) in ap (λ x. eqb x 1) (without_here c.args.word.now _ l.1 l.2)
 
 pub returns-clause-others : goal.returns-clause-others
-returns-clause-others c t s d = let l = lowest c.args.word.now c.requires (omega arith) in ap (λ x. eqb x 1) (without_other c.args.word.now _ l.1 l.2 t d)
+returns-clause-others c t s d =
+    let l = lowest c.args.word.now c.requires (omega arith) in
+    ap (λ x. eqb x 1) (without_other c.args.word.now _ l.1 l.2 t d)

@@ -12,5 +12,8 @@ returns-clause-lists g c =
 
 pub returns-clause-bytes : goal.returns-clause-bytes
 returns-clause-bytes g c =
-    let d = pointwise_decides booleans_Decides c.args.a.now c.args.b.now in
-    (λ t. ap (spelling g.row.N) (d.0 (sym c.eq.ensures ∙ t)), λ q. c.eq.ensures ∙ d.1 (same_where_spelled g.row.N c.args.a.now c.args.b.now c.len.ensures.width.positive c.len.ensures.bound c.len-2.ensures.bound q))
+    let d = pointwise_decides booleans_Decides c.args.a.now c.args.b.now in (
+      λ t. ap (spelling g.row.N) (d.0 (sym c.eq.ensures ∙ t)),
+      λ q. c.eq.ensures
+          ∙ d.1 (same_where_spelled g.row.N c.args.a.now c.args.b.now c.len.ensures.width.positive c.len.ensures.bound c.len-2.ensures.bound q),
+    )

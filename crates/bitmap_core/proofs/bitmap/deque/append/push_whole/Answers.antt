@@ -14,7 +14,7 @@ loop-chunks-preserved g c =
       capacity = rw c.push_back_reserved.ensures.capacity c.loop-chunks.invariant.capacity;
       within = rw length_push (omega arith);
       more = rw length_push (omega (arith, c.loop-chunks.invariant.more));
-      kept = λ i h. bit_of-push_in g.row.N c.loop-chunks.chunks.items _ i (omega (arith, c.loop-chunks.invariant.more)) ∙ c.loop-chunks.invariant.kept i h;
+      kept = λ i h. bit_of-push_in _ c.loop-chunks.chunks.items _ i (omega (arith, c.loop-chunks.invariant.more)) ∙ c.loop-chunks.invariant.kept i h;
       done = λ i h s. elim (cases_eq (i / (8 * g.row.N)) (length c.loop-chunks.chunks.items)) [
         | inl e ↦ pushed_here g.row.N c.loop-chunks.chunks.items c.args.len _ _ w (rw (c.chunk_width.ensures, l) at c.chunk_from.ensures) i e
         | inr e ↦

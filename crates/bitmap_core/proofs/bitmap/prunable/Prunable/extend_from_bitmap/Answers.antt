@@ -6,5 +6,11 @@ use Rattle.bitmap_core.proofs.bitmap.prunable.Prunable.extend_from_bitmap.Goals 
 
 pub returns-clause-roomy : goal.returns-clause-roomy
 returns-clause-roomy g c = λ h.
-    let room : bit_len g.row.N (record { pruned = c.self.inside.pruned_chunks; bits = c.self.inside.bitmap }) + length c.args.other.now ≤ 8 * g.row.N * div_ceil (8 * g.row.N * c.self.inside.pruned_chunks + length c.self.inside.bitmap) (8 * g.row.N) = subst (λ b. bit_len g.row.N b + length c.args.other.now ≤ 8 * g.row.N * div_ceil (bit_len g.row.N b) (8 * g.row.N)) (sym c.self.view_is) h in
-    c.extend_from_bitmap.ensures.roomy (omega (arith, room, ceil_front g.row.N c.self.inside.pruned_chunks (length c.self.inside.bitmap) c.self.invariant.width.positive))
+    let held = c.self.invariant in
+    let room : bit_len g.row.N (record {
+      pruned = c.self.inside.pruned_chunks;
+      bits = c.self.inside.bitmap;
+    }) + length c.args.other.now ≤ 8 * g.row.N * div_ceil (8 * g.row.N * c.self.inside.pruned_chunks + length c.self.inside.bitmap) (8 * g.row.N) =
+    subst (λ b. bit_len g.row.N b + length c.args.other.now ≤ 8 * g.row.N * div_ceil (bit_len g.row.N b) (8 * g.row.N)) (sym c.self.view_is) h in
+    c.extend_from_bitmap.ensures.roomy
+    (omega (arith, room, ceil_front g.row.N c.self.inside.pruned_chunks (length c.self.inside.bitmap) held.width.positive))

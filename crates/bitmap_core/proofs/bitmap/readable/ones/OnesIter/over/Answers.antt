@@ -19,10 +19,13 @@ returns-then-position-end-clause-positions g c =
 pub load_word-word-requires : goal.load_word-word-requires
 load_word-word-requires g c =
     let p = c.len.ensures.lawful.width.positive in
-    let below = c.if-position-end.false in
-    (omega arith, (c.len.ensures.lawful.width, rw c.word_base-base.ensures (start_of g.row.N c.max-position.result p, (omega (arith, below), omega arith))))
+    let below = c.if-position-end.false in (
+      omega arith,
+      (c.len.ensures.lawful.width, rw c.word_base-base.ensures (start_of g.row.N c.max-position.result p, (omega (arith, below), omega arith))),
+    )
 
-masked : (g : Over) (c : After-high_bits g) → IsMasked c.load_word-word.result c.high_bits.result (c.max-position.result - word_start g.row.N c.max-position.result)
+masked : (g : Over) (c : After-high_bits g)
+    → IsMasked c.load_word-word.result c.high_bits.result (c.max-position.result - word_start g.row.N c.max-position.result)
 masked g c = record { kept = rw c.word_base-base.ensures at c.high_bits.ensures.kept; cut = rw c.word_base-base.ensures at c.high_bits.ensures.cut }
 
 -- the first chunk is that of the position
@@ -36,15 +39,15 @@ invariant_of-result-2 g c =
     rw (c.word_base-base.ensures, c.load_word-word.ensures.counted) (record {
       scan = first_scan g.row.N m c.max-position.result c.min-end.result c.get_chunk-chunk.result c.len.ensures.lawful
           (omega (arith, c.len.ensures.value)) c.if-position-end.false (omega (arith, c.pruned_bits.ensures)) (shown g c);
-      cut = masked_cut c.load_word-word.result c.high_bits.result _ _ c.min-end.result (masked g c) (rw c.word_base-base.ensures at c.load_word-word.ensures.past_end);
+      cut = masked_cut _ _ _ _ _ (masked g c) (rw c.word_base-base.ensures at c.load_word-word.ensures.past_end);
     })
 
 pub returns-clause-positions : goal.returns-clause-positions
 returns-clause-positions g c =
     let m : Meaning = g.B.Readable.meaning c.args.readable.now in
     let p = c.len.ensures.lawful.width.positive in
-    rw c.word_base-base.ensures (left_loaded g.row.N m (word_start g.row.N c.max-position.result) c.max-position.result c.min-end.result c.get_chunk-chunk.result c.high_bits.result
-    p (start_of g.row.N c.max-position.result p) (omega arith) c.if-position-end.false (omega (arith, c.len.ensures.value)) (start_near g.row.N c.max-position.result p)
+    rw c.word_base-base.ensures (left_loaded _ m (word_start _ _) c.max-position.result c.min-end.result c.get_chunk-chunk.result c.high_bits.result
+    p (start_of _ _ p) (omega arith) c.if-position-end.false (omega (arith, c.len.ensures.value)) (start_near _ _ p)
     (rw (start_chunk g.row.N c.max-position.result p) (shown g c))
     (first_loaded g.row.N c.max-position.result c.min-end.result c.get_chunk-chunk.result c.load_word-word.result c.high_bits.result p
     (rw c.word_base-base.ensures at c.load_word-word.ensures.inside) (rw c.word_base-base.ensures at c.load_word-word.ensures.past_chunk)
@@ -55,12 +58,12 @@ returns-clause-positions g c =
 
 pub returns-clause-loads : goal.returns-clause-loads
 returns-clause-loads g c =
-    rw c.load_word-word.ensures.counted (omega (arith, counted_first g.row.N c.max-position.result c.min-end.result c.len.ensures.lawful.width.positive c.if-position-end.false))
+    rw c.load_word-word.ensures.counted (omega (arith, counted_first _ _ _ c.len.ensures.lawful.width.positive c.if-position-end.false))
 
 pub returns-then-position-end-clause-bound : goal.returns-then-position-end-clause-bound
 returns-then-position-end-clause-bound g c =
-    rw (returns-then-position-end-clause-positions g c) (ones_fit g.row.N (g.B.Readable.meaning c.args.readable.now) c.args.range.start c.args.range.end c.len.ensures.lawful.len_fits)
+    rw (returns-then-position-end-clause-positions g c) (ones_fit _ _ c.args.range.start c.args.range.end c.len.ensures.lawful.len_fits)
 
 pub returns-clause-bound : goal.returns-clause-bound
 returns-clause-bound g c =
-    rw (returns-clause-positions g c) (ones_fit g.row.N (g.B.Readable.meaning c.args.readable.now) c.args.range.start c.args.range.end c.len.ensures.lawful.len_fits)
+    rw (returns-clause-positions g c) (ones_fit _ _ c.args.range.start c.args.range.end c.len.ensures.lawful.len_fits)
