@@ -19,6 +19,7 @@ pub mod Packing
 pub mod PlaceCounts
 pub mod WordBytes
 pub mod WordBits
+pub mod ZeroBlocks
 pub mod ByteRanges
 pub mod FlatBits
 pub mod Runs

@@ -63,17 +63,6 @@ other_byte bytes j l h e s =
     let o = ones_of_other (get_or bytes j 0) e in
     none_chunk (length bytes) bytes ∙ found (bit_in bytes) (8 * (j + 1)) (8 * length bytes) (omega arith) (omega arith)
 
--- a word of zeros keeps that none is set
-pub zero_word : (words : List (List ℕ)) (j : ℕ) (d : List ℕ) (w : ℕ) → j < length words → w < 2 ^ 64 → ((t : ℕ) → t < 64 → eqb (bit_at w t) 1 ≡ chunk_bit 8 (get_or words j d) t) → w ≡ 0 → ones_from (bit_of 8 words) 0 (64 * j) ≡ 0 → ones_from (bit_of 8 words) 0 (64 * (j + 1)) ≡ 0
-zero_word words j d w l h f e s = let m = more_word words j d w 0 l h f (sym s) in let o = ones_of_zero w e in omega arith
-
--- another word has a bit that is set
-pub other_word : (words : List (List ℕ)) (j : ℕ) (d : List ℕ) (w : ℕ) → j < length words → w < 2 ^ 64 → ((t : ℕ) → t < 64 → eqb (bit_at w t) 1 ≡ chunk_bit 8 (get_or words j d) t) → (w ≡ 0 → ⊥) → ones_from (bit_of 8 words) 0 (64 * j) ≡ 0 → list_all not (bits 8 words (64 * length words)) ≡ false
-other_word words j d w l h f e s =
-    let m = more_word words j d w 0 l h f (sym s) in
-    let o = ones_of_other w e in
-    none_bits 8 words (64 * length words) ∙ found (bit_of 8 words) (64 * (j + 1)) (64 * length words) (omega arith) (omega arith)
-
 -- ---- eight bytes as a word
 
 -- bit t of a word read from eight bytes, as a chunk's
@@ -113,18 +102,6 @@ words_and_rest xs words rest e f l m =
     let q : 8 * (length xs / 8 * 8) + (0 + t) ≡ 0 + 64 * length words + t = omega arith in
     sym (ap (λ r. bit_in r (0 + t)) f ∙ bit_in-drop (length xs / 8 * 8) xs (0 + t) ∙ ap (bit_in xs) q)) in
     ap (λ x. ones_from (bit_in xs) 0 x) a ∙ ones_from_add (bit_in xs) 0 (64 * length words) (8 * length rest) ∙ omega arith
-
--- bytes whose words are zero are zero where the rest is
-pub zero_rest : (xs : List ℕ) (words : List (List ℕ)) (rest : List ℕ) → words ≡ first_chunks 8 (length xs / 8) xs → rest ≡ drop (length xs / 8 * 8) xs → length words ≡ length xs / 8 → length rest ≡ length xs % 8
-    → list_all not (bits 8 words (64 * length words)) ≡ true → list_all not (chunk_bits (length rest) rest) ≡ list_all not (chunk_bits (length xs) xs)
-zero_rest xs words rest e f l m h =
-    none_chunk (length rest) rest ∙ rest_zero _ _ _ (words_and_rest xs words rest e f l m) (sym (none_bits 8 words (64 * length words)) ∙ h) ∙ sym (none_chunk (length xs) xs)
-
--- bytes with a word that is not zero are not zero
-pub other_words : (xs : List ℕ) (words : List (List ℕ)) (rest : List ℕ) → words ≡ first_chunks 8 (length xs / 8) xs → rest ≡ drop (length xs / 8 * 8) xs → length words ≡ length xs / 8 → length rest ≡ length xs % 8
-    → list_all not (bits 8 words (64 * length words)) ≡ false → list_all not (chunk_bits (length xs) xs) ≡ false
-other_words xs words rest e f l m h =
-    none_chunk (length xs) xs ∙ some_left _ _ _ (words_and_rest xs words rest e f l m) (sym (none_bits 8 words (64 * length words)) ∙ h)
 
 -- the ones of bytes are those of their words and of the rest
 pub count-words_and_rest : (xs : List ℕ) (words : List (List ℕ)) (rest : List ℕ) → words ≡ first_chunks 8 (length xs / 8) xs → rest ≡ drop (length xs / 8 * 8) xs → length words ≡ length xs / 8 → length rest ≡ length xs % 8
