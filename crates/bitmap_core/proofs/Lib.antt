@@ -19,7 +19,7 @@ pub mod Packing
 pub mod PlaceCounts
 pub mod WordBytes
 pub mod WordBits
-pub mod ZeroBlocks
+pub mod ByteBlocks
 pub mod ByteRanges
 pub mod FlatBits
 pub mod Runs

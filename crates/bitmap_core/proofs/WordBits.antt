@@ -1,17 +1,17 @@
 -- The bits of bytes, and of the words that they make.
-use Rattle.std.proofs.Common.{◌≡◌, ℕ, suc, zero, count_ones, ◌+◌, ◌-◌, ◌*◌, ◌/◌, ◌%◌, ◌^◌, ◌<◌, ◌≤◌, List, get_or, take, drop, eqb, true, false, not, length, [], sym, ap, ◌∙◌, refl, w64, arith}
+use Rattle.std.proofs.Common.{◌≡◌, ℕ, suc, zero, count_ones, ◌+◌, ◌-◌, ◌*◌, ◌/◌, ◌%◌, ◌^◌, ◌<◌, ◌≤◌, List, get_or, take, drop, eqb, false, not, length, [], sym, ap, ◌∙◌, refl, w64, arith}
 use Rattle.std.specs.Int.{bit_at, from_le_bytes}
 use Rattle.std.specs.List.{count_by, list_all, slice_range}
 use Rattle.std.specs.Simd.{first_chunks}
 use Rattle.std.proofs.Math.Nat.{mod-eq_of_lt, mul-add}
-use Rattle.std.proofs.lemmas.List.{get_or_default, get_or-drop, get_or-take, drop-drop}
+use Rattle.std.proofs.lemmas.List.{get_or_default, get_or-drop, drop-drop}
 use Rattle.std.proofs.lemmas.List.FromFn.{length-map-range_with_len, get_or-map-range_with_len}
 use Rattle.bitmap_core.specs.Chunk.{chunk_bit, chunk_bits, bit_in}
-use Rattle.bitmap_core.specs.Bits.{bit_of, bits}
+use Rattle.bitmap_core.specs.Bits.{bit_of}
 use Rattle.bitmap_core.proofs.ChunkBits.{chunk_bit-mod}
-use Rattle.bitmap_core.proofs.Counts.{ones_from, ones_from_add, ones_from_same, count-bits}
+use Rattle.bitmap_core.proofs.Counts.{ones_from, ones_from_same}
 use Rattle.bitmap_core.proofs.WordBytes.{word_bit}
-use Rattle.bitmap_core.proofs.PlaceCounts.{none_map, count_map, none_slice, none_bits, found, more_ones, ones_of_zero, ones_of_other, rest_zero, some_left}
+use Rattle.bitmap_core.proofs.PlaceCounts.{none_map, count_map, none_slice, found, more_ones, ones_of_zero, ones_of_other}
 
 chunk_bit-within : (n : ℕ) (c : List ℕ) (i : ℕ) → i < 8 * n → chunk_bit n c i ≡ bit_in c i
 chunk_bit-within n c i h = ap (λ k. eqb (bit_at (get_or c k 0) (i % 8)) 1) (mod-eq_of_lt {n = i / 8} {m = n} (omega arith))
@@ -78,32 +78,9 @@ get_or-first_chunks n zero xs i s = absurd (omega arith)
 get_or-first_chunks n (suc k) xs zero s = ap (λ a. take n (drop a xs)) (let e : 0 ≡ n * 0 = omega arith in e)
 get_or-first_chunks n (suc k) xs (suc i) s = let e : n + n * i ≡ n * suc i = omega (arith, mul-add n i 1) in get_or-first_chunks n k (drop n xs) i (omega arith) ∙ ap (take n) (drop-drop (n * i) n xs ∙ ap (λ a. drop a xs) e)
 
-bit_of-words : (k : ℕ) (xs : List ℕ) (i : ℕ) → i < 64 * k → bit_of 8 (first_chunks 8 k xs) i ≡ bit_in xs i
-bit_of-words k xs i h =
-    let at : 8 * (i / 64) + i / 8 % 8 ≡ i / 8 = omega arith in
-    ap (λ c. chunk_bit 8 c i) (get_or-first_chunks 8 k xs (i / 64) (omega arith))
-    ∙ ap (λ b. eqb (bit_at b (i % 8)) 1) (get_or-take 8 (drop (8 * (i / 64)) xs) (i / 8 % 8) 0 (omega arith) ∙ get_or-drop (8 * (i / 64)) xs (i / 8 % 8) 0 ∙ ap (λ a. get_or xs a 0) at)
-
 -- the bits from byte k on
 pub bit_in-drop : (k : ℕ) (xs : List ℕ) (t : ℕ) → bit_in (drop k xs) t ≡ bit_in xs (8 * k + t)
 bit_in-drop k xs t =
     let q : k + t / 8 ≡ (8 * k + t) / 8 = omega arith in
     let r : t % 8 ≡ (8 * k + t) % 8 = omega arith in
     ap (λ b. eqb (bit_at b (t % 8)) 1) (get_or-drop k xs (t / 8) 0) ∙ ap (λ x. eqb (bit_at (get_or xs x 0) (t % 8)) 1) q ∙ ap (λ x. eqb (bit_at (get_or xs ((8 * k + t) / 8) 0) x) 1) r
-
--- bytes are words and a rest
-words_and_rest : (xs : List ℕ) (words : List (List ℕ)) (rest : List ℕ) → words ≡ first_chunks 8 (length xs / 8) xs → rest ≡ drop (length xs / 8 * 8) xs → length words ≡ length xs / 8 → length rest ≡ length xs % 8
-    → ones_from (bit_in xs) 0 (8 * length xs) ≡ ones_from (bit_of 8 words) 0 (64 * length words) + ones_from (bit_in rest) 0 (8 * length rest)
-words_and_rest xs words rest e f l m =
-    let k : ℕ = length xs / 8 in
-    let a : 8 * length xs ≡ 64 * length words + 8 * length rest = omega arith in
-    let b : ones_from (bit_in xs) 0 (64 * length words) ≡ ones_from (bit_of 8 words) 0 (64 * length words) = ones_from_same (bit_in xs) (bit_of 8 words) 0 0 (64 * length words) (λ t h. sym (ap (λ ws. bit_of 8 ws (0 + t)) e ∙ bit_of-words (length xs / 8) xs (0 + t) (omega arith))) in
-    let c : ones_from (bit_in xs) (0 + 64 * length words) (8 * length rest) ≡ ones_from (bit_in rest) 0 (8 * length rest) = ones_from_same (bit_in xs) (bit_in rest) (0 + 64 * length words) 0 (8 * length rest) (λ t h.
-    let q : 8 * (length xs / 8 * 8) + (0 + t) ≡ 0 + 64 * length words + t = omega arith in
-    sym (ap (λ r. bit_in r (0 + t)) f ∙ bit_in-drop (length xs / 8 * 8) xs (0 + t) ∙ ap (bit_in xs) q)) in
-    ap (λ x. ones_from (bit_in xs) 0 x) a ∙ ones_from_add (bit_in xs) 0 (64 * length words) (8 * length rest) ∙ omega arith
-
--- the ones of bytes are those of their words and of the rest
-pub count-words_and_rest : (xs : List ℕ) (words : List (List ℕ)) (rest : List ℕ) → words ≡ first_chunks 8 (length xs / 8) xs → rest ≡ drop (length xs / 8 * 8) xs → length words ≡ length xs / 8 → length rest ≡ length xs % 8
-    → count_by (λ b. b) (chunk_bits (length xs) xs) ≡ count_by (λ b. b) (bits 8 words (64 * length words)) + count_by (λ b. b) (chunk_bits (length rest) rest)
-count-words_and_rest xs words rest e f l m = omega (arith, count-chunk (length xs) xs, words_and_rest xs words rest e f l m, count-bits 8 words (64 * length words), count-chunk (length rest) rest)

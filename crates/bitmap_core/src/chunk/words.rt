@@ -13,8 +13,8 @@ pub fn count_ones(bytes: &[u8]) -> u64
     requires { count_by (λ b. b) (chunk_bits (length bytes.now) bytes.now) < 2 ^ 64 }
     ensures { result ≡ count_by (λ b. b) (chunk_bits (length bytes.now) bytes.now) }
 {
-    let (words, rest) = bytes.as_chunks::<8>();
-    word_ones(words) + byte_ones(rest)
+    let (blocks, rest) = bytes.as_chunks::<64>();
+    block_ones(blocks) + end_ones(rest)
 }
 
 /// Whether no bit from `from` on and below `to` is set. `to` is at most the number of bits. No memory.
@@ -52,6 +52,27 @@ fn is_end_zero(bytes: &[u8]) -> bool
 {
     let (words, rest) = bytes.as_chunks::<8>();
     are_blocks_zero(words) && are_bytes_zero(rest)
+}
+
+// The number of ones in some blocks. Their length is one that the compiler sees, so that a turn is eight words in a row.
+fn block_ones(blocks: &[[u8; 64]]) -> u64
+    requires { count_by (λ b. b) (bits 64 blocks.now (8 * 64 * length blocks.now)) < 2 ^ 64 }
+    ensures { result ≡ count_by (λ b. b) (bits 64 blocks.now (8 * 64 * length blocks.now)) }
+{
+    let mut total = 0u64;
+    for block in blocks {
+        total += end_ones(block);
+    }
+    total
+}
+
+// The number of ones in some bytes, eight a turn.
+fn end_ones(bytes: &[u8]) -> u64
+    requires { count_by (λ b. b) (chunk_bits (length bytes.now) bytes.now) < 2 ^ 64 }
+    ensures { result ≡ count_by (λ b. b) (chunk_bits (length bytes.now) bytes.now) }
+{
+    let (words, rest) = bytes.as_chunks::<8>();
+    word_ones(words) + byte_ones(rest)
 }
 
 // The number of ones in some words.

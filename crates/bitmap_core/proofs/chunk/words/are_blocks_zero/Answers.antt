@@ -3,7 +3,7 @@ use Rattle.std.proofs.lemmas.List.{get_or_default}
 use Rattle.bitmap_core.specs.Bits.{bit_of}
 use Rattle.bitmap_core.proofs.Counts.{ones_from}
 use Rattle.bitmap_core.proofs.PlaceCounts.{none_bits}
-use Rattle.bitmap_core.proofs.ZeroBlocks.{zero_block, other_block, zeros_where_same, other_where_not}
+use Rattle.bitmap_core.proofs.ByteBlocks.{zero_block, other_block, zeros_where_same, other_where_not}
 use Rattle.bitmap_core.proofs.chunk.words.are_blocks_zero.Goals as goal
 
 pub returns-then-ne : goal.returns-then-ne

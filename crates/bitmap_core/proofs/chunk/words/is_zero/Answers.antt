@@ -1,5 +1,5 @@
 use Rattle.std.proofs.Common.{◌∙◌, sym, arith}
-use Rattle.bitmap_core.proofs.ZeroBlocks.{zero_rest, other_blocks}
+use Rattle.bitmap_core.proofs.ByteBlocks.{zero_rest, other_blocks}
 use Rattle.bitmap_core.proofs.chunk.words.is_zero.Goals as goal
 
 pub returns-then-are_blocks_zero : goal.returns-then-are_blocks_zero

@@ -1,6 +1,6 @@
--- Whether bytes are zero, by blocks of some bytes and a rest.
-use Rattle.std.proofs.Common.{◌≡◌, ℕ, ◌+◌, ◌-◌, ◌*◌, ◌/◌, ◌%◌, ◌<◌, ◌≤◌, Bool, true, false, not, cond, eqb, List, [], length, get_or, drop, replicate, refl, sym, ap, ◌∙◌, inl, inr, arith}
-use Rattle.std.specs.List.{list_all}
+-- The ones of bytes, and whether there is any, by blocks of some bytes and a rest.
+use Rattle.std.proofs.Common.{◌≡◌, ℕ, ◌+◌, ◌-◌, ◌*◌, ◌/◌, ◌%◌, ◌^◌, ◌<◌, ◌≤◌, Bool, true, false, not, cond, eqb, List, [], length, get_or, drop, replicate, refl, sym, ap, ◌∙◌, inl, inr, arith}
+use Rattle.std.specs.List.{count_by, list_all}
 use Rattle.std.specs.Simd.{first_chunks}
 use Rattle.std.proofs.Math.Nat.{div-add-mod, div-eq_of_lt, mul-add, mul-add-div, mul-add-mod_self_left, mod-mod}
 use Rattle.std.proofs.lemmas.Nat.{mod_below, div_below}
@@ -12,9 +12,9 @@ use Rattle.bitmap_core.specs.Chunk.{chunk_bit, chunk_bits, bit_in, IsChunk}
 use Rattle.bitmap_core.specs.Bits.{bit_of, bits}
 use Rattle.bitmap_core.proofs.ByteBits.{bit_of_zero_byte}
 use Rattle.bitmap_core.proofs.ChunkBits.{chunk_bit-fill, chunk_bit-mod, byte_from_bits}
-use Rattle.bitmap_core.proofs.Counts.{ones_from, ones_from_add, ones_from_same}
-use Rattle.bitmap_core.proofs.PlaceCounts.{none_bits, ones_from_clear, ones_from_mono, found, rest_zero, some_left}
-use Rattle.bitmap_core.proofs.WordBits.{bit_in-drop, none_chunk}
+use Rattle.bitmap_core.proofs.Counts.{ones_from, ones_from_add, ones_from_same, count-bits}
+use Rattle.bitmap_core.proofs.PlaceCounts.{count_map, none_bits, ones_from_clear, ones_from_mono, found, rest_zero, some_left}
+use Rattle.bitmap_core.proofs.WordBits.{bit_in-drop, count-chunk, none_chunk}
 use Rattle.bitmap_core.proofs.ByteChunks.{bit_of-first_chunks}
 
 -- ---- one block
@@ -35,6 +35,26 @@ block_bit n blocks j t p h =
 
 next_block : (n j : ℕ) → 8 * n * j + 8 * n ≡ 8 * n * (j + 1)
 next_block n j = omega (arith, mul-add (8 * n) j 1)
+
+blocks_within : (n j k : ℕ) → j < k → 8 * n * (j + 1) ≤ 8 * n * k
+blocks_within n j k h = let u : j + 1 + (k - (j + 1)) ≡ k = omega arith in omega (arith, mul-add (8 * n) (j + 1) (k - (j + 1)), ap (λ m. 8 * n * m) u)
+
+-- one more block counted
+pub more_block : (n : ℕ) (blocks : List (List ℕ)) (j total more : ℕ) → 0 < n → length (get_or blocks j []) ≡ n → more ≡ count_by (λ b. b) (chunk_bits (length (get_or blocks j [])) (get_or blocks j []))
+    → total ≡ ones_from (bit_of n blocks) 0 (8 * n * j) → total + more ≡ ones_from (bit_of n blocks) 0 (8 * n * (j + 1))
+more_block n blocks j total more p w e s =
+    let own = e ∙ ap (λ m. count_by (λ b. b) (chunk_bits m (get_or blocks j []))) w ∙ count_map (chunk_bit n (get_or blocks j [])) 0 (8 * n) in
+    let there = ones_from_same (chunk_bit n (get_or blocks j [])) (bit_of n blocks) 0 (0 + 8 * n * j) (8 * n) (λ t h.
+    let a : 8 * n * j + t ≡ 0 + 8 * n * j + t = omega arith in
+    let b : 0 + t ≡ t = omega arith in
+    ap (chunk_bit n (get_or blocks j [])) b ∙ sym (block_bit n blocks j t p h) ∙ ap (bit_of n blocks) a) in
+    omega (arith, own, there, s, ones_from_add (bit_of n blocks) 0 (8 * n * j) (8 * n)) ∙ ap (λ k. ones_from (bit_of n blocks) 0 k) (next_block n j)
+
+-- where all blocks' ones fit 64 bits, those of some do
+pub more_block-fits : (n : ℕ) (blocks : List (List ℕ)) (j total more : ℕ) → 0 < n → j < length blocks → length (get_or blocks j []) ≡ n → more ≡ count_by (λ b. b) (chunk_bits (length (get_or blocks j [])) (get_or blocks j []))
+    → total ≡ ones_from (bit_of n blocks) 0 (8 * n * j) → count_by (λ b. b) (bits n blocks (8 * n * length blocks)) < 2 ^ 64 → total + more < 2 ^ 64
+more_block-fits n blocks j total more p l w e s f =
+    omega (arith, more_block n blocks j total more p w e s, ones_from_mono (bit_of n blocks) (8 * n * (j + 1)) (8 * n * length blocks) (blocks_within n j (length blocks) l), count-bits n blocks (8 * n * length blocks))
 
 -- a block of zeros keeps that no bit is set
 pub zero_block : (n : ℕ) (blocks : List (List ℕ)) (j : ℕ) → 0 < n → get_or blocks j [] ≡ replicate n 0 → ones_from (bit_of n blocks) 0 (8 * n * j) ≡ 0 → ones_from (bit_of n blocks) 0 (8 * n * (j + 1)) ≡ 0
@@ -66,7 +86,7 @@ zeros_from_bits n block p c h =
 -- another block has a bit that is set
 pub other_block : (n : ℕ) (blocks : List (List ℕ)) (j : ℕ) → 0 < n → j < length blocks → IsChunk n (get_or blocks j []) → (get_or blocks j [] ≡ replicate n 0 → ⊥) → list_all not (bits n blocks (8 * n * length blocks)) ≡ false
 other_block n blocks j p l c e = elim (cases_lt 0 (ones_from (bit_of n blocks) 0 (8 * n * (j + 1)))) [
-  | inl s ↦ none_bits n blocks (8 * n * length blocks) ∙ found (bit_of n blocks) (8 * n * (j + 1)) (8 * n * length blocks) (let u : j + 1 + (length blocks - (j + 1)) ≡ length blocks = omega arith in omega (arith, mul-add (8 * n) (j + 1) (length blocks - (j + 1)), ap (λ k. 8 * n * k) u)) s
+  | inl s ↦ none_bits n blocks (8 * n * length blocks) ∙ found (bit_of n blocks) (8 * n * (j + 1)) (8 * n * length blocks) (blocks_within n j (length blocks) l) s
   | inr s ↦ absurd (e (zeros_from_bits n (get_or blocks j []) p c (λ t h. sym (block_bit n blocks j t p h) ∙ none_at (bit_of n blocks) (8 * n * (j + 1)) (8 * n * j + t) (omega arith) (omega (arith, next_block n j)))))
 ]
 
@@ -105,3 +125,8 @@ pub other_blocks : (n : ℕ) (xs : List ℕ) (blocks : List (List ℕ)) (rest : 
     → list_all not (bits n blocks (8 * n * length blocks)) ≡ false → list_all not (chunk_bits (length xs) xs) ≡ false
 other_blocks n xs blocks rest p e f l m h =
     none_chunk (length xs) xs ∙ some_left _ _ _ (blocks_and_rest n xs blocks rest p e f l m) (sym (none_bits n blocks (8 * n * length blocks)) ∙ h)
+
+-- the ones of bytes are those of their blocks and of the rest
+pub count-blocks_and_rest : (n : ℕ) (xs : List ℕ) (blocks : List (List ℕ)) (rest : List ℕ) → 0 < n → blocks ≡ first_chunks n (length xs / n) xs → rest ≡ drop (length xs / n * n) xs → length blocks ≡ length xs / n → length rest ≡ length xs % n
+    → count_by (λ b. b) (chunk_bits (length xs) xs) ≡ count_by (λ b. b) (bits n blocks (8 * n * length blocks)) + count_by (λ b. b) (chunk_bits (length rest) rest)
+count-blocks_and_rest n xs blocks rest p e f l m = omega (arith, count-chunk (length xs) xs, blocks_and_rest n xs blocks rest p e f l m, count-bits n blocks (8 * n * length blocks), count-chunk (length rest) rest)
