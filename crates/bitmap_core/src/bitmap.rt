@@ -260,6 +260,7 @@ impl<const N: usize> BitMap<N> {
     ///
     /// Where the length is a multiple of `8N` it needs room for one chunk more, and takes memory where there is none.
     /// Elsewhere it takes none, and succeeds. Refused, the bitmap is as it was.
+    #[inline]
     pub fn push(&mut self, bit: bool) -> Result<(), AllocError>
         requires { length self.old + 1 < 2 ^ 64 }
         ensures ok { OnOk result (self.new ≡ self.old ++ bit ∷ []) }

@@ -77,23 +77,6 @@ other_byte bytes j l h e s =
     let o = ones_of_other (get_or bytes j 0) e in
     none_chunk (length bytes) bytes ∙ found (bit_in bytes) (8 * (j + 1)) (8 * length bytes) (omega arith) (omega arith)
 
--- a word of zeros keeps that none is set
-pub zero_word : (words : List (List ℕ)) (j : ℕ) (d : List ℕ) (w : ℕ) → j < length words → w < 2 ^ 64
-    → ((t : ℕ) → t < 64 → eqb (bit_at w t) 1 ≡ chunk_bit 8 (get_or words j d) t) → w ≡ 0
-    → ones_from (bit_of 8 words) 0 (64 * j) ≡ 0
-    → ones_from (bit_of 8 words) 0 (64 * (j + 1)) ≡ 0
-zero_word words j d w l h f e s = let m = more_word words j d w 0 l h f (sym s) in let o = ones_of_zero w e in omega arith
-
--- another word has a bit that is set
-pub other_word : (words : List (List ℕ)) (j : ℕ) (d : List ℕ) (w : ℕ) → j < length words → w < 2 ^ 64
-    → ((t : ℕ) → t < 64 → eqb (bit_at w t) 1 ≡ chunk_bit 8 (get_or words j d) t) → (w ≡ 0 → ⊥)
-    → ones_from (bit_of 8 words) 0 (64 * j) ≡ 0
-    → list_all not (bits 8 words (64 * length words)) ≡ false
-other_word words j d w l h f e s =
-    let m = more_word words j d w 0 l h f (sym s) in
-    let o = ones_of_other w e in
-    none_bits 8 words (64 * length words) ∙ found (bit_of 8 words) (64 * (j + 1)) (64 * length words) (omega arith) (omega arith)
-
 -- ---- eight bytes as a word
 
 -- bit t of a word read from eight bytes, as a chunk's
@@ -112,14 +95,6 @@ get_or-first_chunks n (suc k) xs (suc i) s =
     let e : n + n * i ≡ n * suc i = omega (arith, mul-add n i 1) in
     get_or-first_chunks n k (drop n xs) i (omega arith) ∙ ap (take n) (drop-drop (n * i) n xs ∙ ap (λ a. drop a xs) e)
 
-bit_of-words : (k : ℕ) (xs : List ℕ) (i : ℕ) → i < 64 * k → bit_of 8 (first_chunks 8 k xs) i ≡ bit_in xs i
-bit_of-words k xs i h =
-    let at : 8 * (i / 64) + i / 8 % 8 ≡ i / 8 = omega arith in
-    ap (λ c. chunk_bit 8 c i) (get_or-first_chunks 8 k xs (i / 64) (omega arith))
-    ∙ ap (λ b. eqb (bit_at b (i % 8)) 1) (get_or-take 8 (drop (8 * (i / 64)) xs) (i / 8 % 8) 0 (omega arith))
-    ∙ ap (λ b. eqb (bit_at b (i % 8)) 1) (get_or-drop (8 * (i / 64)) xs (i / 8 % 8) 0)
-    ∙ ap (λ a. eqb (bit_at (get_or xs a 0) (i % 8)) 1) at
-
 -- the bits from byte k on
 pub bit_in-drop : (k : ℕ) (xs : List ℕ) (t : ℕ) → bit_in (drop k xs) t ≡ bit_in xs (8 * k + t)
 bit_in-drop k xs t =
@@ -128,48 +103,3 @@ bit_in-drop k xs t =
     ap (λ b. eqb (bit_at b (t % 8)) 1) (get_or-drop k xs (t / 8) 0)
     ∙ ap (λ x. eqb (bit_at (get_or xs x 0) (t % 8)) 1) q
     ∙ ap (λ x. eqb (bit_at (get_or xs ((8 * k + t) / 8) 0) x) 1) r
-
--- bytes are words and a rest
-module _ (xs : List ℕ) (words : List (List ℕ)) (rest : List ℕ) (front : words ≡ first_chunks 8 (length xs / 8) xs)
-    (back : rest ≡ drop (length xs / 8 * 8) xs) (front_len : length words ≡ length xs / 8) (back_len : length rest ≡ length xs % 8) where
-  front_bit : (t : ℕ) → t < 64 * length words → bit_in xs (0 + t) ≡ bit_of 8 words (0 + t)
-  front_bit t h = sym (ap (λ ws. bit_of 8 ws (0 + t)) front ∙ bit_of-words (length xs / 8) xs (0 + t) (omega arith))
-
-  back_bit : (t : ℕ) → bit_in xs (0 + 64 * length words + t) ≡ bit_in rest (0 + t)
-  back_bit t =
-      let place : 8 * (length xs / 8 * 8) + (0 + t) ≡ 0 + 64 * length words + t = omega arith in
-      sym (ap (λ r. bit_in r (0 + t)) back ∙ bit_in-drop (length xs / 8 * 8) xs (0 + t) ∙ ap (bit_in xs) place)
-
-  words_and_rest : ones_from (bit_in xs) 0 (8 * length xs)
-      ≡ ones_from (bit_of 8 words) 0 (64 * length words) + ones_from (bit_in rest) 0 (8 * length rest)
-  words_and_rest =
-      let lengths : 8 * length xs ≡ 64 * length words + 8 * length rest = omega arith in
-      let in_words = ones_from_same (bit_in xs) (bit_of 8 words) 0 0 (64 * length words) front_bit in
-      let in_rest = ones_from_same (bit_in xs) (bit_in rest) (0 + 64 * length words) 0 (8 * length rest) (λ t _. back_bit t) in
-      ap (λ x. ones_from (bit_in xs) 0 x) lengths
-      ∙ ones_from_add (bit_in xs) 0 (64 * length words) (8 * length rest)
-      ∙ omega arith
-
-  -- bytes whose words are zero are zero where the rest is
-  pub zero_rest : list_all not (bits 8 words (64 * length words)) ≡ true
-      → list_all not (chunk_bits (length rest) rest) ≡ list_all not (chunk_bits (length xs) xs)
-  zero_rest h =
-      none_chunk (length rest) rest
-      ∙ rest_zero _ _ _ words_and_rest (sym (none_bits 8 words (64 * length words)) ∙ h)
-      ∙ sym (none_chunk (length xs) xs)
-
-  -- bytes with a word that is not zero are not zero
-  pub other_words : list_all not (bits 8 words (64 * length words)) ≡ false → list_all not (chunk_bits (length xs) xs) ≡ false
-  other_words h = none_chunk (length xs) xs ∙ some_left _ _ _ words_and_rest (sym (none_bits 8 words (64 * length words)) ∙ h)
-
-  -- the ones of bytes are those of their words and of the rest
-  pub count-words_and_rest : count_by (λ b. b) (chunk_bits (length xs) xs)
-      ≡ count_by (λ b. b) (bits 8 words (64 * length words)) + count_by (λ b. b) (chunk_bits (length rest) rest)
-  count-words_and_rest =
-      omega (
-        arith,
-        count-chunk (length xs) xs,
-        words_and_rest,
-        count-bits 8 words (64 * length words),
-        count-chunk (length rest) rest,
-      )

@@ -276,6 +276,7 @@ impl<const N: usize> Prunable<N> {
     ///
     /// Where the length is a multiple of `8N` it needs room for one chunk more, and takes memory where there is none.
     /// Elsewhere it takes none, and succeeds. Refused, the bitmap is as it was.
+    #[inline]
     pub fn push(&mut self, bit: bool) -> Result<(), AllocError>
         requires { bit_len N self.old + 1 < 2 ^ 64 }
         ensures ok { OnOk result (self.new ≡ pushed self.old bit) }
