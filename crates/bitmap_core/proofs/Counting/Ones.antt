@@ -27,7 +27,9 @@ ones_from_add f a (suc m) k =
     let s : a + 1 + m ≡ a + suc m = omega arith in
     let i = ones_from_add f (a + 1) m k in
     ap (λ x. ones_from f a x) e
-    ∙ (let j : ones_from f (a + 1) (m + k) ≡ ones_from f (a + 1) m + ones_from f (a + suc m) k = i ∙ ap (λ x. ones_from f (a + 1) m + ones_from f x k) s in omega arith)
+    ∙ (let j : ones_from f (a + 1) (m + k) ≡ ones_from f (a + 1) m + ones_from f (a + suc m) k =
+    i ∙ ap (λ x. ones_from f (a + 1) m + ones_from f x k) s in
+    omega arith)
 
 -- functions that agree on a range count alike
 pub ones_from_same : (f g : ℕ → Bool) (a b k : ℕ) → ((t : ℕ) → t < k → f (a + t) ≡ g (b + t)) → ones_from f a k ≡ ones_from g b k

@@ -49,8 +49,8 @@ bits-zip n f xs os ys len v w p k j e g =
     joined_bit n f xs os ys i j (index_below n (length xs) len i p s k)
     ∙ ap (λ x. f x (bit_of n os i)) a
     ∙ ap (λ x. f (get_or v i false) x) b
-    ∙ sym
-    (get_or-map (λ (p : Bool × Bool). f p.0 p.1) (zip v w) i (false, false) false (omega arith) ∙ ap (λ (p : Bool × Bool). f p.0 p.1) (get_or-zip v w i (false, false) (omega arith) (omega arith))))
+    ∙ sym (ap (λ (p : Bool × Bool). f p.0 p.1) (get_or-zip v w i (false, false) (omega arith) (omega arith)))
+    ∙ sym (get_or-map (λ (p : Bool × Bool). f p.0 p.1) (zip v w) i (false, false) false (omega arith)))
 
 -- where both end in zeros, so do the chunks that they make
 pub IsZeroFrom-zip : (n : ℕ) (f : Bool → Bool → Bool) (xs os ys : List (List ℕ)) (len : ℕ) → f false false ≡ false

@@ -22,7 +22,8 @@ invariant_of-self-2 g c =
       count = appended.count;
       zero = IsZeroFrom-append _ _ _ _ _ _ (λ i h. c.other.invariant.zero i (omega arith)) (λ i h s.
           appended.joined i h s
-          ∙ (ap (λ r. bit_in r (i - c.self.inside.len)) c.bytes.ensures.items ∙ bit_in-flat _ _ c.other.invariant.width.positive (λ j l. (c.bytes.ensures.known j l).len) (i - c.self.inside.len)));
+          ∙ ap (λ r. bit_in r (i - c.self.inside.len)) c.bytes.ensures.items
+          ∙ bit_in-flat _ _ c.other.invariant.width.positive (λ j l. (c.bytes.ensures.known j l).len) (i - c.self.inside.len));
     })
 
 pub returns-clause-ok : goal.returns-clause-ok
@@ -32,7 +33,8 @@ returns-clause-ok g c =
     let o : c.other.inside.len ≡ c.len.result = sym (c.len.ensures.value ∙ len_is _ _ _ _ c.other.view_is) in
     bits-append _ _ _ _ _ _ _ _ _ held.width.positive appended.count c.self.view_is (rw o at c.other.view_is) appended.kept (λ i h s.
     appended.joined i h s
-    ∙ (ap (λ r. bit_in r (i - c.self.inside.len)) c.bytes.ensures.items ∙ bit_in-flat _ _ c.other.invariant.width.positive (λ j l. (c.bytes.ensures.known j l).len) (i - c.self.inside.len)))
+    ∙ ap (λ r. bit_in r (i - c.self.inside.len)) c.bytes.ensures.items
+    ∙ bit_in-flat _ _ c.other.invariant.width.positive (λ j l. (c.bytes.ensures.known j l).len) (i - c.self.inside.len))
 
 pub returns-in_err-append_run-clause-roomy : goal.returns-in_err-append_run-clause-roomy
 returns-in_err-append_run-clause-roomy g c =

@@ -15,4 +15,5 @@ returns-clause-refused g c = λ rest e a.
     let positive = c.len.ensures.width.positive in
     let read = c.read_cfg.ensures in
     err_is_memory _ _ read.refused
-    (pruned_spelled_none _ (admits _) c.args.from.now.now c.args.map.now rest positive c.len.ensures.bound (omega (arith, c.pruned_chunks.ensures, c.pruned_chunks.type_inv)) a e)
+    (pruned_spelled_none _ (admits _) c.args.from.now.now c.args.map.now rest positive c.len.ensures.bound
+    (omega (arith, c.pruned_chunks.ensures, c.pruned_chunks.type_inv)) a e)

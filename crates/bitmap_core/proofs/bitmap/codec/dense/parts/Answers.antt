@@ -39,7 +39,9 @@ returns-then-is_set_past-clause-refused g c =
     let few : chunk_count g.row.N (number c.args.text.now) < 2 ^ 64 =
     omega (arith, len, c.from_be_bytes-len.type_inv, count-le g.row.N (number c.args.text.now) positive) in
     trailing_fault g.row.N _ c.args.text.now long ok few (read_whole g.row.N c.args.text.now _ _ count body long whole)
-    (read_past g.row.N c.args.text.now _ _ true positive len (read_chunks g.row.N c.args.text.now _ _ count body _ _ bytes c.chunks_of-chunks.ensures) (sym c.if-is_set_past.true ∙ c.is_set_past.ensures))
+    (read_past g.row.N c.args.text.now _ _ true positive len
+    (read_chunks g.row.N c.args.text.now _ _ count body _ _ bytes c.chunks_of-chunks.ensures)
+    (sym c.if-is_set_past.true ∙ c.is_set_past.ensures))
 
 pub returns-clause-accepted : goal.returns-clause-accepted
 returns-clause-accepted g c =

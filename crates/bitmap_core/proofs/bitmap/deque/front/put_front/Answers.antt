@@ -9,5 +9,6 @@ loop-left-preserved g c =
       room = omega (arith, c.loop-left.invariant.room, c.push_front_reserved.ensures.len, c.push_front_reserved.ensures.capacity);
       items =
           c.push_front_reserved.ensures.items
-          ∙ (ap (λ ys. c.index-front-left.result ∷ ys) c.loop-left.invariant.items ∙ put_front_step _ _ _ _ c.loop-left-test.true c.loop-left.invariant.within c.index-front-left.is);
+          ∙ ap (λ ys. c.index-front-left.result ∷ ys) c.loop-left.invariant.items
+          ∙ put_front_step _ _ _ _ c.loop-left-test.true c.loop-left.invariant.within c.index-front-left.is;
     }
