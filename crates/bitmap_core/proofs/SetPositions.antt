@@ -1,7 +1,5 @@
 -- Lists of set positions, position by position and part by part.
-use Rattle.std.proofs.Common.{◌≡◌, ℕ, zero, suc, ◌+◌, ◌-◌, ◌<◌, ◌≤◌, Bool, true, false, cond, List, [], ◌∷◌, ◌++◌, length, refl, ap, ◌∙◌, arith, add-zero, zero-add, Some, rules}
-use Rattle.std.specs.Prelude.{⊤}
-use Rattle.std.specs.Iterator.{MakesProgress, item_count}
+use Rattle.std.proofs.Common.{◌≡◌, ℕ, zero, suc, ◌+◌, ◌-◌, ◌<◌, ◌≤◌, Bool, true, false, cond, List, [], ◌∷◌, ◌++◌, length, refl, ap, ◌∙◌, arith, add-zero, zero-add}
 use Rattle.std.specs.List.{filter, range_with_len}
 use Rattle.bitmap_core.specs.Meaning.{ones_between}
 
@@ -74,11 +72,3 @@ ones_between-first p q lo t hi h i at before gone same =
 
 pub ones_between-at : (bit : ℕ → Bool) (lo low hi high : ℕ) → lo ≡ low → hi ≡ high → ones_between bit lo hi ≡ ones_between bit low high
 ones_between-at bit lo low hi high e d = rw (e, d)
-
--- a step that gives the first of a list leaves fewer
-pub one_fewer : {S A : Type 0} (rest : S → List A) (s t : S) (x : A) → rest s ≡ x ∷ rest t → MakesProgress (λ _. ⊤) (item_count rest) s (Some x) t
-one_fewer rest s t x e = let l = ap length e in record {
-  on = λ f. search (rules, arith);
-  keeps = search rules;
-  rests = search rules;
-}

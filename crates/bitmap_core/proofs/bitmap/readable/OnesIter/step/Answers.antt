@@ -1,10 +1,9 @@
 use Rattle.std.proofs.Common.{◌≡◌, ◌+◌, ◌∷◌, ap}
 use Rattle.bitmap_core.specs.Meaning.{Scan, left_from}
-use Rattle.bitmap_core.proofs.SetPositions.{one_fewer}
 use Rattle.bitmap_core.proofs.LoadedWords.{IsLowestTaken, left_taken}
-use Rattle.bitmap_core.proofs.bitmap.readable.OnesIterIterator.next.Goals as goal
-use Rattle.bitmap_core.proofs.bitmap.readable.OnesIterIterator.next.Given.{Over}
-use Rattle.bitmap_core.proofs.bitmap.readable.OnesIterIterator.next.Goals.{After-take_lowest-place}
+use Rattle.bitmap_core.proofs.bitmap.readable.OnesIter.step.Goals as goal
+use Rattle.bitmap_core.proofs.bitmap.readable.OnesIter.step.Given.{Over}
+use Rattle.bitmap_core.proofs.bitmap.readable.OnesIter.step.Goals.{After-take_lowest-place}
 
 first : (g : Over) (c : After-take_lowest-place g) →
     c.args.self.now.left ≡ (c.advance.new.cursor.base + c.take_lowest-place.result) ∷ left_from g.row.N (g.B.Readable.meaning c.self.inside.readable.now) c.advance.new.cursor.base c.take_lowest-place.new.word c.self.inside.end
@@ -16,6 +15,3 @@ first g c =
 
 pub returns-clause-steps : goal.returns-clause-steps
 returns-clause-steps g c = first g c
-
-pub returns-clause-goes : goal.returns-clause-goes
-returns-clause-goes g c = one_fewer (λ (s : Scan). s.left) c.args.self.now _ (c.advance.new.cursor.base + c.take_lowest-place.result) (first g c)
