@@ -1,7 +1,7 @@
 -- Lists of set positions, position by position and part by part.
-use Rattle.std.proofs.Common.{◌≡◌, ℕ, zero, suc, ◌+◌, ◌-◌, ◌<◌, ◌≤◌, Bool, true, false, cond, List, [], ◌∷◌, ◌++◌, length, refl, ap, ◌∙◌, arith, add-zero, zero-add}
+use Rattle.std.proofs.Common.{◌≡◌, ℕ, zero, suc, ◌+◌, ◌-◌, ◌*◌, ◌^◌, ◌<◌, ◌≤◌, min, max, Bool, true, false, cond, List, [], ◌∷◌, ◌++◌, length, refl, ap, ◌∙◌, arith, add-zero, zero-add}
 use Rattle.std.specs.List.{filter, range_with_len}
-use Rattle.bitmap_core.specs.Meaning.{ones_between}
+use Rattle.bitmap_core.specs.Meaning.{Meaning, ones_between, ones}
 
 -- n positions from lo on
 abbrev pub run : (ℕ → Bool) → ℕ → ℕ → List ℕ
@@ -58,6 +58,10 @@ ones_between-false p lo hi h = run-none p lo (hi - lo) (λ k i j. h k i (omega a
 
 pub ones_between-length : (p : ℕ → Bool) (lo hi : ℕ) → length (ones_between p lo hi) ≤ hi - lo
 ones_between-length p lo hi = run-length p lo (hi - lo)
+
+-- the set positions of a bitmap are fewer than 2 ^ 64
+pub ones_fit : (n : ℕ) (m : Meaning) (a b : ℕ) → m.len < 2 ^ 64 → length (ones n m a b) < 2 ^ 64
+ones_fit n m a b fits = omega (arith, ones_between-length m.bit (max a (8 * n * m.pruned)) (min b m.len))
 
 -- the first set position, and those after it
 pub ones_between-first : (p q : ℕ → Bool) (lo t hi : ℕ) → lo ≤ t → t < hi → p t ≡ true → ((k : ℕ) → lo ≤ k → k < t → p k ≡ false) → ((k : ℕ) → lo ≤ k → k ≤ t → q k ≡ false) → ((k : ℕ) → t < k → k < hi → p k ≡ q k) → ones_between p lo hi ≡ t ∷ ones_between q lo hi

@@ -135,6 +135,7 @@ pub trait Readable<const N: usize> {
         ensures lawful { IsLawful N (meaning self.now) }
         ensures words { result.words ≡ words N (meaning self.now) range.start range.end }
         ensures loads { result.loads ≤ result.words }
+        ensures bound { length result.left < 2 ^ 64 }
     {
         let end = range.end.min(self.len());
         let position = range.start.max(self.pruned_bits());
@@ -177,6 +178,7 @@ pub trait Readable<const N: usize> {
         ensures lawful { IsLawful N (meaning self.now) }
         ensures words { result.words ≡ words N (meaning self.now) pos (meaning self.now).len }
         ensures loads { result.loads ≤ result.words }
+        ensures bound { length result.left < 2 ^ 64 }
     {
         self.ones_iter_range(pos..u64::MAX)
     }

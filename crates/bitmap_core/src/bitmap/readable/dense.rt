@@ -1,6 +1,6 @@
 //! A dense bitmap as its readers see it.
 
-ghost use Rattle.std.specs.Prelude.{◌≡◌, ◌≤◌, false, length, slice_index_or};
+ghost use Rattle.std.specs.Prelude.{◌≡◌, ◌^◌, ◌<◌, ◌≤◌, false, length, slice_index_or};
 ghost use Rattle.std.specs.List.{filter, range_with_len};
 ghost use Rattle.bitmap_core.specs.Meaning.{words_between};
 
@@ -44,6 +44,7 @@ impl<const N: usize> BitMap<N> {
         ensures positions { result.left ≡ filter (λ k. slice_index_or self.now k false) (range_with_len 0 (length self.now)) }
         ensures words { result.words ≡ words_between N 0 (length self.now) }
         ensures loads { result.loads ≤ result.words }
+        ensures bound { length result.left < 2 ^ 64 }
     {
         self.ones_iter_range(0..self.len())
     }

@@ -1,6 +1,6 @@
 use Rattle.std.proofs.Common.{ℕ, ◌-◌, ◌*◌, min, max, sym, ◌∙◌, ap, arith, refl}
 use Rattle.bitmap_core.specs.Meaning.{Meaning, word_start}
-use Rattle.bitmap_core.proofs.SetPositions.{ones_between-none, ones_between-at}
+use Rattle.bitmap_core.proofs.SetPositions.{ones_between-none, ones_between-at, ones_fit}
 use Rattle.bitmap_core.proofs.WordStarts.{start_of, start_near, start_chunk, end_near}
 use Rattle.bitmap_core.proofs.LoadedWords.{IsMasked, masked_cut, left_none, left_loaded, first_loaded}
 use Rattle.bitmap_core.proofs.WordScan.{first_scan, counted_first}
@@ -46,3 +46,9 @@ returns-clause-positions g c =
 
 pub returns-clause-loads : goal.returns-clause-loads
 returns-clause-loads g c = rw c.load_word-word.ensures.counted (omega (arith, counted_first g.row.N c.max-position.result c.min-end.result c.len.ensures.lawful.positive c.if-position-end.false))
+
+pub returns-then-position-end-clause-bound : goal.returns-then-position-end-clause-bound
+returns-then-position-end-clause-bound g c = rw (returns-then-position-end-clause-positions g c) (ones_fit g.row.N (g.Self.Readable.meaning c.args.self.now) c.args.range.start c.args.range.end c.len.ensures.lawful.len_fits)
+
+pub returns-clause-bound : goal.returns-clause-bound
+returns-clause-bound g c = rw (returns-clause-positions g c) (ones_fit g.row.N (g.Self.Readable.meaning c.args.self.now) c.args.range.start c.args.range.end c.len.ensures.lawful.len_fits)
