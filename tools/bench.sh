@@ -48,14 +48,14 @@ echo "|---|---|---|---|---|---|---|---|---|"
 for call in "${calls[@]}"; do
     case " ${slow[*]} " in
     *" $call "*) times=1 ;;
-    *) times=8 ;;
+    *) times=16 ;;
     esac
     printf '| %s |' "$call"
     for width in 1 3 8 32; do
         cost "$call" "$width" $((64 << 20)) "$times"
     done
     for width in 1 3 8 32; do
-        cost "$call" "$width" $((1 << 20)) $((times * 64))
+        cost "$call" "$width" $((1 << 20)) $((times * 32))
     done
     echo
 done

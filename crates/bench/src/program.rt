@@ -89,7 +89,7 @@ fn run_at<const N: usize, const M: usize>(
         Call::And => edits::and(&mut map, times),
         Call::Or => edits::or(&mut map, times),
         Call::Xor => edits::xor(&mut map, times),
-        Call::Equal => reads::equal(&map, times),
+        Call::Equal => reads::equal(&mut map, times),
         Call::Hash => Ok(reads::hash(&map, times)),
         Call::CountOnes => Ok(reads::count_ones(&map, times)),
         Call::IsUnset => Ok(reads::is_unset(&mut map, times)),

@@ -15,11 +15,15 @@ pub fn get<const N: usize>(map: &BitMap<N>, times: u64) -> u64 {
     sum
 }
 
-/// Compares with an equal bitmap.
-pub fn equal<const N: usize>(map: &BitMap<N>, times: u64) -> Result<u64, AllocError> {
-    let other = map.clone()?;
+/// Compares with an equal bitmap. One bit of both changes each time, so that no answer is known from before.
+pub fn equal<const N: usize>(map: &mut BitMap<N>, times: u64) -> Result<u64, AllocError> {
+    let mut other = map.clone()?;
     let mut sum: u64 = 0;
     for _ in 0..times {
+        if !map.is_empty() && !other.is_empty() {
+            map.flip(0);
+            other.flip(0);
+        }
         sum = sum.wrapping_add(u64::from(*map == other));
     }
     Ok(sum)
