@@ -1,9 +1,11 @@
 //! Dense bitmaps. Beneath them stand bitmaps with a pruned front, what both are to their readers, and their byte forms.
 //!
-//! The slots that are taken, which are 3, 64 and 100:
-//!
 //! ```
-//! fn taken_slots(alloc: Global) -> Result<Vec<u64>, AllocError> {
+//! use bitmap_core::bitmap::{BitMap, DEFAULT_CHUNK_SIZE};
+//! use std::alloc::{AllocError, Global};
+//!
+//! /// The slots that are taken, which are 3, 64 and 100.
+//! pub fn taken_slots(alloc: Global) -> Result<Vec<u64>, AllocError> {
 //!     let mut taken = BitMap::<DEFAULT_CHUNK_SIZE>::zeroes(alloc, 100)?;
 //!     taken.set(3, true);
 //!     taken.set(64, true);

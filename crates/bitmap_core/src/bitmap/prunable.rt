@@ -1,9 +1,11 @@
 //! Bitmaps with a pruned front: its bits are gone, and the others keep their positions.
 //!
-//! A log that forgets its first chunk. Its length is still 34, and its first retained position is 32:
-//!
 //! ```
-//! fn recent(alloc: Global) -> Result<Prunable<4>, AllocError> {
+//! use bitmap_core::bitmap::Prunable;
+//! use std::alloc::{AllocError, Global};
+//!
+//! /// A log that has forgotten its first chunk. Its length is still 34, and its first retained position is 32.
+//! pub fn recent(alloc: Global) -> Result<Prunable<4>, AllocError> {
 //!     let mut log = Prunable::<4>::new(alloc);
 //!     log.push_chunk(&[1, 2, 3, 4])?;
 //!     log.push(true)?;
