@@ -61,7 +61,8 @@ abbrev pub AreUpTo : List ℕ → Option ℕ → Type 0
 AreUpTo numbers None = numbers ≡ []
 AreUpTo numbers (Some last) = (last < 2 ^ 64 - 1) × All (λ number. number ≤ last) numbers
 
--- what holds of kept commits: each record can be undone from what its commit left, and the numbers are up to the last one
-pub record IsKept (n : ℕ) (current : PrunedBits) (commits : List (ℕ × Reverse)) (last : Option ℕ) : Type 0 where
+-- what holds of kept commits: each record can be undone from what its commit left, and the numbers rise, up to the last one
+pub record AreKept (n : ℕ) (current : PrunedBits) (commits : List (ℕ × Reverse)) (last : Option ℕ) : Type 0 where
   pub undo : AllCanUndo n commits current
+  pub rise : RiseInNumber commits
   pub numbers : AreUpTo (keys_of commits) last

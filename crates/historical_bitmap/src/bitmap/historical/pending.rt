@@ -1,11 +1,11 @@
 //! The edits that a batch has pending.
 
-ghost use Rattle.std.specs.Prelude.{◌≡◌};
+ghost use Rattle.std.specs.Prelude.{◌≡◌, IfOk};
 ghost use Rattle.bitmap_core.specs.Chunk.{IsWidth};
 ghost use Rattle.historical_bitmap.specs.Pending.{unedited};
 
 use bitmap_core::bitmap::Prunable;
-use std::alloc::Global;
+use std::alloc::{AllocError, Global};
 use std::collections::BTreeMap;
 use std::marker::Model;
 
@@ -47,5 +47,18 @@ impl<const N: usize> Dirty<N> {
     // Where memory is taken from.
     pub(crate) fn allocator(&self) -> Global {
         self.alloc
+    }
+
+    // The same edits. Takes memory for their chunks, and errs where that is refused.
+    pub(crate) fn duplicate(&self) -> Result<Self, AllocError>
+        ensures { IfOk result (λ copy. copy ≡ self.now) }
+    {
+        Ok(Dirty {
+            len: self.len,
+            pruned: self.pruned,
+            edited: self.edited.clone()?,
+            captured: self.captured.clone()?,
+            alloc: self.alloc,
+        })
     }
 }

@@ -1,11 +1,19 @@
 //! The states of a historical bitmap.
 
+ghost use Rattle.std.specs.Prelude.{◌≡◌, IfOk};
+
 use crate::bitmap::historical::pending::Dirty;
-use std::alloc::Global;
+use std::alloc::{AllocError, Global};
 use std::marker::Model;
 
 mod private {
-    pub trait Sealed {}
+    use std::alloc::AllocError;
+
+    pub trait Sealed: Drop + Sized {
+        // An equal state.
+        fn copied(&self) -> Result<Self, AllocError>
+            ensures { IfOk result (λ copy. copy ≡ self.now) };
+    }
 }
 
 /// The states of a historical bitmap: `Clean` and `Dirty<N>`, and no other.
@@ -43,13 +51,21 @@ impl Clean {
     }
 }
 
-impl private::Sealed for Clean {}
+impl private::Sealed for Clean {
+    fn copied(&self) -> Result<Self, AllocError> {
+        Ok(Clean { alloc: self.alloc })
+    }
+}
 
 impl State for Clean {
     ghost fits = { λ _ _ _. Unit {0} };
 }
 
-impl<const N: usize> private::Sealed for Dirty<N> {}
+impl<const N: usize> private::Sealed for Dirty<N> {
+    fn copied(&self) -> Result<Self, AllocError> {
+        self.duplicate()
+    }
+}
 
 impl<const N: usize> State for Dirty<N> {
     ghost use Rattle.historical_bitmap.specs.Pending.{LayerFits};
