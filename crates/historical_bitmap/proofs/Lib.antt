@@ -1,5 +1,6 @@
 pub mod Restored
 pub mod OldStates
+pub mod KeptCommits
 pub mod UndoSteps
 pub mod Counting
 pub mod Members

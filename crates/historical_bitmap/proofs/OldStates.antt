@@ -18,7 +18,7 @@ use Rattle.historical_bitmap.specs.History.{undone, snapshots, costs, from_numbe
 use Rattle.historical_bitmap.proofs.Restored.{before_is}
 
 -- ---- a commit
-undone_push : (n : ℕ) (cs : List (ℕ × Reverse)) (number : ℕ) (r : Reverse) (newer : PrunedBits) → undone n (cs ++ (number, r) ∷ []) newer ≡ undone n cs (before n r newer)
+pub undone_push : (n : ℕ) (cs : List (ℕ × Reverse)) (number : ℕ) (r : Reverse) (newer : PrunedBits) → undone n (cs ++ (number, r) ∷ []) newer ≡ undone n cs (before n r newer)
 undone_push n [] number r newer = refl
 undone_push n (c ∷ cs) number r newer = ap (before n c.1) (undone_push n cs number r newer)
 

@@ -1,6 +1,6 @@
 -- Old states: what was committed, by number. A chunk has n bytes.
-use Rattle.std.specs.Prelude.{ℕ, ◌-◌, List, [], ◌∷◌, length, map, Option, slice_get, nat_eq, nat_lt, nat_le}
-use Rattle.std.specs.List.{filter}
+use Rattle.std.specs.Prelude.{◌≡◌, ℕ, ◌-◌, ◌^◌, ◌<◌, ◌≤◌, List, [], ◌∷◌, length, map, Option, Some, None, slice_get, nat_eq, nat_lt, nat_le}
+use Rattle.std.specs.List.{All, filter}
 use Rattle.std.specs.List.Sorted.{IsStrictlySortedBy}
 use Rattle.std.specs.Map.{lookup, keys_of}
 use Rattle.std.specs.Option.{option_map}
@@ -55,3 +55,14 @@ costs commits = map (λ commit. (commit.0, length commit.1.entries)) commits
 abbrev pub AllCanUndo : ℕ → List (ℕ × Reverse) → PrunedBits → Type 0
 AllCanUndo n [] current = Unit {0}
 AllCanUndo n (commit ∷ later) current = CanUndo n commit.1 (undone n later current) × AllCanUndo n later current
+
+-- the last number is not the reserved one, and no number is above it; where there is none, there are no numbers
+abbrev pub AreUpTo : List ℕ → Option ℕ → Type 0
+AreUpTo numbers None = numbers ≡ []
+AreUpTo numbers (Some last) = (last < 2 ^ 64 - 1) × All (λ number. number ≤ last) numbers
+
+-- what holds of kept commits: each record can be undone from what its commit left, and the numbers rise, up to the last one
+pub record AreKept (n : ℕ) (current : PrunedBits) (commits : List (ℕ × Reverse)) (last : Option ℕ) : Type 0 where
+  pub undo : AllCanUndo n commits current
+  pub rise : RiseInNumber commits
+  pub numbers : AreUpTo (keys_of commits) last

@@ -1,5 +1,6 @@
 //! Why a historical bitmap was not made or not committed.
 
+use bitmap_core::bitmap::prunable;
 use std::alloc::AllocError;
 use thiserror::Error as ErrorDerive;
 
@@ -26,4 +27,26 @@ pub enum Error {
     /// Memory was refused.
     #[error("out of memory")]
     Memory(AllocError),
+}
+
+impl From<AllocError> for Error {
+    ghost use Rattle.std.specs.Prelude.{◌≡◌};
+    ghost use Rattle.historical_bitmap.specs.declared.bitmap.historical.error.Error.TheVariants.{Memory};
+
+    ghost from_gives = { λ e r. r ≡ Memory e };
+
+    fn from(error: AllocError) -> Error {
+        Error::Memory(error)
+    }
+}
+
+impl From<prunable::Error> for Error {
+    ghost use Rattle.std.specs.Prelude.{◌≡◌};
+    ghost use Rattle.historical_bitmap.specs.declared.bitmap.historical.error.Error.TheVariants.{PrunedChunksOverflow};
+
+    ghost from_gives = { λ _ r. r ≡ PrunedChunksOverflow };
+
+    fn from(_error: prunable::Error) -> Error {
+        Error::PrunedChunksOverflow
+    }
 }

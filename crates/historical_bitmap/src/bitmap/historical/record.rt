@@ -8,7 +8,7 @@ use std::alloc::{AllocError, Global};
 use std::marker::Model;
 
 // What a commit did to a chunk, with the bytes that stood there before it.
-#[derive(Debug, Drop)]
+#[derive(Clone, Copy, Debug)]
 pub(crate) enum ChunkDiff<const N: usize> {
     // It changed some of the chunk's bits.
     Modified([u8; N]),
@@ -22,7 +22,7 @@ pub(crate) enum ChunkDiff<const N: usize> {
 
 // The length and the number of pruned chunks before a commit, and what it did to chunks, strictly ascending by index.
 #[derive(Debug, Drop)]
-pub(crate) struct CommitDiff<const N: usize> {
+pub struct CommitDiff<const N: usize> {
     len: u64,
     pruned_chunks: usize,
     chunk_diffs: Vec<(usize, ChunkDiff<N>)>,
@@ -68,5 +68,18 @@ impl<const N: usize> CommitDiff<N> {
         ensures { result ≡ length self.now.entries }
     {
         self.chunk_diffs.len()
+    }
+}
+
+impl<const N: usize> Clone for CommitDiff<N> {
+    ghost is_clone = { λ a b. b ≡ a };
+
+    // An equal record. Takes memory for its entries, and errs where that is refused.
+    fn clone(&self) -> Result<Self, AllocError> {
+        Ok(CommitDiff {
+            len: self.len,
+            pruned_chunks: self.pruned_chunks,
+            chunk_diffs: self.chunk_diffs.clone()?,
+        })
     }
 }
