@@ -1,6 +1,7 @@
 pub mod Restored
 pub mod OldStates
 pub mod UndoSteps
+pub mod EntryPasses
 pub mod Counting
 pub mod Members
 pub mod TouchedChunks
