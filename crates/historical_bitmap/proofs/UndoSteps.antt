@@ -146,10 +146,10 @@ module _ (n : ℕ) (r : Reverse) (b : PrunedBits) (pos : 0 < n) (can : CanUndo n
   abbrev sized : PrunedBits
   sized = resized n whole r.len
 
-  count : length chunks ≡ b.pruned - r.pruned
+  pub count : length chunks ≡ b.pruned - r.pruned
   count = length-map-range_with_len (λ i. unwrap_or (kept r i) []) r.pruned (b.pruned - r.pruned)
 
-  whole_pruned : whole.pruned ≡ r.pruned
+  pub whole_pruned : whole.pruned ≡ r.pruned
   whole_pruned = omega (arith, count, can.rises)
 
   sized_pruned : sized.pruned ≡ r.pruned

@@ -1,7 +1,9 @@
 //! Pending edits made in the current bitmap: first what may be refused, then what takes no memory.
 
 ghost use Rattle.std.specs.Prelude.{◌≡◌, ℕ, ◌*◌, ◌≤◌, [], IfOk, MatchOption, OnOk, OnErr, nat_eq};
-ghost use Rattle.std.specs.Map.{lookup};
+ghost use Rattle.std.specs.List.Sorted.{IsStrictlySortedBy};
+ghost use Rattle.std.specs.Map.{keys_of, lookup};
+ghost use Rattle.std.specs.Ordering.{nat_cmp};
 ghost use Rattle.bitmap_core.specs.Chunk.{IsWidth};
 ghost use Rattle.bitmap_core.specs.PrunedBits.{PrunedBits, bit_len, extended, pruned_bits, truncated};
 ghost use Rattle.historical_bitmap.specs.Pending.{CanApply, Layer, LayerFits, edits_of, layer_of, pending_bits};
@@ -58,7 +60,8 @@ fn write_chunks<const N: usize>(current: &mut Prunable<N>, edited: &BTreeMap<usi
     requires width { IsWidth N }
     requires retained { (i : ℕ) → MatchOption (lookup (nat_eq i) edited.now.entries) (Unit {0}) (λ bytes. current.old.pruned ≤ i) }
     requires fits { (i : ℕ) → MatchOption (lookup (nat_eq i) edited.now.entries) (Unit {0}) (IsOldChunk N (bit_len N current.old) i) }
-    ensures { current.new ≡ put_back N current.old (edits_of edited.now.entries) }
+    ensures value { current.new ≡ put_back N current.old (edits_of edited.now.entries) }
+    ensures sorted { IsStrictlySortedBy nat_cmp (keys_of edited.now.entries) }
 {
     for (chunk, bytes) in edited {
         current.set_chunk_by_index(*chunk, bytes);
