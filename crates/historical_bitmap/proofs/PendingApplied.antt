@@ -4,7 +4,7 @@ use mathlib.Core.Logic.{inl, inr}
 use Rattle.std.proofs.lemmas.Bool.{cases_lt, cases_eq, eq-eqb, ne_eqb, lt-ltb, le-ltb, le-leb}
 use Rattle.std.proofs.lemmas.List.{length-drop, length-take-le}
 use Rattle.std.proofs.lemmas.Nat.{mul-le}
-use Rattle.std.specs.Prelude.{nat_eq, nat_le, Option, Some, None, MatchOption}
+use Rattle.std.specs.Prelude.{nat_eq, nat_le}
 use Rattle.std.specs.List.{filter}
 use Rattle.std.specs.List.Sorted.{IsStrictlySortedBy}
 use Rattle.std.specs.Ordering.{nat_cmp}
@@ -13,8 +13,8 @@ use Rattle.bitmap_core.specs.PrunedBits.{PrunedBits, pruned_bits, bit_len, bit_a
 use Rattle.bitmap_core.proofs.PrunedBitsFacts.{front_of, bit_from_bits, len_from_bits}
 use Rattle.bitmap_core.proofs.PrunedEdits.{bit_extended, bit_pruned}
 use Rattle.historical_bitmap.specs.Record.{bytes_of}
-use Rattle.historical_bitmap.specs.Undo.{IsOldChunk, put_back, resized}
-use Rattle.historical_bitmap.specs.Pending.{Layer, CanApply, IsEdited, edited_chunk, layer_bit, pending_bits, edits_of, applied_in_steps}
+use Rattle.historical_bitmap.specs.Undo.{put_back, resized}
+use Rattle.historical_bitmap.specs.Pending.{Layer, CanApply, edited_chunk, layer_bit, pending_bits, edits_of, applied_in_steps}
 use Rattle.historical_bitmap.proofs.PendingEdits.{same_pending}
 use Rattle.historical_bitmap.proofs.UndoSteps.{bit_put, put_len, put_pruned, same_from, bit_resized, len_resized, pruned_resized}
 
@@ -73,31 +73,11 @@ module _ (n : ℕ) (b : PrunedBits) (l : Layer) (pos : 0 < n) (begins : 8 * n * 
   ]
 
 -- ---- the edits made in a bitmap that is long enough
-can_low : (n : ℕ) (b : PrunedBits) (l : Layer) (i : ℕ) (o : Option (List ℕ)) → MatchOption o (Unit {0}) (IsEdited n b l i) → MatchOption o (Unit {0}) (λ bytes. b.pruned ≤ i)
-can_low n b l i None h = h
-can_low n b l i (Some bytes) h = h.low
-
-can_old : (n : ℕ) (b : PrunedBits) (l : Layer) (i : ℕ) (o : Option (List ℕ)) → MatchOption o (Unit {0}) (IsEdited n b l i) → MatchOption o (Unit {0}) (IsOldChunk n l.len i)
-can_old n b l i None h = h
-can_old n b l i (Some bytes) h = record { high = h.high; clear = h.clear }
-
 module _ (n : ℕ) (b : PrunedBits) (l : Layer) (can : CanApply n b l) where
-  begins_low : pruned_bits n b ≤ l.len
-  begins_low = omega (arith, can.front, mul-le (8 * n) b.pruned (8 * n) l.pruned (omega arith) can.rises)
-
-  -- the bitmap may be cut to the pending length
-  pub can_cut : (pruned_bits n b ≤ l.len) × (l.len ≤ bit_len n b)
-  can_cut = (begins_low, can.long)
-
   pub cut_len : bit_len n (truncated n b l.len) ≡ l.len
-  cut_len = omega (arith, begins_low, can.long, length-take-le (l.len - pruned_bits n b) b.bits (omega (arith, can.long)))
-
-  -- each edited chunk may then be put in place
-  pub edited_low : (i : ℕ) → MatchOption (edited_chunk l i) (Unit {0}) (λ bytes. b.pruned ≤ i)
-  edited_low i = can_low n b l i (edited_chunk l i) (can.edited i)
-
-  pub edited_old : (i : ℕ) → MatchOption (edited_chunk l i) (Unit {0}) (IsOldChunk n l.len i)
-  edited_old i = can_old n b l i (edited_chunk l i) (can.edited i)
+  cut_len =
+      let front : pruned_bits n b ≤ l.len = omega (arith, can.front, mul-le (8 * n) b.pruned (8 * n) l.pruned (omega arith) can.rises) in
+      omega (arith, front, can.long, length-take-le (l.len - pruned_bits n b) b.bits (omega (arith, can.long)))
 
   pub applied_long : 0 < n → IsStrictlySortedBy nat_cmp (keys_of l.edited) → pruned_to n (put_back n (truncated n b l.len) (edits_of l.edited)) l.pruned ≡ pending_bits n b l
   applied_long pos sorted =

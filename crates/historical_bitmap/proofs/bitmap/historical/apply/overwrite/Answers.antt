@@ -1,17 +1,27 @@
-use Rattle.std.proofs.Common.{rules, ◌≡◌, ℕ, ◌*◌, ◌≤◌, [], IfOk, MatchOption, OnOk, OnErr, nat_eq, ◌+◌, ◌-◌, ◌<◌, length, ◌/◌, ◌%◌, Bool, true, false, nat_lt, List, ◌∷◌, ◌++◌, slice_index_or, slice_set, bit_and, bit_or, Fits, w8, w32, w64, Bor, MutBor}
-use Rattle.std.specs.List.Sorted.{IsStrictlySortedBy}
-use Rattle.std.specs.Map.{keys_of, lookup}
-use Rattle.std.specs.Ordering.{nat_cmp}
-use Rattle.bitmap_core.specs.Chunk.{IsWidth}
-use Rattle.bitmap_core.specs.PrunedBits.{PrunedBits, bit_len, extended, pruned_bits, truncated}
-use Rattle.historical_bitmap.specs.Pending.{CanApply, Layer, LayerFits, edits_of, layer_of, pending_bits}
-use Rattle.historical_bitmap.specs.Undo.{IsOldChunk, put_back}
+use Rattle.std.proofs.Common.{◌≡◌, ◌*◌, ◌/◌, ap, arith, ◌∙◌}
+use Rattle.std.proofs.Math.Nat.{mul-div_cancel_left}
+use Rattle.bitmap_core.specs.PrunedBits.{bit_len, pruned_to, truncated}
+use Rattle.historical_bitmap.specs.Pending.{edits_of, layer_of}
+use Rattle.historical_bitmap.specs.Undo.{put_back}
+use Rattle.historical_bitmap.proofs.PendingApplied.{applied_long, cut_len}
+use Rattle.historical_bitmap.proofs.UndoSteps.{put_len}
 use Rattle.historical_bitmap.proofs.bitmap.historical.apply.overwrite.Goals as goal
 
--- src/bitmap/historical/apply.rt:55:5
 pub prune_to_bit-requires : goal.prune_to_bit-requires
-prune_to_bit-requires g c = ?
+prune_to_bit-requires g c =
+    let edits = edits_of c.args.edited.now.entries in
+    let cut : bit_len g.row.N c.truncate.new.self ≡ c.args.len =
+    ap (bit_len g.row.N) c.truncate.ensures ∙ cut_len g.row.N c.args.current.now (layer_of c.args.len c.args.pruned c.args.edited.now.entries) c.requires in
+    let len : bit_len g.row.N c.write_chunks.new.current ≡ c.args.len = ap (bit_len g.row.N) c.write_chunks.ensures.value ∙ (put_len g.row.N c.truncate.new.self edits ∙ cut) in
+    (omega arith, omega (arith, len, c.requires.front))
 
--- src/bitmap/historical/apply.rt:42:1
 pub returns : goal.returns
-returns g c = ?
+returns g c =
+    let layer = layer_of c.args.len c.args.pruned c.args.edited.now.entries in
+    let edits = edits_of c.args.edited.now.entries in
+    let index : 8 * g.row.N * c.args.pruned / (8 * g.row.N) ≡ c.args.pruned = mul-div_cancel_left c.args.pruned (omega (arith, c.len-width.ensures.width.positive)) in
+    let written = c.write_chunks.ensures.value ∙ ap (λ b. put_back g.row.N b edits) c.truncate.ensures in
+    c.prune_to_bit.ensures
+    ∙ (ap (pruned_to g.row.N c.write_chunks.new.current) index
+    ∙ (ap (λ b. pruned_to g.row.N b c.args.pruned) written
+    ∙ applied_long g.row.N c.args.current.now layer c.requires c.len-width.ensures.width.positive c.write_chunks.ensures.sorted))
