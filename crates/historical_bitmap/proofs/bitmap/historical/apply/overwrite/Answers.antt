@@ -1,6 +1,6 @@
 use Rattle.std.proofs.Common.{◌≡◌, ◌*◌, ◌/◌, ap, arith, ◌∙◌}
 use Rattle.std.proofs.Math.Nat.{mul-div_cancel_left}
-use Rattle.bitmap_core.specs.PrunedBits.{bit_len, pruned_to, truncated}
+use Rattle.bitmap_core.specs.PrunedBits.{bit_len, pruned_to}
 use Rattle.historical_bitmap.specs.Pending.{edits_of, layer_of}
 use Rattle.historical_bitmap.specs.Undo.{put_back}
 use Rattle.historical_bitmap.proofs.PendingApplied.{applied_long, cut_len}

@@ -1,5 +1,5 @@
-use Rattle.std.proofs.Common.{◌≡◌, rules, ap, arith, sym, take, ◌∙◌}
-use Rattle.std.specs.Prelude.{nat_le, option_copied}
+use Rattle.std.proofs.Common.{◌≡◌, ap, arith, sym, take, ◌∙◌}
+use Rattle.std.specs.Prelude.{nat_le}
 use Rattle.std.specs.List.{filter}
 use Rattle.bitmap_core.specs.PrunedBits.{bit_len}
 use Rattle.historical_bitmap.specs.Record.{bytes_of, kept_bytes}

@@ -1,4 +1,4 @@
-use Rattle.std.proofs.Common.{◌≡◌, ◌++◌, ap, ◌∙◌}
+use Rattle.std.proofs.Common.{◌++◌, ap, ◌∙◌}
 use Rattle.historical_bitmap.specs.Stored.{entry_values}
 use Rattle.historical_bitmap.specs.Undo.{kept_between}
 use Rattle.historical_bitmap.proofs.EntryPasses.{kept_pruned}
