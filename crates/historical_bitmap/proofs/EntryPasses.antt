@@ -50,12 +50,14 @@ put_append : (n : ℕ) (b : PrunedBits) (xs ys : List (ℕ × spec.ChunkDiff)) �
 put_append n b [] ys = refl
 put_append n b (x ∷ xs) ys = put_append n (put_back_one n b x.0 (kept_bytes x.1)) xs ys
 
+-- the stored entry at a place, as a value
 value_at : {N : ℕ} (xs : List (ℕ × ChunkDiff N)) (i : ℕ) (e : ℕ × ChunkDiff N) → e ≡ get_or xs i e → (e.0, diff_value e.1) ≡ get_or (entry_values xs) i (e.0, diff_value e.1)
 value_at [] i e is = refl
 value_at {N = N} (x ∷ xs) zero e is = ap (λ (y : ℕ × ChunkDiff N). (y.0, diff_value y.1)) is
 value_at (x ∷ xs) (suc i) e is = value_at xs i e is
 
-pub key_at : {N : ℕ} (xs : List (ℕ × ChunkDiff N)) (i : ℕ) (e : ℕ × ChunkDiff N) → i < length xs → e ≡ get_or xs i e → get_or (keys_of (entry_values xs)) i 0 ≡ e.0
+-- the key at a place
+key_at : {N : ℕ} (xs : List (ℕ × ChunkDiff N)) (i : ℕ) (e : ℕ × ChunkDiff N) → i < length xs → e ≡ get_or xs i e → get_or (keys_of (entry_values xs)) i 0 ≡ e.0
 key_at [] i e l is = absurd (omega (arith, l))
 key_at (x ∷ xs) zero e l is = ap (λ y. y.0) (sym is)
 key_at (x ∷ xs) (suc i) e l is = key_at xs i e (omega arith) is
@@ -67,6 +69,7 @@ keys_len : {N : ℕ} (xs : List (ℕ × ChunkDiff N)) → length (keys_of (entry
 keys_len xs = length-map (entry_values xs) _ ∙ values_len xs
 
 module _ {N : ℕ} (xs : List (ℕ × ChunkDiff N)) (i : ℕ) (e : ℕ × ChunkDiff N) (within : i < length xs) (is : e ≡ get_or xs i e) where
+  -- what a look-up finds of the entry at a place
   pub found_at : IsStrictlySortedBy nat_cmp (keys_of (entry_values xs)) → lookup (nat_eq e.0) (entry_values xs) ≡ Some (diff_value e.1)
   found_at up = lookup_place (entry_values xs) i (e.0, diff_value e.1) up (omega (arith, values_len xs)) (value_at xs i e is)
 
@@ -100,6 +103,7 @@ module _ {N : ℕ} (xs : List (ℕ × ChunkDiff N)) (i : ℕ) (e : ℕ × ChunkD
       ∙ (ap (put_back n b) (filter-append past (entry_values (take i xs)) one)
       ∙ put_append n b (filter past (entry_values (take i xs))) (filter past one))
 
+  -- one entry more is put back where its index is not below the least
   pub put_taken : (n : ℕ) (b : PrunedBits) (least : ℕ) → least ≤ e.0
       → put_back n b (filter (λ y. nat_le least y.0) (entry_values (take (i + 1) xs)))
       ≡ put_back_one n (put_back n b (filter (λ y. nat_le least y.0) (entry_values (take i xs)))) e.0 (kept_bytes (diff_value e.1))

@@ -74,17 +74,19 @@ module _ (n : ℕ) (b : PrunedBits) (l : Layer) (pos : 0 < n) (begins : 8 * n * 
 
 -- ---- the edits made in a bitmap that is long enough
 module _ (n : ℕ) (b : PrunedBits) (l : Layer) (can : CanApply n b l) where
+  -- cut to the pending length it has that length
   pub cut_len : bit_len n (truncated n b l.len) ≡ l.len
   cut_len =
       let front : pruned_bits n b ≤ l.len = omega (arith, can.front, mul-le (8 * n) b.pruned (8 * n) l.pruned (omega arith) can.rises) in
       omega (arith, front, can.long, length-take-le (l.len - pruned_bits n b) b.bits (omega (arith, can.long)))
 
+  -- there the edits in steps need no growth
   pub applied_long : 0 < n → IsStrictlySortedBy nat_cmp (keys_of l.edited) → pruned_to n (put_back n (truncated n b l.len) (edits_of l.edited)) l.pruned ≡ pending_bits n b l
   applied_long pos sorted =
       let cut : resized n b l.len ≡ truncated n b l.len = rw (le-ltb (bit_len n b) l.len can.long) refl in
       ap (λ c. pruned_to n (put_back n c (edits_of l.edited)) l.pruned) (sym cut) ∙ applied_is n b l pos can.front can.rises sorted
 
--- over an extended bitmap the pending bits are the same, since the bits of an edited chunk are all its own and those of the others are below the length
+-- over an extended bitmap the pending bits are the same, since past its length a bitmap reads zero
 pub pending_grown : (n : ℕ) (b : PrunedBits) (l : Layer) (len : ℕ) → 8 * n * l.pruned ≤ l.len → pending_bits n (extended n b len) l ≡ pending_bits n b l
 pending_grown n b l len front =
     let grown = pending_bits n (extended n b len) l in

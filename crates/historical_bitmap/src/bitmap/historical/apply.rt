@@ -28,7 +28,7 @@ pub(crate) fn grow<const N: usize>(current: &mut Prunable<N>, len: u64) -> Resul
     Ok(before)
 }
 
-// Cuts a bitmap that has grown back to the length before. No memory.
+// Cuts a bitmap that has grown back to its length before, which leaves it as it was. No memory.
 pub(crate) fn shrink_back<const N: usize>(current: &mut Prunable<N>, before: u64)
     requires from { pruned_bits N current.old ≤ before }
     requires to { before ≤ bit_len N current.old }
