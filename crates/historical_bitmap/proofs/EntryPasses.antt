@@ -33,7 +33,8 @@ pub lookup_between : {X : Type 0} (q i : ℕ) (es : List (ℕ × X))
 lookup_between q i es less more = lookup_absent q es (λ j l s. elim (cases_lt j i) [ inl h ↦ absurd (omega (arith, s, less j h)) | inr h ↦ absurd (omega (arith, s, more j h l)) ])
 
 -- the value at a place is found by its key
-lookup_place : {X : Type 0} (es : List (ℕ × X)) (i : ℕ) (e : ℕ × X) → IsStrictlySortedBy nat_cmp (keys_of es) → i < length es → e ≡ get_or es i e → lookup (nat_eq e.0) es ≡ Some e.1
+lookup_place : {X : Type 0} (es : List (ℕ × X)) (i : ℕ) (e : ℕ × X) → IsStrictlySortedBy nat_cmp (keys_of es) → i < length es → e ≡ get_or es i e
+    → lookup (nat_eq e.0) es ≡ Some e.1
 lookup_place [] i e up l is = absurd (omega (arith, l))
 lookup_place (c ∷ es) zero e up l is = rw (eq-eqb e.0 c.0 (ap (λ y. y.0) is)) (ap (λ y. Some y.1) (sym is))
 lookup_place (c ∷ es) (suc i) e up l is =
@@ -114,7 +115,8 @@ module _ {N : ℕ} (xs : List (ℕ × ChunkDiff N)) (i : ℕ) (e : ℕ × ChunkD
   put_skipped n b least h = put_more n b least ∙ rw (lt-leb least e.0 h) refl
 
 -- the bytes of an entry may be put in place where those that its chunk's look-up finds may
-pub may_put : (n i len total : ℕ) (bytes found : Option (List ℕ)) → bytes ≡ found → total ≡ len → MatchOption found (Unit {0}) (IsOldChunk n len i) → MatchOption bytes (Unit {0}) (IsOldChunk n total i)
+pub may_put : (n i len total : ℕ) (bytes found : Option (List ℕ)) → bytes ≡ found → total ≡ len
+    → MatchOption found (Unit {0}) (IsOldChunk n len i) → MatchOption bytes (Unit {0}) (IsOldChunk n total i)
 may_put n i len total bytes found e f h = rw (e, f) h
 
 -- ---- chunks whose bytes are all kept
@@ -165,7 +167,8 @@ kept_run (e ∷ es) bytes (suc count) from to end up h = elim (cases_lt e.0 from
     later i past there = rw (ne_eqb i e.0 (λ s. absurd (omega (arith, s, past)))) at there
 
 -- the old bytes of the chunks that a commit pruned, which its record keeps, stand in order in its entries
-pub kept_pruned : (r : Reverse) (to : ℕ) → IsStrictlySortedBy nat_cmp (keys_of r.entries) → r.pruned ≤ to → ((i : ℕ) → r.pruned ≤ i → i < to → IsSome (kept r i)) → kept_between r.pruned to r.entries ≡ pruned_chunks r to
+pub kept_pruned : (r : Reverse) (to : ℕ) → IsStrictlySortedBy nat_cmp (keys_of r.entries) → r.pruned ≤ to → ((i : ℕ) → r.pruned ≤ i → i < to → IsSome (kept r i))
+    → kept_between r.pruned to r.entries ≡ pruned_chunks r to
 kept_pruned r to up rises all = kept_run r.entries (λ i. unwrap_or (kept r i) []) (to - r.pruned) r.pruned to (omega (arith, rises)) up (λ i low high. there (kept r i) (all i low high))
   where
     there : (o : Option (List ℕ)) → IsSome o → o ≡ Some (unwrap_or o [])
