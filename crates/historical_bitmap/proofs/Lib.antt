@@ -2,6 +2,7 @@ pub mod Restored
 pub mod OldStates
 pub mod KeptCommits
 pub mod UndoSteps
+pub mod EntryPasses
 pub mod Counting
 pub mod Members
 pub mod TouchedChunks

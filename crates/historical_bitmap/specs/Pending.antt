@@ -155,3 +155,14 @@ edits_of edited = map (λ e. (e.0, Modified e.1)) edited
 -- the pending edits made in steps: the length, the edited chunks, the prune
 abbrev pub applied_in_steps : ℕ → PrunedBits → Layer → PrunedBits
 applied_in_steps n b l = pruned_to n (put_back n (resized n b l.len) (edits_of l.edited)) l.pruned
+
+-- pending edits alone, with nothing captured
+abbrev pub layer_of : ℕ → ℕ → List (ℕ × List ℕ) → Layer
+layer_of len pruned edited = record { len = len; pruned = pruned; edited = edited; captured = [] }
+
+-- pending edits can be made in steps in a bitmap that is as long as they ask
+pub record CanApply (n : ℕ) (b : PrunedBits) (l : Layer) : Type 0 where
+  pub long : l.len ≤ bit_len n b
+  pub front : 8 * n * l.pruned ≤ l.len
+  pub rises : b.pruned ≤ l.pruned
+  pub edited : (i : ℕ) → MatchOption (edited_chunk l i) (Unit {0}) (IsEdited n b l i)

@@ -1,5 +1,6 @@
 //! A bitmap with a history of commits.
 
+mod apply;
 mod clean;
 mod commits;
 pub mod error;
