@@ -1,4 +1,6 @@
 //! A bitmap with a history of commits.
 
+mod edited;
 pub mod error;
+mod pending;
 mod record;
