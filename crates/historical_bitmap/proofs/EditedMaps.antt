@@ -18,7 +18,7 @@ use Rattle.historical_bitmap.specs.Pending.{Puts, PutsTwo, IsNextMember}
 use Rattle.historical_bitmap.proofs.OldStates.{same_lookup}
 
 -- a map's test at a number
-is_at_is : (k q : ℕ) → is_at (nat_cmp k) q ≡ nat_eq q k
+pub is_at_is : (k q : ℕ) → is_at (nat_cmp k) q ≡ nat_eq q k
 is_at_is k q = elim (cases_order q k) [
   | inl e ↦ rw (le-ltb k q (omega arith), eq-eqb k q (sym e), eq-eqb q k e) refl
   | inr (inl l) ↦ rw (le-ltb k q (omega arith), ne_eqb k q (λ e. absurd (omega arith)), ne_eqb q k (λ e. absurd (omega arith))) refl
@@ -92,6 +92,10 @@ on_err (Err x) P e h = h
 pub not_found : {X Y : Type 0} (f : X → Y) (o : Option X) (r : Option Y) → r ≡ option_map f o → is_some r ≡ false → o ≡ None
 not_found f None r e h = refl
 not_found f (Some x) r e h = cc
+
+pub found_mapped : {X Y : Type 0} (f : X → Y) (o : Option X) (r : Option Y) → r ≡ option_map f o → is_some r ≡ true → is_some o ≡ true
+found_mapped f None r e h = sym (ap is_some e) ∙ h
+found_mapped f (Some x) r e h = refl
 
 -- two chunks put, the second one first
 pub puts_two : {X : Type 0} (es mid fs : List (ℕ × X)) (k : ℕ) (x y : X) → Puts es mid (k + 1) (Some y) → Puts mid fs k (Some x) → PutsTwo es fs k x y

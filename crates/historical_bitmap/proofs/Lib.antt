@@ -5,6 +5,7 @@ pub mod Counting
 pub mod Members
 pub mod TouchedChunks
 pub mod EditedMaps
+pub mod HeldChunks
 pub mod PendingEdits
 pub mod PendingMarks
 pub mod PendingChunks

@@ -6,6 +6,7 @@ ghost use Rattle.std.specs.Map.{keys_of, lookup};
 ghost use Rattle.std.specs.Option.{option_copied, option_map};
 ghost use Rattle.std.specs.Ordering.{nat_cmp};
 ghost use Rattle.bitmap_core.specs.Chunk.{chunk_bit, IsChunk, IsWidth};
+ghost use Rattle.historical_bitmap.specs.Held.{is_held_at, with_held};
 ghost use Rattle.historical_bitmap.specs.Pending.{IsNextMember, IsSetIn, IsWritten, Puts, PutsTwo};
 
 use bitmap_core::chunk;
@@ -13,24 +14,25 @@ use std::alloc::{AllocError, Global};
 use std::collections::BTreeMap;
 use std::marker::Model;
 
-// Chunks by index.
+// Chunks by index. One of them is held beside the map, in which older bytes may stand under its index: that which was written twice in a row.
+// A write to it searches no map, and that of another chunk searches it once.
 #[derive(Debug, Drop)]
 pub(crate) struct EditedChunks<const N: usize> {
     chunks: BTreeMap<usize, [u8; N]>,
+    held: Option<usize>,
+    chunk: [u8; N],
+    recent: usize,
 }
 
 impl<const N: usize> Model for EditedChunks<N> {
     ghost use Rattle.std.specs.Prelude.{ℕ, List};
-    ghost use Rattle.std.specs.List.Sorted.{IsStrictlySortedBy};
-    ghost use Rattle.std.specs.Map.{keys_of};
-    ghost use Rattle.std.specs.Ordering.{nat_cmp};
-    ghost use Rattle.bitmap_core.specs.Chunk.{IsWidth};
+    ghost use Rattle.historical_bitmap.specs.Held.{IsHeld, with_held};
 
     ghost Value = { List (ℕ × List ℕ) };
 
-    ghost view = { λ c. c.chunks.entries };
+    ghost view = { λ c. with_held c.chunks.entries c.held c.chunk };
 
-    ghost invariant = { λ c. IsWidth N × IsStrictlySortedBy nat_cmp (keys_of c.chunks.entries) };
+    ghost invariant = { λ c. IsHeld N c.chunks.entries c.held };
 }
 
 // What the type of a chunk says of it: N bytes, each below 256.
@@ -56,6 +58,45 @@ pub(crate) fn replace_bit<const N: usize>(chunk: &mut [u8; N], bit: u64, value: 
     old
 }
 
+// Whether an index is the one that is held.
+fn is_held(held: Option<usize>, index: usize) -> bool
+    ensures { result ≡ is_held_at held index }
+{
+    match held {
+        Some(held) => held == index,
+        None => false,
+    }
+}
+
+// Replaces a bit of the chunk at an index, and answers the old one, where there is one. No memory.
+fn replace_in<const N: usize>(
+    chunks: &mut BTreeMap<usize, [u8; N]>,
+    index: usize,
+    bit: u64,
+    value: bool,
+) -> Option<bool>
+    requires width { IsWidth N }
+    ensures bit { result ≡ option_map (λ chunk. chunk_bit N chunk bit) (lookup (nat_eq index) chunks.old.entries) }
+    ensures none { lookup (nat_eq index) chunks.old.entries ≡ None → chunks.new.entries ≡ chunks.old.entries }
+    ensures some { IfSome (lookup (nat_eq index) chunks.old.entries) (λ chunk. IsSetIn N chunks.old.entries chunks.new.entries index chunk bit value) }
+    ensures sorted { IsStrictlySortedBy nat_cmp (keys_of chunks.new.entries) }
+{
+    match chunks.get_mut(&index) {
+        Some(chunk) => Some(replace_bit(chunk, bit, value)),
+        None => None,
+    }
+}
+
+// Puts a chunk in the place of the one at an index, where there is one. No memory.
+fn put_in<const N: usize>(chunks: &mut BTreeMap<usize, [u8; N]>, index: usize, chunk: [u8; N])
+    ensures entries { chunks.new.entries ≡ with_held chunks.old.entries (Some index) chunk.entry }
+    ensures sorted { IsStrictlySortedBy nat_cmp (keys_of chunks.new.entries) }
+{
+    if let Some(place) = chunks.get_mut(&index) {
+        *place = chunk;
+    }
+}
+
 impl<const N: usize> EditedChunks<N> {
     // No chunks. No memory.
     pub(crate) fn new(alloc: Global) -> Self
@@ -64,6 +105,9 @@ impl<const N: usize> EditedChunks<N> {
     {
         EditedChunks {
             chunks: BTreeMap::new(alloc),
+            held: None,
+            chunk: [0; N],
+            recent: 0,
         }
     }
 
@@ -72,7 +116,26 @@ impl<const N: usize> EditedChunks<N> {
         ensures value { option_copied result ≡ lookup (nat_eq index) self.now }
         ensures sorted { IsStrictlySortedBy nat_cmp (keys_of self.now) }
     {
+        if is_held(self.held, index) {
+            return Some(&self.chunk);
+        }
         self.chunks.get(&index)
+    }
+
+    // Holds the chunk at an index beside the map, where there is one, in place of the one that is held. No memory.
+    fn hold(&mut self, index: usize)
+        ensures same { self.new ≡ self.old }
+    {
+        if let Some(held) = self.held {
+            put_in(&mut self.chunks, held, self.chunk);
+        }
+        match self.chunks.get(&index) {
+            Some(chunk) => {
+                self.chunk = *chunk;
+                self.held = Some(index);
+            }
+            None => self.held = None,
+        }
     }
 
     // Replaces a bit of the chunk at an index, and answers the old one, where there is one. No memory.
@@ -83,10 +146,17 @@ impl<const N: usize> EditedChunks<N> {
         ensures some { IfSome (lookup (nat_eq index) self.old) (λ chunk. IsSetIn N self.old self.new index chunk bit value) }
         ensures sorted { IsStrictlySortedBy nat_cmp (keys_of self.new) }
     {
-        match self.chunks.get_mut(&index) {
-            Some(chunk) => Some(replace_bit(chunk, bit, value)),
-            None => None,
+        if is_held(self.held, index) {
+            return Some(replace_bit(&mut self.chunk, bit, value));
         }
+        let is_second = self.recent == index;
+        self.recent = index;
+        let old = replace_in(&mut self.chunks, index, bit, value);
+        if !is_second {
+            return old;
+        }
+        self.hold(index);
+        old
     }
 
     // Puts a chunk at an index. Where one stands there it takes no memory, and succeeds.
@@ -97,6 +167,11 @@ impl<const N: usize> EditedChunks<N> {
         ensures was_sorted { IsStrictlySortedBy nat_cmp (keys_of self.old) }
         ensures sorted { IsStrictlySortedBy nat_cmp (keys_of self.new) }
     {
+        if is_held(self.held, index) {
+            self.chunk = chunk;
+            return Ok(());
+        }
+        self.recent = index;
         self.chunks.insert(index, chunk)?;
         Ok(())
     }
@@ -127,7 +202,12 @@ impl<const N: usize> EditedChunks<N> {
         ensures removed { Puts self.old self.new index None }
         ensures sorted { IsStrictlySortedBy nat_cmp (keys_of self.new) }
     {
-        self.chunks.remove(&index)
+        let removed = self.chunks.remove(&index);
+        if is_held(self.held, index) {
+            self.held = None;
+            return Some(self.chunk);
+        }
+        removed
     }
 
     // The first index from `from` on at which there is a chunk.
@@ -144,6 +224,10 @@ impl<const N: usize> EditedChunks<N> {
     pub(crate) fn into_map(self) -> BTreeMap<usize, [u8; N]>
         ensures { result.entries ≡ self.entry }
     {
-        self.chunks
+        let mut chunks = self.chunks;
+        if let Some(held) = self.held {
+            put_in(&mut chunks, held, self.chunk);
+        }
+        chunks
     }
 }
