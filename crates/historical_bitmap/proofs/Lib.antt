@@ -6,10 +6,14 @@ pub mod EntryPasses
 pub mod Counting
 pub mod Members
 pub mod TouchedChunks
+pub mod EditedMaps
+pub mod HeldChunks
 pub mod PendingEdits
 pub mod PendingMarks
 pub mod PendingChunks
 pub mod PendingRecords
 pub mod PendingApplied
 pub mod PendingAppends
+pub mod PendingNext
+pub mod PendingWrites
 pub mod Examples

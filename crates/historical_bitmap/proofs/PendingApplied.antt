@@ -10,8 +10,8 @@ use Rattle.std.specs.List.Sorted.{IsStrictlySortedBy}
 use Rattle.std.specs.Ordering.{nat_cmp}
 use Rattle.std.specs.Map.{lookup, keys_of}
 use Rattle.bitmap_core.specs.PrunedBits.{PrunedBits, pruned_bits, bit_len, bit_at, HasBit, pruned_to, extended, truncated}
-use Rattle.bitmap_core.proofs.PrunedBitsFacts.{front_of, bit_from_bits, len_from_bits}
-use Rattle.bitmap_core.proofs.PrunedEdits.{bit_extended, bit_pruned}
+use Rattle.bitmap_core.proofs.Pruned.Positions.{front_of, bit_from_bits, len_from_bits}
+use Rattle.bitmap_core.proofs.Pruned.Edits.{bit_extended, bit_pruned}
 use Rattle.historical_bitmap.specs.Record.{bytes_of}
 use Rattle.historical_bitmap.specs.Undo.{put_back, resized}
 use Rattle.historical_bitmap.specs.Pending.{Layer, CanApply, edited_chunk, layer_bit, pending_bits, edits_of, applied_in_steps}

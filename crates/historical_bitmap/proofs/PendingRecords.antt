@@ -16,7 +16,7 @@ use Rattle.std.specs.Map.{lookup, keys_of}
 use Rattle.std.specs.Set.{is_member, distinct_count}
 use Rattle.bitmap_core.specs.Chunk.{chunk_bit}
 use Rattle.bitmap_core.specs.PrunedBits.{PrunedBits, bit_len, bit_at, HasBit, chunk}
-use Rattle.bitmap_core.proofs.PrunedBitsFacts.{place, bit_past}
+use Rattle.bitmap_core.proofs.Pruned.Positions.{place, bit_past}
 use Rattle.historical_bitmap.specs.Record.{ChunkDiff, Reverse, bit_from, kept, bytes_of, kept_bytes, LeadsBack}
 use Rattle.historical_bitmap.specs.Undo.{CanUndo, IsOldChunk}
 use Rattle.historical_bitmap.specs.Pending.{Layer, edited_chunk, pending_bits, layer_marks, diff_of, LayerFits, ReversesLayer}

@@ -3,6 +3,7 @@
 mod apply;
 mod clean;
 mod commits;
+mod edited;
 pub mod error;
 mod pending;
 mod record;
