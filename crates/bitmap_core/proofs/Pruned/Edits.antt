@@ -112,7 +112,7 @@ module _ (n : ℕ) (b : PrunedBits) (chunks : List (List ℕ)) (p : 0 < n) (fits
       get_or-append_right put b.bits (8 * n * length chunks) place false (length-front_bits n chunks) (omega arith)
       ∙ ap (λ j. get_or b.bits j false) (omega arith)
 
-  bit_unpruned_low : (k : ℕ) → 8 * n * (b.pruned - length chunks) ≤ k → k < pruned_bits n b
+  pub bit_unpruned_low : (k : ℕ) → 8 * n * (b.pruned - length chunks) ≤ k → k < pruned_bits n b
       → bit_at n (unpruned n b chunks) k ≡ bit_of n chunks (k - 8 * n * (b.pruned - length chunks))
   bit_unpruned_low k l h =
       let f = front_of (8 * n) (length chunks) b.pruned fits in
