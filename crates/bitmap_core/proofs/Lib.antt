@@ -5,6 +5,7 @@ pub mod BitLists
 pub mod ChunkLists
 pub mod BitEdits
 pub mod WholeBits
+pub mod CombinedRuns
 pub mod ChunkRuns
 pub mod ChunkBytes
 pub mod Equality

@@ -85,11 +85,7 @@ pub fn combine<B: Bitwise, const N: usize>(chunk: &mut [u8; N], other: &[u8; N])
     requires { 0 < N }
     ensures { (i : ℕ) → chunk_bit N chunk.new i ≡ B.gives (chunk_bit N chunk.old i) (chunk_bit N other.now i) }
 {
-    // Copies, so that no write can be taken for one to `other`: whole words are combined at once.
-    let other = *other;
-    let mut combined = *chunk;
     for j in 0..N {
-        combined[j] = B::of_bytes(combined[j], other[j]);
+        chunk[j] = B::of_bytes(chunk[j], other[j]);
     }
-    *chunk = combined;
 }
