@@ -91,11 +91,7 @@ fn combine_slices<B: Bitwise, const N: usize>(chunks: &mut [[u8; N]], others: &[
 }
 
 // Combines the chunks from the index `from` on with the others, as many as these are.
-fn combine_some<B: Bitwise, const N: usize>(
-    chunks: &mut [[u8; N]],
-    others: &[[u8; N]],
-    from: usize,
-)
+fn combine_some<B: Bitwise, const N: usize>(chunks: &mut [[u8; N]], others: &[[u8; N]], from: usize)
     requires positive { 0 < N }
     requires within { from + length others.now ≤ length chunks.old }
     ensures count { length chunks.new ≡ length chunks.old }
