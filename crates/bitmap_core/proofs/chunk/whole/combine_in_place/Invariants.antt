@@ -1,6 +1,6 @@
 use Rattle.std.proofs.Common.{◌≡◌, ℕ, ◌<◌, ◌≤◌, length, get_or, eqb}
 use Rattle.std.specs.Int.{bit_at}
-use Rattle.bitmap_core.proofs.chunk.whole.combine.Given as goal
+use Rattle.bitmap_core.proofs.chunk.whole.combine_in_place.Given as goal
 
 abbrev pub invariant-loop-j : goal.invariant-loop-j
 invariant-loop-j g l = record {
