@@ -6,6 +6,7 @@ pub mod Equal
 pub mod OfBytes
 pub mod Front
 pub mod Whole
+pub mod Combined
 pub mod Places
 pub mod ByteWritten
 pub mod Packed

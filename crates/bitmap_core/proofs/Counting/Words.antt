@@ -1,17 +1,17 @@
 -- The bits of bytes, and of the words that they make.
-use Rattle.std.proofs.Common.{◌≡◌, ℕ, suc, zero, count_ones, ◌+◌, ◌-◌, ◌*◌, ◌/◌, ◌%◌, ◌^◌, ◌<◌, ◌≤◌, List, get_or, take, drop, eqb, true, false, not, length, [], sym, ap, ◌∙◌, refl, w64, arith}
+use Rattle.std.proofs.Common.{◌≡◌, ℕ, suc, zero, count_ones, ◌+◌, ◌-◌, ◌*◌, ◌/◌, ◌%◌, ◌^◌, ◌<◌, ◌≤◌, List, get_or, take, drop, eqb, false, not, length, [], sym, ap, ◌∙◌, refl, w64, arith}
 use Rattle.std.specs.Int.{bit_at, from_le_bytes}
 use Rattle.std.specs.List.{count_by, list_all, slice_range}
 use Rattle.std.specs.Simd.{first_chunks}
 use Rattle.std.proofs.Math.Nat.{mod-eq_of_lt, mul-add}
-use Rattle.std.proofs.lemmas.List.{get_or_default, get_or-drop, get_or-take, drop-drop}
+use Rattle.std.proofs.lemmas.List.{get_or_default, get_or-drop, drop-drop}
 use Rattle.std.proofs.lemmas.List.FromFn.{length-map-range_with_len, get_or-map-range_with_len}
 use Rattle.bitmap_core.specs.Chunk.{chunk_bit, chunk_bits, bit_in}
-use Rattle.bitmap_core.specs.Bits.{bit_of, bits}
+use Rattle.bitmap_core.specs.Bits.{bit_of}
 use Rattle.bitmap_core.proofs.Chunks.Bits.{chunk_bit-mod}
-use Rattle.bitmap_core.proofs.Counting.Ones.{ones_from, ones_from_add, ones_from_same, count-bits}
+use Rattle.bitmap_core.proofs.Counting.Ones.{ones_from, ones_from_same}
 use Rattle.bitmap_core.proofs.Words.OfBytes.{word_bit}
-use Rattle.bitmap_core.proofs.Counting.Places.{none_map, count_map, none_slice, none_bits, found, more_ones, ones_of_zero, ones_of_other, rest_zero, some_left}
+use Rattle.bitmap_core.proofs.Counting.Places.{none_map, count_map, none_slice, found, more_ones, ones_of_zero, ones_of_other}
 
 chunk_bit-within : (n : ℕ) (c : List ℕ) (i : ℕ) → i < 8 * n → chunk_bit n c i ≡ bit_in c i
 chunk_bit-within n c i h = ap (λ k. eqb (bit_at (get_or c k 0) (i % 8)) 1) (mod-eq_of_lt {n = i / 8} {m = n} (omega arith))

@@ -75,13 +75,32 @@ pub fn combine<B: Bitwise, const N: usize>(
     combine_slices::<B, N>(tail, back);
 }
 
+// Sixteen chunks a turn, as `flip_slice` goes.
 fn combine_slices<B: Bitwise, const N: usize>(chunks: &mut [[u8; N]], others: &[[u8; N]])
     requires positive { 0 < N }
     requires same { length chunks.old ≡ length others.now }
     ensures { IsCombined N B.gives chunks.old others.now chunks.new }
 {
-    for i in 0..chunks.len() {
-        whole::combine::<B, N>(&mut chunks[i], &others[i]);
+    let groups = chunks.len() / 16;
+    for i in 0..groups {
+        // A copy, so that no write can be taken for one to the others: all sixteen are combined at once.
+        let theirs: [[u8; N]; 16] = others[16 * i..16 * i + 16].try_into().unwrap();
+        combine_some::<B, N>(chunks, &theirs, 16 * i);
+    }
+    combine_some::<B, N>(chunks, &others[16 * groups..], 16 * groups);
+}
+
+// Combines the chunks from the index `from` on with the others, as many as these are.
+fn combine_some<B: Bitwise, const N: usize>(chunks: &mut [[u8; N]], others: &[[u8; N]], from: usize)
+    requires positive { 0 < N }
+    requires within { from + length others.now ≤ length chunks.old }
+    ensures count { length chunks.new ≡ length chunks.old }
+    ensures bits { (k : ℕ) → k < length others.now → (t : ℕ) → chunk_bit N (slice_index_or chunks.new (from + k) []) t ≡ B.gives (chunk_bit N (slice_index_or chunks.old (from + k) []) t) (chunk_bit N (slice_index_or others.now k []) t) }
+    ensures below { (k : ℕ) → k < from → slice_index_or chunks.new k [] ≡ slice_index_or chunks.old k [] }
+    ensures above { (k : ℕ) → from + length others.now ≤ k → slice_index_or chunks.new k [] ≡ slice_index_or chunks.old k [] }
+{
+    for i in 0..others.len() {
+        whole::combine::<B, N>(&mut chunks[from + i], &others[i]);
     }
 }
 
