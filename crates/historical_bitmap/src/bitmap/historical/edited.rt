@@ -69,6 +69,7 @@ fn is_held(held: Option<usize>, index: usize) -> bool
 }
 
 // Replaces a bit of the chunk at an index, and answers the old one, where there is one. No memory.
+#[inline(never)]
 fn replace_in<const N: usize>(
     chunks: &mut BTreeMap<usize, [u8; N]>,
     index: usize,
@@ -123,6 +124,7 @@ impl<const N: usize> EditedChunks<N> {
     }
 
     // Holds the chunk at an index beside the map, where there is one, in place of the one that is held. No memory.
+    #[inline(never)]
     fn hold(&mut self, index: usize)
         ensures same { self.new ≡ self.old }
     {
@@ -139,6 +141,7 @@ impl<const N: usize> EditedChunks<N> {
     }
 
     // Replaces a bit of the chunk at an index, and answers the old one, where there is one. No memory.
+    #[inline]
     pub(crate) fn replace_bit(&mut self, index: usize, bit: u64, value: bool) -> Option<bool>
         requires width { IsWidth N }
         ensures bit { result ≡ option_map (λ chunk. chunk_bit N chunk bit) (lookup (nat_eq index) self.old) }
@@ -171,8 +174,13 @@ impl<const N: usize> EditedChunks<N> {
             self.chunk = chunk;
             return Ok(());
         }
+        let is_second = self.recent == index;
         self.recent = index;
         self.chunks.insert(index, chunk)?;
+        if !is_second {
+            return Ok(());
+        }
+        self.hold(index);
         Ok(())
     }
 

@@ -28,6 +28,24 @@ returns-in_err-insert-clause-was_sorted g c = rw (sym c.self.view_is) (held_sort
 pub returns-in_err-insert-clause-sorted : goal.returns-in_err-insert-clause-sorted
 returns-in_err-insert-clause-sorted g c = rw c.in_err-insert.ensures.err (held_sorted g.row.N c.self.inside.chunks.entries c.self.inside.held c.self.inside.chunk c.self.invariant)
 
+pub invariant_of-self-then-not-is_second : goal.invariant_of-self-then-not-is_second
+invariant_of-self-then-not-is_second g c =
+    let put = puts_from c.self.inside.chunks.entries c.insert.new.self.entries c.args.index (Some c.args.chunk) c.in_ok-insert.ensures.updates.0 in
+    held_beside g.row.N c.self.inside.chunks.entries c.insert.new.self.entries c.self.inside.held c.args.index (Some c.args.chunk) c.self.invariant (sym c.is_held.ensures ∙ c.if-is_held.false) c.in_ok-insert.ensures.ordered put
+
+pub returns-then-not-is_second-clause-ok : goal.returns-then-not-is_second-clause-ok
+returns-then-not-is_second-clause-ok g c =
+    let put = puts_from c.self.inside.chunks.entries c.insert.new.self.entries c.args.index (Some c.args.chunk) c.in_ok-insert.ensures.updates.0 in
+    rw (sym c.self.view_is) (puts_beside g.row.N c.self.inside.chunks.entries c.insert.new.self.entries c.self.inside.held c.self.inside.chunk c.args.index (Some c.args.chunk) c.self.invariant (sym c.is_held.ensures ∙ c.if-is_held.false) c.in_ok-insert.ensures.ordered put)
+
+pub returns-then-not-is_second-clause-was_sorted : goal.returns-then-not-is_second-clause-was_sorted
+returns-then-not-is_second-clause-was_sorted g c = rw (sym c.self.view_is) (held_sorted g.row.N c.self.inside.chunks.entries c.self.inside.held c.self.inside.chunk c.self.invariant)
+
+pub returns-then-not-is_second-clause-sorted : goal.returns-then-not-is_second-clause-sorted
+returns-then-not-is_second-clause-sorted g c =
+    let put = puts_from c.self.inside.chunks.entries c.insert.new.self.entries c.args.index (Some c.args.chunk) c.in_ok-insert.ensures.updates.0 in
+    held_sorted g.row.N c.insert.new.self.entries c.self.inside.held c.self.inside.chunk (held_beside g.row.N c.self.inside.chunks.entries c.insert.new.self.entries c.self.inside.held c.args.index (Some c.args.chunk) c.self.invariant (sym c.is_held.ensures ∙ c.if-is_held.false) c.in_ok-insert.ensures.ordered put)
+
 pub invariant_of-self-2 : goal.invariant_of-self-2
 invariant_of-self-2 g c =
     let put = puts_from c.self.inside.chunks.entries c.insert.new.self.entries c.args.index (Some c.args.chunk) c.in_ok-insert.ensures.updates.0 in
@@ -36,7 +54,7 @@ invariant_of-self-2 g c =
 pub returns-clause-ok : goal.returns-clause-ok
 returns-clause-ok g c =
     let put = puts_from c.self.inside.chunks.entries c.insert.new.self.entries c.args.index (Some c.args.chunk) c.in_ok-insert.ensures.updates.0 in
-    rw (sym c.self.view_is) (puts_beside g.row.N c.self.inside.chunks.entries c.insert.new.self.entries c.self.inside.held c.self.inside.chunk c.args.index (Some c.args.chunk) c.self.invariant (sym c.is_held.ensures ∙ c.if-is_held.false) c.in_ok-insert.ensures.ordered put)
+    rw (c.hold.ensures.same, sym c.self.view_is) (puts_beside g.row.N c.self.inside.chunks.entries c.insert.new.self.entries c.self.inside.held c.self.inside.chunk c.args.index (Some c.args.chunk) c.self.invariant (sym c.is_held.ensures ∙ c.if-is_held.false) c.in_ok-insert.ensures.ordered put)
 
 pub returns-clause-was_sorted : goal.returns-clause-was_sorted
 returns-clause-was_sorted g c = rw (sym c.self.view_is) (held_sorted g.row.N c.self.inside.chunks.entries c.self.inside.held c.self.inside.chunk c.self.invariant)
@@ -44,4 +62,4 @@ returns-clause-was_sorted g c = rw (sym c.self.view_is) (held_sorted g.row.N c.s
 pub returns-clause-sorted : goal.returns-clause-sorted
 returns-clause-sorted g c =
     let put = puts_from c.self.inside.chunks.entries c.insert.new.self.entries c.args.index (Some c.args.chunk) c.in_ok-insert.ensures.updates.0 in
-    held_sorted g.row.N c.insert.new.self.entries c.self.inside.held c.self.inside.chunk (held_beside g.row.N c.self.inside.chunks.entries c.insert.new.self.entries c.self.inside.held c.args.index (Some c.args.chunk) c.self.invariant (sym c.is_held.ensures ∙ c.if-is_held.false) c.in_ok-insert.ensures.ordered put)
+    rw c.hold.ensures.same (held_sorted g.row.N c.insert.new.self.entries c.self.inside.held c.self.inside.chunk (held_beside g.row.N c.self.inside.chunks.entries c.insert.new.self.entries c.self.inside.held c.args.index (Some c.args.chunk) c.self.invariant (sym c.is_held.ensures ∙ c.if-is_held.false) c.in_ok-insert.ensures.ordered put))
