@@ -16,4 +16,6 @@ pub mod PendingApplied
 pub mod PendingAppends
 pub mod PendingNext
 pub mod PendingWrites
+pub mod DirtyEdits
+pub mod NewCommits
 pub mod Examples

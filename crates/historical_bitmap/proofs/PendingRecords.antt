@@ -129,7 +129,7 @@ sorted_none : IsStrictlySortedBy nat_cmp []
 unfolding IsStrictlySortedBy
 sorted_none = tt
 
-keys_push : {X : Type 0} (es : List (ℕ × X)) (i : ℕ) (d : X) → keys_of (es ++ (i, d) ∷ []) ≡ keys_of es ++ i ∷ []
+pub keys_push : {X : Type 0} (es : List (ℕ × X)) (i : ℕ) (d : X) → keys_of (es ++ (i, d) ∷ []) ≡ keys_of es ++ i ∷ []
 keys_push [] i d = refl
 keys_push (e ∷ es) i d = ap (λ ks. e.0 ∷ ks) (keys_push es i d)
 

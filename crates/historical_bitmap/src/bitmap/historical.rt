@@ -3,6 +3,8 @@
 mod apply;
 mod clean;
 mod commits;
+mod dirty;
+mod edit;
 mod edited;
 pub mod error;
 mod pending;
@@ -11,6 +13,7 @@ mod state;
 mod undo;
 
 pub use crate::bitmap::historical::commits::{Commits, Numbers};
+pub use crate::bitmap::historical::edit::{Edit, Lent};
 pub use crate::bitmap::historical::error::Error;
 pub use crate::bitmap::historical::pending::Dirty;
 use crate::bitmap::historical::record::CommitDiff;
