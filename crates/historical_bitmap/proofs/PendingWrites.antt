@@ -255,11 +255,3 @@ module _ (n : ℕ) (b : PrunedBits) (l : Layer) (byte : ℕ) (pos : 0 < n) (fits
       let its = mod_parts n l.len pos in
       let below = mod_below (l.len / 8) n pos in
       appends_one n b l m (byte_bits byte) pos (omega arith) len pruned captured set.bytes (omega (arith, its, below, even)) (byte_has set.chunk set.bytes set.found set.size set.written) set.edited
-
--- no chunk past the length is edited
-pub none_past : (n : ℕ) (b : PrunedBits) (l : Layer) (i : ℕ) → LayerFits n b l → l.len ≤ 8 * n * i → edited_chunk l i ≡ None
-none_past n b l i fits h = go (edited_chunk l i) (fits.edited i)
-  where
-    go : (o : Option (List ℕ)) → MatchOption o (Unit {0}) (IsEdited n b l i) → o ≡ None
-    go None f = refl
-    go (Some bytes) f = absurd (omega (arith, f.high, h))

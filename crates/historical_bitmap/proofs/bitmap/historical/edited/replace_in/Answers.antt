@@ -1,4 +1,4 @@
-use Rattle.std.proofs.Common.{◌≡◌, Some, None, ap, sym, ◌∙◌}
+use Rattle.std.proofs.Common.{◌≡◌, Some, ap, sym, ◌∙◌}
 use Rattle.std.specs.Prelude.{is_some, nat_eq}
 use Rattle.std.specs.Map.{lookup}
 use Rattle.historical_bitmap.proofs.OldStates.{same_lookup}

@@ -1,4 +1,4 @@
-use Rattle.std.proofs.Common.{◌≡◌, Some, ap, sym, ◌∙◌}
+use Rattle.std.proofs.Common.{◌≡◌, ap, sym, ◌∙◌}
 use Rattle.historical_bitmap.specs.Held.{with_held}
 use Rattle.historical_bitmap.proofs.HeldChunks.{hold_same}
 use Rattle.historical_bitmap.proofs.OldStates.{same_lookup}

@@ -1,4 +1,4 @@
-use Rattle.std.proofs.Common.{◌≡◌, None, sym, ◌∙◌}
+use Rattle.std.proofs.Common.{None, sym, ◌∙◌}
 use Rattle.historical_bitmap.proofs.EditedMaps.{puts_from}
 use Rattle.historical_bitmap.proofs.HeldChunks.{held_sorted, held_beside, lookup_here, lookup_beside, takes_here, puts_beside}
 use Rattle.historical_bitmap.proofs.OldStates.{same_lookup}

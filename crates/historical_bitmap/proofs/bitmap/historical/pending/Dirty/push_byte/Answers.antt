@@ -1,4 +1,4 @@
-use Rattle.std.proofs.Common.{sym, arith}
+use Rattle.std.proofs.Common.{arith}
 use Rattle.historical_bitmap.proofs.bitmap.historical.pending.Dirty.push_byte.Goals as goal
 
 pub append-requires : goal.append-requires

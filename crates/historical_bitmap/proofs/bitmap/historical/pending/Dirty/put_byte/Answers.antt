@@ -1,4 +1,4 @@
-use Rattle.std.proofs.Common.{◌≡◌, ◌%◌, sym, ap, ◌∙◌, refl, arith}
+use Rattle.std.proofs.Common.{◌≡◌, ◌%◌, sym, refl, arith}
 use Rattle.historical_bitmap.proofs.PendingWrites.{appends_byte}
 use Rattle.historical_bitmap.proofs.bitmap.historical.pending.Dirty.put_byte.Goals as goal
 
