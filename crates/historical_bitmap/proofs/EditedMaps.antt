@@ -1,5 +1,5 @@
 -- What a map says of its entries, as look-ups by number.
-use Rattle.std.proofs.Common.{◌≡◌, ℕ, ◌+◌, ◌<◌, ◌≤◌, true, false, cond, List, [], ◌∷◌, Some, None, Result, Ok, Err, refl, sym, ap, ◌∙◌, arith}
+use Rattle.std.proofs.Common.{◌≡◌, ℕ, ◌<◌, ◌≤◌, true, false, cond, List, [], ◌∷◌, Some, None, Result, Ok, Err, refl, sym, ap, ◌∙◌, arith}
 use mathlib.Core.Logic.{inl, inr, ◌≢◌}
 use Rattle.std.proofs.lemmas.Option.{same_Some}
 use Rattle.std.specs.List.{AllByRecursion}
@@ -14,7 +14,7 @@ use Rattle.std.specs.Map.{keys_of, lookup}
 use Rattle.std.specs.Option.{option_map}
 use Rattle.std.specs.Ordering.{nat_cmp, is_gt}
 use Rattle.std.specs.Set.{is_member}
-use Rattle.historical_bitmap.specs.Pending.{Puts, PutsTwo, IsNextMember}
+use Rattle.historical_bitmap.specs.Pending.{Puts, IsNextMember}
 use Rattle.historical_bitmap.proofs.OldStates.{same_lookup}
 
 -- a map's test at a number
@@ -28,13 +28,6 @@ is_at_is k q = elim (cases_order q k) [
 -- what a map says of an update
 pub puts_from : {X : Type 0} (es fs : List (ℕ × X)) (k : ℕ) (o : Option X) → ((q : ℕ) → lookup (is_at (nat_cmp q)) fs ≡ cond (is_at (nat_cmp k) q) o (lookup (is_at (nat_cmp q)) es)) → Puts es fs k o
 puts_from es fs k o h = λ q. sym (same_lookup q fs) ∙ (h q ∙ (ap (λ t. cond t o (lookup (is_at (nat_cmp q)) es)) (is_at_is k q) ∙ ap (λ y. cond (nat_eq q k) o y) (same_lookup q es)))
-
--- nothing is put where nothing was
-pub puts_none : {X : Type 0} (es fs : List (ℕ × X)) (k : ℕ) → fs ≡ es → lookup (nat_eq k) es ≡ None → Puts es fs k None
-puts_none es fs k e none = λ q. elim (cases_eq q k) [
-  | inl f ↦ rw (eq-eqb q k f, e, f) none
-  | inr ne ↦ rw (ne_eqb q k ne, e) refl
-]
 
 -- ---- entries in order
 below : (a b : ℕ) → nat_cmp a b ≡ Less → a < b
@@ -96,10 +89,6 @@ not_found f (Some x) r e h = cc
 pub found_mapped : {X Y : Type 0} (f : X → Y) (o : Option X) (r : Option Y) → r ≡ option_map f o → is_some r ≡ true → is_some o ≡ true
 found_mapped f None r e h = sym (ap is_some e) ∙ h
 found_mapped f (Some x) r e h = refl
-
--- two chunks put, the second one first
-pub puts_two : {X : Type 0} (es mid fs : List (ℕ × X)) (k : ℕ) (x y : X) → Puts es mid (k + 1) (Some y) → Puts mid fs k (Some x) → PutsTwo es fs k x y
-puts_two es mid fs k x y first second = λ q. second q ∙ ap (λ o. cond (nat_eq q k) (Some x) o) (first q)
 
 -- ---- what a map says of a range
 not_gt : (a b : ℕ) → a ≤ b → is_gt (nat_cmp a b) ≡ false

@@ -1,13 +1,13 @@
 //! The edited chunks of a batch, by index.
 
-ghost use Rattle.std.specs.Prelude.{◌≡◌, ℕ, ◌+◌, ◌*◌, ◌/◌, ◌^◌, ◌<◌, [], List, length, Option, Some, None, IfOk, IfSome, OnOk, OnErr, IsOk, IsSome, nat_eq, slice_index};
+ghost use Rattle.std.specs.Prelude.{◌≡◌, ℕ, ◌+◌, ◌*◌, ◌/◌, ◌^◌, ◌<◌, [], List, length, Option, Some, None, IfOk, IfSome, OnOk, OnErr, IsOk, IsSome, nat_eq, slice_index, true, false};
 ghost use Rattle.std.specs.List.Sorted.{IsStrictlySortedBy};
 ghost use Rattle.std.specs.Map.{keys_of, lookup};
 ghost use Rattle.std.specs.Option.{option_copied, option_map};
 ghost use Rattle.std.specs.Ordering.{nat_cmp};
 ghost use Rattle.bitmap_core.specs.Chunk.{chunk_bit, IsChunk, IsWidth};
 ghost use Rattle.historical_bitmap.specs.Held.{is_held_at, with_held};
-ghost use Rattle.historical_bitmap.specs.Pending.{IsNextMember, IsSetIn, IsWritten, Puts, PutsTwo};
+ghost use Rattle.historical_bitmap.specs.Pending.{IsByteSetIn, IsNextMember, IsSetIn, IsWritten, Puts, PutsTwo};
 
 use bitmap_core::chunk;
 use std::alloc::{AllocError, Global};
@@ -160,6 +160,20 @@ impl<const N: usize> EditedChunks<N> {
         }
         self.hold(index);
         old
+    }
+
+    // Writes a whole byte of the chunk at an index where it is held, and answers whether it is. No memory.
+    pub(crate) fn replace_byte(&mut self, index: usize, bit: u64, byte: u8) -> bool
+        requires width { IsWidth N }
+        ensures written { result ≡ true → IsByteSetIn N self.old self.new index bit byte }
+        ensures other { result ≡ false → self.new ≡ self.old }
+    {
+        if !is_held(self.held, index) {
+            return false;
+        }
+        chunk::set_byte(&mut self.chunk, bit, byte);
+        known(&self.chunk);
+        true
     }
 
     // Puts a chunk at an index. Where one stands there it takes no memory, and succeeds.

@@ -1,6 +1,6 @@
 //! The edits of a batch that are pending.
 
-ghost use Rattle.std.specs.Prelude.{◌≡◌, ℕ, ◌+◌, ◌-◌, ◌*◌, ◌/◌, ◌%◌, ◌^◌, ◌<◌, ◌≤◌, ◌++◌, List, length, map, false, if◌then◌else◌, nat_lt, IfOk, MatchOption, None, OnOk, OnErr, IsOk, IsSome, nat_eq, unwrap_or, slice_index, [], vec_len, vec_capacity};
+ghost use Rattle.std.specs.Prelude.{◌≡◌, ℕ, ◌+◌, ◌-◌, ◌*◌, ◌/◌, ◌%◌, ◌^◌, ◌<◌, ◌≤◌, ◌++◌, List, length, map, true, false, if◌then◌else◌, nat_lt, IfOk, MatchOption, None, OnOk, OnErr, IsOk, IsSome, nat_eq, unwrap_or, slice_index, [], vec_len, vec_capacity};
 ghost use Rattle.std.specs.List.{range_with_len};
 ghost use Rattle.std.specs.List.Sorted.{IsStrictlySortedBy};
 ghost use Rattle.std.specs.Map.{keys_of, lookup};
@@ -8,7 +8,7 @@ ghost use Rattle.std.specs.Option.{option_map};
 ghost use Rattle.std.specs.Ordering.{nat_cmp};
 ghost use Rattle.std.specs.Set.{distinct_count};
 ghost use Rattle.bitmap_core.specs.Chunk.{bit_in, byte_bits, chunk_bit, chunk_bits, IsChunk, IsWidth};
-ghost use Rattle.bitmap_core.specs.PrunedBits.{bit_at, bit_len, chunk, HasBit, pruned_bits, truncated};
+ghost use Rattle.bitmap_core.specs.PrunedBits.{PrunedBits, bit_at, bit_len, chunk, HasBit, pruned_bits, truncated};
 ghost use Rattle.historical_bitmap.specs.Edits.{from_to};
 ghost use Rattle.historical_bitmap.specs.Pending.{Appends, diff_of, edited_chunk, IsNextMember, layer_marks, LayerFits, old_chunk, pending_bits, pending_chunk, Pops, Prunes, ReversesLayer, run_bits, unedited, Writes};
 ghost use Rattle.historical_bitmap.specs.Record.{LeadsBack};
@@ -302,6 +302,23 @@ impl<const N: usize> Dirty<N> {
         Ok(())
     }
 
+    // Appends a byte at a multiple of 8 to the chunk of the length, where that is held, and answers whether it did. No memory.
+    fn put_byte(&mut self, byte: u8) -> bool
+        requires fits { self.old.len + 8 < 2 ^ 64 }
+        ensures done { result ≡ true → (b : PrunedBits) → LayerFits N b self.old → Appends N b self.old (byte_bits byte) self.new }
+        ensures other { result ≡ false → self.new ≡ self.old }
+    {
+        let len = self.len;
+        if len % 8 != 0 {
+            return false;
+        }
+        if !self.edited.replace_byte(chunk_index::<N>(len), len, byte) {
+            return false;
+        }
+        self.len = len + 8;
+        true
+    }
+
     // Appends the eight bits of a byte, the lowest first, at any length. Where all stay in an edited chunk it takes no memory, and succeeds.
     pub(crate) fn push_byte(&mut self, current: &Prunable<N>, byte: u8) -> Result<(), AllocError>
         requires layer { LayerFits N current.now self.old }
@@ -311,6 +328,9 @@ impl<const N: usize> Dirty<N> {
         ensures edited { IsSome (edited_chunk self.old (self.old.len / (8 * N))) → self.old.len % (8 * N) + 8 ≤ 8 * N → IsOk result }
     {
         let _ = self.len();
+        if self.put_byte(byte) {
+            return Ok(());
+        }
         self.append(current, &[byte])
     }
 
