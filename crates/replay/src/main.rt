@@ -20,7 +20,7 @@ fn read_words(rt: &HostRuntime) -> Result<Vec<String>, io::Error> {
     Ok(env::args(rt)?.skip(1).collect(rt.alloc())?)
 }
 
-// Ends for the want of words: words that are not text are wrong arguments too.
+// The status where the words cannot be read: words that are not text are wrong arguments too.
 fn end_without_words(rt: &HostRuntime, error: io::Error) -> ExitCode {
     if error.kind() == io::ErrorKind::OutOfMemory {
         let _ = rt.eprintln("replay: out of memory");

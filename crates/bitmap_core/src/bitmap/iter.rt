@@ -10,7 +10,7 @@ use std::marker::Model;
 
 /// The bits of a bitmap in order, as `iter` gives them. It is the list of those that are left.
 ///
-/// After the last bit it answers `None`, and goes on so. No step takes memory.
+/// After the last bit it answers `None`, then and ever after. No step takes memory.
 #[derive(Drop)]
 pub struct Iterator<'a, const N: usize> {
     bitmap: &'a BitMap<N>,

@@ -14,7 +14,7 @@ use std::ops::Range;
 
 /// The set positions of a range, ascending, each once. It goes by words of 64 bits, and loads each at most once.
 ///
-/// After the last position it answers `None`, and goes on so. It takes no memory of its own.
+/// After the last position it answers `None`, then and ever after. It takes no memory of its own.
 #[derive(Drop)]
 pub struct OnesIter<'a, B: Readable<N>, const N: usize> {
     readable: &'a B,

@@ -144,7 +144,7 @@ impl<const N: usize> BitMap<N, Clean> {
 
     /// Drops the commits whose numbers are below `number`, and answers how many went. No memory.
     ///
-    /// The current bitmap, the other commits and the number last committed or gone back to stay.
+    /// The current bitmap, the other commits and the last number stay as they are.
     pub fn prune_commits_before(&mut self, number: u64) -> usize
         ensures value { self.new ≡ record self.old { commits = from_number number self.old.commits } }
         ensures history { history_of N self.new ≡ from_number number (history_of N self.old) }
@@ -161,7 +161,7 @@ impl<const N: usize> BitMap<N, Clean> {
         before - self.commits.len()
     }
 
-    /// Drops all commits. The current bitmap and the number last committed or gone back to stay. No memory.
+    /// Drops all commits. The current bitmap and the last number stay as they are. No memory.
     pub fn clear_history(&mut self)
         ensures value { self.new ≡ record self.old { commits = [] } }
         ensures history { history_of N self.new ≡ [] }

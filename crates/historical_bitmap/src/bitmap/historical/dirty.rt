@@ -163,7 +163,7 @@ impl<const N: usize> BitMap<N, Dirty<N>> {
     /// Makes the pending edits current, and keeps the bitmap so made under a number.
     ///
     /// It errs with `ReservedCommitNumber` where that is `u64::MAX`, else with `NonMonotonicCommit` where it is not above the number
-    /// last committed or gone back to, else with `Memory` where memory is refused, and hands back the value as it was.
+    /// last committed, else with `Memory` where memory is refused, and hands back the value as it was.
     ///
     /// Takes memory for the record of the commit and for the chunks by which the bitmap is longer.
     pub fn commit(mut self, number: u64) -> Result<CleanBitMap<N>, (DirtyBitMap<N>, Error)>

@@ -7,10 +7,10 @@ use thiserror::Error as ErrorDerive;
 /// Why a historical bitmap was not made or not committed.
 #[derive(Clone, Copy, Debug, PartialEq, Eq, ErrorDerive)]
 pub enum Error {
-    /// The number is not above the one last committed or gone back to.
+    /// The number is not above the one last committed.
     #[error("commit number ({attempted}) is not above the previous one ({previous})")]
     NonMonotonicCommit {
-        /// The number last committed or gone back to.
+        /// The number last committed.
         previous: u64,
         /// The number that was refused.
         attempted: u64,
