@@ -22,7 +22,10 @@ fn behind(rt: &impl Abort, alloc: Global, pruned_chunks: usize) -> Result<u64, E
 
 #[test]
 fn bitmaps_made(rt: HostRuntime) {
-    for map in [CleanBitMap::<3>::new(rt.alloc()), CleanBitMap::<3>::default(rt.alloc())] {
+    for map in [
+        CleanBitMap::<3>::new(rt.alloc()),
+        CleanBitMap::<3>::default(rt.alloc()),
+    ] {
         assert!(rt; map.is_empty() && map.len() == 0 && map.pruned_chunks() == 0);
         assert!(rt; map.earliest_commit().is_none() && map.reverse_entries() == 0);
     }
@@ -67,7 +70,10 @@ fn commits_listed_and_dropped(rt: HostRuntime) -> Result<(), Fail> {
     let mut numbers = map.commits();
     assert!(rt; numbers.next() == Some(3) && numbers.next() == Some(5));
     assert!(rt; numbers.next() == Some(8) && numbers.next() == None && numbers.next() == None);
-    assert!(rt; map.get_at_commit(5)?.is_some_and(|old| shows(&rt, &old, 0, b"1100000010100000")));
+    assert!(rt;
+        map.get_at_commit(5)?
+            .is_some_and(|old| shows(&rt, &old, 0, b"1100000010100000"))
+    );
     assert!(rt; map.reverse_entries() <= 3);
     assert_eq!(rt; map.prune_commits_before(6), 2);
     assert!(rt; map.commits().eq([8].iter().copied()) && map.reverse_entries() <= 1);
@@ -90,6 +96,9 @@ fn both_states_copied(rt: HostRuntime) -> Result<(), Fail> {
     assert!(rt; map.commits().eq([6].iter().copied()));
     let map = commit(&rt, batch, 7)?;
     assert!(rt; map.commits().eq([6, 7].iter().copied()));
-    assert!(rt; map.get_at_commit(6)?.is_some_and(|old| shows(&rt, &old, 0, b"10110010")));
+    assert!(rt;
+        map.get_at_commit(6)?
+            .is_some_and(|old| shows(&rt, &old, 0, b"10110010"))
+    );
     Ok(())
 }

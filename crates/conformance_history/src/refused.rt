@@ -106,11 +106,7 @@ fn bit_set(rt: HostRuntime) {
             assert!(rt; pending_shows(&rt, &map, 1, PENDING));
             set_bit(&rt, &mut map, 8, true).is_err()
         };
-    let after: &[u8] = if refused {
-        PENDING
-    } else {
-        b"111101011111000"
-    };
+    let after: &[u8] = if refused { PENDING } else { b"111101011111000" };
     assert!(rt; pending_shows(&rt, &map, 1, after));
     use_further(&rt, map, &before);
 }

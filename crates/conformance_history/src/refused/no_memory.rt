@@ -131,7 +131,10 @@ fn number_not_kept(rt: HostRuntime) {
         return;
     };
     for number in [0, 3, u64::MAX] {
-        assert!(rt; map.get_at_commit(number).is_ok_and(|old| old.is_none()), "{number}");
+        assert!(rt;
+            map.get_at_commit(number).is_ok_and(|old| old.is_none()),
+            "{number}"
+        );
     }
 }
 
