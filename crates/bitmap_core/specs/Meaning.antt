@@ -92,3 +92,8 @@ pub record IsScan (n : ℕ) (m : Meaning) (base : ℕ) (end : ℕ) (chunk : List
 -- a word at base has no bit at or past the end
 abbrev pub IsCut : ℕ → ℕ → ℕ → Type 0
 IsCut base word end = (i : ℕ) → i < 64 → end ≤ base + i → (digit_at word i == 1) ≡ false
+
+-- what holds of an iterator: its fields are as they should be, and its word has no bit at or past the end
+pub record IsIterating (n : ℕ) (m : Meaning) (base word end : ℕ) (chunk : List ℕ) (loads first : ℕ) : Type 0 where
+  pub scan : IsScan n m base end chunk loads first
+  pub cut : IsCut base word end

@@ -1,9 +1,11 @@
 //! Dense bitmaps. Beneath them stand bitmaps with a pruned front, what both are to their readers, and their byte forms.
 //!
-//! The slots that are taken, which are 3, 64 and 100:
-//!
 //! ```
-//! fn taken_slots(alloc: Global) -> Result<Vec<u64>, AllocError> {
+//! use bitmap_core::bitmap::{BitMap, DEFAULT_CHUNK_SIZE};
+//! use std::alloc::{AllocError, Global};
+//!
+//! /// The slots that are taken, which are 3, 64 and 100.
+//! pub fn taken_slots(alloc: Global) -> Result<Vec<u64>, AllocError> {
 //!     let mut taken = BitMap::<DEFAULT_CHUNK_SIZE>::zeroes(alloc, 100)?;
 //!     taken.set(3, true);
 //!     taken.set(64, true);
@@ -249,6 +251,7 @@ impl<const N: usize> BitMap<N> {
         ensures positions { result.left ≡ filter (λ k. slice_index_or self.now k false) (range_with_len 0 (length self.now)) }
         ensures words { result.words ≡ words_between N 0 (length self.now) }
         ensures loads { result.loads ≤ result.words }
+        ensures bound { length result.left < 2 ^ 64 }
     {
         self.ones_iter_range(0..self.len())
     }
@@ -259,6 +262,7 @@ impl<const N: usize> BitMap<N> {
     ///
     /// Where the length is a multiple of `8N` it needs room for one chunk more, and takes memory where there is none.
     /// Elsewhere it takes none, and succeeds. Refused, the bitmap is as it was.
+    #[inline]
     pub fn push(&mut self, bit: bool) -> Result<(), AllocError>
         requires { length self.old + 1 < 2 ^ 64 }
         ensures ok { OnOk result (self.new ≡ self.old ++ bit ∷ []) }

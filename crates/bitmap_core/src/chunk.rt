@@ -4,10 +4,11 @@
 //! A position in a whole bitmap can be given as it is: it names bit `bit mod 8N`.
 //! `N` is at least 1, and `8N` fits `u64`. Each function asks for as much of that as it needs.
 //!
-//! The chunk 8, 0, 0, 0, and whether its bit 3 is set, which it is:
-//!
 //! ```
-//! fn marked() -> ([u8; 4], bool) {
+//! use bitmap_core::chunk;
+//!
+//! /// The chunk 8, 0, 0, 0, and whether its bit 3 is set, which it is.
+//! pub fn marked() -> ([u8; 4], bool) {
 //!     let mut marks = [0; 4];
 //!     chunk::set_bit(&mut marks, 3, true);
 //!     let is_set = chunk::get_bit(&marks, 3);

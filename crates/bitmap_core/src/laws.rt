@@ -3,10 +3,15 @@
 //! The body of a law makes the calls that it is about. Where it has none, the law is about the words of their contracts.
 //! Who needs a law calls its function: in place of the calls, or, where it makes none, beside them.
 //!
-//! A function that changes nothing, by the law of `push_then_pop`:
-//!
 //! ```
-//! fn tried<const N: usize>(bitmap: &mut BitMap<N>) -> Result<bool, AllocError>
+//! ghost use Rattle.std.specs.Prelude.{◌≡◌, ◌+◌, ◌^◌, ◌<◌, length};
+//!
+//! use bitmap_core::bitmap::BitMap;
+//! use bitmap_core::laws::whole::push_then_pop;
+//! use std::alloc::AllocError;
+//!
+//! /// Changes nothing, by the law of `push_then_pop`.
+//! pub fn tried<const N: usize>(bitmap: &mut BitMap<N>) -> Result<bool, AllocError>
 //!     requires { length bitmap.old + 1 < 2 ^ 64 }
 //!     ensures { bitmap.new ≡ bitmap.old }
 //! {

@@ -26,31 +26,12 @@ const MANY: &str = "pruned_chunks would overflow when computing pruned_bits";
 
 const TRAILING: &str = "Invalid trailing bits in encoded data";
 
-// The error of a text that is read as a bitmap and is left where it was.
-fn refusal<const N: usize>(alloc: Global, text: &[u8], range: &RangeCfg) -> Option<CodecError>
-    requires positive { 0 < N }
-    requires fits { 8 * N < 2 ^ 64 }
+/// The error of a text that is read as such a value, and is left where it was.
+pub fn refusal<V: Read + Drop>(alloc: Global, text: &[u8], range: &RangeCfg) -> Option<CodecError>
+    requires { V.can_read }
 {
     let mut from = text;
-    let error = BitMap::<N>::read_cfg(alloc, &mut from, range).err()?;
-    if from.len() == text.len() {
-        Some(error)
-    } else {
-        None
-    }
-}
-
-// The same of a text that is read as a bitmap with a pruned front.
-fn pruned_refusal<const N: usize>(
-    alloc: Global,
-    text: &[u8],
-    range: &RangeCfg,
-) -> Option<CodecError>
-    requires positive { 0 < N }
-    requires fits { 8 * N < 2 ^ 64 }
-{
-    let mut from = text;
-    let error = Prunable::<N>::read_cfg(alloc, &mut from, range).err()?;
+    let error = V::read_cfg(alloc, &mut from, range).err()?;
     if from.len() == text.len() {
         Some(error)
     } else {
@@ -127,7 +108,17 @@ fn damaged(
     Ok(text)
 }
 
-// The form of a full chunk and one bit more, and each front of it.
+// Each front of the text of such a value is short.
+fn check_fronts<V: Read + Drop>(rt: &impl Abort, alloc: Global, text: &[u8])
+    requires { V.can_read }
+{
+    for len in 0..text.len() {
+        let error = refusal::<V>(alloc, &text[..len], &RangeCfg::any());
+        assert!(rt; is_short(error), "{len} bytes");
+    }
+}
+
+// The form of a full chunk and one bit more.
 fn check_bits<const N: usize>(rt: &impl Abort, alloc: Global) -> Result<(), AllocError>
     requires positive { 0 < N }
     requires fits { 8 * N < 2 ^ 64 }
@@ -141,14 +132,15 @@ fn check_bits<const N: usize>(rt: &impl Abort, alloc: Global) -> Result<(), Allo
     map.write(&mut out)?;
     assert!(rt; out == text);
     assert!(rt; is_accepted::<N>(alloc, &text, &any));
-    for len in 0..text.len() {
-        assert!(rt;
-            is_short(refusal::<N>(alloc, &text[..len], &any)),
-            "{len} bytes"
-        );
-    }
+    check_fronts::<BitMap<N>>(rt, alloc, &text);
     let trailing = damaged(rt, alloc, &text, 2 * N + 7, 128)?;
-    assert!(rt; is_invalid(refusal::<N>(alloc, &trailing, &any), "BitMap", TRAILING));
+    assert!(rt;
+        is_invalid(
+            refusal::<BitMap<N>>(alloc, &trailing, &any),
+            "BitMap",
+            TRAILING
+        )
+    );
     Ok(())
 }
 
@@ -158,7 +150,6 @@ fn check_pruned<const N: usize>(rt: &impl Abort, alloc: Global) -> Result<(), Al
     requires fits { 8 * N < 2 ^ 64 }
 {
     assert!(rt; N <= 64);
-    let any = RangeCfg::any();
     let mut text = Vec::from_slice(alloc, &[0, 0, 0, 0, 0, 0, 0, 1])?;
     text.extend_from_slice(&one_chunk_and_a_bit::<N>(alloc)?)?;
     let mut map = of_chunks(rt, alloc, &[[0xff; N], [0xff; N]])?;
@@ -167,20 +158,10 @@ fn check_pruned<const N: usize>(rt: &impl Abort, alloc: Global) -> Result<(), Al
     assert_eq!(rt; map.encode_size(), 2 * N + 16);
     assert!(rt; written(alloc, &map)? == text);
     assert!(rt; is_pruned::<N>(rt, alloc, &text, 1, &[b'1'; 513][..8 * N + 1]));
-    for len in 0..text.len() {
-        assert!(rt;
-            is_short(pruned_refusal::<N>(alloc, &text[..len], &any)),
-            "{len} bytes"
-        );
-    }
+    check_fronts::<Prunable<N>>(rt, alloc, &text);
     let trailing = damaged(rt, alloc, &text, 2 * N + 15, 128)?;
-    assert!(rt;
-        is_invalid(
-            pruned_refusal::<N>(alloc, &trailing, &any),
-            "BitMap",
-            TRAILING
-        )
-    );
+    let error = refusal::<Prunable<N>>(alloc, &trailing, &RangeCfg::any());
+    assert!(rt; is_invalid(error, "BitMap", TRAILING));
     Ok(())
 }
 
@@ -250,26 +231,29 @@ fn faults_of_bits(rt: HostRuntime) -> Result<(), Fail> {
     bad[8] = 13;
     let any = RangeCfg::any();
     let few = RangeCfg::at_most(2);
-    assert!(rt; is_short(refusal::<4>(alloc, &bad[..7], &few)));
-    assert!(rt; is_length(refusal::<4>(alloc, &bad[..8], &few), 3));
-    assert!(rt; is_length(refusal::<4>(alloc, &bad[..12], &few), 3));
-    assert!(rt; is_short(refusal::<4>(alloc, &bad[..8], &any)));
-    assert!(rt; is_short(refusal::<4>(alloc, &bad[..11], &any)));
-    assert!(rt; is_invalid(refusal::<4>(alloc, &bad[..12], &any), "BitMap", TRAILING));
-    assert!(rt; is_short(refusal::<4>(alloc, &[255; 8], &any)));
+    assert!(rt; is_short(refusal::<BitMap<4>>(alloc, &bad[..7], &few)));
+    assert!(rt; is_length(refusal::<BitMap<4>>(alloc, &bad[..8], &few), 3));
+    assert!(rt; is_length(refusal::<BitMap<4>>(alloc, &bad[..12], &few), 3));
+    assert!(rt; is_short(refusal::<BitMap<4>>(alloc, &bad[..8], &any)));
+    assert!(rt; is_short(refusal::<BitMap<4>>(alloc, &bad[..11], &any)));
+    assert!(rt;
+        is_invalid(
+            refusal::<BitMap<4>>(alloc, &bad[..12], &any),
+            "BitMap",
+            TRAILING
+        )
+    );
+    assert!(rt; is_short(refusal::<BitMap<4>>(alloc, &[255; 8], &any)));
     Ok(())
 }
 
 #[test]
 fn bits_cut_short(rt: HostRuntime) -> Result<(), Fail> {
     let alloc = rt.alloc();
-    for len in 0..12 {
-        let error = refusal::<4>(alloc, &THREE_BITS[..len], &RangeCfg::any());
-        assert!(rt; is_short(error), "{len} bytes");
-    }
+    check_fronts::<BitMap<4>>(&rt, alloc, &THREE_BITS);
     // A length out of range is told even where chunks are missing.
     for len in 8..12 {
-        let error = refusal::<4>(alloc, &THREE_BITS[..len], &RangeCfg::at_most(2));
+        let error = refusal::<BitMap<4>>(alloc, &THREE_BITS[..len], &RangeCfg::at_most(2));
         assert!(rt; is_length(error, 3), "{len} bytes");
     }
     Ok(())
@@ -282,18 +266,27 @@ fn bits_with_a_damaged_byte(rt: HostRuntime) -> Result<(), Fail> {
     // A damaged length is too long for the chunks that follow it.
     for at in 0..8 {
         let text = damaged(&rt, alloc, &THREE_BITS, at, 255)?;
-        assert!(rt; is_short(refusal::<4>(alloc, &text, &any)), "at {at}");
+        assert!(rt;
+            is_short(refusal::<BitMap<4>>(alloc, &text, &any)),
+            "at {at}"
+        );
     }
     for at in 8..12 {
         let text = damaged(&rt, alloc, &THREE_BITS, at, 255)?;
         assert!(rt;
-            is_invalid(refusal::<4>(alloc, &text, &any), "BitMap", TRAILING),
+            is_invalid(refusal::<BitMap<4>>(alloc, &text, &any), "BitMap", TRAILING),
             "at {at}"
         );
     }
     // With a length of two the third bit is past it.
     let shorter = damaged(&rt, alloc, &THREE_BITS, 7, 1)?;
-    assert!(rt; is_invalid(refusal::<4>(alloc, &shorter, &any), "BitMap", TRAILING));
+    assert!(rt;
+        is_invalid(
+            refusal::<BitMap<4>>(alloc, &shorter, &any),
+            "BitMap",
+            TRAILING
+        )
+    );
     let other_bit = damaged(&rt, alloc, &THREE_BITS, 8, 1)?;
     let map = BitMap::<4>::from_bools(alloc, &[false, false, true])?;
     assert!(rt; is_read(alloc, &mut other_bit.as_slice(), &map));
@@ -306,7 +299,7 @@ fn each_last_byte(rt: HostRuntime) -> Result<(), Fail> {
     let any = RangeCfg::any();
     for last in 0..=255 {
         let text = [0, 0, 0, 0, 0, 0, 0, 10, 255, last];
-        let error = refusal::<1>(alloc, &text, &any);
+        let error = refusal::<BitMap<1>>(alloc, &text, &any);
         assert_eq!(rt;
             is_accepted::<1>(alloc, &text, &any),
             last < 4,
@@ -325,10 +318,10 @@ fn each_last_byte(rt: HostRuntime) -> Result<(), Fail> {
 fn greatest_numbers(rt: HostRuntime) -> Result<(), Fail> {
     let alloc = rt.alloc();
     let any = RangeCfg::any();
-    assert!(rt; is_short(refusal::<1>(alloc, &[255; 8], &any)));
+    assert!(rt; is_short(refusal::<BitMap<1>>(alloc, &[255; 8], &any)));
     assert!(rt;
         is_invalid(
-            pruned_refusal::<1>(alloc, &[255; 8], &any),
+            refusal::<Prunable<1>>(alloc, &[255; 8], &any),
             "Prunable",
             MANY
         )
@@ -355,7 +348,7 @@ fn ranges(rt: HostRuntime) -> Result<(), Fail> {
         RangeCfg::between(5, 3),
     ] {
         assert!(rt; !range.contains(3));
-        assert!(rt; is_length(refusal::<4>(alloc, &THREE_BITS, &range), 3));
+        assert!(rt; is_length(refusal::<BitMap<4>>(alloc, &THREE_BITS, &range), 3));
     }
     assert!(rt; RangeCfg::any().contains(u64::MAX));
     Ok(())
@@ -380,18 +373,18 @@ fn behind_a_pruned_front(rt: HostRuntime) -> Result<(), Fail> {
 fn faults_behind_a_pruned_front(rt: HostRuntime) -> Result<(), Fail> {
     let alloc = rt.alloc();
     let any = RangeCfg::any();
-    assert!(rt; is_short(pruned_refusal::<4>(alloc, &BEHIND_ONE[..7], &any)));
-    assert!(rt; is_short(pruned_refusal::<4>(alloc, &BEHIND_ONE[..15], &any)));
+    assert!(rt; is_short(refusal::<Prunable<4>>(alloc, &BEHIND_ONE[..7], &any)));
+    assert!(rt; is_short(refusal::<Prunable<4>>(alloc, &BEHIND_ONE[..15], &any)));
     assert!(rt;
         is_length(
-            pruned_refusal::<4>(alloc, &BEHIND_ONE, &RangeCfg::at_least(4)),
+            refusal::<Prunable<4>>(alloc, &BEHIND_ONE, &RangeCfg::at_least(4)),
             3
         )
     );
-    assert!(rt; is_short(pruned_refusal::<4>(alloc, &BEHIND_ONE[..19], &any)));
+    assert!(rt; is_short(refusal::<Prunable<4>>(alloc, &BEHIND_ONE[..19], &any)));
     assert!(rt;
         is_invalid(
-            pruned_refusal::<4>(alloc, &[8, 0, 0, 0, 0, 0, 0, 0], &any),
+            refusal::<Prunable<4>>(alloc, &[8, 0, 0, 0, 0, 0, 0, 0], &any),
             "Prunable",
             MANY
         )
@@ -412,13 +405,8 @@ fn a_byte_behind_pruned(rt: HostRuntime) -> Result<(), Fail> {
 }
 
 #[test]
-fn pruned_cut_short(rt: HostRuntime) -> Result<(), Fail> {
-    let alloc = rt.alloc();
-    for len in 0..20 {
-        let error = pruned_refusal::<4>(alloc, &BEHIND_ONE[..len], &RangeCfg::any());
-        assert!(rt; is_short(error), "{len} bytes");
-    }
-    Ok(())
+fn pruned_cut_short(rt: HostRuntime) {
+    check_fronts::<Prunable<4>>(&rt, rt.alloc(), &BEHIND_ONE);
 }
 
 #[test]
@@ -426,7 +414,7 @@ fn pruned_with_a_damaged_byte(rt: HostRuntime) -> Result<(), Fail> {
     let alloc = rt.alloc();
     let any = RangeCfg::any();
     let text = damaged(&rt, alloc, &BEHIND_ONE, 0, 255)?;
-    assert!(rt; is_invalid(pruned_refusal::<4>(alloc, &text, &any), "Prunable", MANY));
+    assert!(rt; is_invalid(refusal::<Prunable<4>>(alloc, &text, &any), "Prunable", MANY));
     // Elsewhere in the count damage leaves the text of another pair.
     for (at, count) in [(1, 0xff000000000001), (6, 0xff01), (7, 254)] {
         let text = damaged(&rt, alloc, &BEHIND_ONE, at, 255)?;
@@ -435,14 +423,18 @@ fn pruned_with_a_damaged_byte(rt: HostRuntime) -> Result<(), Fail> {
     for at in 8..16 {
         let text = damaged(&rt, alloc, &BEHIND_ONE, at, 255)?;
         assert!(rt;
-            is_short(pruned_refusal::<4>(alloc, &text, &any)),
+            is_short(refusal::<Prunable<4>>(alloc, &text, &any)),
             "at {at}"
         );
     }
     for at in 16..20 {
         let text = damaged(&rt, alloc, &BEHIND_ONE, at, 255)?;
         assert!(rt;
-            is_invalid(pruned_refusal::<4>(alloc, &text, &any), "BitMap", TRAILING),
+            is_invalid(
+                refusal::<Prunable<4>>(alloc, &text, &any),
+                "BitMap",
+                TRAILING
+            ),
             "at {at}"
         );
     }
@@ -454,7 +446,7 @@ fn pruned_with_a_damaged_byte(rt: HostRuntime) -> Result<(), Fail> {
 #[test]
 fn trailing_bit_with_nothing_pruned(rt: HostRuntime) -> Result<(), Fail> {
     let text = [0, 0, 0, 0, 0, 0, 0, 0, 0, 0, 0, 0, 0, 0, 0, 1, 2, 0, 0, 0];
-    let error = pruned_refusal::<4>(rt.alloc(), &text, &RangeCfg::any());
+    let error = refusal::<Prunable<4>>(rt.alloc(), &text, &RangeCfg::any());
     assert!(rt; is_invalid(error, "BitMap", TRAILING));
     Ok(())
 }
@@ -469,18 +461,24 @@ fn total_behind_a_pruned_front(rt: HostRuntime) -> Result<(), Fail> {
     text.truncate(15);
     text.extend_from_slice(&[32, 0, 0, 0, 0])?;
     let long = "total bitmap length (pruned + unpruned) would overflow u64";
-    assert!(rt; is_invalid(pruned_refusal::<4>(alloc, &text, &any), "Prunable", long));
+    assert!(rt; is_invalid(refusal::<Prunable<4>>(alloc, &text, &any), "Prunable", long));
     // What is wrong with the retained bits is told first.
     assert!(rt;
         is_length(
-            pruned_refusal::<4>(alloc, &text, &RangeCfg::at_most(31)),
+            refusal::<Prunable<4>>(alloc, &text, &RangeCfg::at_most(31)),
             32
         )
     );
-    assert!(rt; is_short(pruned_refusal::<4>(alloc, &text[..19], &any)));
+    assert!(rt; is_short(refusal::<Prunable<4>>(alloc, &text[..19], &any)));
     text.truncate(15);
     text.extend_from_slice(&[33, 0, 0, 0, 0, 2, 0, 0, 0])?;
-    assert!(rt; is_invalid(pruned_refusal::<4>(alloc, &text, &any), "BitMap", TRAILING));
+    assert!(rt;
+        is_invalid(
+            refusal::<Prunable<4>>(alloc, &text, &any),
+            "BitMap",
+            TRAILING
+        )
+    );
     Ok(())
 }
 
@@ -502,7 +500,7 @@ fn range_of_the_retained_bits(rt: HostRuntime) -> Result<(), Fail> {
     let read = Prunable::<4>::read_cfg(alloc, &mut from, &RangeCfg::exact(36));
     let map = read.ok().ok_or("the text is read")?;
     assert_eq!(rt; (map.len(), map.pruned_bits(), from.len()), (100, 64, 0));
-    let error = pruned_refusal::<4>(alloc, &text, &RangeCfg::exact(100));
+    let error = refusal::<Prunable<4>>(alloc, &text, &RangeCfg::exact(100));
     assert!(rt; is_length(error, 36));
     Ok(())
 }

@@ -2,10 +2,10 @@
 
 ghost use Rattle.std.specs.Prelude.{◌≡◌, ◌+◌, ◌*◌, ◌^◌, ◌<◌, IfOk, length};
 
+use crate::answers::hash_of;
 use bitmap_core::bitmap::readable::Readable;
 use bitmap_core::bitmap::{BitMap, DEFAULT_CHUNK_SIZE};
 use std::alloc::{AllocError, Global};
-use std::hash::{DefaultHasher, Hash, Hasher};
 use std::process::Abort;
 use std::test::Fail;
 
@@ -47,13 +47,6 @@ fn is_clean<const N: usize>(map: &BitMap<N>) -> bool {
         }
     }
     true
-}
-
-// The hash of a bitmap.
-fn hash_of<const N: usize>(map: &BitMap<N>) -> u64 {
-    let mut state = DefaultHasher::new();
-    map.hash(&mut state);
-    state.finish()
 }
 
 // A whole chunk and three bits, of which 0, 8N and 8N + 2 are set.

@@ -2,6 +2,7 @@
 
 ghost use Rattle.std.specs.Prelude.{◌*◌, ◌^◌, ◌<◌};
 
+use crate::answers::holds;
 use bitmap_core::bitmap::BitMap;
 use bitmap_core::bitmap::readable::Readable;
 use std::alloc::{AllocError, Global};
@@ -51,11 +52,6 @@ fn either(alloc: Global, left: &[bool], right: &[bool]) -> Result<Vec<bool>, All
 // The bits that differ.
 fn difference(alloc: Global, left: &[bool], right: &[bool]) -> Result<Vec<bool>, AllocError> {
     left.iter().zip(right).map(|(l, r)| *l != *r).collect(alloc)
-}
-
-// Whether a bitmap has these bits and then those, and no more.
-fn holds<const N: usize>(map: &BitMap<N>, first: &[bool], then: &[bool]) -> bool {
-    map.iter().eq(first.iter().chain(then).copied())
 }
 
 // What a bitmap of these bits answers.
@@ -139,6 +135,29 @@ fn check_lengths<const N: usize>(
     Ok(())
 }
 
+// A join in place.
+#[derive(Clone, Copy, Drop)]
+enum Join {
+    And,
+    Or,
+    Xor,
+}
+
+// Joins a bitmap with another of as many bits.
+fn join_in_place<const N: usize>(
+    rt: &impl Abort,
+    map: &mut BitMap<N>,
+    other: &BitMap<N>,
+    how: Join,
+) {
+    assert_eq!(rt; map.len(), other.len());
+    match how {
+        Join::And => map.and(other),
+        Join::Or => map.or(other),
+        Join::Xor => map.xor(other),
+    }
+}
+
 // The operators, which make a new bitmap.
 fn check_operators<const N: usize>(
     rt: &impl Abort,
@@ -173,16 +192,11 @@ fn check_joins<const N: usize>(
 {
     let mut map = BitMap::<N>::from_bools(alloc, left)?;
     let other = BitMap::<N>::from_bools(alloc, right)?;
-    assert_eq!(rt; map.len(), other.len());
-    map.xor(&other);
-    let difference = difference(alloc, left, right)?;
-    assert!(rt; holds(&map, difference.as_slice(), &[]));
-    assert_eq!(rt; map.len(), other.len());
-    map.or(&other);
-    let either = either(alloc, left, right)?;
-    assert!(rt; holds(&map, either.as_slice(), &[]));
-    assert_eq!(rt; map.len(), other.len());
-    map.and(&other);
+    join_in_place(rt, &mut map, &other, Join::Xor);
+    assert!(rt; holds(&map, &difference(alloc, left, right)?, &[]));
+    join_in_place(rt, &mut map, &other, Join::Or);
+    assert!(rt; holds(&map, &either(alloc, left, right)?, &[]));
+    join_in_place(rt, &mut map, &other, Join::And);
     assert!(rt; map == other);
     Ok(())
 }

@@ -203,12 +203,16 @@ fn positions_in_the_last_chunk(rt: HostRuntime) -> Result<(), Fail> {
 fn agrees<B: Readable<N>, const N: usize>(map: &B, start: u64, end: u64) -> bool {
     let len = map.len();
     let mut ones = map.ones_iter_range(start..end);
+    let mut expected = ones.next();
     for position in start.max(map.pruned_bits())..end.min(len) {
-        if map.get_bit(position) && ones.next() != Some(position) {
-            return false;
+        if map.get_bit(position) {
+            if expected != Some(position) {
+                return false;
+            }
+            expected = ones.next();
         }
     }
-    ones.next().is_none() && ones.next().is_none()
+    expected.is_none() && ones.next().is_none()
 }
 
 fn check_ranges<const N: usize>(

@@ -4,11 +4,11 @@
 //! After a refused call the value is as before, and is used further. Run by itself, a scenario has ample memory.
 
 mod codec;
+mod no_memory;
 mod pruned;
 
+use crate::answers::holds;
 use bitmap_core::bitmap::BitMap;
-use bitmap_core::bitmap::readable::Readable;
-use std::hash::{DefaultHasher, Hash, Hasher};
 use std::process::Abort;
 
 // What a bitmap has before a call. In chunks of one byte it fills two, so that one bit more takes memory.
@@ -23,11 +23,6 @@ const OTHERS: [bool; 16] = [
     true, false,
 ];
 
-// Whether a bitmap has these bits and then those, and no more.
-fn holds<const N: usize>(map: &BitMap<N>, first: &[bool], then: &[bool]) -> bool {
-    map.iter().eq(first.iter().chain(then).copied())
-}
-
 // Uses a bitmap that begins with `BITS` by calls that take no memory.
 fn use_further<const N: usize>(rt: &impl Abort, map: &mut BitMap<N>) {
     assert!(rt; map.len() >= 16);
@@ -37,13 +32,6 @@ fn use_further<const N: usize>(rt: &impl Abort, map: &mut BitMap<N>) {
     assert!(rt; map.pop());
     assert!(rt; map.push(false).is_ok());
     assert!(rt; holds(map, &[false, true, true, false], &[]));
-}
-
-// The hash of a bitmap.
-fn hash_of<const N: usize>(map: &BitMap<N>) -> u64 {
-    let mut state = DefaultHasher::new();
-    map.hash(&mut state);
-    state.finish()
 }
 
 #[test]
@@ -235,59 +223,4 @@ fn pushes_within_the_capacity(rt: HostRuntime) {
         assert_eq!(rt; map.len(), i + 1);
         assert_eq!(rt; map.pop(), i % 3 == 0, "at {i}");
     }
-}
-
-#[test]
-fn reads_that_take_no_memory(rt: HostRuntime) {
-    let Ok(map) = BitMap::<1>::from_bools(rt.alloc(), &BITS) else {
-        return;
-    };
-    let Ok(other) = BitMap::<1>::from_bools(rt.alloc(), &OTHERS) else {
-        return;
-    };
-    assert!(rt; BitMap::<1>::new(rt.alloc()).is_empty());
-    assert!(rt; BitMap::<1>::default(rt.alloc()).is_empty());
-    assert_eq!(rt; map.len(), 16);
-    assert!(rt; map.get(15));
-    assert_eq!(rt; map.count_ones(), 9);
-    assert_eq!(rt; map.count_zeros(), 7);
-    assert!(rt; map.is_unset(7..9));
-    assert!(rt; !map.is_unset(7..10));
-    assert!(rt; map.is_chunk_aligned());
-    assert!(rt; map.iter().eq(BITS.iter().copied()));
-    assert!(rt;
-        map.ones_iter()
-            .eq([0, 2, 3, 6, 9, 10, 11, 13, 15].iter().copied())
-    );
-    assert!(rt; map.ones_iter_range(4..11).eq([6, 9, 10].iter().copied()));
-    assert!(rt; map == map);
-    assert!(rt; map != other);
-    assert_eq!(rt; hash_of(&map), hash_of(&map));
-    assert_eq!(rt; BitMap::<1>::max_encode_size(17), 11);
-    assert!(rt; BitMap::<1>::get_bit_from_chunk(&[4], 10));
-}
-
-#[test]
-fn edits_that_take_no_memory(rt: HostRuntime) {
-    let Ok(mut map) = BitMap::<3>::from_bools(rt.alloc(), &BITS) else {
-        return;
-    };
-    let Ok(other) = BitMap::<3>::from_bools(rt.alloc(), &OTHERS) else {
-        return;
-    };
-    map.or(&other);
-    map.and(&other);
-    assert!(rt; holds(&map, &OTHERS, &[]));
-    map.xor(&other);
-    map.flip_all();
-    assert!(rt; holds(&map, &[true; 16], &[]));
-    map.set_all(false);
-    map.set(3, true);
-    map.flip(4);
-    map.truncate(5);
-    assert!(rt; map.pop());
-    assert!(rt; map.push(true).is_ok());
-    assert!(rt; map.extend_to(24).is_ok());
-    assert!(rt; map.extend_to(7).is_ok());
-    assert!(rt; holds(&map, &[false, false, false, true, true], &[false; 19]));
 }

@@ -1,6 +1,7 @@
 -- Definitions computed on small values whose results were worked out by hand.
 pub mod Batches
 pub mod Undos
+pub mod Records
 pub mod Histories
 pub mod Layers
 pub mod MixedBatch

@@ -7,7 +7,7 @@ use Rattle.std.proofs.lemmas.Nat.{mod_below, mul-le, div-mul-add}
 use Rattle.std.specs.Prelude.{nat_eq, nat_lt, Option, Some, None, MatchOption, is_some}
 use Rattle.std.specs.Set.{is_member}
 use Rattle.bitmap_core.specs.PrunedBits.{PrunedBits, pruned_bits, bit_len, pushed, appended}
-use Rattle.bitmap_core.proofs.PrunedBitsFacts.{place}
+use Rattle.bitmap_core.proofs.Pruned.Positions.{place}
 use Rattle.historical_bitmap.specs.Edits.{IsWithin, after_all, pushes, touched}
 use Rattle.historical_bitmap.specs.Record.{bit_from}
 use Rattle.historical_bitmap.specs.Pending.{Layer, LayerFits, IsEdited, edited_chunk, layer_bit, layer_marks, pending_bits, HasAppended, Appends}

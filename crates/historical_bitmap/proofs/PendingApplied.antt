@@ -2,19 +2,19 @@
 use Rattle.std.proofs.Common.{◌≡◌, ℕ, ◌-◌, ◌*◌, ◌/◌, ◌<◌, ◌≤◌, List, [], ◌∷◌, drop, refl, ap, arith, sym, ◌∙◌}
 use mathlib.Core.Logic.{inl, inr}
 use Rattle.std.proofs.lemmas.Bool.{cases_lt, cases_eq, eq-eqb, ne_eqb, lt-ltb, le-ltb, le-leb}
-use Rattle.std.proofs.lemmas.List.{length-drop}
+use Rattle.std.proofs.lemmas.List.{length-drop, length-take-le}
 use Rattle.std.proofs.lemmas.Nat.{mul-le}
 use Rattle.std.specs.Prelude.{nat_eq, nat_le}
 use Rattle.std.specs.List.{filter}
 use Rattle.std.specs.List.Sorted.{IsStrictlySortedBy}
 use Rattle.std.specs.Ordering.{nat_cmp}
 use Rattle.std.specs.Map.{lookup, keys_of}
-use Rattle.bitmap_core.specs.PrunedBits.{PrunedBits, pruned_bits, bit_len, bit_at, HasBit, pruned_to}
-use Rattle.bitmap_core.proofs.PrunedBitsFacts.{front_of}
-use Rattle.bitmap_core.proofs.PrunedEdits.{bit_pruned}
+use Rattle.bitmap_core.specs.PrunedBits.{PrunedBits, pruned_bits, bit_len, bit_at, HasBit, pruned_to, extended, truncated}
+use Rattle.bitmap_core.proofs.Pruned.Positions.{front_of, bit_from_bits, len_from_bits}
+use Rattle.bitmap_core.proofs.Pruned.Edits.{bit_extended, bit_pruned}
 use Rattle.historical_bitmap.specs.Record.{bytes_of}
 use Rattle.historical_bitmap.specs.Undo.{put_back, resized}
-use Rattle.historical_bitmap.specs.Pending.{Layer, LayerFits, edited_chunk, layer_bit, pending_bits, edits_of, applied_in_steps}
+use Rattle.historical_bitmap.specs.Pending.{Layer, CanApply, edited_chunk, layer_bit, pending_bits, edits_of, applied_in_steps}
 use Rattle.historical_bitmap.proofs.PendingEdits.{same_pending}
 use Rattle.historical_bitmap.proofs.UndoSteps.{bit_put, put_len, put_pruned, same_from, bit_resized, len_resized, pruned_resized}
 
@@ -34,7 +34,7 @@ bytes_edits (e ∷ es) i = elim (cases_eq i e.0) [
 ]
 
 -- the pending edits carried out give the pending bitmap
-module _ (n : ℕ) (b : PrunedBits) (l : Layer) (pos : 0 < n) (fits : LayerFits n b l) (sorted : IsStrictlySortedBy nat_cmp (keys_of l.edited)) where
+module _ (n : ℕ) (b : PrunedBits) (l : Layer) (pos : 0 < n) (begins : 8 * n * l.pruned ≤ l.len) (rises : b.pruned ≤ l.pruned) (sorted : IsStrictlySortedBy nat_cmp (keys_of l.edited)) where
   abbrev sized : PrunedBits
   sized = resized n b l.len
 
@@ -42,7 +42,7 @@ module _ (n : ℕ) (b : PrunedBits) (l : Layer) (pos : 0 < n) (fits : LayerFits 
   whole = put_back n (resized n b l.len) (edits_of l.edited)
 
   front : pruned_bits n b ≤ l.len
-  front = omega (arith, fits.front, mul-le (8 * n) b.pruned (8 * n) l.pruned (omega arith) fits.rises)
+  front = omega (arith, begins, mul-le (8 * n) b.pruned (8 * n) l.pruned (omega arith) rises)
 
   whole_len : bit_len n whole ≡ l.len
   whole_len = put_len n sized (edits_of l.edited) ∙ len_resized n b l.len front
@@ -63,11 +63,34 @@ module _ (n : ℕ) (b : PrunedBits) (l : Layer) (pos : 0 < n) (fits : LayerFits 
         let e = front_of (8 * n) whole.pruned l.pruned (omega arith) in
         let cut : pruned_to n whole l.pruned ≡ record { pruned = l.pruned; bits = drop (8 * n * (l.pruned - whole.pruned)) whole.bits } = rw (lt-ltb whole.pruned l.pruned h) refl in
         let count = ap (λ y. y.pruned) cut in
-        let len : l.len ≡ bit_len n (pruned_to n whole l.pruned) = sym (ap (λ y. bit_len n y) cut ∙ omega (arith, whole_len, e, fits.front, length-drop (8 * n * (l.pruned - whole.pruned)) whole.bits)) in
+        let len : l.len ≡ bit_len n (pruned_to n whole l.pruned) = sym (ap (λ y. bit_len n y) cut ∙ omega (arith, whole_len, e, begins, length-drop (8 * n * (l.pruned - whole.pruned)) whole.bits)) in
         sym (same_pending n b l (pruned_to n whole l.pruned) (sym count) len (λ k s.
         let low : 8 * n * l.pruned ≤ k = omega (arith, s.0, ap (λ y. 8 * n * y) count) in
-        sym (bit_pruned n whole l.pruned k (omega arith) low ∙ whole_bit k (omega (arith, low, mul-le (8 * n) b.pruned (8 * n) l.pruned (omega arith) fits.rises)) (omega (arith, s.1, len)))))
+        sym (bit_pruned n whole l.pruned k (omega arith) low ∙ whole_bit k (omega (arith, low, mul-le (8 * n) b.pruned (8 * n) l.pruned (omega arith) rises)) (omega (arith, s.1, len)))))
     | inr h ↦
-        let same : l.pruned ≡ whole.pruned = omega (arith, h, fits.rises, whole_pruned) in
+        let same : l.pruned ≡ whole.pruned = omega (arith, h, rises, whole_pruned) in
         rw (le-ltb whole.pruned l.pruned h) (sym (same_pending n b l whole same (sym whole_len) (λ k s. sym (whole_bit k (omega (arith, s.0, ap (λ y. 8 * n * y) whole_pruned)) (omega (arith, s.1, whole_len))))))
   ]
+
+-- ---- the edits made in a bitmap that is long enough
+module _ (n : ℕ) (b : PrunedBits) (l : Layer) (can : CanApply n b l) where
+  -- cut to the pending length it has that length
+  pub cut_len : bit_len n (truncated n b l.len) ≡ l.len
+  cut_len =
+      let front : pruned_bits n b ≤ l.len = omega (arith, can.front, mul-le (8 * n) b.pruned (8 * n) l.pruned (omega arith) can.rises) in
+      omega (arith, front, can.long, length-take-le (l.len - pruned_bits n b) b.bits (omega (arith, can.long)))
+
+  -- there the edits in steps need no growth
+  pub applied_long : 0 < n → IsStrictlySortedBy nat_cmp (keys_of l.edited) → pruned_to n (put_back n (truncated n b l.len) (edits_of l.edited)) l.pruned ≡ pending_bits n b l
+  applied_long pos sorted =
+      let cut : resized n b l.len ≡ truncated n b l.len = rw (le-ltb (bit_len n b) l.len can.long) refl in
+      ap (λ c. pruned_to n (put_back n c (edits_of l.edited)) l.pruned) (sym cut) ∙ applied_is n b l pos can.front can.rises sorted
+
+-- over an extended bitmap the pending bits are the same, since past its length a bitmap reads zero
+pub pending_grown : (n : ℕ) (b : PrunedBits) (l : Layer) (len : ℕ) → 8 * n * l.pruned ≤ l.len → pending_bits n (extended n b len) l ≡ pending_bits n b l
+pending_grown n b l len front =
+    let grown = pending_bits n (extended n b len) l in
+    let total : bit_len n grown ≡ l.len = len_from_bits n l.pruned l.len (layer_bit n (extended n b len) l) front in
+    sym (same_pending n b l grown refl (sym total) (λ k h.
+    let same : layer_bit n (extended n b len) l k ≡ layer_bit n b l k = same_from n (edited_chunk l (k / (8 * n))) (extended n b len) b k (bit_extended n b len k) in
+    sym (bit_from_bits n l.pruned l.len (layer_bit n (extended n b len) l) k h.0 (omega (arith, h.1, total)) ∙ same)))

@@ -6,14 +6,14 @@ use Rattle.std.proofs.Math.Nat.{mul-add-mod_self_left}
 use Rattle.std.proofs.lemmas.Nat.{div-mul-add, mul-le}
 use Rattle.bitmap_core.specs.Chunk.{chunk_bit, byte_of, IsChunk}
 use Rattle.bitmap_core.specs.PrunedBits.{PrunedBits, pruned_bits, bit_at, chunk}
-use Rattle.bitmap_core.proofs.ChunkBits.{chunk_bit-mod}
-use Rattle.bitmap_core.proofs.MadeBytes.{bytes_are, byte_same, map_range_same}
-use Rattle.bitmap_core.proofs.PrunedBitsFacts.{place, bit_past}
+use Rattle.bitmap_core.proofs.Chunks.Bits.{chunk_bit-mod}
+use Rattle.bitmap_core.proofs.Bytes.Made.{bytes_are, byte_same, map_range_same}
+use Rattle.bitmap_core.proofs.Pruned.Positions.{place, bit_past}
 use Rattle.historical_bitmap.specs.Pending.{Layer, pending_bits, pending_chunk, LayerFits}
 use Rattle.historical_bitmap.proofs.PendingEdits.{pending_len, pending_at, chunk_bit_is, chunk_bit_past}
 
 -- n bytes with the bits of chunk i are that chunk
-chunk_with_bits : (n : ℕ) (b : PrunedBits) (i : ℕ) (bytes : List ℕ) → 0 < n → IsChunk n bytes → ((k : ℕ) → k / (8 * n) ≡ i → chunk_bit n bytes k ≡ bit_at n b k) → bytes ≡ chunk n b i
+pub chunk_with_bits : (n : ℕ) (b : PrunedBits) (i : ℕ) (bytes : List ℕ) → 0 < n → IsChunk n bytes → ((k : ℕ) → k / (8 * n) ≡ i → chunk_bit n bytes k ≡ bit_at n b k) → bytes ≡ chunk n b i
 chunk_with_bits n b i bytes pos is same =
     bytes_are n bytes (λ t. bit_at n b (8 * n * i + t)) is.len is.bytes (λ t h.
     chunk_bit-mod n bytes t (8 * n * i + t) pos (sym (mul-add-mod_self_left (8 * n) i t)) ∙ same (8 * n * i + t) (index t h))

@@ -9,7 +9,7 @@ use Rattle.std.specs.List.{range_with_len}
 use Rattle.std.specs.Map.{keys_of}
 use Rattle.std.specs.Set.{is_member}
 use Rattle.bitmap_core.specs.PrunedBits.{PrunedBits, bit_len}
-use Rattle.bitmap_core.proofs.PrunedBitsFacts.{place}
+use Rattle.bitmap_core.proofs.Pruned.Positions.{place}
 use Rattle.historical_bitmap.specs.Edits.{Edit, IsWithin, from_to, touches}
 use Rattle.historical_bitmap.specs.Edits.Edit.{Push, Pop, Set, Prune}
 use Rattle.historical_bitmap.specs.Pending.{Layer, unedited, edited_chunk, pending_bits, layer_marks, Writes, Pops, Prunes, Follows, LayerFits, IsEdited}

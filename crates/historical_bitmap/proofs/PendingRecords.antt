@@ -16,7 +16,7 @@ use Rattle.std.specs.Map.{lookup, keys_of}
 use Rattle.std.specs.Set.{is_member, distinct_count}
 use Rattle.bitmap_core.specs.Chunk.{chunk_bit}
 use Rattle.bitmap_core.specs.PrunedBits.{PrunedBits, bit_len, bit_at, HasBit, chunk}
-use Rattle.bitmap_core.proofs.PrunedBitsFacts.{place, bit_past}
+use Rattle.bitmap_core.proofs.Pruned.Positions.{place, bit_past}
 use Rattle.historical_bitmap.specs.Record.{ChunkDiff, Reverse, bit_from, kept, bytes_of, kept_bytes, LeadsBack}
 use Rattle.historical_bitmap.specs.Undo.{CanUndo, IsOldChunk}
 use Rattle.historical_bitmap.specs.Pending.{Layer, edited_chunk, pending_bits, layer_marks, diff_of, LayerFits, ReversesLayer}
@@ -129,7 +129,7 @@ sorted_none : IsStrictlySortedBy nat_cmp []
 unfolding IsStrictlySortedBy
 sorted_none = tt
 
-keys_push : {X : Type 0} (es : List (ℕ × X)) (i : ℕ) (d : X) → keys_of (es ++ (i, d) ∷ []) ≡ keys_of es ++ i ∷ []
+pub keys_push : {X : Type 0} (es : List (ℕ × X)) (i : ℕ) (d : X) → keys_of (es ++ (i, d) ∷ []) ≡ keys_of es ++ i ∷ []
 keys_push [] i d = refl
 keys_push (e ∷ es) i d = ap (λ ks. e.0 ∷ ks) (keys_push es i d)
 

@@ -8,7 +8,7 @@ use Rattle.std.proofs.lemmas.Nat.{mul-le}
 use Rattle.std.specs.Prelude.{Bool, false, Option, Some, None, MatchOption, nat_eq}
 use Rattle.std.specs.Set.{is_member}
 use Rattle.bitmap_core.specs.PrunedBits.{PrunedBits, pruned_bits, bit_len, bit_at, HasBit, HasChunk, chunk, pruned_to}
-use Rattle.bitmap_core.proofs.PrunedBitsFacts.{place, front_of}
+use Rattle.bitmap_core.proofs.Pruned.Positions.{place, front_of}
 use Rattle.historical_bitmap.specs.Edits.{Edit, after, after_all, IsAccepted, AllAccepted, from_to, touches, touched}
 use Rattle.historical_bitmap.specs.Edits.Edit.{Push, Pop, Set, Prune}
 use Rattle.historical_bitmap.specs.Record.{Reverse, kept, IsUnchanged, LeadsBack}

@@ -15,10 +15,10 @@ use Rattle.std.specs.Map.{lookup, keys_of}
 use Rattle.std.proofs.lemmas.Map.Keys.{sorted_head, sorted_tail}
 use Rattle.bitmap_core.specs.Chunk.{chunk_bit, chunk_bits}
 use Rattle.bitmap_core.specs.PrunedBits.{PrunedBits, pruned_bits, bit_len, bit_at, from_bits, HasBit, unpruned, with_chunk}
-use Rattle.bitmap_core.proofs.ChunkBits.{chunk_bit-mod}
-use Rattle.bitmap_core.proofs.FrontChunks.{length-front_bits}
-use Rattle.bitmap_core.proofs.PrunedBitsFacts.{front_of, same_from_bits, bit_from_bits, len_from_bits}
-use Rattle.bitmap_core.proofs.PrunedEdits.{bit_extended, bit_truncated, bit_unpruned_low}
+use Rattle.bitmap_core.proofs.Chunks.Bits.{chunk_bit-mod}
+use Rattle.bitmap_core.proofs.Chunks.Front.{length-front_bits}
+use Rattle.bitmap_core.proofs.Pruned.Positions.{front_of, same_from_bits, bit_from_bits, len_from_bits}
+use Rattle.bitmap_core.proofs.Pruned.Edits.{bit_extended, bit_truncated, bit_unpruned_low}
 use Rattle.historical_bitmap.specs.Record.{ChunkDiff, Reverse, kept, kept_bytes, bytes_of, bit_from, before}
 use Rattle.historical_bitmap.specs.Undo.{resized, put_back_one, put_back, pruned_chunks, undone_in_steps, CanUndo}
 use Rattle.historical_bitmap.proofs.OldStates.{below}
@@ -94,9 +94,10 @@ pub same_from : (n : ℕ) (o : Option (List ℕ)) (a b : PrunedBits) (k : ℕ) �
 same_from n None a b k e = e
 same_from n (Some bytes) a b k e = refl
 
-none_above : {X : Type 0} (a : ℕ) (cs : List (ℕ × X)) → AllByRecursion (λ k. nat_cmp a k ≡ Less) (keys_of cs) → lookup (nat_eq a) cs ≡ None
-none_above a [] h = refl
-none_above a (c ∷ cs) h = rw (ne_eqb a c.0 (λ e. absurd (omega (arith, below a c.0 h.0)))) (none_above a cs h.1)
+-- where all keys are past one, it is not found, nor is a lesser one
+pub none_past : {X : Type 0} (q a : ℕ) (cs : List (ℕ × X)) → q ≤ a → AllByRecursion (λ k. nat_cmp a k ≡ Less) (keys_of cs) → lookup (nat_eq q) cs ≡ None
+none_past q a [] l h = refl
+none_past q a (c ∷ cs) l h = rw (ne_eqb q c.0 (λ e. absurd (omega (arith, e, l, below a c.0 h.0)))) (none_past q a cs l h.1)
 
 -- the entries from a least index on, put back: the bits are those that they keep, and the others stay
 pub bit_put : (n : ℕ) (b : PrunedBits) (least : ℕ) (es : List (ℕ × ChunkDiff)) (k : ℕ) → IsStrictlySortedBy nat_cmp (keys_of es) → HasBit n b k
@@ -121,7 +122,7 @@ bit_put n b least (e ∷ es) k up h =
         ≡ cond (nat_le least (k / (8 * n))) (bit_from n (bytes_of (lookup (nat_eq (k / (8 * n))) (e ∷ es))) b k) (bit_at n b k)
     taken l head = elim (cases_eq (k / (8 * n)) e.0) [
       | inl same ↦
-          let none : lookup (nat_eq (k / (8 * n))) es ≡ None = ap (λ i. lookup (nat_eq i) es) same ∙ none_above e.0 es head in
+          let none : lookup (nat_eq (k / (8 * n))) es ≡ None = ap (λ i. lookup (nat_eq i) es) same ∙ none_past e.0 e.0 es (omega arith) head in
           rw (le-leb least (k / (8 * n)) (omega arith), none, eq-eqb (k / (8 * n)) e.0 same) (put_one_same n b e.0 (kept_bytes e.1) k h same)
       | inr ne ↦ rw (ne_eqb (k / (8 * n)) e.0 ne) (other ne (bytes_of (lookup (nat_eq (k / (8 * n))) es)) (nat_le least (k / (8 * n))))
     ]
@@ -145,10 +146,10 @@ module _ (n : ℕ) (r : Reverse) (b : PrunedBits) (pos : 0 < n) (can : CanUndo n
   abbrev sized : PrunedBits
   sized = resized n whole r.len
 
-  count : length chunks ≡ b.pruned - r.pruned
+  pub count : length chunks ≡ b.pruned - r.pruned
   count = length-map-range_with_len (λ i. unwrap_or (kept r i) []) r.pruned (b.pruned - r.pruned)
 
-  whole_pruned : whole.pruned ≡ r.pruned
+  pub whole_pruned : whole.pruned ≡ r.pruned
   whole_pruned = omega (arith, count, can.rises)
 
   sized_pruned : sized.pruned ≡ r.pruned

@@ -4,4 +4,5 @@ pub mod Stored
 pub mod Undo
 pub mod History
 pub mod Pending
+pub mod Held
 pub mod View

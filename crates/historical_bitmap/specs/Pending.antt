@@ -1,10 +1,11 @@
 -- The edits that a batch has pending. A chunk has n bytes.
 use Rattle.std.specs.Prelude.{◌≡◌, ℕ, ◌+◌, ◌-◌, ◌*◌, ◌/◌, ◌%◌, ◌<◌, ◌≤◌, max, Bool, true, false, List, [], ◌++◌, length, map, if◌then◌else◌, ◌⊎◌, slice_index_or, nat_lt, nat_eq, Option, Some, None, MatchOption, unwrap_or}
+use Rattle.std.specs.List.{range_with_len}
 use Rattle.std.specs.List.Sorted.{IsStrictlySortedBy}
 use Rattle.std.specs.Map.{lookup, keys_of}
 use Rattle.std.specs.Ordering.{nat_cmp}
 use Rattle.std.specs.Set.{is_member}
-use Rattle.bitmap_core.specs.Chunk.{chunk_bit, IsBitWritten}
+use Rattle.bitmap_core.specs.Chunk.{bit_in, chunk_bit, IsBitWritten, IsByteWritten}
 use Rattle.bitmap_core.specs.PrunedBits.{PrunedBits, bit_len, from_bits, chunk, truncated, pruned_to}
 use Rattle.historical_bitmap.specs.Edits.{Edit, from_to}
 use Rattle.historical_bitmap.specs.Edits.Edit.{Push, Pop, Set, Prune}
@@ -77,6 +78,25 @@ pub record IsWritten (n : ℕ) (old : List ℕ) (k : ℕ) (value : Bool) (new : 
 abbrev pub Puts : {X : Type 0} → List (ℕ × X) → List (ℕ × X) → ℕ → Option X → Type 0
 Puts old new i o = (q : ℕ) → lookup (nat_eq q) new ≡ (if nat_eq q i then o else lookup (nat_eq q) old)
 
+-- the new entries have bit k of the chunk under i as value, and else what the old ones have
+pub record IsSetIn (n : ℕ) (old new : List (ℕ × List ℕ)) (i : ℕ) (chunk : List ℕ) (k : ℕ) (value : Bool) : Type 0 where
+  pub bytes : List ℕ
+  pub written : IsWritten n chunk k value bytes
+  pub edited : Puts old new i (Some bytes)
+
+-- the new entries have byte where bit k of the chunk under i stands, and else what the old ones have
+pub record IsByteSetIn (n : ℕ) (old new : List (ℕ × List ℕ)) (i k byte : ℕ) : Type 0 where
+  pub chunk : List ℕ
+  pub found : lookup (nat_eq i) old ≡ Some chunk
+  pub bytes : List ℕ
+  pub size : length bytes ≡ n
+  pub written : IsByteWritten n chunk bytes k byte
+  pub edited : Puts old new i (Some bytes)
+
+-- the new entries have the first under i and the second under i + 1, and under other keys what the old ones have
+abbrev pub PutsTwo : {X : Type 0} → List (ℕ × X) → List (ℕ × X) → ℕ → X → X → Type 0
+PutsTwo old new i first second = (q : ℕ) → lookup (nat_eq q) new ≡ (if nat_eq q i then Some first else if nat_eq q (i + 1) then Some second else lookup (nat_eq q) old)
+
 -- m is l with bit k written in its chunk, and of length total
 pub record Writes (n : ℕ) (b : PrunedBits) (l : Layer) (k : ℕ) (value : Bool) (total : ℕ) (m : Layer) : Type 0 where
   pub len : m.len ≡ total
@@ -114,6 +134,10 @@ Follows n b l (Push value) m = Writes n b l l.len value (l.len + 1) m
 Follows n b l Pop m = Pops n l m
 Follows n b l (Set position value) m = Writes n b l position value l.len m
 Follows n b l (Prune position) m = Prunes n b l (position / (8 * n)) m
+
+-- the bits of a run of bytes, in order
+abbrev pub run_bits : List ℕ → List Bool
+run_bits bytes = map (bit_in bytes) (range_with_len 0 (8 * length bytes))
 
 -- n bytes for chunk i: below the length its pending bits, then the appended values, then zeros
 pub record HasAppended (n : ℕ) (b : PrunedBits) (l : Layer) (values : List Bool) (i : ℕ) (bytes : List ℕ) : Type 0 where
@@ -155,3 +179,14 @@ edits_of edited = map (λ e. (e.0, Modified e.1)) edited
 -- the pending edits made in steps: the length, the edited chunks, the prune
 abbrev pub applied_in_steps : ℕ → PrunedBits → Layer → PrunedBits
 applied_in_steps n b l = pruned_to n (put_back n (resized n b l.len) (edits_of l.edited)) l.pruned
+
+-- pending edits alone, with nothing captured
+abbrev pub layer_of : ℕ → ℕ → List (ℕ × List ℕ) → Layer
+layer_of len pruned edited = record { len = len; pruned = pruned; edited = edited; captured = [] }
+
+-- pending edits can be made in steps in a bitmap that is as long as they ask
+pub record CanApply (n : ℕ) (b : PrunedBits) (l : Layer) : Type 0 where
+  pub long : l.len ≤ bit_len n b
+  pub front : 8 * n * l.pruned ≤ l.len
+  pub rises : b.pruned ≤ l.pruned
+  pub edited : (i : ℕ) → MatchOption (edited_chunk l i) (Unit {0}) (IsEdited n b l i)

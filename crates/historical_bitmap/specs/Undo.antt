@@ -1,6 +1,6 @@
 -- A record undone step by step. A chunk has n bytes.
-use Rattle.std.specs.Prelude.{◌≡◌, ℕ, ◌*◌, ◌/◌, ◌<◌, ◌≤◌, false, List, [], ◌∷◌, map, if◌then◌else◌, nat_lt, nat_le, Option, Some, None, MatchOption, unwrap_or, IsSome}
-use Rattle.std.specs.List.{filter}
+use Rattle.std.specs.Prelude.{◌≡◌, ℕ, ◌*◌, ◌/◌, ◌<◌, ◌≤◌, false, List, [], ◌∷◌, map, if◌then◌else◌, nat_lt, nat_le, ◌&&◌, Option, Some, None, MatchOption, option_to_list, unwrap_or, IsSome}
+use Rattle.std.specs.List.{filter, flat_map}
 use Rattle.std.specs.List.Sorted.{IsStrictlySortedBy}
 use Rattle.std.specs.Ordering.{nat_cmp}
 use Rattle.std.specs.Map.{keys_of}
@@ -26,6 +26,10 @@ put_back n b (entry ∷ entries) = put_back n (put_back_one n b entry.0 (kept_by
 -- the old bytes of the chunks that a commit pruned, in order, where it left so many pruned
 abbrev pub pruned_chunks : Reverse → ℕ → List (List ℕ)
 pruned_chunks r pruned = map (λ i. unwrap_or (kept r i) []) (from_to r.pruned pruned)
+
+-- the bytes that entries keep of the chunks from one index up to another, in order
+abbrev pub kept_between : ℕ → ℕ → List (ℕ × ChunkDiff) → List (List ℕ)
+kept_between from to entries = flat_map (λ entry. option_to_list (kept_bytes entry.1)) (filter (λ entry. nat_le from entry.0 && nat_lt entry.0 to) entries)
 
 -- a record undone in steps: pruned chunks put back in front, the length restored, and the old bytes of the other chunks put in place
 abbrev pub undone_in_steps : ℕ → Reverse → PrunedBits → PrunedBits

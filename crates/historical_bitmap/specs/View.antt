@@ -1,12 +1,12 @@
 -- A historical bitmap, clean or with edits pending, as contracts see it. A chunk has n bytes.
-use Rattle.std.specs.Prelude.{◌≡◌, ℕ, ◌+◌, ◌-◌, ◌*◌, ◌%◌, ◌^◌, ◌++◌, Bool, List, Option, Some, None, nat_lt, nat_le, nat_eq, ◌==◌, ◌&&◌, if◌then◌else◌}
+use Rattle.std.specs.Prelude.{◌≡◌, ℕ, ◌+◌, ◌-◌, ◌*◌, ◌%◌, ◌/◌, ◌^◌, ◌++◌, Bool, List, Option, Some, None, IsSome, nat_lt, nat_le, nat_eq, ◌==◌, ◌&&◌, if◌then◌else◌}
 use Rattle.std.specs.Set.{distinct_count}
 use Rattle.bitmap_core.specs.PrunedBits.{PrunedBits, bit_len}
 use Rattle.historical_bitmap.specs.declared.bitmap.historical.error.Error.{Error}
 use Rattle.historical_bitmap.specs.declared.bitmap.historical.error.Error.TheVariants.{NonMonotonicCommit, ReservedCommitNumber}
 use Rattle.historical_bitmap.specs.Edits.{Edit, IsWithin, after, after_all, touches, touched}
 use Rattle.historical_bitmap.specs.History.{snapshots, costs}
-use Rattle.historical_bitmap.specs.Pending.{Layer, pending_bits, layer_marks}
+use Rattle.historical_bitmap.specs.Pending.{Layer, edited_chunk, pending_bits, layer_marks}
 use Rattle.historical_bitmap.specs.Record.{Reverse}
 
 -- the current bitmap, the kept commits by number, the number last committed or gone back to, and the state: a layer of pending edits, or none
@@ -31,6 +31,14 @@ pending_of n v = pending_bits n v.current v.state
 -- the chunks that the pending edits name
 abbrev pub marks_of : ℕ → View Layer → List ℕ
 marks_of n v = layer_marks n v.current v.state
+
+-- the chunk of a position is among those that the pending edits hold whole: to write in it again takes no memory
+abbrev pub IsEditedAt : ℕ → View Layer → ℕ → Type 0
+IsEditedAt n v position = IsSome (edited_chunk v.state (position / (8 * n)))
+
+-- the chunks that old holds whole new holds too, and with them that of a position
+abbrev pub HoldsToo : ℕ → View Layer → ℕ → View Layer → Type 0
+HoldsToo n old position new = IsEditedAt n new position × ((other : ℕ) → IsEditedAt n old other → IsEditedAt n new other)
 
 -- new is old after an edit: the pending bitmap is edited, and no chunk is marked but those that were and those that the edit touches
 pub record IsEditOf (n : ℕ) (old : View Layer) (edit : Edit) (new : View Layer) : Type 0 where

@@ -19,7 +19,10 @@ nat_cmp-greater a b h = grind (arith, common_steps)
 less_from_nat_cmp : (a b : ℕ) → nat_cmp a b ≡ Less → a < b
 less_from_nat_cmp a b h = grind (arith, common_steps)
 
-pub insert_entry-end : (es : History) (k : ℕ) (v : PrunedBits) → AllByRecursion (λ e. e.0 < k) es → insert_entry nat_cmp es k v ≡ es ++ (k, v) ∷ []
+-- a number above all goes to the end
+insert_entry-end : (es : History) (k : ℕ) (v : PrunedBits)
+    → AllByRecursion (λ e. e.0 < k) es
+    → insert_entry nat_cmp es k v ≡ es ++ (k, v) ∷ []
 insert_entry-end [] k v h = refl
 insert_entry-end (e ∷ es) k v h = let g = nat_cmp-greater k e.0 h.0 in rw (g, insert_entry-end es k v h.1) refl
 
@@ -27,9 +30,14 @@ latest-cons : (e f : ℕ × PrunedBits) (es : History) → latest (e ∷ f ∷ e
 latest-cons e f es =
     let a : length (e ∷ f ∷ es) - 1 ≡ suc (length es) = omega arith in
     let b : length (f ∷ es) - 1 ≡ length es = omega arith in
-    ap (λ n. option_map (λ (x : ℕ × PrunedBits). x.0) (slice_get (e ∷ f ∷ es) n)) a ∙ ap (λ n. option_map (λ (x : ℕ × PrunedBits). x.0) (slice_get (f ∷ es) n)) (sym b)
+    ap (λ n. option_map (λ (x : ℕ × PrunedBits). x.0) (slice_get (e ∷ f ∷ es) n)) a
+    ∙ ap (λ n. option_map (λ (x : ℕ × PrunedBits). x.0) (slice_get (f ∷ es) n)) (sym b)
 
-pub all_below : (es : History) (k : ℕ) → IsStrictlySortedBy nat_cmp (keys_of es) → MatchOption (latest es) (0 ≤ k) (λ p. p < k) → AllByRecursion (λ e. e.0 < k) es
+-- a number above the latest is above all
+all_below : (es : History) (k : ℕ)
+    → IsStrictlySortedBy nat_cmp (keys_of es)
+    → MatchOption (latest es) (0 ≤ k) (λ p. p < k)
+    → AllByRecursion (λ e. e.0 < k) es
 all_below [] k s h = tt
 all_below (e ∷ []) k s h = (h, tt)
 all_below (e ∷ f ∷ es) k s h =
@@ -37,5 +45,8 @@ all_below (e ∷ f ∷ es) k s h =
     let first = less_from_nat_cmp e.0 f.0 (sorted_head nat_cmp e.0 (keys_of (f ∷ es)) s).0 in
     (omega (arith, more.0), more)
 
-pub appends_above : (es : History) (k : ℕ) (v : PrunedBits) → IsStrictlySortedBy nat_cmp (keys_of es) → MatchOption (latest es) (0 ≤ k) (λ p. p < k) → insert_entry nat_cmp es k v ≡ es ++ (k, v) ∷ []
+pub appends_above : (es : History) (k : ℕ) (v : PrunedBits)
+    → IsStrictlySortedBy nat_cmp (keys_of es)
+    → MatchOption (latest es) (0 ≤ k) (λ p. p < k)
+    → insert_entry nat_cmp es k v ≡ es ++ (k, v) ∷ []
 appends_above es k v s h = insert_entry-end es k v (all_below es k s h)

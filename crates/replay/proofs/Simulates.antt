@@ -1,10 +1,10 @@
 -- What a session does by its own marks, a machine that it agrees with may do by its touched chunks.
-use Rattle.std.proofs.Common.{◌≡◌, ℕ, List, [], ◌∷◌, ◌++◌, Bool, true, false, Option, Some, None, refl, subst, inl, inr, arith}
+use Rattle.std.proofs.Common.{◌≡◌, ℕ, ◌≤◌, List, [], ◌∷◌, ◌++◌, Bool, true, false, Option, Some, None, refl, ap, subst, inl, inr, arith}
 use Rattle.std.specs.Prelude.{◌&&◌, MatchOption, IsTrue, ◌⊎◌, ◌||◌, nat_eq, if◌then◌else◌}
 use Rattle.std.specs.Set.{is_member}
 use Rattle.replay.specs.declared.command.Command.{Command}
 use Rattle.replay.specs.History.{IsWithin}
-use Rattle.replay.specs.Machine.{Machine, State, Answer, Refusal, NoMemory, Agrees, StepTo, Step, Accepts, Refuses, after, refusal_of, takes_memory, is_dirty, state_after, touches}
+use Rattle.replay.specs.Machine.{Machine, State, Answer, Refusal, NoMemory, Agrees, StepTo, Step, Accepts, Refuses, after, most_cost, refusal_of, takes_memory, is_dirty, state_after, touches}
 use Rattle.replay.proofs.Counting.{count_within}
 
 or_assoc : (a b c : Bool) → (a || (b || c)) ≡ ((a || b) || c)
@@ -24,30 +24,76 @@ either_side true b c f h = rw (f refl) refl
 either_side false b c f h = rw h (or_true b)
 
 within_both : (xs ys zs : List ℕ) → IsWithin xs ys → IsWithin (xs ++ zs) (ys ++ zs)
-within_both xs ys zs w q h = rw is_member-append (either_side (is_member nat_eq xs q) (is_member nat_eq ys q) (is_member nat_eq zs q) (w q) (rw is_member-append at h))
+within_both xs ys zs w q h =
+    let each = either_side (is_member nat_eq xs q) (is_member nat_eq ys q) (is_member nat_eq zs q) (w q) in
+    rw is_member-append (each (rw is_member-append at h))
 
 either : (b : Bool) (zs xs ys : List ℕ) → IsWithin xs ys → IsWithin (if b then xs ++ zs else []) (if b then ys ++ zs else [])
 either true zs xs ys w = within_both xs ys zs w
 either false zs xs ys w = λ q h. h
 
-agrees_after : (N : ℕ) (s : State) (marks touched : List ℕ) (command : Command N) (cost : ℕ) (new : Machine) → IsWithin marks touched → Agrees new (after N (record { state = s; touched = marks }) command cost) → Agrees new (after N (record { state = s; touched = touched }) command cost)
-agrees_after N s marks touched command cost new w a = record { same = a.same; within = λ k h. either (is_dirty s && is_dirty (state_after N s command 0)) (touches N s command) marks touched w k (a.within k h) }
+-- a state with the chunks that a batch has touched
+abbrev at_touched : State → List ℕ → Machine
+at_touched s touched = record { state = s; touched = touched }
+
+-- a command that both accept leaves them in agreement
+agrees_after : (N : ℕ) (s : State) (marks touched : List ℕ) (command : Command N) (cost : ℕ) (new : Machine)
+    → IsWithin marks touched
+    → Agrees new (after N (at_touched s marks) command cost)
+    → Agrees new (after N (at_touched s touched) command cost)
+agrees_after N s marks touched command cost new w a =
+    let both = either (is_dirty s && is_dirty (state_after N s command 0)) (touches N s command) marks touched w in
+    record { same = a.same; within = λ k h. both k (a.within k h) }
+
+-- so does a command that changes nothing
+agrees_still : (s : State) (marks touched : List ℕ) (new : Machine)
+    → IsWithin marks touched
+    → Agrees new (at_touched s marks)
+    → Agrees new (at_touched s touched)
+agrees_still s marks touched new w a = record { same = a.same; within = λ k h. w k (a.within k h) }
 
 abbrev Same : Machine → Machine → Type 0
 Same a b = a ≡ b
 
-by_refusal : (N : ℕ) (s : State) (marks touched : List ℕ) (command : Command N) (answer : Answer) (new : Machine) (r : Option Refusal) → IsWithin marks touched
-    → MatchOption r (Accepts N Agrees (record { state = s; touched = marks }) command answer new ⊎ (IsTrue (takes_memory N s command) × Refuses N Agrees (record { state = s; touched = marks }) NoMemory answer new)) (λ refusal. Refuses N Agrees (record { state = s; touched = marks }) refusal answer new)
-    → (next : Machine) × Agrees new next × MatchOption r (Accepts N Same (record { state = s; touched = touched }) command answer next ⊎ (IsTrue (takes_memory N s command) × Refuses N Same (record { state = s; touched = touched }) NoMemory answer next)) (λ refusal. Refuses N Same (record { state = s; touched = touched }) refusal answer next)
-by_refusal N s marks touched command answer new (Some refusal) w h = (record { state = s; touched = touched }, record { same = h.1.same; within = λ k x. w k (h.1.within k x) }, (h.0, refl))
-by_refusal N s marks touched command answer new None w (inl h) = (after N (record { state = s; touched = touched }) command h.1.0, agrees_after N s marks touched command h.1.0 new w h.1.2, inl (h.0, (h.1.0, omega (arith, h.1.1, count_within marks touched w), refl)))
-by_refusal N s marks touched command answer new None w (inr h) = (record { state = s; touched = touched }, record { same = h.1.1.same; within = λ k x. w k (h.1.1.within k x) }, inr (h.0, (h.1.0, refl)))
+-- what a step is, by the refusal that holds
+abbrev Answers : (N : ℕ) → (Machine → Machine → Type 0) → Machine → Command N → Answer → Machine → Option Refusal → Type 0
+Answers N Is old command answer new refusal = MatchOption refusal
+    (Accepts N Is old command answer new ⊎ (IsTrue (takes_memory N old.state command) × Refuses N Is old NoMemory answer new))
+    (λ r. Refuses N Is old r answer new)
 
-simulated : (N : ℕ) (s : State) (marks touched : List ℕ) (command : Command N) (answer : Answer) (new : Machine) → IsWithin marks touched → StepTo N Agrees (record { state = s; touched = marks }) command answer new → (next : Machine) × Agrees new next × Step N (record { state = s; touched = touched }) command answer next
-simulated N s marks touched command answer new w step = by_refusal N s marks touched command answer new (refusal_of N s command) w step
+by_refusal : (N : ℕ) (s : State) (marks touched : List ℕ) (command : Command N) (answer : Answer) (new : Machine) (r : Option Refusal)
+    → IsWithin marks touched
+    → Answers N Agrees (at_touched s marks) command answer new r
+    → (next : Machine) × Agrees new next × Answers N Same (at_touched s touched) command answer next r
+by_refusal N s marks touched command answer new (Some refusal) w h =
+    (at_touched s touched, agrees_still s marks touched new w h.1, (h.0, refl))
+by_refusal N s marks touched command answer new None w (inl h) =
+    let cost = h.1.0 in
+    let cheap : cost ≤ most_cost N (at_touched s touched) = omega (arith, h.1.1, count_within marks touched w) in
+    let agrees = agrees_after N s marks touched command cost new w h.1.2 in
+    (after N (at_touched s touched) command cost, agrees, inl (h.0, (cost, cheap, refl)))
+by_refusal N s marks touched command answer new None w (inr h) =
+    (at_touched s touched, agrees_still s marks touched new w h.1.1, inr (h.0, (h.1.0, refl)))
+
+simulated : (N : ℕ) (s : State) (marks touched : List ℕ) (command : Command N) (answer : Answer) (new : Machine)
+    → IsWithin marks touched
+    → StepTo N Agrees (at_touched s marks) command answer new
+    → (next : Machine) × Agrees new next × Step N (at_touched s touched) command answer next
+simulated N s marks touched command answer new w step =
+    by_refusal N s marks touched command answer new (refusal_of N s command) w step
+
+-- a step from a machine is one from an equal machine
+pub step_from : (N : ℕ) (a b : Machine) (command : Command N) (answer : Answer) (new : Machine)
+    → a ≡ b
+    → StepTo N Agrees a command answer new
+    → StepTo N Agrees b command answer new
+step_from N a b command answer new e step = subst (λ (m : Machine). StepTo N Agrees m command answer new) e step
 
 -- a session's step is one of each machine that agrees with it
-pub simulates : (N : ℕ) (old new before : Machine) (command : Command N) (answer : Answer) → Agrees old before → StepTo N Agrees old command answer new → (next : Machine) × Agrees new next × Step N before command answer next
+pub simulates : (N : ℕ) (old new before : Machine) (command : Command N) (answer : Answer)
+    → Agrees old before
+    → StepTo N Agrees old command answer new
+    → (next : Machine) × Agrees new next × Step N before command answer next
 simulates N old new before command answer a step =
-    let from : StepTo N Agrees (record { state = before.state; touched = old.touched }) command answer new = subst (λ (s : State). StepTo N Agrees (record { state = s; touched = old.touched }) command answer new) a.same step in
-    simulated N before.state old.touched before.touched command answer new a.within from
+    let same : old ≡ at_touched before.state old.touched = ap (λ s. at_touched s old.touched) a.same in
+    simulated N before.state old.touched before.touched command answer new a.within (step_from N _ _ command answer new same step)

@@ -22,13 +22,13 @@ pub record Machine : Type 0 where
   pub state : State
   pub touched : List ℕ
 
--- the bitmap without bits, nothing pruned
-abbrev pub no_bits : PrunedBits
-no_bits = record { pruned = 0; bits = [] }
+-- no bits behind so many pruned chunks, no batch, and no commits
+abbrev pub anew : ℕ → State
+anew chunks = record { current = record { pruned = chunks; bits = [] }; pending = None; history = []; costs = [] }
 
--- clean, empty, without commits
-abbrev pub start : Machine
-start = record { state = record { current = no_bits; pending = None; history = []; costs = [] }; touched = [] }
+-- the machine before the first command: nothing pruned, and nothing touched
+abbrev pub first_machine : Machine
+first_machine = record { state = anew 0; touched = [] }
 
 -- edits are pending
 abbrev pub is_dirty : State → Bool
@@ -41,6 +41,15 @@ shown s = unwrap_or s.pending s.current
 -- the state with another pending bitmap
 abbrev pub edited : State → PrunedBits → State
 edited s bitmap = record s { pending = Some bitmap }
+
+-- the pending bitmap is current, and kept under the number, at the cost
+abbrev pub committed : State → ℕ → ℕ → State
+committed s number cost = record {
+  current = shown s;
+  pending = None;
+  history = s.history ++ (number, shown s) ∷ [];
+  costs = s.costs ++ (number, cost) ∷ [];
+}
 
 -- why a command is refused: of a text, its first fault
 pub data Refusal : Type 0 where
@@ -75,6 +84,58 @@ abbrev pub first : List (Option Refusal) → Option Refusal
 first [] = None
 first (refusal ∷ refusals) = option_or refusal (first refusals)
 
+-- what the machine does at a command
+pub record Rule : Type 0 where
+  -- the refusals that hold, in order: the first one is the reply
+  pub refusals : List (Option Refusal)
+  -- the command may find no memory
+  pub takes_memory : Bool
+  -- where it is accepted, its reply
+  pub answer : Answer
+  -- the state that it leaves; a commit is kept at the cost
+  pub after : ℕ → State
+  -- the chunks that it touches
+  pub touches : List ℕ
+
+-- where there is no batch, the refusal of a command that wants one
+abbrev pub wants_batch : State → Option Refusal
+wants_batch s = when (not (is_dirty s)) WrongMode
+
+-- where there is one, the refusal of a command that wants none
+abbrev pub wants_no_batch : State → Option Refusal
+wants_no_batch s = when (is_dirty s) WrongMode
+
+-- where no bit is retained, the refusal of a command that drops one
+abbrev pub wants_retained : State → Option Refusal
+wants_retained s = when (length (shown s).bits == 0) NoRetainedBit
+
+-- the refusals of a number to commit under: it is the greatest of u64, or not above the latest kept one
+abbrev pub wants_number : State → ℕ → List (Option Refusal)
+wants_number s number =
+    when (number == 2 ^ 64 - 1) ReservedCommitNumber
+    ∷ option_and_then (λ previous. when (nat_le number previous) (NonMonotonicCommit previous number)) (latest s.history)
+    ∷ []
+
+-- a command that reads
+abbrev pub reads : State → List (Option Refusal) → Bool → Answer → Rule
+reads s refusals takes_memory answer =
+    record { refusals = refusals; takes_memory = takes_memory; answer = answer; after = λ cost. s; touches = [] }
+
+-- a command that edits the pending bitmap, and touches these chunks
+abbrev pub edits : State → List (Option Refusal) → Bool → Answer → PrunedBits → List ℕ → Rule
+edits s refusals takes_memory answer bitmap chunks = record {
+  refusals = wants_batch s ∷ refusals;
+  takes_memory = takes_memory;
+  answer = answer;
+  after = λ cost. edited s bitmap;
+  touches = chunks;
+}
+
+-- a command that begins or ends a batch, or starts anew
+abbrev pub turns : List (Option Refusal) → Bool → (ℕ → State) → Rule
+turns refusals takes_memory after =
+    record { refusals = refusals; takes_memory = takes_memory; answer = Done; after = after; touches = [] }
+
 -- A chunk has N bytes.
 module _ (N : ℕ) where
   -- the chunk in which a position stands
@@ -85,86 +146,24 @@ module _ (N : ℕ) where
   abbrev pub shown_len : State → ℕ
   shown_len s = bit_len N (shown s)
 
-  -- edits and their end want dirty mode; a start, the begin of a batch, and reads of set positions, of bytes and of commits want clean mode
-  abbrev pub wrong_mode : State → Command N → Bool
-  wrong_mode s (Push value) = not (is_dirty s)
-  wrong_mode s Pop = not (is_dirty s)
-  wrong_mode s (Set position value) = not (is_dirty s)
-  wrong_mode s (Commit number) = not (is_dirty s)
-  wrong_mode s Abort = not (is_dirty s)
-  wrong_mode s Len = false
-  wrong_mode s PrunedChunks = false
-  wrong_mode s (Get position) = false
-  wrong_mode s (Decode text range) = false
-  wrong_mode s _ = is_dirty s
+  -- the refusals of a position: it is at or past the length of what reads show, or it is pruned
+  abbrev pub wants_bit : State → ℕ → List (Option Refusal)
+  wants_bit s position =
+      when (nat_le (shown_len s) position) OutOfBounds
+      ∷ when (nat_lt position (pruned_bits N (shown s))) Pruned
+      ∷ []
 
-  -- the position is at or past the length
-  abbrev pub out_of_bounds : State → Command N → Bool
-  out_of_bounds s (Set position value) = nat_le (shown_len s) position
-  out_of_bounds s (Get position) = nat_le (shown_len s) position
-  out_of_bounds s _ = false
+  -- where so many bits more would take the length past u64, the refusal of a command that appends them
+  abbrev pub wants_room : State → ℕ → Option Refusal
+  wants_room s more = when (is_past_64 (shown_len s + more)) TooLong
 
-  -- the position is before the first retained one
-  abbrev pub is_pruned : State → Command N → Bool
-  is_pruned s (Set position value) = nat_lt position (pruned_bits N (shown s))
-  is_pruned s (Get position) = nat_lt position (pruned_bits N (shown s))
-  is_pruned s _ = false
+  -- where the bits of so many chunks would pass u64, the refusal of a command that prunes them
+  abbrev pub wants_fitting : ℕ → Option Refusal
+  wants_fitting chunks = when (is_past_64 (8 * N * chunks)) PrunedChunksOverflow
 
-  -- the new length would pass u64
-  abbrev pub too_long : State → Command N → Bool
-  too_long s (Push value) = is_past_64 (shown_len s + 1)
-  too_long s _ = false
-
-  -- no retained bit is left to pop
-  abbrev pub none_retained : State → Command N → Bool
-  none_retained s Pop = length (shown s).bits == 0
-  none_retained s _ = false
-
-  -- the number is the greatest of u64, which is never kept
-  abbrev pub reserved : State → Command N → Bool
-  reserved s (Commit number) = number == 2 ^ 64 - 1
-  reserved s _ = false
-
-  -- a commit is kept whose number is not below this one
-  abbrev pub not_above : State → Command N → Option Refusal
-  not_above s (Commit number) = option_and_then (λ previous. when (nat_le number previous) (NonMonotonicCommit previous number)) (latest s.history)
-  not_above s _ = None
-
-  -- the pruned bits would pass u64
-  abbrev pub overflows : State → Command N → Bool
-  overflows s (Start chunks) = is_past_64 (8 * N * chunks)
-  overflows s _ = false
-
-  -- the text has a fault
-  abbrev pub unreadable : State → Command N → Option Refusal
-  unreadable s (Decode text range) = option_map (λ fault. Codec (Some fault)) (pruned_fault N (admits range) text.items)
-  unreadable s _ = None
-
-  -- the first refusal that holds, in their order
-  abbrev pub refusal_of : State → Command N → Option Refusal
-  refusal_of s command = first
-      (when (wrong_mode s command) WrongMode
-      ∷ when (out_of_bounds s command) OutOfBounds
-      ∷ when (is_pruned s command) Pruned
-      ∷ when (too_long s command) TooLong
-      ∷ when (none_retained s command) NoRetainedBit
-      ∷ when (reserved s command) ReservedCommitNumber
-      ∷ not_above s command
-      ∷ when (overflows s command) PrunedChunksOverflow
-      ∷ unreadable s command
-      ∷ [])
-
-  -- the commands that may find no memory
-  abbrev pub takes_memory : State → Command N → Bool
-  takes_memory s Begin = true
-  takes_memory s (Push value) = true
-  takes_memory s (Set position value) = true
-  takes_memory s (Commit number) = true
-  takes_memory s (Ones from to) = true
-  takes_memory s Encode = true
-  takes_memory s (Decode text range) = true
-  takes_memory s (At number) = is_some (kept_under s.history number)
-  takes_memory s _ = false
+  -- where the text has a fault, the refusal of it
+  abbrev pub wants_readable : (ℕ → Bool) → List ℕ → Option Refusal
+  wants_readable range text = option_map (λ fault. Codec (Some fault)) (pruned_fault N range text)
 
   -- what a text without fault is read as: its bitmap, and how many bytes stand behind the spelling of it
   abbrev pub decoded : List ℕ → Answer
@@ -176,39 +175,49 @@ module _ (N : ℕ) where
       ((answer ≡ decoded text) ⊎ (answer ≡ Refused NoMemory))
       (λ fault. answer ≡ Refused (Codec (Some fault)))
 
+  -- what the machine does at each command
+  abbrev pub rule : State → Command N → Rule
+  rule s (Start chunks) = turns (wants_no_batch s ∷ wants_fitting chunks ∷ []) false (λ cost. anew chunks)
+  rule s Begin = turns (wants_no_batch s ∷ []) true (λ cost. edited s s.current)
+  rule s (Push value) = edits s (wants_room s 1 ∷ []) true Done (pushed (shown s) value) (chunk_index (shown_len s) ∷ [])
+  rule s Pop = edits s (wants_retained s ∷ []) false (Bit (last_bit (shown s))) (popped (shown s)) (chunk_index (shown_len s - 1) ∷ [])
+  rule s (Set position value) = edits s (wants_bit s position) true Done (set_at N (shown s) position value) (chunk_index position ∷ [])
+  rule s (Commit number) = turns (wants_batch s ∷ wants_number s number) true (λ cost. committed s number cost)
+  rule s Abort = turns (wants_batch s ∷ []) false (λ cost. record s { pending = None })
+  rule s Len = reads s [] false (Number (shown_len s))
+  rule s PrunedChunks = reads s [] false (Number (shown s).pruned)
+  rule s (Get position) = reads s (wants_bit s position) false (Bit (bit_at N (shown s) position))
+  rule s (Ones from to) = reads s (wants_no_batch s ∷ []) true (Positions (Some (ones N (pruned_meaning N s.current) from to)))
+  rule s Encode = reads s (wants_no_batch s ∷ []) true (Bytes (Some (pruned_spelling N s.current)))
+  rule s (At number) =
+      let kept = kept_under s.history number in
+      reads s (wants_no_batch s ∷ []) (is_some kept) (Snapshot kept)
+  rule s (Decode text range) = reads s (wants_readable (admits range) text.items ∷ []) true (decoded text.items)
+
+  -- the first refusal that holds, in their order
+  abbrev pub refusal_of : State → Command N → Option Refusal
+  refusal_of s command = first (rule s command).refusals
+
+  -- the command may find no memory
+  abbrev pub takes_memory : State → Command N → Bool
+  takes_memory s command = (rule s command).takes_memory
+
   -- what an accepted command replies
   abbrev pub answer_of : State → Command N → Answer
-  answer_of s Pop = Bit (last_bit (shown s))
-  answer_of s Len = Number (shown_len s)
-  answer_of s PrunedChunks = Number (shown s).pruned
-  answer_of s (Get position) = Bit (bit_at N (shown s) position)
-  answer_of s (Ones from to) = Positions (Some (ones N (pruned_meaning N s.current) from to))
-  answer_of s Encode = Bytes (Some (pruned_spelling N s.current))
-  answer_of s (Decode text range) = decoded text.items
-  answer_of s (At number) = Snapshot (kept_under s.history number)
-  answer_of s _ = Done
+  answer_of s command = (rule s command).answer
 
-  -- the state that an accepted command leaves; a commit is kept at the cost
+  -- the state that it leaves, a commit kept at the cost
   abbrev pub state_after : State → Command N → ℕ → State
-  state_after s (Start chunks) cost = record { current = record { pruned = chunks; bits = [] }; pending = None; history = []; costs = [] }
-  state_after s Begin cost = edited s s.current
-  state_after s (Push value) cost = edited s (pushed (shown s) value)
-  state_after s Pop cost = edited s (popped (shown s))
-  state_after s (Set position value) cost = edited s (set_at N (shown s) position value)
-  state_after s (Commit number) cost = record { current = shown s; pending = None; history = s.history ++ (number, shown s) ∷ []; costs = s.costs ++ (number, cost) ∷ [] }
-  state_after s Abort cost = record s { pending = None }
-  state_after s _ cost = s
+  state_after s command = (rule s command).after
 
-  -- the chunks that an accepted edit touches
+  -- the chunks that it touches
   abbrev pub touches : State → Command N → List ℕ
-  touches s (Push value) = chunk_index (shown_len s) ∷ []
-  touches s Pop = chunk_index (shown_len s - 1) ∷ []
-  touches s (Set position value) = chunk_index position ∷ []
-  touches s _ = []
+  touches s command = (rule s command).touches
 
   -- a batch begins with nothing touched, and once it has ended nothing is
   abbrev pub touched_after : Machine → Command N → List ℕ
-  touched_after m command = if is_dirty m.state && is_dirty (state_after m.state command 0) then m.touched ++ touches m.state command else []
+  touched_after m command =
+      if is_dirty m.state && is_dirty (state_after m.state command 0) then m.touched ++ touches m.state command else []
 
   -- the batch has popped down to whole chunks
   abbrev pub popped_to_chunks : State → Bool
@@ -226,7 +235,8 @@ module _ (N : ℕ) where
   module _ (Is : Machine → Machine → Type 0) where
     -- a command that no refusal holds of: its reply, and the machine after it; a commit costs what it likes, up to the most
     abbrev pub Accepts : Machine → Command N → Answer → Machine → Type 0
-    Accepts old command answer new = (answer ≡ answer_of old.state command) × ((cost : ℕ) × (cost ≤ most_cost old) × Is new (after old command cost))
+    Accepts old command answer new =
+        (answer ≡ answer_of old.state command) × ((cost : ℕ) × (cost ≤ most_cost old) × Is new (after old command cost))
 
     -- a refusal changes nothing
     abbrev pub Refuses : Machine → Refusal → Answer → Machine → Type 0
@@ -256,4 +266,5 @@ pub record Agrees (seen machine : Machine) : Type 0 where
 
 -- from every machine that agrees with old, a run over the commands with these answers ends in one that agrees with new
 abbrev pub RunsOn : (N : ℕ) → Machine → List (Command N) → List Answer → Machine → Type 0
-RunsOn N old commands answers new = (before : Machine) → Agrees old before → (after : Machine) × Agrees new after × Run N before commands answers after
+RunsOn N old commands answers new =
+    (before : Machine) → Agrees old before → (after : Machine) × Agrees new after × Run N before commands answers after

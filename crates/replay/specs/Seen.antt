@@ -4,10 +4,10 @@ use Rattle.std.specs.Option.{option_map}
 use Rattle.replay.specs.declared.session.State.{State}
 use Rattle.replay.specs.declared.session.State.TheVariants as state
 use Rattle.bitmap_core.specs.Reading.{fault}
-use Rattle.replay.specs.declared.command.Refusal.{Refusal}
-use Rattle.replay.specs.declared.command.Refusal.TheVariants as refusal
-use Rattle.replay.specs.declared.command.Reply.{Reply}
-use Rattle.replay.specs.declared.command.Reply.TheVariants as reply
+use Rattle.replay.specs.declared.reply.Refusal.{Refusal}
+use Rattle.replay.specs.declared.reply.Refusal.TheVariants as refusal
+use Rattle.replay.specs.declared.reply.Reply.{Reply}
+use Rattle.replay.specs.declared.reply.Reply.TheVariants as reply
 use Rattle.replay.specs.History.{History}
 use Rattle.replay.specs.Machine.{Machine, Answer, Done, Bit, Number, Positions, Bytes, Snapshot, Read, Refused, WrongMode, OutOfBounds, Pruned, TooLong, NoRetainedBit, ReservedCommitNumber, NonMonotonicCommit, PrunedChunksOverflow, Codec, NoMemory}
 use Rattle.replay.specs.Machine as machine
@@ -32,8 +32,14 @@ reason refusal.NoMemory = NoMemory
 module _ {N : ℕ} where
   -- a session's state; whole copies mark no chunk
   abbrev pub seen : State N → Machine
-  seen (state.Clean clean) = record { state = record { current = clean.current; pending = None; history = clean.history; costs = no_costs clean.history }; touched = [] }
-  seen (state.Dirty dirty) = record { state = record { current = dirty.current; pending = Some dirty.pending; history = dirty.history; costs = no_costs dirty.history }; touched = [] }
+  seen (state.Clean clean) = record {
+    state = record { current = clean.current; pending = None; history = clean.history; costs = no_costs clean.history };
+    touched = [];
+  }
+  seen (state.Dirty dirty) = record {
+    state = record { current = dirty.current; pending = Some dirty.pending; history = dirty.history; costs = no_costs dirty.history };
+    touched = [];
+  }
 
   -- what a reply says
   abbrev pub said : Reply N → Answer

@@ -1,6 +1,6 @@
--- The widths that the program knows.
+-- The widths that the program offers.
 use Rattle.std.specs.Prelude.{◌≡◌, ℕ, ◌⊎◌}
 
--- one of the five widths, in bytes a chunk
-abbrev pub IsWidth : ℕ → Type 0
-IsWidth width = (width ≡ 1) ⊎ ((width ≡ 3) ⊎ ((width ≡ 4) ⊎ ((width ≡ 8) ⊎ (width ≡ 32))))
+-- one of the five, in bytes a chunk
+abbrev pub IsOfferedWidth : ℕ → Type 0
+IsOfferedWidth width = (width ≡ 1) ⊎ ((width ≡ 3) ⊎ ((width ≡ 4) ⊎ ((width ≡ 8) ⊎ (width ≡ 32))))

@@ -2,7 +2,9 @@
 #![tactic(auto)]
 
 mod command;
+mod print;
 mod program;
+mod reply;
 mod script;
 mod session;
 mod store;

@@ -1,17 +1,17 @@
-//! The program: a script is read, checked, run, and its replies are printed.
+//! The program: a script is read, checked and run, its replies are printed, and a fault is told.
 
-ghost use Rattle.std.specs.Prelude.{◌≡◌, ℕ, ◌*◌, ◌^◌, ◌<◌, length, IfSome, OnSome};
-ghost use Rattle.replay.specs.Width.{IsWidth};
+ghost use Rattle.std.specs.Prelude.{◌≡◌, length, IfSome, OnSome};
+ghost use Rattle.bitmap_core.specs.Chunk.{IsWidth};
+ghost use Rattle.replay.specs.Width.{IsOfferedWidth};
 
-use crate::command::{Command, Refusal, Reply};
+use crate::command::Command;
+use crate::print::write_replies;
 use crate::script;
 use crate::script::Line;
 use crate::session::Session;
-use bitmap_core::bitmap::Prunable;
-use bitmap_core::bitmap::codec::CodecError;
 use std::alloc::{AllocError, Global};
 use std::io;
-use std::io::{BufWriter, Read, Write};
+use std::io::{Read, Write};
 
 /// What is said of wrong arguments.
 pub const USAGE: &str = "replay: usage: replay WIDTH SCRIPT, WIDTH one of 1, 3, 4, 8, 32";
@@ -49,7 +49,7 @@ fn write_fault(error: io::Error) -> Fault {
 
 /// The width in bytes a chunk, where there are exactly two words and the first is one of the five widths.
 pub fn read_width(args: &[String]) -> Option<u8>
-    ensures width { IfSome result IsWidth }
+    ensures width { IfSome result IsOfferedWidth }
     ensures words { OnSome result (length args.now ≡ 2) }
 {
     let [width, _] = args else {
@@ -96,106 +96,8 @@ fn read_commands<const N: usize>(alloc: Global, text: &[u8]) -> Result<Vec<Comma
     Ok(commands)
 }
 
-fn write_refusal<W: Write>(out: &mut W, refusal: &Refusal) -> io::Result<()> {
-    match refusal {
-        Refusal::WrongMode => writeln!(out, "refused wrong-mode"),
-        Refusal::OutOfBounds => writeln!(out, "refused out-of-bounds"),
-        Refusal::Pruned => writeln!(out, "refused pruned"),
-        Refusal::TooLong => writeln!(out, "refused too-long"),
-        Refusal::NoRetainedBit => writeln!(out, "refused no-retained-bit"),
-        Refusal::ReservedCommitNumber => writeln!(out, "refused reserved-commit-number"),
-        Refusal::NonMonotonicCommit {
-            previous,
-            attempted,
-        } => writeln!(out, "refused non-monotonic-commit {previous} {attempted}"),
-        Refusal::PrunedChunksOverflow => writeln!(out, "refused pruned-chunks-overflow"),
-        Refusal::Codec(CodecError::EndOfBuffer) => writeln!(out, "refused codec end-of-buffer"),
-        Refusal::Codec(CodecError::InvalidLength(len)) => {
-            writeln!(out, "refused codec invalid-length {len}")
-        }
-        Refusal::Codec(CodecError::Invalid(what, why)) => {
-            writeln!(out, "refused codec invalid {what}: {why}")
-        }
-        Refusal::Codec(CodecError::OutOfMemory) | Refusal::NoMemory => {
-            writeln!(out, "refused no-memory")
-        }
-    }
-}
-
-// The number of pruned chunks, and the retained bits in order, `-` where there are none.
-fn write_bitmap<const N: usize, W: Write>(out: &mut W, bitmap: &Prunable<N>) -> io::Result<()> {
-    let chunks = bitmap.pruned_chunks();
-    write!(out, "{chunks} ")?;
-    let first = bitmap.pruned_bits();
-    if bitmap.len() == first {
-        return out.write_all(b"-");
-    }
-    for position in first..bitmap.len() {
-        let digit = if bitmap.get_bit(position) { b"1" } else { b"0" };
-        out.write_all(digit)?;
-    }
-    Ok(())
-}
-
-fn write_positions<W: Write>(out: &mut W, positions: &[u64]) -> io::Result<()> {
-    write!(out, "positions")?;
-    for position in positions {
-        write!(out, " {position}")?;
-    }
-    writeln!(out)
-}
-
-// Each byte as two hexadecimal digits.
-fn write_bytes<W: Write>(out: &mut W, bytes: &[u8]) -> io::Result<()> {
-    write!(out, "bytes ")?;
-    for byte in bytes {
-        write!(out, "{byte:02x}")?;
-    }
-    writeln!(out)
-}
-
-fn write_reply<const N: usize, W: Write>(out: &mut W, reply: &Reply<N>) -> io::Result<()> {
-    match reply {
-        Reply::Done => writeln!(out, "done"),
-        Reply::Bit(bit) => {
-            let digit = u8::from(*bit);
-            writeln!(out, "bit {digit}")
-        }
-        Reply::Number(number) => writeln!(out, "number {number}"),
-        Reply::Positions(None) | Reply::Bytes(None) | Reply::Snapshot(None) => {
-            writeln!(out, "none")
-        }
-        Reply::Positions(Some(positions)) => write_positions(out, positions.as_slice()),
-        Reply::Bytes(Some(bytes)) => write_bytes(out, bytes.as_slice()),
-        Reply::Snapshot(Some(bitmap)) => {
-            write!(out, "bitmap ")?;
-            write_bitmap(out, bitmap)?;
-            writeln!(out)
-        }
-        Reply::Read(bitmap, left) => {
-            write!(out, "read ")?;
-            write_bitmap(out, bitmap)?;
-            writeln!(out, " {left}")
-        }
-        Reply::Refused(refusal) => write_refusal(out, refusal),
-    }
-}
-
-fn write_replies<const N: usize, W: Write>(
-    alloc: Global,
-    replies: &[Reply<N>],
-    out: &mut W,
-) -> io::Result<()> {
-    let mut buffer = BufWriter::new(alloc, out)?;
-    for reply in replies {
-        write_reply(&mut buffer, reply)?;
-    }
-    buffer.flush()
-}
-
 fn run_at<const N: usize, W: Write>(alloc: Global, text: &[u8], out: &mut W) -> Result<(), Fault>
-    requires positive { 0 < N }
-    requires fits { 8 * N < 2 ^ 64 }
+    requires width { IsWidth N }
 {
     let commands = read_commands::<N>(alloc, text)?;
     let mut session = Session::<N>::new(alloc);
@@ -210,7 +112,7 @@ fn run_width<R: Read + Drop, W: Write>(
     script: Result<R, io::Error>,
     out: &mut W,
 ) -> Result<(), Fault>
-    requires { IsWidth width }
+    requires offered { IsOfferedWidth width }
 {
     let text = read_all(alloc, script)?;
     match width {
@@ -255,7 +157,7 @@ pub fn run_script<R: Read + Drop, W: Write, E: Write>(
     out: &mut W,
     err: &mut E,
 ) -> u8
-    requires { IsWidth width }
+    requires offered { IsOfferedWidth width }
 {
     match run_width(alloc, width, script, out) {
         Ok(()) => 0,

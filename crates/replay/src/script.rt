@@ -1,6 +1,6 @@
 //! The lines of a script.
 
-ghost use Rattle.std.specs.Prelude.{ℕ, ◌<◌, IfSome};
+ghost use Rattle.std.specs.Prelude.{◌<◌, IfSome};
 
 use crate::command::Command;
 use bitmap_core::bitmap::codec::RangeCfg;
@@ -17,7 +17,7 @@ fn decimal_digit(byte: u8) -> Option<u8>
 }
 
 // A decimal number without sign or leading zeros.
-fn number(word: &[u8]) -> Option<u64> {
+fn decimal(word: &[u8]) -> Option<u64> {
     if word.is_empty() || (word.len() > 1 && word[0] == b'0') {
         return None;
     }
@@ -27,15 +27,6 @@ fn number(word: &[u8]) -> Option<u64> {
         value = value.checked_mul(10)?.checked_add(u64::from(digit))?;
     }
     Some(value)
-}
-
-// `0` or `1`.
-fn bit(word: &[u8]) -> Option<bool> {
-    match word {
-        b"0" => Some(false),
-        b"1" => Some(true),
-        _ => None,
-    }
 }
 
 // The value of a hexadecimal digit, of either case.
@@ -67,20 +58,73 @@ fn hex_bytes(word: &[u8]) -> Option<&[[u8; 2]]> {
     Some(bytes)
 }
 
-// The lengths that a word admits.
-fn range(word: &[u8]) -> Option<RangeCfg> {
-    let mut parts = word.split(|byte| *byte == b':');
-    let range = match parts.next()? {
-        b"any" => RangeCfg::any(),
-        b"exact" => RangeCfg::exact(number(parts.next()?)?),
-        b"least" => RangeCfg::at_least(number(parts.next()?)?),
-        b"most" => RangeCfg::at_most(number(parts.next()?)?),
-        b"between" => RangeCfg::between(number(parts.next()?)?, number(parts.next()?)?),
-        _ => return None,
-    };
-    match parts.next() {
-        None => Some(range),
-        Some(_) => None,
+// The words of a text that are still to be read. One separator stands between two words.
+#[derive(Drop)]
+struct Words<'a> {
+    rest: Option<&'a [u8]>,
+    separator: u8,
+}
+
+impl<'a> Words<'a> {
+    fn new(text: &'a [u8], separator: u8) -> Self {
+        Words {
+            rest: Some(text),
+            separator,
+        }
+    }
+
+    fn word(&mut self) -> Option<&'a [u8]> {
+        let separator = self.separator;
+        let mut parts = self.rest?.splitn(2, |byte| *byte == separator);
+        let word = parts.next();
+        self.rest = parts.next();
+        word
+    }
+
+    fn number(&mut self) -> Option<u64> {
+        decimal(self.word()?)
+    }
+
+    // A number of chunks.
+    fn count(&mut self) -> Option<usize> {
+        usize::try_from(self.number()?).ok()
+    }
+
+    // `0` or `1`.
+    fn bit(&mut self) -> Option<bool> {
+        match self.word()? {
+            b"0" => Some(false),
+            b"1" => Some(true),
+            _ => None,
+        }
+    }
+
+    // Bytes, two hexadecimal digits each.
+    fn hex(&mut self) -> Option<&'a [[u8; 2]]> {
+        hex_bytes(self.word()?)
+    }
+
+    // The numbers that a word admits.
+    fn range(&mut self) -> Option<RangeCfg> {
+        let mut words = Words::new(self.word()?, b':');
+        let range = match words.word()? {
+            b"any" => RangeCfg::any(),
+            b"exact" => RangeCfg::exact(words.number()?),
+            b"least" => RangeCfg::at_least(words.number()?),
+            b"most" => RangeCfg::at_most(words.number()?),
+            b"between" => RangeCfg::between(words.number()?, words.number()?),
+            _ => return None,
+        };
+        words.end()?;
+        Some(range)
+    }
+
+    // No word is left.
+    fn end(&self) -> Option<()> {
+        match self.rest {
+            None => Some(()),
+            Some(_) => None,
+        }
     }
 }
 
@@ -94,28 +138,26 @@ pub enum Line<'a, const N: usize> {
 impl<'a, const N: usize> Line<'a, N> {
     /// What a line names, its words separated by one space each. `None` where it names no command. No memory.
     pub fn parse(line: &'a [u8]) -> Option<Self> {
-        let mut words = line.split(|byte| *byte == b' ');
-        let parsed = match words.next()? {
-            b"start" => Line::Plain(Command::Start(usize::try_from(number(words.next()?)?).ok()?)),
+        let mut words = Words::new(line, b' ');
+        let parsed = match words.word()? {
+            b"start" => Line::Plain(Command::Start(words.count()?)),
             b"begin" => Line::Plain(Command::Begin),
-            b"push" => Line::Plain(Command::Push(bit(words.next()?)?)),
+            b"push" => Line::Plain(Command::Push(words.bit()?)),
             b"pop" => Line::Plain(Command::Pop),
-            b"set" => Line::Plain(Command::Set(number(words.next()?)?, bit(words.next()?)?)),
-            b"get" => Line::Plain(Command::Get(number(words.next()?)?)),
+            b"set" => Line::Plain(Command::Set(words.number()?, words.bit()?)),
+            b"commit" => Line::Plain(Command::Commit(words.number()?)),
+            b"abort" => Line::Plain(Command::Abort),
             b"len" => Line::Plain(Command::Len),
             b"pruned-chunks" => Line::Plain(Command::PrunedChunks),
-            b"ones" => Line::Plain(Command::Ones(number(words.next()?)?, number(words.next()?)?)),
+            b"get" => Line::Plain(Command::Get(words.number()?)),
+            b"ones" => Line::Plain(Command::Ones(words.number()?, words.number()?)),
             b"encode" => Line::Plain(Command::Encode),
-            b"decode" => Line::Decode(hex_bytes(words.next()?)?, range(words.next()?)?),
-            b"commit" => Line::Plain(Command::Commit(number(words.next()?)?)),
-            b"abort" => Line::Plain(Command::Abort),
-            b"at" => Line::Plain(Command::At(number(words.next()?)?)),
+            b"at" => Line::Plain(Command::At(words.number()?)),
+            b"decode" => Line::Decode(words.hex()?, words.range()?),
             _ => return None,
         };
-        match words.next() {
-            None => Some(parsed),
-            Some(_) => None,
-        }
+        words.end()?;
+        Some(parsed)
     }
 
     /// The command. Takes memory for the bytes to decode alone.

@@ -1,13 +1,15 @@
 //! A session: runs commands on a bitmap with its history.
 
-ghost use Rattle.std.specs.Prelude.{◌≡◌, ℕ, ◌+◌, ◌*◌, ◌^◌, ◌<◌, ◌≤◌, List, [], ◌∷◌, ◌++◌, length, map, IfOk, OnErr, OnOk, vec_len, vec_capacity};
+ghost use Rattle.std.specs.Prelude.{◌≡◌, ◌+◌, ◌<◌, ◌≤◌, List, [], ◌∷◌, ◌++◌, map, IfOk, OnErr, OnOk, vec_len, vec_capacity};
+ghost use Rattle.bitmap_core.specs.Chunk.{IsWidth};
 ghost use Rattle.bitmap_core.specs.Meaning.{ones, pruned_meaning};
 ghost use Rattle.bitmap_core.specs.Spelling.{pruned_spelling};
 ghost use Rattle.bitmap_core.specs.Reading.{admits};
-ghost use Rattle.replay.specs.Machine.{Agrees, IsDecoded, StepTo, RunsOn, shown, start};
+ghost use Rattle.replay.specs.Machine.{Agrees, IsDecoded, StepTo, RunsOn, first_machine, shown};
 ghost use Rattle.replay.specs.Seen.{seen, said};
 
-use crate::command::{Command, Refusal, Reply};
+use crate::command::Command;
+use crate::reply::{Refusal, Reply};
 use crate::store::{Clean, Dirty};
 use bitmap_core::bitmap::codec::{CodecError, RangeCfg, Read, Write};
 use bitmap_core::bitmap::{Prunable, Readable};
@@ -22,99 +24,98 @@ enum State<const N: usize> {
     Dirty(Dirty<N>),
 }
 
-fn start<const N: usize>(state: State<N>, alloc: Global, chunks: usize) -> (State<N>, Reply<N>)
-    requires positive { 0 < N }
-    requires fits { 8 * N < 2 ^ 64 }
-    ensures { StepTo N Agrees (seen state.entry) (Command.Start chunks) (said result.1) (seen result.0) }
+fn start<const N: usize>(state: State<N>, alloc: Global, chunks: usize) -> (Reply<N>, State<N>)
+    requires width { IsWidth N }
+    ensures { StepTo N Agrees (seen state.entry) (Command.Start chunks) (said result.0) (seen result.1) }
 {
     match state {
         State::Clean(clean) => match Prunable::new_with_pruned_chunks(alloc, chunks) {
-            Ok(bitmap) => (State::Clean(Clean::new(alloc, bitmap)), Reply::Done),
+            Ok(bitmap) => (Reply::Done, State::Clean(Clean::new(alloc, bitmap))),
             Err(_) => (
-                State::Clean(clean),
                 Reply::Refused(Refusal::PrunedChunksOverflow),
+                State::Clean(clean),
             ),
         },
-        State::Dirty(dirty) => (State::Dirty(dirty), Reply::Refused(Refusal::WrongMode)),
+        State::Dirty(dirty) => (Reply::Refused(Refusal::WrongMode), State::Dirty(dirty)),
     }
 }
 
-fn begin<const N: usize>(state: State<N>) -> (State<N>, Reply<N>)
-    ensures { StepTo N Agrees (seen state.entry) Command.Begin (said result.1) (seen result.0) }
+fn begin<const N: usize>(state: State<N>) -> (Reply<N>, State<N>)
+    ensures { StepTo N Agrees (seen state.entry) Command.Begin (said result.0) (seen result.1) }
 {
     match state {
         State::Clean(clean) => match clean.into_dirty() {
-            Ok(dirty) => (State::Dirty(dirty), Reply::Done),
-            Err((clean, _)) => (State::Clean(clean), Reply::Refused(Refusal::NoMemory)),
+            Ok(dirty) => (Reply::Done, State::Dirty(dirty)),
+            Err((clean, _)) => (Reply::Refused(Refusal::NoMemory), State::Clean(clean)),
         },
-        State::Dirty(dirty) => (State::Dirty(dirty), Reply::Refused(Refusal::WrongMode)),
+        State::Dirty(dirty) => (Reply::Refused(Refusal::WrongMode), State::Dirty(dirty)),
     }
 }
 
 #[tactic(auto, using(crate::proofs::Steps::push_accepted))]
-fn push<const N: usize>(state: State<N>, bit: bool) -> (State<N>, Reply<N>)
-    ensures { StepTo N Agrees (seen state.entry) (Command.Push bit) (said result.1) (seen result.0) }
+fn push<const N: usize>(state: State<N>, bit: bool) -> (Reply<N>, State<N>)
+    ensures { StepTo N Agrees (seen state.entry) (Command.Push bit) (said result.0) (seen result.1) }
 {
     match state {
-        State::Clean(clean) => (State::Clean(clean), Reply::Refused(Refusal::WrongMode)),
+        State::Clean(clean) => (Reply::Refused(Refusal::WrongMode), State::Clean(clean)),
         State::Dirty(mut dirty) => {
             if dirty.pending().len() == u64::MAX {
-                return (State::Dirty(dirty), Reply::Refused(Refusal::TooLong));
+                return (Reply::Refused(Refusal::TooLong), State::Dirty(dirty));
             }
             match dirty.push(bit) {
-                Ok(()) => (State::Dirty(dirty), Reply::Done),
-                Err(_) => (State::Dirty(dirty), Reply::Refused(Refusal::NoMemory)),
+                Ok(()) => (Reply::Done, State::Dirty(dirty)),
+                Err(_) => (Reply::Refused(Refusal::NoMemory), State::Dirty(dirty)),
             }
         }
     }
 }
 
 #[tactic(auto, using(crate::proofs::Steps::pop_accepted))]
-fn pop<const N: usize>(state: State<N>) -> (State<N>, Reply<N>)
-    ensures { StepTo N Agrees (seen state.entry) Command.Pop (said result.1) (seen result.0) }
+fn pop<const N: usize>(state: State<N>) -> (Reply<N>, State<N>)
+    ensures { StepTo N Agrees (seen state.entry) Command.Pop (said result.0) (seen result.1) }
 {
     match state {
-        State::Clean(clean) => (State::Clean(clean), Reply::Refused(Refusal::WrongMode)),
+        State::Clean(clean) => (Reply::Refused(Refusal::WrongMode), State::Clean(clean)),
         State::Dirty(mut dirty) => {
             if dirty.pending().len() == dirty.pending().pruned_bits() {
-                return (State::Dirty(dirty), Reply::Refused(Refusal::NoRetainedBit));
+                return (Reply::Refused(Refusal::NoRetainedBit), State::Dirty(dirty));
             }
             let bit = dirty.pop();
-            (State::Dirty(dirty), Reply::Bit(bit))
+            (Reply::Bit(bit), State::Dirty(dirty))
         }
     }
 }
 
 #[tactic(auto, using(crate::proofs::Steps::set_accepted))]
-fn set<const N: usize>(state: State<N>, position: u64, value: bool) -> (State<N>, Reply<N>)
-    ensures { StepTo N Agrees (seen state.entry) (Command.Set position value) (said result.1) (seen result.0) }
+fn set<const N: usize>(state: State<N>, position: u64, value: bool) -> (Reply<N>, State<N>)
+    ensures { StepTo N Agrees (seen state.entry) (Command.Set position value) (said result.0) (seen result.1) }
 {
     match state {
-        State::Clean(clean) => (State::Clean(clean), Reply::Refused(Refusal::WrongMode)),
+        State::Clean(clean) => (Reply::Refused(Refusal::WrongMode), State::Clean(clean)),
         State::Dirty(mut dirty) => {
             if position >= dirty.pending().len() {
-                return (State::Dirty(dirty), Reply::Refused(Refusal::OutOfBounds));
+                return (Reply::Refused(Refusal::OutOfBounds), State::Dirty(dirty));
             }
             if position < dirty.pending().pruned_bits() {
-                return (State::Dirty(dirty), Reply::Refused(Refusal::Pruned));
+                return (Reply::Refused(Refusal::Pruned), State::Dirty(dirty));
             }
             dirty.set(position, value);
-            (State::Dirty(dirty), Reply::Done)
+            (Reply::Done, State::Dirty(dirty))
         }
     }
 }
 
 #[tactic(auto, using(crate::proofs::Steps::commit_accepted))]
-fn commit<const N: usize>(state: State<N>, number: u64) -> (State<N>, Reply<N>)
-    ensures { StepTo N Agrees (seen state.entry) (Command.Commit number) (said result.1) (seen result.0) }
+fn commit<const N: usize>(state: State<N>, number: u64) -> (Reply<N>, State<N>)
+    ensures { StepTo N Agrees (seen state.entry) (Command.Commit number) (said result.0) (seen result.1) }
 {
     match state {
-        State::Clean(clean) => (State::Clean(clean), Reply::Refused(Refusal::WrongMode)),
+        State::Clean(clean) => (Reply::Refused(Refusal::WrongMode), State::Clean(clean)),
         State::Dirty(dirty) => {
             if number == u64::MAX {
                 return (
-                    State::Dirty(dirty),
                     Reply::Refused(Refusal::ReservedCommitNumber),
+                    State::Dirty(dirty),
                 );
             }
             if let Some(previous) = dirty.latest()
@@ -124,23 +125,23 @@ fn commit<const N: usize>(state: State<N>, number: u64) -> (State<N>, Reply<N>)
                     previous,
                     attempted: number,
                 };
-                return (State::Dirty(dirty), Reply::Refused(refusal));
+                return (Reply::Refused(refusal), State::Dirty(dirty));
             }
             match dirty.commit(number) {
-                Ok(clean) => (State::Clean(clean), Reply::Done),
-                Err((dirty, _)) => (State::Dirty(dirty), Reply::Refused(Refusal::NoMemory)),
+                Ok(clean) => (Reply::Done, State::Clean(clean)),
+                Err((dirty, _)) => (Reply::Refused(Refusal::NoMemory), State::Dirty(dirty)),
             }
         }
     }
 }
 
 #[tactic(auto, using(crate::proofs::Steps::abort_accepted))]
-fn abort<const N: usize>(state: State<N>) -> (State<N>, Reply<N>)
-    ensures { StepTo N Agrees (seen state.entry) Command.Abort (said result.1) (seen result.0) }
+fn abort<const N: usize>(state: State<N>) -> (Reply<N>, State<N>)
+    ensures { StepTo N Agrees (seen state.entry) Command.Abort (said result.0) (seen result.1) }
 {
     match state {
-        State::Clean(clean) => (State::Clean(clean), Reply::Refused(Refusal::WrongMode)),
-        State::Dirty(dirty) => (State::Clean(dirty.abort()), Reply::Done),
+        State::Clean(clean) => (Reply::Refused(Refusal::WrongMode), State::Clean(clean)),
+        State::Dirty(dirty) => (Reply::Done, State::Clean(dirty.abort())),
     }
 }
 
@@ -154,6 +155,18 @@ fn shown_bitmap<'a, const N: usize>(state: &'a State<N>) -> &'a Prunable<N>
     }
 }
 
+fn len<const N: usize>(state: &State<N>) -> Reply<N>
+    ensures { StepTo N Agrees (seen state.now) Command.Len (said result) (seen state.now) }
+{
+    Reply::Number(shown_bitmap(state).len())
+}
+
+fn pruned_chunks<const N: usize>(state: &State<N>) -> Reply<N>
+    ensures { StepTo N Agrees (seen state.now) Command.PrunedChunks (said result) (seen state.now) }
+{
+    Reply::Number(shown_bitmap(state).pruned_chunks() as u64)
+}
+
 fn get<const N: usize>(state: &State<N>, position: u64) -> Reply<N>
     ensures { StepTo N Agrees (seen state.now) (Command.Get position) (said result) (seen state.now) }
 {
@@ -165,18 +178,6 @@ fn get<const N: usize>(state: &State<N>, position: u64) -> Reply<N>
         return Reply::Refused(Refusal::Pruned);
     }
     Reply::Bit(bitmap.get_bit(position))
-}
-
-fn len<const N: usize>(state: &State<N>) -> Reply<N>
-    ensures { StepTo N Agrees (seen state.now) Command.Len (said result) (seen state.now) }
-{
-    Reply::Number(shown_bitmap(state).len())
-}
-
-fn pruned_chunks<const N: usize>(state: &State<N>) -> Reply<N>
-    ensures { StepTo N Agrees (seen state.now) Command.PrunedChunks (said result) (seen state.now) }
-{
-    Reply::Number(shown_bitmap(state).pruned_chunks() as u64)
 }
 
 // The set positions of a bitmap in a range.
@@ -226,19 +227,6 @@ fn encode<const N: usize>(state: &State<N>, alloc: Global) -> Reply<N>
     }
 }
 
-fn decode<const N: usize>(alloc: Global, text: &[u8], range: &RangeCfg) -> Reply<N>
-    requires positive { 0 < N }
-    requires fits { 8 * N < 2 ^ 64 }
-    ensures { IsDecoded N (admits range.now) text.now (said result) }
-{
-    let mut left = text;
-    match Prunable::read_cfg(alloc, &mut left, range) {
-        Ok(bitmap) => Reply::Read(bitmap, left.len()),
-        Err(CodecError::OutOfMemory) => Reply::Refused(Refusal::NoMemory),
-        Err(error) => Reply::Refused(Refusal::Codec(error)),
-    }
-}
-
 fn at<const N: usize>(state: &State<N>, number: u64) -> Reply<N>
     ensures { StepTo N Agrees (seen state.now) (Command.At number) (said result) (seen state.now) }
 {
@@ -251,15 +239,26 @@ fn at<const N: usize>(state: &State<N>, number: u64) -> Reply<N>
     }
 }
 
-// One command: the state after it, and the reply.
+fn decode<const N: usize>(alloc: Global, text: &[u8], range: &RangeCfg) -> Reply<N>
+    requires width { IsWidth N }
+    ensures { IsDecoded N (admits range.now) text.now (said result) }
+{
+    let mut left = text;
+    match Prunable::read_cfg(alloc, &mut left, range) {
+        Ok(bitmap) => Reply::Read(bitmap, left.len()),
+        Err(CodecError::OutOfMemory) => Reply::Refused(Refusal::NoMemory),
+        Err(error) => Reply::Refused(Refusal::Codec(error)),
+    }
+}
+
+// One command: the reply, and the state after it.
 fn step<const N: usize>(
     state: State<N>,
     alloc: Global,
     command: &Command<N>,
-) -> (State<N>, Reply<N>)
-    requires positive { 0 < N }
-    requires fits { 8 * N < 2 ^ 64 }
-    ensures { StepTo N Agrees (seen state.entry) command.now (said result.1) (seen result.0) }
+) -> (Reply<N>, State<N>)
+    requires width { IsWidth N }
+    ensures { StepTo N Agrees (seen state.entry) command.now (said result.0) (seen result.1) }
 {
     match command {
         Command::Start(chunks) => start(state, alloc, *chunks),
@@ -269,34 +268,13 @@ fn step<const N: usize>(
         Command::Set(position, value) => set(state, *position, *value),
         Command::Commit(number) => commit(state, *number),
         Command::Abort => abort(state),
-        Command::Len => {
-            let reply = len(&state);
-            (state, reply)
-        }
-        Command::PrunedChunks => {
-            let reply = pruned_chunks(&state);
-            (state, reply)
-        }
-        Command::Get(position) => {
-            let reply = get(&state, *position);
-            (state, reply)
-        }
-        Command::Ones(from, to) => {
-            let reply = ones_of_current(&state, alloc, *from, *to);
-            (state, reply)
-        }
-        Command::Encode => {
-            let reply = encode(&state, alloc);
-            (state, reply)
-        }
-        Command::Decode(text, range) => {
-            let reply = decode(alloc, text.as_slice(), range);
-            (state, reply)
-        }
-        Command::At(number) => {
-            let reply = at(&state, *number);
-            (state, reply)
-        }
+        Command::Len => (len(&state), state),
+        Command::PrunedChunks => (pruned_chunks(&state), state),
+        Command::Get(position) => (get(&state, *position), state),
+        Command::Ones(from, to) => (ones_of_current(&state, alloc, *from, *to), state),
+        Command::Encode => (encode(&state, alloc), state),
+        Command::At(number) => (at(&state, *number), state),
+        Command::Decode(text, range) => (decode(alloc, text.as_slice(), range), state),
     }
 }
 
@@ -318,7 +296,7 @@ pub struct Session<const N: usize> {
 }
 
 impl<const N: usize> Model for Session<N> {
-    ghost use Rattle.std.specs.Prelude.{ℕ, ◌*◌, ◌^◌, ◌<◌};
+    ghost use Rattle.bitmap_core.specs.Chunk.{IsWidth};
     ghost use Rattle.replay.specs.Machine.{Machine};
 
     ghost Value = { Machine };
@@ -327,15 +305,14 @@ impl<const N: usize> Model for Session<N> {
 
     ghost view = { λ s. seen s.state };
 
-    ghost invariant = { λ s. (0 < N) × (8 * N < 2 ^ 64) };
+    ghost invariant = { λ s. IsWidth N };
 }
 
 impl<const N: usize> Session<N> {
-    /// Clean, empty and without commits. `N` is at least 1, and `8N` fits `u64`. No memory.
+    /// No batch, no bits, nothing pruned and no commits. `N` is at least 1, and `8N` fits `u64`. No memory.
     pub fn new(alloc: Global) -> Self
-        requires positive { 0 < N }
-        requires fits { 8 * N < 2 ^ 64 }
-        ensures { result ≡ start }
+        requires width { IsWidth N }
+        ensures { result ≡ first_machine }
     {
         Session {
             state: State::Clean(Clean::new(alloc, Prunable::new(alloc))),
@@ -350,12 +327,18 @@ impl<const N: usize> Session<N> {
         let alloc = self.alloc;
         let empty = State::Clean(Clean::new(alloc, Prunable::new(alloc)));
         let state = mem::replace(&mut self.state, empty);
-        let (state, reply) = step(state, alloc, command);
+        let (reply, state) = step(state, alloc, command);
         self.state = state;
         reply
     }
 
     /// Runs the commands in order and appends one reply for each.
+    ///
+    /// The clause `run` is the main theorem. The machine of `specs/Machine.antt` keeps every committed bitmap whole.
+    /// For every list of commands the replies are those of that machine: from every machine that agrees with the
+    /// session before, there is a run over the commands, one reply a command, that ends in a machine that agrees with
+    /// the session after. A refused command changes nothing, and only a command that the machine marks may find no
+    /// memory. Nothing is asked but that the width may be used, which holds of every session.
     ///
     /// Room for the replies is taken first: refused there, the session and the replies are as they were. A command
     /// that finds no memory later is answered by `NoMemory`.

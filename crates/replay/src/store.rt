@@ -1,9 +1,7 @@
 //! A bitmap with its history of whole copies, with and without pending edits.
 
-ghost use Rattle.std.specs.Prelude.{◌≡◌, ℕ, ◌+◌, ◌*◌, ◌^◌, ◌<◌, ◌≤◌, [], ◌∷◌, ◌++◌, length, Some, None, Ok, IfOk, OnOk, OnErr, MatchResult, MatchOption, map};
-ghost use Rattle.std.specs.Ordering.{nat_cmp};
-ghost use Rattle.std.specs.BTreeMap.{IsOrdered};
-ghost use Rattle.bitmap_core.specs.PrunedBits.{HasBit, PrunedBits, bit_len, pushed, popped, last_bit, set_at};
+ghost use Rattle.std.specs.Prelude.{◌≡◌, ◌+◌, ◌^◌, ◌<◌, ◌≤◌, [], ◌∷◌, ◌++◌, length, None, Ok, IfOk, OnOk, OnErr, MatchResult, MatchOption};
+ghost use Rattle.bitmap_core.specs.PrunedBits.{HasBit, bit_len, pushed, popped, last_bit, set_at};
 ghost use Rattle.replay.specs.History.{kept_under, latest};
 
 use bitmap_core::bitmap::Prunable;

@@ -94,7 +94,10 @@ no_byte c = omega (arith, c.bytes 1)
 
 -- position 25 written in a chunk of two bytes: place 9, and no other
 bit_written : IsBitWritten 2 (5 ∷ 0 ∷ []) (5 ∷ 2 ∷ []) 25 true
-bit_written = record { here = refl; others = λ j d. same_places 2 (λ k. not (k == 9)) (5 ∷ 0 ∷ []) (5 ∷ 2 ∷ []) j (omega arith) refl (is_other (j % 16) 9 d) }
+bit_written = record {
+  here = refl;
+  others = λ j d. same_places 2 (λ k. not (k == 9)) (5 ∷ 0 ∷ []) (5 ∷ 2 ∷ []) j (omega arith) refl (is_other (j % 16) 9 d);
+}
 
 -- where place 0 is changed as well, it is not written so
 two_bits_written : IsBitWritten 2 (5 ∷ 0 ∷ []) (4 ∷ 2 ∷ []) 25 true → ⊥
@@ -102,7 +105,10 @@ two_bits_written w = false≢true (w.others 0 (λ e. omega (arith, e)))
 
 -- position 12 stands in the second byte, which becomes 7
 byte_written : IsByteWritten 2 (1 ∷ 2 ∷ []) (1 ∷ 7 ∷ []) 12 7
-byte_written = record { here = λ j e. here j (omega arith) (mod_below j 8 (omega arith)); others = λ j d. same_places 2 (λ k. not (k / 8 == 1)) (1 ∷ 2 ∷ []) (1 ∷ 7 ∷ []) j (omega arith) refl (is_other (j % 16 / 8) 1 (λ e. d (omega arith))) }
+byte_written = record {
+  here = λ j e. here j (omega arith) (mod_below j 8 (omega arith));
+  others = λ j d. same_places 2 (λ k. not (k / 8 == 1)) (1 ∷ 2 ∷ []) (1 ∷ 7 ∷ []) j (omega arith) refl (is_other (j % 16 / 8) 1 (λ e. d (omega arith)));
+}
   where
     here : (j : ℕ) → j / 8 % 2 ≡ 1 → j % 8 < 8 → chunk_bit 2 (1 ∷ 7 ∷ []) j ≡ (bit_at 7 (j % 8) == 1)
     here j e h = ap (λ b. bit_at (slice_index_or (1 ∷ 7 ∷ []) b 0) (j % 8) == 1) e

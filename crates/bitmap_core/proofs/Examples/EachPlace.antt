@@ -8,8 +8,8 @@ use Rattle.std.proofs.Math.Nat.{mod-eq_of_lt}
 use Rattle.std.proofs.lemmas.Nat.{mod_below}
 use Rattle.bitmap_core.specs.Chunk.{chunk_bit}
 use Rattle.bitmap_core.specs.Bits.{bit_of}
-use Rattle.bitmap_core.proofs.ChunkBits.{chunk_bit-mod}
-use Rattle.bitmap_core.proofs.ChunkLists.{bit_of_past}
+use Rattle.bitmap_core.proofs.Chunks.Bits.{chunk_bit-mod}
+use Rattle.bitmap_core.proofs.Chunks.Lists.{bit_of_past}
 
 -- the first k values of a function, those out of the question left false
 abbrev pub table : (ℕ → Bool) → (ℕ → Bool) → ℕ → List Bool
@@ -28,14 +28,21 @@ pub is_other : (a b : ℕ) → a ≢ b → not (a == b) ≡ true
 is_other a b d = ap not (ne_eqb a b d)
 
 -- two chunks that agree at the kept places of a chunk agree at each position whose place is kept
-pub same_places : (n : ℕ) (keep : ℕ → Bool) (old new : List ℕ) (j : ℕ) → 0 < n → table keep (chunk_bit n old) (8 * n) ≡ table keep (chunk_bit n new) (8 * n) → keep (j % (8 * n)) ≡ true → chunk_bit n new j ≡ chunk_bit n old j
+pub same_places : (n : ℕ) (keep : ℕ → Bool) (old new : List ℕ) (j : ℕ) → 0 < n
+    → table keep (chunk_bit n old) (8 * n) ≡ table keep (chunk_bit n new) (8 * n) → keep (j % (8 * n)) ≡ true
+    → chunk_bit n new j ≡ chunk_bit n old j
 same_places n keep old new j p e s =
     let w = mod_below j (8 * n) (omega arith) in
     let q = mod-eq_of_lt w in
-    chunk_bit-mod n new j (j % (8 * n)) p (sym q) ∙ sym (same_at keep (chunk_bit n old) (chunk_bit n new) (8 * n) (j % (8 * n)) e w s) ∙ chunk_bit-mod n old (j % (8 * n)) j p q
+    chunk_bit-mod n new j (j % (8 * n)) p (sym q)
+    ∙ sym (same_at keep (chunk_bit n old) (chunk_bit n new) (8 * n) (j % (8 * n)) e w s)
+    ∙ chunk_bit-mod n old (j % (8 * n)) j p q
 
 -- lists of chunks that agree at the kept ones of their first k positions, where they have no more
-pub same_bits : (n k : ℕ) (keep : ℕ → Bool) (old new : List (List ℕ)) (j : ℕ) → table keep (bit_of n old) k ≡ table keep (bit_of n new) k → (k ≤ j → length old ≤ j / (8 * n)) → length new ≡ length old → keep j ≡ true → bit_of n new j ≡ bit_of n old j
+pub same_bits : (n k : ℕ) (keep : ℕ → Bool) (old new : List (List ℕ)) (j : ℕ)
+    → table keep (bit_of n old) k ≡ table keep (bit_of n new) k → (k ≤ j → length old ≤ j / (8 * n)) → length new ≡ length old
+    → keep j ≡ true
+    → bit_of n new j ≡ bit_of n old j
 same_bits n k keep old new j e past l s = elim (cases_lt j k) [
   | inl h ↦ sym (same_at keep (bit_of n old) (bit_of n new) k j e h s)
   | inr h ↦ bit_of_past n new j (omega (arith, past h)) ∙ sym (bit_of_past n old j (past h))

@@ -24,7 +24,8 @@ end_of_buffer = refl
 invalid_length : fault (errors.InvalidLength 7) ≡ Some (InvalidLength 7)
 invalid_length = refl
 
-invalid_text : (what why : Bor (List ℕ)) → what.now ≡ codes "BitMap" → why.now ≡ codes "bad" → fault (errors.Invalid what why) ≡ Some (Invalid (codes "BitMap") (codes "bad"))
+invalid_text : (what why : Bor (List ℕ)) → what.now ≡ codes "BitMap" → why.now ≡ codes "bad"
+    → fault (errors.Invalid what why) ≡ Some (Invalid (codes "BitMap") (codes "bad"))
 invalid_text what why a b = rw (a, b) refl
 
 want_of_memory : fault errors.OutOfMemory ≡ None
@@ -245,7 +246,14 @@ pruned_of_a_text = refl
 -- the front of the text, all but its last byte, spells three bits
 spells_bits : SpellsBits 1 (λ k. k == 3) (eight 3 ++ 5 ∷ 77 ∷ [])
 unfolding spelling
-spells_bits = record { bits = true ∷ false ∷ true ∷ []; rest = 77 ∷ []; spelled = refl; len_fits = omega arith; chunks_fit = omega arith; admitted = refl }
+spells_bits = record {
+  bits = true ∷ false ∷ true ∷ [];
+  rest = 77 ∷ [];
+  spelled = refl;
+  len_fits = omega arith;
+  chunks_fit = omega arith;
+  admitted = refl;
+}
 
 -- seven bytes spell nothing
 spells_no_bits : SpellsBits 1 any (replicate 7 0) → ⊥
@@ -255,7 +263,15 @@ spells_no_bits s = omega (arith, ap length s.spelled)
 -- the front of the text spells a bitmap with a pruned front of which two bits are retained
 spells_pruned : SpellsPruned 2 (λ k. k == 2) (eight 3 ++ eight 2 ++ 2 ∷ 0 ∷ 9 ∷ [])
 unfolding pruned_spelling spelling
-spells_pruned = record { bitmap = record { pruned = 3; bits = false ∷ true ∷ [] }; rest = 9 ∷ []; spelled = refl; len_fits = omega arith; pruned_fits = omega arith; chunks_fit = omega arith; admitted = refl }
+spells_pruned = record {
+  bitmap = record { pruned = 3; bits = false ∷ true ∷ [] };
+  rest = 9 ∷ [];
+  spelled = refl;
+  len_fits = omega arith;
+  pruned_fits = omega arith;
+  chunks_fit = omega arith;
+  admitted = refl;
+}
 
 -- fifteen bytes spell no bitmap with a pruned front
 spells_no_pruned : SpellsPruned 2 any (replicate 15 0) → ⊥

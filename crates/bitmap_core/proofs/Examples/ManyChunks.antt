@@ -8,10 +8,10 @@ use Rattle.std.proofs.lemmas.Bool.{false≢true, cases_lt}
 use Rattle.bitmap_core.specs.Chunk.{chunk_bit}
 use Rattle.bitmap_core.specs.Bits.{bit_of, bits, IsZeroFrom, IsChunkCount, IsBitPut, AreChunks, IsBytePut}
 use Rattle.bitmap_core.specs.Combined.{IsCombined}
-use Rattle.bitmap_core.proofs.ChunkLists.{bit_of_past}
-use Rattle.bitmap_core.proofs.PlaceTests.{any_range_at}
+use Rattle.bitmap_core.proofs.Chunks.Lists.{bit_of_past}
+use Rattle.bitmap_core.proofs.Counting.Tests.{any_range_at}
 use Rattle.bitmap_core.proofs.Examples.EachPlace.{table, same_at, same_bits, is_other}
-use Rattle.bitmap_core.proofs.ChunkBits.{chunk_bit-mod}
+use Rattle.bitmap_core.proofs.Chunks.Bits.{chunk_bit-mod}
 
 -- bit 8 of two chunks of one byte is the lowest of the second
 first_of_the_second : bit_of 1 ((0 ∷ []) ∷ (1 ∷ []) ∷ []) 8 ≡ true
@@ -82,7 +82,11 @@ chunks_of_73_bits = (omega arith, omega arith)
 
 -- bit 9 put into the second byte
 bit_put : IsBitPut 1 ((5 ∷ []) ∷ (1 ∷ []) ∷ []) ((5 ∷ []) ∷ (3 ∷ []) ∷ []) 9 true
-bit_put = record { here = refl; others = λ j d. same_bits 1 16 (λ k. not (k == 9)) ((5 ∷ []) ∷ (1 ∷ []) ∷ []) ((5 ∷ []) ∷ (3 ∷ []) ∷ []) j refl (λ h. omega arith) refl (is_other j 9 d); count = refl }
+bit_put = record {
+  here = refl;
+  others = λ j d. same_bits 1 16 (λ k. not (k == 9)) ((5 ∷ []) ∷ (1 ∷ []) ∷ []) ((5 ∷ []) ∷ (3 ∷ []) ∷ []) j refl (λ h. omega arith) refl (is_other j 9 d);
+  count = refl;
+}
 
 -- a chunk more is no bit put
 chunk_more_is_not_put : IsBitPut 1 ((5 ∷ []) ∷ []) ((5 ∷ []) ∷ (2 ∷ []) ∷ []) 9 true → ⊥
@@ -124,12 +128,19 @@ byte_put = record {
 another_byte : IsBytePut 2 ((1 ∷ 2 ∷ []) ∷ []) ((0 ∷ 9 ∷ []) ∷ []) 8 9 → ⊥
 another_byte p = false≢true (let e = p.others 0 (λ e. omega (arith, e)) in cc)
 
-joined_byte : (f : Bool → Bool → Bool) (a b c : ℕ) → table (λ _. true) (chunk_bit 1 (c ∷ [])) 8 ≡ table (λ _. true) (λ t. f (chunk_bit 1 (a ∷ []) t) (chunk_bit 1 (b ∷ []) t)) 8 → (i : ℕ) → i < 1 → (t : ℕ) → chunk_bit 1 (slice_index_or ((c ∷ []) ∷ []) i []) t ≡ f (chunk_bit 1 (slice_index_or ((a ∷ []) ∷ []) i []) t) (chunk_bit 1 (slice_index_or ((b ∷ []) ∷ []) i []) t)
+joined_byte : (f : Bool → Bool → Bool) (a b c : ℕ)
+    → table (λ _. true) (chunk_bit 1 (c ∷ [])) 8 ≡ table (λ _. true) (λ t. f (chunk_bit 1 (a ∷ []) t) (chunk_bit 1 (b ∷ []) t)) 8
+    → (i : ℕ) → i < 1 → (t : ℕ)
+    → chunk_bit 1 (slice_index_or ((c ∷ []) ∷ []) i []) t
+    ≡ f (chunk_bit 1 (slice_index_or ((a ∷ []) ∷ []) i []) t) (chunk_bit 1 (slice_index_or ((b ∷ []) ∷ []) i []) t)
 joined_byte f a b c e (suc i) h t = absurd (omega arith)
 joined_byte f a b c e zero h t =
     let w : t % 8 < 8 = mod_below t 8 (omega arith) in
     let m : (x : ℕ) → chunk_bit 1 (x ∷ []) t ≡ chunk_bit 1 (x ∷ []) (t % 8) = λ x. chunk_bit-mod 1 (x ∷ []) t (t % 8) (omega arith) (omega arith) in
-    m c ∙ same_at (λ _. true) (chunk_bit 1 (c ∷ [])) (λ k. f (chunk_bit 1 (a ∷ []) k) (chunk_bit 1 (b ∷ []) k)) 8 (t % 8) e w refl ∙ ap (λ x. f x (chunk_bit 1 (b ∷ []) (t % 8))) (sym (m a)) ∙ ap (λ y. f (chunk_bit 1 (a ∷ []) t) y) (sym (m b))
+    m c
+    ∙ same_at (λ _. true) (chunk_bit 1 (c ∷ [])) (λ k. f (chunk_bit 1 (a ∷ []) k) (chunk_bit 1 (b ∷ []) k)) 8 (t % 8) e w refl
+    ∙ ap (λ x. f x (chunk_bit 1 (b ∷ []) (t % 8))) (sym (m a))
+    ∙ ap (λ y. f (chunk_bit 1 (a ∷ []) t) y) (sym (m b))
 
 -- one chunk of one byte joined with another by 12 and 10: both have 8, either has 14, one of them alone has 6
 joined_by_and : IsCombined 1 (λ x y. x && y) ((12 ∷ []) ∷ []) ((10 ∷ []) ∷ []) ((8 ∷ []) ∷ [])

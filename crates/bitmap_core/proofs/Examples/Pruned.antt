@@ -134,11 +134,17 @@ pruned_further_already : pruned_to 1 three_bits 1 ≡ three_bits
 pruned_further_already = refl
 
 -- one chunk put back, which is 5: its eight bits come before the three
-chunk_put_back : unpruned 1 three_bits ((5 ∷ []) ∷ []) ≡ record { pruned = 1; bits = true ∷ false ∷ true ∷ false ∷ false ∷ false ∷ false ∷ false ∷ false ∷ true ∷ true ∷ [] }
+chunk_put_back : unpruned 1 three_bits ((5 ∷ []) ∷ []) ≡ record {
+  pruned = 1;
+  bits = true ∷ false ∷ true ∷ false ∷ false ∷ false ∷ false ∷ false ∷ false ∷ true ∷ true ∷ [];
+}
 chunk_put_back = refl
 
 -- two chunks put back, in their order
-two_chunks_put_back : unpruned 1 (behind_two []) ((1 ∷ []) ∷ (128 ∷ []) ∷ []) ≡ record { pruned = 0; bits = true ∷ false ∷ false ∷ false ∷ false ∷ false ∷ false ∷ false ∷ false ∷ false ∷ false ∷ false ∷ false ∷ false ∷ false ∷ true ∷ [] }
+two_chunks_put_back : unpruned 1 (behind_two []) ((1 ∷ []) ∷ (128 ∷ []) ∷ []) ≡ record {
+  pruned = 0;
+  bits = true ∷ false ∷ false ∷ false ∷ false ∷ false ∷ false ∷ false ∷ false ∷ false ∷ false ∷ false ∷ false ∷ false ∷ false ∷ true ∷ [];
+}
 two_chunks_put_back = refl
 
 -- no chunks change nothing

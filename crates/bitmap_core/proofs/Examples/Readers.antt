@@ -3,7 +3,7 @@ use Rattle.std.specs.Prelude.{◌≡◌, ◌^◌, true, false, ◌==◌, ◌||�
 use Rattle.std.specs.Int.{bit_at as digit_at}
 use Rattle.std.proofs.Common.{zero, suc, refl, arith}
 use Rattle.std.proofs.lemmas.Bool.{false≢true}
-use Rattle.bitmap_core.proofs.PlaceTests.{any_range_at}
+use Rattle.bitmap_core.proofs.Counting.Tests.{any_range_at}
 use Rattle.bitmap_core.specs.PrunedBits.{PrunedBits}
 use Rattle.bitmap_core.specs.Meaning.{Meaning, plain_meaning, pruned_meaning, IsLawful, IsRetainedChunk, IsRetained, ShowsChunk, ones_between, ones, starts_word, word_start, next_word, words_between, words, word_bit, left_from, IsScan, IsCut}
 
@@ -45,7 +45,12 @@ pruned_goes_on_with_one = refl
 
 -- it is a bitmap
 pruned_is_lawful : IsLawful 1 bitmap
-pruned_is_lawful = record { width = record { positive = omega arith; fits = omega arith }; pruned_within = omega arith; len_fits = omega arith; chunks_fit = omega arith }
+pruned_is_lawful = record {
+  width = record { positive = omega arith; fits = omega arith };
+  pruned_within = omega arith;
+  len_fits = omega arith;
+  chunks_fit = omega arith;
+}
 
 -- one of chunks without bytes is none, nor is one that is longer than u64, nor one that prunes more than it has
 no_bytes_a_chunk : IsLawful 0 bitmap → ⊥
@@ -214,7 +219,12 @@ nothing_left = refl
 -- an iterator over all ten that has loaded the word at 0 out of its chunk, which is 5: one more word is to come, of two
 iterator : IsScan 1 ten 0 10 (5 ∷ []) 1 0
 iterator = record {
-  lawful = record { width = record { positive = omega arith; fits = omega arith }; pruned_within = omega arith; len_fits = omega arith; chunks_fit = omega arith };
+  lawful = record {
+    width = record { positive = omega arith; fits = omega arith };
+    pruned_within = omega arith;
+    len_fits = omega arith;
+    chunks_fit = omega arith;
+  };
   within = omega arith;
   aligned = λ h. refl;
   retained = λ h. omega arith;

@@ -5,14 +5,19 @@
 //! Each value has one form. The calls are those of the traits `EncodeSize`, `Write` and `Read`, which have to be in scope.
 //!
 //! ```
-//! fn sent(alloc: Global, map: &BitMap<4>) -> Result<Vec<u8>, AllocError> {
+//! use bitmap_core::bitmap::BitMap;
+//! use bitmap_core::bitmap::codec::{CodecError, RangeCfg, Read, Write};
+//! use std::alloc::{AllocError, Global};
+//!
+//! /// The bytes of a bitmap.
+//! pub fn sent(alloc: Global, map: &BitMap<4>) -> Result<Vec<u8>, AllocError> {
 //!     let mut bytes = Vec::new(alloc);
 //!     map.write(&mut bytes)?;
 //!     Ok(bytes)
 //! }
 //!
-//! // A bitmap of at most a thousand bits, and the number of bytes behind it.
-//! fn received(alloc: Global, bytes: &[u8]) -> Result<(BitMap<4>, usize), CodecError> {
+//! /// A bitmap of at most a thousand bits, and the number of bytes behind it.
+//! pub fn received(alloc: Global, bytes: &[u8]) -> Result<(BitMap<4>, usize), CodecError> {
 //!     let mut from = bytes;
 //!     let map = BitMap::<4>::read_cfg(alloc, &mut from, &RangeCfg::at_most(1000))?;
 //!     Ok((map, from.len()))

@@ -1,6 +1,6 @@
 //! The bits of a bitmap, one after another.
 
-ghost use Rattle.std.specs.Prelude.{◌≡◌, IfSome, Some, length};
+ghost use Rattle.std.specs.Prelude.{◌≡◌, ◌^◌, ◌<◌, IfSome, Some, length};
 ghost use Rattle.std.specs.Iterator.{YieldsFirst, item_count, UpTo};
 ghost use Rattle.std.specs.Iterator.SizeHint.{IsWithinCount};
 
@@ -30,8 +30,10 @@ impl<'a, const N: usize> Model for Iterator<'a, N> {
 impl<const N: usize> BitMap<N> {
     /// The bits in order, from position 0 up to the length. No memory.
     pub fn iter(&self) -> Iterator<'_, N>
-        ensures { result ≡ self.now }
+        ensures value { result ≡ self.now }
+        ensures bound { length self.now < 2 ^ 64 }
     {
+        let _ = self.len();
         Iterator {
             bitmap: self,
             position: 0,

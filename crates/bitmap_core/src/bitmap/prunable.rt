@@ -1,9 +1,11 @@
 //! Bitmaps with a pruned front: its bits are gone, and the others keep their positions.
 //!
-//! A log that forgets its first chunk. Its length is still 34, and its first retained position is 32:
-//!
 //! ```
-//! fn recent(alloc: Global) -> Result<Prunable<4>, AllocError> {
+//! use bitmap_core::bitmap::Prunable;
+//! use std::alloc::{AllocError, Global};
+//!
+//! /// A log that has forgotten its first chunk. Its length is still 34, and its first retained position is 32.
+//! pub fn recent(alloc: Global) -> Result<Prunable<4>, AllocError> {
 //!     let mut log = Prunable::<4>::new(alloc);
 //!     log.push_chunk(&[1, 2, 3, 4])?;
 //!     log.push(true)?;
@@ -276,6 +278,7 @@ impl<const N: usize> Prunable<N> {
     ///
     /// Where the length is a multiple of `8N` it needs room for one chunk more, and takes memory where there is none.
     /// Elsewhere it takes none, and succeeds. Refused, the bitmap is as it was.
+    #[inline]
     pub fn push(&mut self, bit: bool) -> Result<(), AllocError>
         requires { bit_len N self.old + 1 < 2 ^ 64 }
         ensures ok { OnOk result (self.new ≡ pushed self.old bit) }

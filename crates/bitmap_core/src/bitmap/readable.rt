@@ -1,15 +1,19 @@
 //! What all bitmaps share for their readers: chunks, bits and set positions. The trait `Readable` has to be in scope.
 //!
-//! Where the next bit is set, in any bitmap of any width:
+//! A question to any bitmap of any width:
 //!
 //! ```
-//! fn next_set<B: Readable<N>, const N: usize>(bitmap: &B, from: u64) -> Option<u64> {
-//! //!     let _ = bitmap.len();
+//! use bitmap_core::bitmap::Readable;
+//!
+//! /// The first position from `from` on whose bit is set.
+//! pub fn next_set<B: Readable<N>, const N: usize>(bitmap: &B, from: u64) -> Option<u64> {
+//!     // Tells the proof how large `N` may be.
+//!     let _ = bitmap.len();
 //!     bitmap.ones_iter_from(from).next()
 //! }
 //! ```
 
-ghost use Rattle.std.specs.Prelude.{◌≡◌, ◌+◌, ◌-◌, ◌*◌, ◌/◌, ◌<◌, ◌≤◌, ◌==◌};
+ghost use Rattle.std.specs.Prelude.{◌≡◌, ◌+◌, ◌-◌, ◌*◌, ◌/◌, ◌^◌, ◌<◌, ◌≤◌, ◌==◌, length};
 
 mod dense;
 mod ones;
@@ -36,7 +40,14 @@ use std::ops::Range;
 /// Eight bits in one chunk of one byte:
 ///
 /// ```
-/// struct Byte(u8);
+/// ghost use Rattle.std.specs.Prelude.{[], ◌∷◌};
+/// ghost use Rattle.bitmap_core.specs.Chunk.{chunk_bit};
+///
+/// use bitmap_core::bitmap::Readable;
+///
+/// /// Eight bits, the lowest first.
+/// #[derive(Drop)]
+/// pub struct Byte(u8);
 ///
 /// impl Readable<1> for Byte {
 ///     ghost meaning = { λ b. record { pruned = 0; len = 8; bit = chunk_bit 1 (b.0 ∷ []) } };
@@ -129,6 +140,7 @@ pub trait Readable<const N: usize> {
         ensures lawful { IsLawful N (meaning self.now) }
         ensures words { result.words ≡ words N (meaning self.now) range.start range.end }
         ensures loads { result.loads ≤ result.words }
+        ensures bound { length result.left < 2 ^ 64 }
     {
         OnesIter::over(self, range)
     }
@@ -141,6 +153,7 @@ pub trait Readable<const N: usize> {
         ensures lawful { IsLawful N (meaning self.now) }
         ensures words { result.words ≡ words N (meaning self.now) pos (meaning self.now).len }
         ensures loads { result.loads ≤ result.words }
+        ensures bound { length result.left < 2 ^ 64 }
     {
         self.ones_iter_range(pos..u64::MAX)
     }

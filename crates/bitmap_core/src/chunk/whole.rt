@@ -85,11 +85,21 @@ pub fn combine<B: Bitwise, const N: usize>(chunk: &mut [u8; N], other: &[u8; N])
     requires { 0 < N }
     ensures { (i : ℕ) → chunk_bit N chunk.new i ≡ B.gives (chunk_bit N chunk.old i) (chunk_bit N other.now i) }
 {
+    if N < 8 {
+        return combine_in_place::<B, N>(chunk, other);
+    }
     // Copies, so that no write can be taken for one to `other`: whole words are combined at once.
     let other = *other;
     let mut combined = *chunk;
-    for j in 0..N {
-        combined[j] = B::of_bytes(combined[j], other[j]);
-    }
+    combine_in_place::<B, N>(&mut combined, &other);
     *chunk = combined;
+}
+
+fn combine_in_place<B: Bitwise, const N: usize>(chunk: &mut [u8; N], other: &[u8; N])
+    requires { 0 < N }
+    ensures { (i : ℕ) → chunk_bit N chunk.new i ≡ B.gives (chunk_bit N chunk.old i) (chunk_bit N other.now i) }
+{
+    for j in 0..N {
+        chunk[j] = B::of_bytes(chunk[j], other[j]);
+    }
 }

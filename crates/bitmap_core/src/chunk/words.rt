@@ -6,13 +6,15 @@ ghost use Rattle.std.specs.List.{count_by, list_all, range_with_len, slice_range
 ghost use Rattle.bitmap_core.specs.Chunk.{chunk_bit, chunk_bits};
 ghost use Rattle.bitmap_core.specs.Bits.{bits};
 
+use crate::chunk::facts::all_known;
+
 /// The number of set bits in some bytes. It fits `u64`. No memory.
 pub fn count_ones(bytes: &[u8]) -> u64
     requires { count_by (λ b. b) (chunk_bits (length bytes.now) bytes.now) < 2 ^ 64 }
     ensures { result ≡ count_by (λ b. b) (chunk_bits (length bytes.now) bytes.now) }
 {
-    let (words, rest) = bytes.as_chunks::<8>();
-    word_ones(words) + byte_ones(rest)
+    let (blocks, rest) = bytes.as_chunks::<64>();
+    block_ones(blocks) + end_ones(rest)
 }
 
 /// Whether no bit from `from` on and below `to` is set. `to` is at most the number of bits. No memory.
@@ -36,12 +38,41 @@ pub fn is_unset(bytes: &[u8], from: u64, to: u64) -> bool
         && is_zero(&bytes[first + 1..last])
 }
 
-// Whether every byte is zero.
+// Whether every byte is zero: 64 of them a turn, and of those that are left eight.
 fn is_zero(bytes: &[u8]) -> bool
     ensures { result ≡ list_all not (chunk_bits (length bytes.now) bytes.now) }
 {
+    let (blocks, rest) = bytes.as_chunks::<64>();
+    are_blocks_zero(blocks) && is_end_zero(rest)
+}
+
+// Whether every byte is zero, eight a turn.
+fn is_end_zero(bytes: &[u8]) -> bool
+    ensures { result ≡ list_all not (chunk_bits (length bytes.now) bytes.now) }
+{
     let (words, rest) = bytes.as_chunks::<8>();
-    are_words_zero(words) && are_bytes_zero(rest)
+    are_blocks_zero(words) && are_bytes_zero(rest)
+}
+
+// The number of ones in some blocks. Their length is one that the compiler sees, so that a turn is eight words in a row.
+fn block_ones(blocks: &[[u8; 64]]) -> u64
+    requires { count_by (λ b. b) (bits 64 blocks.now (8 * 64 * length blocks.now)) < 2 ^ 64 }
+    ensures { result ≡ count_by (λ b. b) (bits 64 blocks.now (8 * 64 * length blocks.now)) }
+{
+    let mut total = 0u64;
+    for block in blocks {
+        total += end_ones(block);
+    }
+    total
+}
+
+// The number of ones in some bytes, eight a turn.
+fn end_ones(bytes: &[u8]) -> u64
+    requires { count_by (λ b. b) (chunk_bits (length bytes.now) bytes.now) < 2 ^ 64 }
+    ensures { result ≡ count_by (λ b. b) (chunk_bits (length bytes.now) bytes.now) }
+{
+    let (words, rest) = bytes.as_chunks::<8>();
+    word_ones(words) + byte_ones(rest)
 }
 
 // The number of ones in some words.
@@ -68,12 +99,14 @@ fn byte_ones(bytes: &[u8]) -> u64
     total
 }
 
-// Whether every word is zero.
-fn are_words_zero(words: &[[u8; 8]]) -> bool
-    ensures { result ≡ list_all not (bits 8 words.now (64 * length words.now)) }
+// Whether every byte of some blocks is zero, a block a turn.
+fn are_blocks_zero<const M: usize>(blocks: &[[u8; M]]) -> bool
+    requires { 0 < M }
+    ensures { result ≡ list_all not (bits M blocks.now (8 * M * length blocks.now)) }
 {
-    for word in words {
-        if load(word) != 0 {
+    all_known(blocks);
+    for block in blocks {
+        if *block != [0; M] {
             return false;
         }
     }

@@ -18,14 +18,6 @@ const BEHIND_ONE: [u8; 21] = [
 // What a vector holds before a write.
 const BEFORE: &[u8] = b"ab";
 
-// Whether an error is that of a bit past the length.
-fn is_trailing(error: Option<CodecError>) -> bool {
-    matches!(
-        error,
-        Some(CodecError::Invalid("BitMap", "Invalid trailing bits in encoded data"))
-    )
-}
-
 // Reads the three bits, and answers whether it was refused.
 fn read_bits(rt: &impl Abort, alloc: Global, from: &mut &[u8]) -> bool {
     match BitMap::<4>::read_cfg(alloc, from, &RangeCfg::exact(3)) {
@@ -59,28 +51,6 @@ fn set_up_pruned(rt: &impl Abort, alloc: Global) -> Option<Prunable<4>> {
     let mut map = Prunable::<4>::new_with_pruned_chunks(alloc, 1).ok()?;
     push_digits(rt, &mut map, b"101").ok()?;
     Some(map)
-}
-
-#[test]
-fn faulty_bits(rt: HostRuntime) {
-    let text = [0, 0, 0, 0, 0, 0, 0, 3, 13, 0, 0, 0];
-    let mut from = text.as_slice();
-    for _ in 0..2 {
-        let read = BitMap::<4>::read_cfg(rt.alloc(), &mut from, &RangeCfg::any());
-        assert!(rt; is_trailing(read.err()));
-        assert_eq!(rt; from, text.as_slice());
-    }
-}
-
-#[test]
-fn faulty_pruned(rt: HostRuntime) {
-    let text = [0, 0, 0, 0, 0, 0, 0, 1, 0, 0, 0, 0, 0, 0, 0, 3, 13, 0, 0, 0];
-    let mut from = text.as_slice();
-    for _ in 0..2 {
-        let read = Prunable::<4>::read_cfg(rt.alloc(), &mut from, &RangeCfg::any());
-        assert!(rt; is_trailing(read.err()));
-        assert_eq!(rt; from, text.as_slice());
-    }
 }
 
 #[test]
@@ -141,23 +111,4 @@ fn pruned_written(rt: HostRuntime) {
     let added: &[u8] = if refused { &[] } else { &BEHIND_ONE[..20] };
     assert!(rt; out.iter().eq(BEFORE.iter().chain(added)));
     assert!(rt; shows(&rt, &map, 1, b"101"));
-}
-
-#[test]
-fn written_where_there_is_room(rt: HostRuntime) {
-    let Ok(bits) = BitMap::<4>::from_bools(rt.alloc(), &[true, false, true]) else {
-        return;
-    };
-    let Some(pair) = set_up_pruned(&rt, rt.alloc()) else {
-        return;
-    };
-    let Ok(mut out) = Vec::with_capacity(rt.alloc(), 32) else {
-        return;
-    };
-    assert!(rt; bits.write(&mut out).is_ok());
-    assert!(rt; pair.write(&mut out).is_ok());
-    assert!(rt;
-        out.iter()
-            .eq(THREE_BITS[..12].iter().chain(&BEHIND_ONE[..20]))
-    );
 }

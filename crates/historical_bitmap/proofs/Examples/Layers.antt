@@ -12,7 +12,7 @@ use Rattle.historical_bitmap.specs.Undo.{undone_in_steps}
 use Rattle.historical_bitmap.specs.Pending.{Layer, unedited, edited_chunk, layer_bit, pending_bits, pending_chunk, old_chunk, layer_marks, diff_of, edits_of, Follows, applied_in_steps}
 
 -- twenty true bits: the bytes FF, FF and 0F
-abbrev base : PrunedBits
+abbrev pub base : PrunedBits
 base = record { pruned = 0; bits = replicate 20 true }
 
 -- at the start of a batch the pending bitmap is the current one, and nothing is marked
@@ -40,7 +40,7 @@ new_chunk : pending_chunk 1 base (unedited 1 base) 3 ≡ 0 ∷ []
 new_chunk = refl
 
 -- then three false bits pushed over positions that existed, bit 2 cleared, and a prune to 8: chunk 0 is edited and pruned
-abbrev rewritten : Layer
+abbrev pub rewritten : Layer
 rewritten = record { len = 14; pruned = 1; edited = (0, 251 ∷ []) ∷ (1, 7 ∷ []) ∷ []; captured = (255 ∷ []) ∷ [] }
 
 rewritten_chunk : edited_chunk rewritten 1 ≡ Some (7 ∷ [])
@@ -79,7 +79,7 @@ third_is_removed = refl
 fourth_is_added : diff_of 1 base (record { len = 25; pruned = 0; edited = (2, 15 ∷ []) ∷ (3, 0 ∷ []) ∷ []; captured = [] }) 3 ≡ Added
 fourth_is_added = refl
 
-abbrev back : Reverse
+abbrev pub back : Reverse
 back = record { len = 20; pruned = 0; entries = (0, Pruned (255 ∷ [])) ∷ (1, Modified (255 ∷ [])) ∷ (2, Removed (15 ∷ [])) ∷ [] }
 
 restores : before 1 back (pending_bits 1 base rewritten) ≡ base

@@ -41,10 +41,10 @@ longer_restored_in_steps : undone_in_steps 1 from_longer longer ≡ twelve
 longer_restored_in_steps = refl
 
 -- a newer state that is shorter: chunk 0 cut to three bits, and chunk 1 cut off
-abbrev shorter : PrunedBits
+abbrev pub shorter : PrunedBits
 shorter = record { pruned = 0; bits = true ∷ true ∷ true ∷ [] }
 
-abbrev from_shorter : Reverse
+abbrev pub from_shorter : Reverse
 from_shorter = record { len = 12; pruned = 0; entries = (0, Modified (255 ∷ [])) ∷ (1, Removed (15 ∷ [])) ∷ [] }
 
 shorter_restored : before 1 from_shorter shorter ≡ twelve
@@ -58,7 +58,7 @@ forgetful : before 1 (record { len = 12; pruned = 0; entries = [] }) shorter ≡
 forgetful = refl
 
 -- a newer state whose first chunk is pruned
-abbrev behind_one : PrunedBits
+abbrev pub behind_one : PrunedBits
 behind_one = record { pruned = 1; bits = replicate 4 true }
 
 abbrev from_behind_one : Reverse

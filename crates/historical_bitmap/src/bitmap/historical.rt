@@ -1,7 +1,11 @@
 //! A bitmap with a history of commits.
 
+mod apply;
 mod clean;
 mod commits;
+mod dirty;
+mod edit;
+mod edited;
 pub mod error;
 mod pending;
 mod record;
@@ -9,6 +13,7 @@ mod state;
 mod undo;
 
 pub use crate::bitmap::historical::commits::{Commits, Numbers};
+pub use crate::bitmap::historical::edit::{Edit, Lent};
 pub use crate::bitmap::historical::error::Error;
 pub use crate::bitmap::historical::pending::Dirty;
 use crate::bitmap::historical::record::CommitDiff;

@@ -1,13 +1,13 @@
--- Which refusal holds, of chunks of one byte.
-use Rattle.std.specs.Prelude.{◌≡◌, ℕ, true, false, [], ◌∷◌, Some, None}
+-- What refuses each command, and which commands may find no memory. Chunks have one byte.
+use Rattle.std.specs.Prelude.{◌≡◌, ℕ, true, false, List, [], ◌∷◌, Some, None}
 use Rattle.std.specs.Global.{Vec}
 use Rattle.std.proofs.Common.{refl, ap, ◌∙◌}
 use Rattle.bitmap_core.specs.PrunedBits.{PrunedBits}
 use Rattle.bitmap_core.specs.declared.bitmap.codec.range.RangeCfg.{RangeCfg}
 use Rattle.bitmap_core.specs.Reading.{admits, pruned_fault}
-use Rattle.bitmap_core.specs.Reading.Fault.{EndOfBuffer}
+use Rattle.bitmap_core.specs.Reading.Fault.{EndOfBuffer, InvalidLength}
 use Rattle.replay.specs.declared.command.Command.TheVariants.{Start, Begin, Push, Pop, Set, Commit, Abort, Len, PrunedChunks, Get, Ones, Encode, At, Decode}
-use Rattle.replay.specs.Machine.{State, start, no_bits, is_dirty, shown, edited, WrongMode, OutOfBounds, Pruned, TooLong, NoRetainedBit, ReservedCommitNumber, NonMonotonicCommit, PrunedChunksOverflow, Codec, when, first, chunk_index, shown_len, wrong_mode, out_of_bounds, is_pruned, too_long, none_retained, reserved, not_above, overflows, unreadable, refusal_of}
+use Rattle.replay.specs.Machine.{State, first_machine, is_dirty, shown, edited, WrongMode, OutOfBounds, Pruned, TooLong, NoRetainedBit, ReservedCommitNumber, NonMonotonicCommit, PrunedChunksOverflow, Codec, when, first, wants_batch, wants_no_batch, wants_retained, wants_number, chunk_index, shown_len, wants_bit, wants_room, wants_fitting, wants_readable, refusal_of, takes_memory}
 
 -- two bits behind one pruned chunk: positions 8 and 9
 abbrev pub two_bits : PrunedBits
@@ -25,13 +25,28 @@ clean = record { current = two_bits; pending = None; history = (5, two_bits) ∷
 abbrev pub dirty : State
 dirty = record { current = two_bits; pending = Some three_bits; history = (5, two_bits) ∷ []; costs = (5, 1) ∷ [] }
 
--- a batch on a bitmap whose bits are all pruned, so far that u64 has no room for eight more
+-- seven set bits behind so many pruned chunks that u64 has no room for one more
+abbrev pub greatest_length : PrunedBits
+greatest_length = record { pruned = 2305843009213693951; bits = true ∷ true ∷ true ∷ true ∷ true ∷ true ∷ true ∷ [] }
+
+-- a batch at the greatest length
 abbrev pub at_the_end : State
-at_the_end = record { current = no_bits; pending = Some (record { pruned = 2305843009213693951; bits = true ∷ true ∷ true ∷ true ∷ true ∷ true ∷ true ∷ [] }); history = []; costs = [] }
+at_the_end = record { current = two_bits; pending = Some greatest_length; history = []; costs = [] }
 
 -- a batch with no bits behind one pruned chunk
 abbrev pub emptied : State
 emptied = record { current = two_bits; pending = Some (record { pruned = 1; bits = [] }); history = []; costs = [] }
+
+-- one pruned chunk and the bits 1, 0, 1 spelled, with two bytes behind them
+abbrev pub text_of_three : List ℕ
+text_of_three = 0 ∷ 0 ∷ 0 ∷ 0 ∷ 0 ∷ 0 ∷ 0 ∷ 1 ∷ 0 ∷ 0 ∷ 0 ∷ 0 ∷ 0 ∷ 0 ∷ 0 ∷ 3 ∷ 5 ∷ 77 ∷ 78 ∷ []
+
+-- the range that admits 3 alone, and the one that admits 4 alone
+abbrev pub three_alone : RangeCfg
+three_alone = record { low = 3; high = 3 }
+
+abbrev pub four_alone : RangeCfg
+four_alone = record { low = 4; high = 4 }
 
 -- ---- what the tests read
 
@@ -65,6 +80,8 @@ third_chunk = refl
 first_chunk : chunk_index 3 17 ≡ 0
 first_chunk = refl
 
+-- ---- lists of refusals
+
 -- a test that holds, one that does not, and the first of three
 holds : when true Pruned ≡ Some Pruned
 holds = refl
@@ -78,173 +95,100 @@ second_of_three = refl
 none_of_two : first (None ∷ None ∷ []) ≡ None
 none_of_two = refl
 
--- ---- each test
+-- ---- what commands want
 
--- edits and their end want a batch
-push_wants_a_batch : wrong_mode 1 clean (Push true) ≡ true
-push_wants_a_batch = refl
+-- a batch, where there is none and where there is one
+batch_missing : wants_batch clean ≡ Some WrongMode
+batch_missing = refl
 
-pop_wants_a_batch : wrong_mode 1 clean Pop ≡ true
-pop_wants_a_batch = refl
+batch_there : wants_batch dirty ≡ None
+batch_there = refl
 
-set_wants_a_batch : wrong_mode 1 clean (Set 8 true) ≡ true
-set_wants_a_batch = refl
+-- no batch
+batch_in_the_way : wants_no_batch dirty ≡ Some WrongMode
+batch_in_the_way = refl
 
-commit_wants_a_batch : wrong_mode 1 clean (Commit 6) ≡ true
-commit_wants_a_batch = refl
+no_batch_in_the_way : wants_no_batch clean ≡ None
+no_batch_in_the_way = refl
 
-abort_wants_a_batch : wrong_mode 1 clean Abort ≡ true
-abort_wants_a_batch = refl
+-- a retained bit
+nothing_to_pop : wants_retained emptied ≡ Some NoRetainedBit
+nothing_to_pop = refl
 
-push_has_a_batch : wrong_mode 1 dirty (Push true) ≡ false
-push_has_a_batch = refl
+three_to_pop : wants_retained dirty ≡ None
+three_to_pop = refl
 
-commit_has_a_batch : wrong_mode 1 dirty (Commit 6) ≡ false
-commit_has_a_batch = refl
+-- 5 is kept: 5 is not above it, and 6 is; with no commit each number is
+same_number : wants_number dirty 5 ≡ None ∷ Some (NonMonotonicCommit 5 5) ∷ []
+same_number = refl
 
--- these want that there is none
-start_wants_none : wrong_mode 1 dirty (Start 0) ≡ true
-start_wants_none = refl
+smaller_number : wants_number dirty 3 ≡ None ∷ Some (NonMonotonicCommit 5 3) ∷ []
+smaller_number = refl
 
-begin_wants_none : wrong_mode 1 dirty Begin ≡ true
-begin_wants_none = refl
+greater_number : wants_number dirty 6 ≡ None ∷ None ∷ []
+greater_number = refl
 
-ones_wants_none : wrong_mode 1 dirty (Ones 0 9) ≡ true
-ones_wants_none = refl
+first_number : wants_number emptied 0 ≡ None ∷ None ∷ []
+first_number = refl
 
-encode_wants_none : wrong_mode 1 dirty Encode ≡ true
-encode_wants_none = refl
+-- the greatest of u64 is never kept, and the number before it may be
+greatest_number : wants_number dirty 18446744073709551615 ≡ Some ReservedCommitNumber ∷ None ∷ []
+greatest_number = refl
 
-at_wants_none : wrong_mode 1 dirty (At 5) ≡ true
-at_wants_none = refl
-
-at_has_none : wrong_mode 1 clean (At 5) ≡ false
-at_has_none = refl
-
--- and these go with both
-len_goes_with_both : wrong_mode 1 dirty Len ≡ false
-len_goes_with_both = refl
-
-pruned_chunks_goes_with_both : wrong_mode 1 dirty PrunedChunks ≡ false
-pruned_chunks_goes_with_both = refl
-
-get_goes_with_both : wrong_mode 1 dirty (Get 8) ≡ false
-get_goes_with_both = refl
-
-decode_goes_with_both : (text : Vec ℕ) (range : RangeCfg) → wrong_mode 1 dirty (Decode text range) ≡ false
-decode_goes_with_both text range = refl
+number_before_it : wants_number dirty 18446744073709551614 ≡ None ∷ None ∷ []
+number_before_it = refl
 
 -- without a batch the length is 10, and in it 11
-ten_is_out : out_of_bounds 1 clean (Get 10) ≡ true
+ten_is_out : wants_bit 1 clean 10 ≡ Some OutOfBounds ∷ None ∷ []
 ten_is_out = refl
 
-ten_is_in : out_of_bounds 1 dirty (Get 10) ≡ false
+ten_is_in : wants_bit 1 dirty 10 ≡ None ∷ None ∷ []
 ten_is_in = refl
 
-nine_is_in : out_of_bounds 1 clean (Get 9) ≡ false
-nine_is_in = refl
-
-ten_may_be_set : out_of_bounds 1 dirty (Set 10 true) ≡ false
-ten_may_be_set = refl
-
-eleven_is_out : out_of_bounds 1 dirty (Set 11 true) ≡ true
+eleven_is_out : wants_bit 1 dirty 11 ≡ Some OutOfBounds ∷ None ∷ []
 eleven_is_out = refl
 
 -- 7 is the last pruned position, and 8 is retained
-seven_is_pruned : is_pruned 1 clean (Get 7) ≡ true
+seven_is_pruned : wants_bit 1 clean 7 ≡ None ∷ Some Pruned ∷ []
 seven_is_pruned = refl
 
-seven_is_not_set : is_pruned 1 dirty (Set 7 true) ≡ true
-seven_is_not_set = refl
-
-eight_is_retained : is_pruned 1 clean (Get 8) ≡ false
+eight_is_retained : wants_bit 1 clean 8 ≡ None ∷ None ∷ []
 eight_is_retained = refl
 
-eight_is_not_pruned : is_pruned 1 dirty (Set 8 true) ≡ false
-eight_is_not_pruned = refl
-
 -- 8 times 2305843009213693951 and seven are the greatest length
-no_room : too_long 1 at_the_end (Push true) ≡ true
+no_room : wants_room 1 at_the_end 1 ≡ Some TooLong
 no_room = refl
 
-room : too_long 1 dirty (Push true) ≡ false
+room_for_none : wants_room 1 at_the_end 0 ≡ None
+room_for_none = refl
+
+room : wants_room 1 dirty 1 ≡ None
 room = refl
 
-nothing_to_pop : none_retained 1 emptied Pop ≡ true
-nothing_to_pop = refl
-
-three_to_pop : none_retained 1 dirty Pop ≡ false
-three_to_pop = refl
-
-greatest_number : reserved 1 dirty (Commit 18446744073709551615) ≡ true
-greatest_number = refl
-
-number_before_it : reserved 1 dirty (Commit 18446744073709551614) ≡ false
-number_before_it = refl
-
--- 5 is kept: 5 is not above it, and 6 is; with no commit each number is
-same_number : not_above 1 dirty (Commit 5) ≡ Some (NonMonotonicCommit 5 5)
-same_number = refl
-
-smaller_number : not_above 1 dirty (Commit 3) ≡ Some (NonMonotonicCommit 5 3)
-smaller_number = refl
-
-greater_number : not_above 1 dirty (Commit 6) ≡ None
-greater_number = refl
-
-first_number : not_above 1 emptied (Commit 0) ≡ None
-first_number = refl
-
 -- 2 to the power 61 chunks of one byte pass u64, and one fewer do not
-pruned_past_64 : overflows 1 clean (Start 2305843009213693952) ≡ true
+pruned_past_64 : wants_fitting 1 2305843009213693952 ≡ Some PrunedChunksOverflow
 pruned_past_64 = refl
 
-pruned_within_64 : overflows 1 clean (Start 2305843009213693951) ≡ false
+pruned_within_64 : wants_fitting 1 2305843009213693951 ≡ None
 pruned_within_64 = refl
 
--- no bytes are no bitmap
-pub no_bytes : (range : RangeCfg) → pruned_fault 1 (admits range) [] ≡ Some EndOfBuffer
+-- no bytes are no bitmap, and three bits are not four
+pub no_bytes : (range : RangeCfg) → wants_readable 1 (admits range) [] ≡ Some (Codec (Some EndOfBuffer))
 unfolding pruned_fault
 no_bytes range = refl
 
-no_bytes_unreadable : (text : Vec ℕ) (range : RangeCfg) → text.items ≡ [] → unreadable 1 clean (Decode text range) ≡ Some (Codec (Some EndOfBuffer))
-no_bytes_unreadable text range e = let f : pruned_fault 1 (admits range) text.items ≡ Some EndOfBuffer = ap (pruned_fault 1 (admits range)) e ∙ no_bytes range in rw f refl
+pub not_admitted : wants_readable 1 (admits four_alone) text_of_three ≡ Some (Codec (Some (InvalidLength 3)))
+unfolding pruned_fault
+not_admitted = refl
 
--- ---- the first refusal
+pub admitted : wants_readable 1 (admits three_alone) text_of_three ≡ None
+unfolding pruned_fault
+admitted = refl
 
-wrong_mode_first : refusal_of 1 clean (Set 99 true) ≡ Some WrongMode
-wrong_mode_first = refl
+-- ---- start
 
-commit_outside : refusal_of 1 clean (Commit 5) ≡ Some WrongMode
-commit_outside = refl
-
-pop_outside : refusal_of 1 start.state Pop ≡ Some WrongMode
-pop_outside = refl
-
-out_of_bounds_read : refusal_of 1 clean (Get 10) ≡ Some OutOfBounds
-out_of_bounds_read = refl
-
-pruned_read : refusal_of 1 clean (Get 7) ≡ Some Pruned
-pruned_read = refl
-
-pruned_set : refusal_of 1 dirty (Set 0 true) ≡ Some Pruned
-pruned_set = refl
-
--- past the length of a bitmap whose bits are all pruned
-out_of_bounds_of_none : refusal_of 1 emptied (Get 8) ≡ Some OutOfBounds
-out_of_bounds_of_none = refl
-
-push_too_long : refusal_of 1 at_the_end (Push false) ≡ Some TooLong
-push_too_long = refl
-
-pop_of_none : refusal_of 1 emptied Pop ≡ Some NoRetainedBit
-pop_of_none = refl
-
-commit_reserved : refusal_of 1 dirty (Commit 18446744073709551615) ≡ Some ReservedCommitNumber
-commit_reserved = refl
-
-commit_again : refusal_of 1 dirty (Commit 5) ≡ Some (NonMonotonicCommit 5 5)
-commit_again = refl
+start_accepted : refusal_of 1 clean (Start 2305843009213693951) ≡ None
+start_accepted = refl
 
 start_too_far : refusal_of 1 clean (Start 2305843009213693952) ≡ Some PrunedChunksOverflow
 start_too_far = refl
@@ -253,32 +197,195 @@ start_too_far = refl
 start_in_a_batch : refusal_of 1 dirty (Start 2305843009213693952) ≡ Some WrongMode
 start_in_a_batch = refl
 
-decode_nothing : (text : Vec ℕ) (range : RangeCfg) → text.items ≡ [] → refusal_of 1 dirty (Decode text range) ≡ Some (Codec (Some EndOfBuffer))
-decode_nothing text range e = let f : pruned_fault 1 (admits range) text.items ≡ Some EndOfBuffer = ap (pruned_fault 1 (admits range)) e ∙ no_bytes range in rw f refl
+start_takes_none : takes_memory 1 clean (Start 3) ≡ false
+start_takes_none = refl
 
--- and these are accepted
+-- ---- begin
+
+begin_accepted : refusal_of 1 clean Begin ≡ None
+begin_accepted = refl
+
+begin_in_a_batch : refusal_of 1 dirty Begin ≡ Some WrongMode
+begin_in_a_batch = refl
+
+begin_takes_memory : takes_memory 1 clean Begin ≡ true
+begin_takes_memory = refl
+
+-- ---- push
+
 push_accepted : refusal_of 1 dirty (Push true) ≡ None
 push_accepted = refl
 
-get_accepted : refusal_of 1 clean (Get 8) ≡ None
-get_accepted = refl
+push_outside : refusal_of 1 clean (Push true) ≡ Some WrongMode
+push_outside = refl
+
+push_too_long : refusal_of 1 at_the_end (Push false) ≡ Some TooLong
+push_too_long = refl
+
+push_takes_memory : takes_memory 1 dirty (Push true) ≡ true
+push_takes_memory = refl
+
+-- ---- pop
 
 pop_accepted : refusal_of 1 dirty Pop ≡ None
 pop_accepted = refl
 
-start_accepted : refusal_of 1 clean (Start 2305843009213693951) ≡ None
-start_accepted = refl
+pop_outside : refusal_of 1 first_machine.state Pop ≡ Some WrongMode
+pop_outside = refl
+
+pop_of_none : refusal_of 1 emptied Pop ≡ Some NoRetainedBit
+pop_of_none = refl
+
+pop_takes_none : takes_memory 1 dirty Pop ≡ false
+pop_takes_none = refl
+
+-- ---- set
 
 set_accepted : refusal_of 1 dirty (Set 10 false) ≡ None
 set_accepted = refl
 
+-- outside a batch the mode is told before the position
+set_outside : refusal_of 1 clean (Set 99 true) ≡ Some WrongMode
+set_outside = refl
+
+set_out_of_bounds : refusal_of 1 dirty (Set 11 true) ≡ Some OutOfBounds
+set_out_of_bounds = refl
+
+set_pruned : refusal_of 1 dirty (Set 0 true) ≡ Some Pruned
+set_pruned = refl
+
+set_takes_memory : takes_memory 1 dirty (Set 8 true) ≡ true
+set_takes_memory = refl
+
+-- ---- commit
+
 commit_accepted : refusal_of 1 dirty (Commit 6) ≡ None
 commit_accepted = refl
+
+-- outside a batch the mode is told before the number
+commit_outside : refusal_of 1 clean (Commit 5) ≡ Some WrongMode
+commit_outside = refl
+
+commit_reserved : refusal_of 1 dirty (Commit 18446744073709551615) ≡ Some ReservedCommitNumber
+commit_reserved = refl
+
+commit_again : refusal_of 1 dirty (Commit 5) ≡ Some (NonMonotonicCommit 5 5)
+commit_again = refl
+
+commit_takes_memory : takes_memory 1 dirty (Commit 6) ≡ true
+commit_takes_memory = refl
+
+-- ---- abort
+
+abort_accepted : refusal_of 1 dirty Abort ≡ None
+abort_accepted = refl
+
+abort_outside : refusal_of 1 clean Abort ≡ Some WrongMode
+abort_outside = refl
+
+abort_takes_none : takes_memory 1 dirty Abort ≡ false
+abort_takes_none = refl
+
+-- ---- len and pruned-chunks go with a batch and without
+
+len_accepted : refusal_of 1 clean Len ≡ None
+len_accepted = refl
+
+len_in_a_batch : refusal_of 1 dirty Len ≡ None
+len_in_a_batch = refl
+
+len_takes_none : takes_memory 1 clean Len ≡ false
+len_takes_none = refl
+
+pruned_chunks_accepted : refusal_of 1 clean PrunedChunks ≡ None
+pruned_chunks_accepted = refl
+
+pruned_chunks_in_a_batch : refusal_of 1 dirty PrunedChunks ≡ None
+pruned_chunks_in_a_batch = refl
+
+pruned_chunks_take_none : takes_memory 1 clean PrunedChunks ≡ false
+pruned_chunks_take_none = refl
+
+-- ---- get
+
+get_accepted : refusal_of 1 clean (Get 8) ≡ None
+get_accepted = refl
+
+get_in_a_batch : refusal_of 1 dirty (Get 10) ≡ None
+get_in_a_batch = refl
+
+get_out_of_bounds : refusal_of 1 clean (Get 10) ≡ Some OutOfBounds
+get_out_of_bounds = refl
+
+-- past the length of a bitmap whose bits are all pruned
+get_out_of_none : refusal_of 1 emptied (Get 8) ≡ Some OutOfBounds
+get_out_of_none = refl
+
+get_pruned : refusal_of 1 clean (Get 7) ≡ Some Pruned
+get_pruned = refl
+
+get_takes_none : takes_memory 1 clean (Get 8) ≡ false
+get_takes_none = refl
+
+-- ---- ones
+
+-- no position is out of bounds of a range
+ones_accepted : refusal_of 1 clean (Ones 99 3) ≡ None
+ones_accepted = refl
+
+ones_in_a_batch : refusal_of 1 dirty (Ones 0 9) ≡ Some WrongMode
+ones_in_a_batch = refl
+
+ones_take_memory : takes_memory 1 clean (Ones 0 9) ≡ true
+ones_take_memory = refl
+
+-- ---- encode
+
+encode_accepted : refusal_of 1 clean Encode ≡ None
+encode_accepted = refl
+
+encode_in_a_batch : refusal_of 1 dirty Encode ≡ Some WrongMode
+encode_in_a_batch = refl
+
+encode_takes_memory : takes_memory 1 clean Encode ≡ true
+encode_takes_memory = refl
+
+-- ---- at
 
 -- a number that is not kept is no fault of a read
 at_accepted : refusal_of 1 clean (At 4) ≡ None
 at_accepted = refl
 
--- and no position is out of bounds of a range
-ones_accepted : refusal_of 1 clean (Ones 99 3) ≡ None
-ones_accepted = refl
+at_in_a_batch : refusal_of 1 dirty (At 5) ≡ Some WrongMode
+at_in_a_batch = refl
+
+-- a commit that is kept takes memory to be read, and none is taken for one that is not
+kept_takes_memory : takes_memory 1 clean (At 5) ≡ true
+kept_takes_memory = refl
+
+not_kept_takes_none : takes_memory 1 clean (At 6) ≡ false
+not_kept_takes_none = refl
+
+-- ---- decode goes with a batch and without
+
+-- what refuses a text is what refuses its bytes
+pub of_bytes : (range : RangeCfg) (text : Vec ℕ) (bytes : List ℕ)
+    → text.items ≡ bytes
+    → wants_readable 1 (admits range) text.items ≡ wants_readable 1 (admits range) bytes
+of_bytes range text bytes e = ap (wants_readable 1 (admits range)) e
+
+decode_accepted : (text : Vec ℕ) → text.items ≡ text_of_three → refusal_of 1 dirty (Decode text three_alone) ≡ None
+decode_accepted text e = rw (of_bytes three_alone text text_of_three e ∙ admitted) refl
+
+decode_not_admitted : (text : Vec ℕ)
+    → text.items ≡ text_of_three
+    → refusal_of 1 clean (Decode text four_alone) ≡ Some (Codec (Some (InvalidLength 3)))
+decode_not_admitted text e = rw (of_bytes four_alone text text_of_three e ∙ not_admitted) refl
+
+decode_nothing : (text : Vec ℕ) (range : RangeCfg)
+    → text.items ≡ []
+    → refusal_of 1 dirty (Decode text range) ≡ Some (Codec (Some EndOfBuffer))
+decode_nothing text range e = rw (of_bytes range text [] e ∙ no_bytes range) refl
+
+decode_takes_memory : (text : Vec ℕ) (range : RangeCfg) → takes_memory 1 clean (Decode text range) ≡ true
+decode_takes_memory text range = refl

@@ -8,81 +8,90 @@ use Rattle.bitmap_core.specs.Spelling.{spelling, pruned_spelling}
 use Rattle.bitmap_core.specs.Reading.{pruned_fault, pruned_in, bits_in}
 use Rattle.bitmap_core.specs.Reading.Fault.{EndOfBuffer}
 use Rattle.replay.specs.declared.command.Command.TheVariants.{Start, Begin, Push, Pop, Set, Commit, Abort, Len, PrunedChunks, Get, Ones, Encode, At, Decode}
-use Rattle.replay.specs.Machine.{State, Machine, start, no_bits, Done, Bit, Number, Positions, Bytes, Snapshot, Read, Refused, Codec, NoMemory, takes_memory, decoded, IsDecoded, answer_of, state_after, touches, touched_after, popped_to_chunks, most_cost, after}
+use Rattle.replay.proofs.Examples.Refusals.{text_of_three}
+use Rattle.replay.specs.Machine.{State, Machine, first_machine, anew, committed, Done, Bit, Number, Positions, Bytes, Snapshot, Read, Refused, Pruned, WrongMode, Codec, NoMemory, reads, edits, turns, rule, decoded, IsDecoded, answer_of, state_after, touches, touched_after, popped_to_chunks, most_cost, after}
 
 -- bits behind one pruned chunk
 abbrev pub behind_one : List Bool → PrunedBits
 behind_one v = record { pruned = 1; bits = v }
 
--- bits 1, 0 at the positions 8 and 9; one commit under 5
+-- bits 1, 0 at the positions 8 and 9
+abbrev pub two_bits : PrunedBits
+two_bits = behind_one (true ∷ false ∷ [])
+
+-- they are current, and kept under 5
 abbrev pub clean : State
-clean = record { current = behind_one (true ∷ false ∷ []); pending = None; history = (5, behind_one (true ∷ false ∷ [])) ∷ []; costs = (5, 1) ∷ [] }
+clean = record { current = two_bits; pending = None; history = (5, two_bits) ∷ []; costs = (5, 1) ∷ [] }
 
 -- in a batch some bits are pending
 abbrev pub pending : List Bool → State
-pending v = record { current = behind_one (true ∷ false ∷ []); pending = Some (behind_one v); history = (5, behind_one (true ∷ false ∷ [])) ∷ []; costs = (5, 1) ∷ [] }
+pending v = record { current = two_bits; pending = Some (behind_one v); history = (5, two_bits) ∷ []; costs = (5, 1) ∷ [] }
 
 -- the same, with chunks that the batch has touched
 abbrev pub touched : List Bool → List ℕ → Machine
 touched v chunks = record { state = pending v; touched = chunks }
 
--- the bitmap without bits, and the first machine
-nothing : no_bits ≡ record { pruned = 0; bits = [] }
-nothing = refl
+-- a batch over other current bits, and nothing kept
+abbrev pub unkept : PrunedBits → PrunedBits → State
+unkept current pending = record { current = current; pending = Some pending; history = []; costs = [] }
 
-first_machine : start ≡ record { state = record { current = record { pruned = 0; bits = [] }; pending = None; history = []; costs = [] }; touched = [] }
-first_machine = refl
+-- the machine before the first command
+nothing_yet : first_machine ≡ record {
+  state = record { current = record { pruned = 0; bits = [] }; pending = None; history = []; costs = [] };
+  touched = [];
+}
+nothing_yet = refl
 
--- ---- memory
+-- ---- whole rules, of a read, of an edit and of a command that begins a batch
 
--- a push may find none, a pop always finds it
-push_takes_memory : takes_memory 1 (pending []) (Push true) ≡ true
-push_takes_memory = refl
+len_rule : rule 1 clean Len ≡ record { refusals = []; takes_memory = false; answer = Number 10; after = λ cost. clean; touches = [] }
+len_rule = refl
 
-pop_takes_none : takes_memory 1 (pending (true ∷ [])) Pop ≡ false
-pop_takes_none = refl
+push_rule : rule 1 (pending (true ∷ [])) (Push false) ≡ record {
+  refusals = None ∷ None ∷ [];
+  takes_memory = true;
+  answer = Done;
+  after = λ cost. pending (true ∷ false ∷ []);
+  touches = 1 ∷ [];
+}
+push_rule = refl
 
--- so may these
-begin_takes_memory : takes_memory 1 clean Begin ≡ true
-begin_takes_memory = refl
+begin_rule : rule 1 clean Begin ≡ record {
+  refusals = None ∷ [];
+  takes_memory = true;
+  answer = Done;
+  after = λ cost. pending (true ∷ false ∷ []);
+  touches = [];
+}
+begin_rule = refl
 
-set_takes_memory : takes_memory 1 (pending (true ∷ [])) (Set 8 true) ≡ true
-set_takes_memory = refl
+-- the three shapes of a rule, each with a refusal of its own
+a_read : reads clean (Some Pruned ∷ []) true Done ≡ record {
+  refusals = Some Pruned ∷ [];
+  takes_memory = true;
+  answer = Done;
+  after = λ cost. clean;
+  touches = [];
+}
+a_read = refl
 
-commit_takes_memory : takes_memory 1 (pending []) (Commit 6) ≡ true
-commit_takes_memory = refl
+an_edit : edits clean (Some Pruned ∷ []) false Done (behind_one []) (4 ∷ []) ≡ record {
+  refusals = Some WrongMode ∷ Some Pruned ∷ [];
+  takes_memory = false;
+  answer = Done;
+  after = λ cost. pending [];
+  touches = 4 ∷ [];
+}
+an_edit = refl
 
-ones_take_memory : takes_memory 1 clean (Ones 0 9) ≡ true
-ones_take_memory = refl
-
-encode_takes_memory : takes_memory 1 clean Encode ≡ true
-encode_takes_memory = refl
-
-decode_takes_memory : (text : Vec ℕ) (range : RangeCfg) → takes_memory 1 clean (Decode text range) ≡ true
-decode_takes_memory text range = refl
-
--- a commit that is kept takes memory to be read, and none is taken for one that is not
-kept_takes_memory : takes_memory 1 clean (At 5) ≡ true
-kept_takes_memory = refl
-
-not_kept_takes_none : takes_memory 1 clean (At 6) ≡ false
-not_kept_takes_none = refl
-
--- and these find it always
-start_takes_none : takes_memory 1 clean (Start 3) ≡ false
-start_takes_none = refl
-
-abort_takes_none : takes_memory 1 (pending []) Abort ≡ false
-abort_takes_none = refl
-
-get_takes_none : takes_memory 1 clean (Get 8) ≡ false
-get_takes_none = refl
-
-len_takes_none : takes_memory 1 clean Len ≡ false
-len_takes_none = refl
-
-pruned_chunks_take_none : takes_memory 1 clean PrunedChunks ≡ false
-pruned_chunks_take_none = refl
+a_turn : turns (Some Pruned ∷ []) false (λ cost. anew cost) ≡ record {
+  refusals = Some Pruned ∷ [];
+  takes_memory = false;
+  answer = Done;
+  after = λ cost. anew cost;
+  touches = [];
+}
+a_turn = refl
 
 -- ---- replies
 
@@ -101,7 +110,7 @@ pruned_count : answer_of 1 clean PrunedChunks ≡ Number 1
 pruned_count = refl
 
 -- of a batch whose bitmap has another count, that count
-pending_count : answer_of 1 (record { current = behind_one []; pending = Some no_bits; history = []; costs = [] }) PrunedChunks ≡ Number 0
+pending_count : answer_of 1 (unkept (behind_one []) (record { pruned = 0; bits = [] })) PrunedChunks ≡ Number 0
 pending_count = refl
 
 -- position 9 without a batch, and in one that has set it
@@ -116,7 +125,10 @@ set_positions : answer_of 1 clean (Ones 0 99) ≡ Positions (Some (8 ∷ []))
 set_positions = refl
 
 -- one pruned chunk, two bits, and the byte 1
-encoded : answer_of 1 clean Encode ≡ Bytes (Some (0 ∷ 0 ∷ 0 ∷ 0 ∷ 0 ∷ 0 ∷ 0 ∷ 1 ∷ 0 ∷ 0 ∷ 0 ∷ 0 ∷ 0 ∷ 0 ∷ 0 ∷ 2 ∷ 1 ∷ []))
+abbrev pub text_of_two : List ℕ
+text_of_two = 0 ∷ 0 ∷ 0 ∷ 0 ∷ 0 ∷ 0 ∷ 0 ∷ 1 ∷ 0 ∷ 0 ∷ 0 ∷ 0 ∷ 0 ∷ 0 ∷ 0 ∷ 2 ∷ 1 ∷ []
+
+encoded : answer_of 1 clean Encode ≡ Bytes (Some text_of_two)
 unfolding pruned_spelling spelling
 encoded = refl
 
@@ -128,16 +140,25 @@ not_kept : answer_of 1 clean (At 6) ≡ Snapshot None
 not_kept = refl
 
 -- these are done
-pushed : answer_of 1 (pending []) (Push true) ≡ Done
-pushed = refl
+start_done : answer_of 1 clean (Start 7) ≡ Done
+start_done = refl
 
-committed : answer_of 1 (pending []) (Commit 6) ≡ Done
-committed = refl
+begin_done : answer_of 1 clean Begin ≡ Done
+begin_done = refl
 
--- one pruned chunk and the bits 1, 0, 1 spelled, with two bytes behind them
-abbrev pub text_of_three : List ℕ
-text_of_three = 0 ∷ 0 ∷ 0 ∷ 0 ∷ 0 ∷ 0 ∷ 0 ∷ 1 ∷ 0 ∷ 0 ∷ 0 ∷ 0 ∷ 0 ∷ 0 ∷ 0 ∷ 3 ∷ 5 ∷ 77 ∷ 78 ∷ []
+push_done : answer_of 1 (pending []) (Push true) ≡ Done
+push_done = refl
 
+set_done : answer_of 1 (pending (true ∷ [])) (Set 8 false) ≡ Done
+set_done = refl
+
+commit_done : answer_of 1 (pending []) (Commit 6) ≡ Done
+commit_done = refl
+
+abort_done : answer_of 1 (pending []) Abort ≡ Done
+abort_done = refl
+
+-- the bits 1, 0, 1 behind one pruned chunk, and two bytes left
 pub read : decoded 1 text_of_three ≡ Read (behind_one (true ∷ false ∷ true ∷ [])) 2
 unfolding pruned_spelling spelling pruned_in bits_in
 read = refl
@@ -166,12 +187,17 @@ unfolding pruned_fault
 is_not_want_of_memory e = cc
 
 -- a decode replies so in a batch too
-decode_reply : (text : Vec ℕ) (range : RangeCfg) → text.items ≡ text_of_three → answer_of 1 (pending []) (Decode text range) ≡ Read (behind_one (true ∷ false ∷ true ∷ [])) 2
+decode_reply : (text : Vec ℕ) (range : RangeCfg)
+    → text.items ≡ text_of_three
+    → answer_of 1 (pending []) (Decode text range) ≡ Read (behind_one (true ∷ false ∷ true ∷ [])) 2
 decode_reply text range e = ap (decoded 1) e ∙ read
 
 -- ---- states
 
 -- seven chunks pruned, and all else gone
+seven_pruned : anew 7 ≡ record { current = record { pruned = 7; bits = [] }; pending = None; history = []; costs = [] }
+seven_pruned = refl
+
 started : state_after 1 clean (Start 7) 0 ≡ record { current = record { pruned = 7; bits = [] }; pending = None; history = []; costs = [] }
 started = refl
 
@@ -190,16 +216,42 @@ set_leaves : state_after 1 (pending (true ∷ false ∷ [])) (Set 9 true) 0 ≡ 
 set_leaves = refl
 
 -- a commit under 6 at a cost of 2: the pending bits are current, and kept behind what was kept
-commit_leaves : state_after 1 (pending (true ∷ [])) (Commit 6) 2 ≡ record { current = behind_one (true ∷ []); pending = None; history = (5, behind_one (true ∷ false ∷ [])) ∷ (6, behind_one (true ∷ [])) ∷ []; costs = (5, 1) ∷ (6, 2) ∷ [] }
+commit_leaves : state_after 1 (pending (true ∷ [])) (Commit 6) 2 ≡ record {
+  current = behind_one (true ∷ []);
+  pending = None;
+  history = (5, two_bits) ∷ (6, behind_one (true ∷ [])) ∷ [];
+  costs = (5, 1) ∷ (6, 2) ∷ [];
+}
 commit_leaves = refl
+
+-- without a batch it would keep the current bits
+committed_clean : committed clean 6 0 ≡ record {
+  current = two_bits;
+  pending = None;
+  history = (5, two_bits) ∷ (6, two_bits) ∷ [];
+  costs = (5, 1) ∷ (6, 0) ∷ [];
+}
+committed_clean = refl
 
 -- an abort leaves what was there before the batch
 abort_leaves : state_after 1 (pending (true ∷ [])) Abort 0 ≡ clean
 abort_leaves = refl
 
 -- a read changes nothing
+len_leaves : state_after 1 clean Len 0 ≡ clean
+len_leaves = refl
+
+pruned_chunks_leaves : state_after 1 clean PrunedChunks 0 ≡ clean
+pruned_chunks_leaves = refl
+
 get_leaves : state_after 1 clean (Get 8) 0 ≡ clean
 get_leaves = refl
+
+ones_leaves : state_after 1 clean (Ones 0 9) 0 ≡ clean
+ones_leaves = refl
+
+encode_leaves : state_after 1 clean Encode 0 ≡ clean
+encode_leaves = refl
 
 at_leaves : state_after 1 clean (At 5) 0 ≡ clean
 at_leaves = refl
@@ -257,14 +309,14 @@ up_to_two_chunks : popped_to_chunks 1 (pending (true ∷ true ∷ true ∷ true 
 up_to_two_chunks = refl
 
 -- from 16 down and up to 16 again, which is no fewer
-no_fewer : popped_to_chunks 1 (record { current = behind_one (replicate 8 true); pending = Some (behind_one (replicate 8 false)); history = []; costs = [] }) ≡ false
+no_fewer : popped_to_chunks 1 (unkept (behind_one (replicate 8 true)) (behind_one (replicate 8 false))) ≡ false
 no_fewer = refl
 
 -- from 17 down to 16, at width 1; of chunks of two bytes 32 are a whole one, and 24 are not
-down_to_two_chunks : popped_to_chunks 1 (record { current = behind_one (replicate 9 true); pending = Some (behind_one (replicate 8 true)); history = []; costs = [] }) ≡ true
+down_to_two_chunks : popped_to_chunks 1 (unkept (behind_one (replicate 9 true)) (behind_one (replicate 8 true))) ≡ true
 down_to_two_chunks = refl
 
-down_within_a_wide_chunk : popped_to_chunks 2 (record { current = behind_one (replicate 9 true); pending = Some (behind_one (replicate 8 true)); history = []; costs = [] }) ≡ false
+down_within_a_wide_chunk : popped_to_chunks 2 (unkept (behind_one (replicate 9 true)) (behind_one (replicate 8 true))) ≡ false
 down_within_a_wide_chunk = refl
 
 -- the chunks 1 and 2 touched, one of them twice

@@ -6,11 +6,11 @@ use Rattle.bitmap_core.specs.PrunedBits.{PrunedBits}
 use Rattle.bitmap_core.specs.declared.bitmap.codec.error.CodecError.TheVariants as errors
 use Rattle.bitmap_core.specs.Reading.Fault.{EndOfBuffer, InvalidLength}
 use Rattle.replay.specs.declared.session.State.TheVariants as state
-use Rattle.replay.specs.declared.command.Refusal.TheVariants as refusal
-use Rattle.replay.specs.declared.command.Reply.TheVariants as reply
+use Rattle.replay.specs.declared.reply.Refusal.TheVariants as refusal
+use Rattle.replay.specs.declared.reply.Reply.TheVariants as reply
 use Rattle.replay.specs.Machine.{Done, Bit, Number, Positions, Bytes, Snapshot, Read, Refused, WrongMode, OutOfBounds, Pruned, TooLong, NoRetainedBit, ReservedCommitNumber, NonMonotonicCommit, PrunedChunksOverflow, Codec, NoMemory}
 use Rattle.replay.specs.Seen.{no_costs, reason, seen, said}
-use Rattle.replay.specs.Width.{IsWidth}
+use Rattle.replay.specs.Width.{IsOfferedWidth}
 
 -- a set bit, nothing pruned
 abbrev pub one_bit : PrunedBits
@@ -25,14 +25,27 @@ two_costs : no_costs ((3, one_bit) ∷ (7, none) ∷ []) ≡ (3, 0) ∷ (7, 0) �
 two_costs = refl
 
 -- a session without a batch, and one in a batch
-seen_clean : seen {N = 1} (state.Clean (record { current = one_bit; history = (3, none) ∷ [] })) ≡ record { state = record { current = one_bit; pending = None; history = (3, none) ∷ []; costs = (3, 0) ∷ [] }; touched = [] }
+seen_clean : seen {N = 1} (state.Clean (record { current = one_bit; history = (3, none) ∷ [] })) ≡ record {
+  state = record { current = one_bit; pending = None; history = (3, none) ∷ []; costs = (3, 0) ∷ [] };
+  touched = [];
+}
 seen_clean = refl
 
-seen_dirty : seen {N = 1} (state.Dirty (record { current = none; history = (3, none) ∷ []; pending = one_bit })) ≡ record { state = record { current = none; pending = Some one_bit; history = (3, none) ∷ []; costs = (3, 0) ∷ [] }; touched = [] }
+seen_dirty : seen {N = 1} (state.Dirty (record { current = none; history = (3, none) ∷ []; pending = one_bit })) ≡ record {
+  state = record { current = none; pending = Some one_bit; history = (3, none) ∷ []; costs = (3, 0) ∷ [] };
+  touched = [];
+}
 seen_dirty = refl
 
 -- refusals, one by one
-reasons : (reason refusal.WrongMode ≡ WrongMode) × (reason refusal.OutOfBounds ≡ OutOfBounds) × (reason refusal.Pruned ≡ Pruned) × (reason refusal.TooLong ≡ TooLong) × (reason refusal.NoRetainedBit ≡ NoRetainedBit) × (reason refusal.ReservedCommitNumber ≡ ReservedCommitNumber) × (reason refusal.PrunedChunksOverflow ≡ PrunedChunksOverflow) × (reason refusal.NoMemory ≡ NoMemory)
+reasons : (reason refusal.WrongMode ≡ WrongMode)
+    × (reason refusal.OutOfBounds ≡ OutOfBounds)
+    × (reason refusal.Pruned ≡ Pruned)
+    × (reason refusal.TooLong ≡ TooLong)
+    × (reason refusal.NoRetainedBit ≡ NoRetainedBit)
+    × (reason refusal.ReservedCommitNumber ≡ ReservedCommitNumber)
+    × (reason refusal.PrunedChunksOverflow ≡ PrunedChunksOverflow)
+    × (reason refusal.NoMemory ≡ NoMemory)
 reasons = (refl, refl, refl, refl, refl, refl, refl, refl)
 
 -- the kept number comes first, and then the one that was tried
@@ -78,23 +91,23 @@ said_refused : said {N = 1} (reply.Refused refusal.Pruned) ≡ Refused Pruned
 said_refused = refl
 
 -- 1, 3, 4, 8 and 32 are widths
-one : IsWidth 1
+one : IsOfferedWidth 1
 one = inl refl
 
-three : IsWidth 3
+three : IsOfferedWidth 3
 three = inr (inl refl)
 
-four : IsWidth 4
+four : IsOfferedWidth 4
 four = inr (inr (inl refl))
 
-eight : IsWidth 8
+eight : IsOfferedWidth 8
 eight = inr (inr (inr (inl refl)))
 
-thirty_two : IsWidth 32
+thirty_two : IsOfferedWidth 32
 thirty_two = inr (inr (inr (inr refl)))
 
 -- 2 is none
-not_two : IsWidth 2 → ⊥
+not_two : IsOfferedWidth 2 → ⊥
 not_two (inl e) = omega (arith, e)
 not_two (inr (inl e)) = omega (arith, e)
 not_two (inr (inr (inl e))) = omega (arith, e)

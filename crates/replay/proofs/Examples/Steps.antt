@@ -5,14 +5,13 @@ use Rattle.std.proofs.Common.{refl, ap, sym, ◌∙◌, inl, inr, arith}
 use Rattle.std.proofs.lemmas.Bool.{false≢true}
 use Rattle.bitmap_core.specs.PrunedBits.{PrunedBits}
 use Rattle.bitmap_core.specs.declared.bitmap.codec.range.RangeCfg.{RangeCfg}
-use Rattle.bitmap_core.specs.Reading.{admits, pruned_fault}
 use Rattle.bitmap_core.specs.Reading.Fault.{EndOfBuffer}
 use Rattle.replay.specs.declared.command.Command.{Command}
 use Rattle.replay.specs.declared.command.Command.TheVariants.{Begin, Push, Pop, Set, Commit, Len, Ones, At, Decode}
 use Rattle.replay.specs.History.{History}
-use Rattle.replay.specs.Machine.{State, Machine, start, Done, Bit, Number, Positions, Snapshot, Read, Refused, WrongMode, NonMonotonicCommit, Codec, NoMemory, Step, Run, Agrees, RunsOn, decoded}
-use Rattle.replay.proofs.Examples.Replies.{behind_one, text_of_three, read}
-use Rattle.replay.proofs.Examples.Refusals.{no_bytes}
+use Rattle.replay.specs.Machine.{State, Machine, Answer, first_machine, Done, Bit, Number, Positions, Snapshot, Read, Refused, WrongMode, NonMonotonicCommit, Codec, NoMemory, Step, Run, Agrees, RunsOn, decoded}
+use Rattle.replay.proofs.Examples.Refusals.{text_of_three, three_alone, no_bytes, admitted, of_bytes}
+use Rattle.replay.proofs.Examples.Replies.{behind_one, read}
 
 -- some bits, nothing pruned
 abbrev pub plain : List Bool → PrunedBits
@@ -24,14 +23,25 @@ clean current history costs = record { state = record { current = current; pendi
 
 -- a batch
 abbrev pub batch : PrunedBits → PrunedBits → History → List (ℕ × ℕ) → List ℕ → Machine
-batch current pending history costs touched = record { state = record { current = current; pending = Some pending; history = history; costs = costs }; touched = touched }
+batch current pending history costs touched = record {
+  state = record { current = current; pending = Some pending; history = history; costs = costs };
+  touched = touched;
+}
 
 -- two bits pushed and committed under 1
 abbrev pub first_commit : List (Command 1)
 first_commit = Begin ∷ Push true ∷ Push false ∷ Commit 1 ∷ []
 
+-- bits 1, 0
+abbrev pub one_zero : PrunedBits
+one_zero = plain (true ∷ false ∷ [])
+
+-- they are kept under 1, at the cost of one entry
+abbrev pub one_kept : Machine
+one_kept = clean one_zero ((1, one_zero) ∷ []) ((1, 1) ∷ [])
+
 -- each command is done, and the commit costs one entry: the chunk that both bits stand in
-first_run : Run 1 start first_commit (Done ∷ Done ∷ Done ∷ Done ∷ []) (clean (plain (true ∷ false ∷ [])) ((1, plain (true ∷ false ∷ [])) ∷ []) ((1, 1) ∷ []))
+first_run : Run 1 first_machine first_commit (Done ∷ Done ∷ Done ∷ Done ∷ []) one_kept
 first_run = (
   batch (plain []) (plain []) [] [] [],
   inl (refl, (0, omega arith, refl)),
@@ -42,7 +52,7 @@ first_run = (
       batch (plain []) (plain (true ∷ false ∷ [])) [] [] (0 ∷ 0 ∷ []),
       inl (refl, (0, omega arith, refl)),
       (
-        clean (plain (true ∷ false ∷ [])) ((1, plain (true ∷ false ∷ [])) ∷ []) ((1, 1) ∷ []),
+        one_kept,
         inl (refl, (1, omega arith, refl)),
         refl,
       ),
@@ -50,20 +60,26 @@ first_run = (
   ),
 )
 
--- bits 1, 0 kept under 1
-abbrev pub one_kept : Machine
-one_kept = clean (plain (true ∷ false ∷ [])) ((1, plain (true ∷ false ∷ [])) ∷ []) ((1, 1) ∷ [])
-
 -- a batch on them
 abbrev pub batch_on_it : List Bool → List ℕ → Machine
-batch_on_it v touched = batch (plain (true ∷ false ∷ [])) (plain v) ((1, plain (true ∷ false ∷ [])) ∷ []) ((1, 1) ∷ []) touched
+batch_on_it v touched = batch one_zero (plain v) ((1, one_zero) ∷ []) ((1, 1) ∷ []) touched
 
--- the first bit cleared in a batch, and kept under 2 besides
+-- other bits are current, and kept under 2 besides, at some cost
+abbrev pub kept_besides : List Bool → ℕ → Machine
+kept_besides v cost = clean (plain v) ((1, one_zero) ∷ (2, plain v) ∷ []) ((1, 1) ∷ (2, cost) ∷ [])
+
+-- the first bit cleared in a batch, and kept under 2 at no cost
 abbrev pub two_kept : Machine
-two_kept = clean (plain (false ∷ false ∷ [])) ((1, plain (true ∷ false ∷ [])) ∷ (2, plain (false ∷ false ∷ [])) ∷ []) ((1, 1) ∷ (2, 0) ∷ [])
+two_kept = kept_besides (false ∷ false ∷ []) 0
 
 -- a second batch: a bit cleared, one pushed and popped, a number refused that is kept, and a commit that costs nothing
-second_run : Run 1 one_kept (Begin ∷ Set 0 false ∷ Push true ∷ Pop ∷ Commit 1 ∷ Commit 2 ∷ []) (Done ∷ Done ∷ Done ∷ Bit true ∷ Refused (NonMonotonicCommit 1 1) ∷ Done ∷ []) two_kept
+abbrev pub second_batch : List (Command 1)
+second_batch = Begin ∷ Set 0 false ∷ Push true ∷ Pop ∷ Commit 1 ∷ Commit 2 ∷ []
+
+abbrev pub second_answers : List Answer
+second_answers = Done ∷ Done ∷ Done ∷ Bit true ∷ Refused (NonMonotonicCommit 1 1) ∷ Done ∷ []
+
+second_run : Run 1 one_kept second_batch second_answers two_kept
 second_run = (
   batch_on_it (true ∷ false ∷ []) [],
   inl (refl, (0, omega arith, refl)),
@@ -87,7 +103,20 @@ second_run = (
 )
 
 -- reads of both commits, of one that is not there, of set positions and of the length; a push outside a batch
-third_run : Run 1 two_kept (At 1 ∷ At 2 ∷ At 3 ∷ Ones 0 9 ∷ Len ∷ Push true ∷ []) (Snapshot (Some (plain (true ∷ false ∷ []))) ∷ Snapshot (Some (plain (false ∷ false ∷ []))) ∷ Snapshot None ∷ Positions (Some []) ∷ Number 2 ∷ Refused WrongMode ∷ []) two_kept
+abbrev pub reads : List (Command 1)
+reads = At 1 ∷ At 2 ∷ At 3 ∷ Ones 0 9 ∷ Len ∷ Push true ∷ []
+
+abbrev pub read_answers : List Answer
+read_answers =
+    Snapshot (Some one_zero)
+    ∷ Snapshot (Some (plain (false ∷ false ∷ [])))
+    ∷ Snapshot None
+    ∷ Positions (Some [])
+    ∷ Number 2
+    ∷ Refused WrongMode
+    ∷ []
+
+third_run : Run 1 two_kept reads read_answers two_kept
 third_run = (
   two_kept,
   inl (refl, (0, omega arith, refl)),
@@ -129,35 +158,35 @@ begin_in_a_batch : Step 1 (batch_on_it (true ∷ []) []) Begin Done (batch_on_it
 begin_in_a_batch r = let e = r.0 in cc
 
 -- a refused command does not leave another machine
-refused_and_changed : Step 1 one_kept (Push true) (Refused WrongMode) start → ⊥
+refused_and_changed : Step 1 one_kept (Push true) (Refused WrongMode) first_machine → ⊥
 refused_and_changed r = let e : ◌≡◌ {A = ℕ} 0 1 = ap (λ (m : Machine). length m.state.history) r.1 in omega (arith, e)
 
 -- one touched chunk may cost one entry, and not two
-dear_commit : Step 1 (batch_on_it (false ∷ []) (0 ∷ [])) (Commit 2) Done (clean (plain (false ∷ [])) ((1, plain (true ∷ false ∷ [])) ∷ (2, plain (false ∷ [])) ∷ []) ((1, 1) ∷ (2, 2) ∷ [])) → ⊥
+dear_commit : Step 1 (batch_on_it (false ∷ []) (0 ∷ [])) (Commit 2) Done (kept_besides (false ∷ []) 2) → ⊥
 dear_commit (inl a) = let e : 2 ≡ a.1.0 = ap (λ (m : Machine). slice_index (map (λ c. c.1) m.state.costs) 1) a.1.2 in omega (arith, a.1.1, e)
 dear_commit (inr m) = let e = m.1.0 in cc
 
 -- with two bits popped down to no chunk, one touched chunk may cost two
-plus_one : Step 1 (batch_on_it [] (0 ∷ 0 ∷ [])) (Commit 2) Done (clean (plain []) ((1, plain (true ∷ false ∷ [])) ∷ (2, plain []) ∷ []) ((1, 1) ∷ (2, 2) ∷ []))
+plus_one : Step 1 (batch_on_it [] (0 ∷ 0 ∷ [])) (Commit 2) Done (kept_besides [] 2)
 plus_one = inl (refl, (2, omega arith, refl))
 
--- its number of bits is 3, which the range admits
-sound : pruned_fault 1 (admits (record { low = 3; high = 3 })) text_of_three ≡ None
-unfolding pruned_fault
-sound = refl
-
 -- a text without fault is read, its last two bytes left, and one without bytes is refused
-three_are_read : (text : Vec ℕ) → text.items ≡ text_of_three → Step 1 one_kept (Decode text (record { low = 3; high = 3 })) (Read (behind_one (true ∷ false ∷ true ∷ [])) 2) one_kept
-three_are_read text e = let f : pruned_fault 1 (admits (record { low = 3; high = 3 })) text.items ≡ None = ap (pruned_fault 1 (admits (record { low = 3; high = 3 }))) e ∙ sound in rw f (inl (sym (ap (decoded 1) e ∙ read), (0, omega arith, refl)))
+three_are_read : (text : Vec ℕ)
+    → text.items ≡ text_of_three
+    → Step 1 one_kept (Decode text three_alone) (Read (behind_one (true ∷ false ∷ true ∷ [])) 2) one_kept
+three_are_read text e =
+    rw (of_bytes three_alone text text_of_three e ∙ admitted) (inl (sym (ap (decoded 1) e ∙ read), (0, omega arith, refl)))
 
-nothing_is_read : (text : Vec ℕ) (range : RangeCfg) → text.items ≡ [] → Step 1 one_kept (Decode text range) (Refused (Codec (Some EndOfBuffer))) one_kept
-nothing_is_read text range e = let f : pruned_fault 1 (admits range) text.items ≡ Some EndOfBuffer = ap (pruned_fault 1 (admits range)) e ∙ no_bytes range in rw f (refl, refl)
+nothing_is_read : (text : Vec ℕ) (range : RangeCfg)
+    → text.items ≡ []
+    → Step 1 one_kept (Decode text range) (Refused (Codec (Some EndOfBuffer))) one_kept
+nothing_is_read text range e = rw (of_bytes range text [] e ∙ no_bytes range) (refl, refl)
 
 -- there is one answer a command
-missing_answer : Run 1 start (Begin ∷ []) [] start → ⊥
+missing_answer : Run 1 first_machine (Begin ∷ []) [] first_machine → ⊥
 missing_answer r = r
 
-answer_too_many : Run 1 start [] (Done ∷ []) start → ⊥
+answer_too_many : Run 1 first_machine [] (Done ∷ []) first_machine → ⊥
 answer_too_many r = r
 
 -- the empty run ends where it began

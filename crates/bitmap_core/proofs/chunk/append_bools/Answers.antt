@@ -1,5 +1,5 @@
 use Rattle.std.proofs.Common.{arith}
-use Rattle.bitmap_core.proofs.Packing.{bools-more}
+use Rattle.bitmap_core.proofs.Chunks.Packed.{bools-more}
 use Rattle.bitmap_core.proofs.chunk.append_bools.Goals as goal
 
 pub loop-i-preserved : goal.loop-i-preserved

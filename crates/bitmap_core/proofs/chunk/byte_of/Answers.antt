@@ -1,5 +1,5 @@
 use Rattle.std.proofs.Common.{arith}
-use Rattle.bitmap_core.proofs.Packing.{byte-more}
+use Rattle.bitmap_core.proofs.Chunks.Packed.{byte-more}
 use Rattle.bitmap_core.proofs.chunk.byte_of.Goals as goal
 
 pub loop-t-preserved : goal.loop-t-preserved

@@ -1,9 +1,15 @@
 use Rattle.std.proofs.Common.{arith}
-use Rattle.bitmap_core.proofs.ChunkBits.{cleared}
+use Rattle.bitmap_core.proofs.Chunks.Bits.{cleared}
 use Rattle.bitmap_core.proofs.chunk.clear_from.Goals as goal
 
 pub returns-clause-below : goal.returns-clause-below
-returns-clause-below g c = λ i. (cleared g.row.N c.args.chunk.now c.loop-j.chunk c.args.from c.requires.width.positive (λ k h s. c.loop-j.invariant.done k h (omega arith)) c.loop-j.invariant.here c.loop-j.invariant.kept i).0
+returns-clause-below g c = λ i.
+    let positive = c.requires.width.positive in
+    let loop = c.loop-j.invariant in
+    (cleared _ _ _ _ positive (λ k h s. loop.done k h (omega arith)) loop.here loop.kept i).0
 
 pub returns-clause-above : goal.returns-clause-above
-returns-clause-above g c = λ i. (cleared g.row.N c.args.chunk.now c.loop-j.chunk c.args.from c.requires.width.positive (λ k h s. c.loop-j.invariant.done k h (omega arith)) c.loop-j.invariant.here c.loop-j.invariant.kept i).1
+returns-clause-above g c = λ i.
+    let positive = c.requires.width.positive in
+    let loop = c.loop-j.invariant in
+    (cleared _ _ _ _ positive (λ k h s. loop.done k h (omega arith)) loop.here loop.kept i).1

@@ -1,6 +1,6 @@
 use Rattle.std.proofs.Common.{◌∙◌}
-use Rattle.bitmap_core.proofs.ByteBits.{bit_flip_here, bit_flip_other}
-use Rattle.bitmap_core.proofs.ChunkBits.{chunk_bit-set_here, chunk_bit-set_other}
+use Rattle.bitmap_core.proofs.Bytes.Bits.{bit_flip_here, bit_flip_other}
+use Rattle.bitmap_core.proofs.Chunks.Bits.{chunk_bit-set_here, chunk_bit-set_other}
 use Rattle.bitmap_core.proofs.chunk.flip_bit.Goals as goal
 
 pub returns : goal.returns

@@ -1,4 +1,4 @@
-use Rattle.bitmap_core.proofs.ByteBits.{bit_test}
+use Rattle.bitmap_core.proofs.Bytes.Bits.{bit_test}
 use Rattle.bitmap_core.proofs.chunk.get_bit.Goals as goal
 
 pub returns : goal.returns

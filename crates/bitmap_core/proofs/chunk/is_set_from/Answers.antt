@@ -1,7 +1,7 @@
 use Rattle.std.proofs.Common.{ap, not, arith, ◌*◌, ◌∙◌}
 use Rattle.std.specs.List.{list_all, slice_range}
 use Rattle.bitmap_core.specs.Chunk.{chunk_bits}
-use Rattle.bitmap_core.proofs.PlaceTests.{some_chunk_slice}
+use Rattle.bitmap_core.proofs.Counting.Tests.{some_chunk_slice}
 use Rattle.bitmap_core.proofs.chunk.is_set_from.Goals as goal
 
 pub returns : goal.returns

@@ -1,9 +1,10 @@
 //! Every chunk of a deque.
 
-ghost use Rattle.std.specs.Prelude.{◌≡◌, ℕ, ◌+◌, ◌*◌, ◌/◌, ◌<◌, ◌≤◌, ◌++◌, length, not};
+ghost use Rattle.std.specs.Prelude.{◌≡◌, ℕ, ◌+◌, ◌*◌, ◌/◌, ◌<◌, ◌≤◌, [], ◌++◌, length, not, slice_index_or};
 ghost use Rattle.std.specs.Bool.{Decides};
 ghost use Rattle.std.specs.List.{fold};
 ghost use Rattle.bitmap_core.specs.Bits.{bit_of, AreChunks};
+ghost use Rattle.bitmap_core.specs.Chunk.{chunk_bit};
 ghost use Rattle.bitmap_core.specs.Combined.{IsCombined};
 
 use crate::bitmap::deque::runs::slices;
@@ -18,8 +19,33 @@ pub fn flip<const N: usize>(chunks: &mut VecDeque<[u8; N]>)
     ensures count { length chunks.new.items ≡ length chunks.old.items }
     ensures bits { (k : ℕ) → k / (8 * N) < length chunks.old.items → bit_of N chunks.new.items k ≡ not (bit_of N chunks.old.items k) }
 {
-    for chunk in chunks.make_contiguous().iter_mut() {
-        whole::flip(chunk);
+    flip_slice(chunks.make_contiguous());
+}
+
+// Sixteen chunks a turn, a number that the compiler sees, so that the bytes of small chunks are inverted together.
+fn flip_slice<const N: usize>(chunks: &mut [[u8; N]])
+    requires { 0 < N }
+    ensures count { length chunks.new ≡ length chunks.old }
+    ensures bits { (k : ℕ) → k < length chunks.old → (t : ℕ) → chunk_bit N (slice_index_or chunks.new k []) t ≡ not (chunk_bit N (slice_index_or chunks.old k []) t) }
+{
+    let groups = chunks.len() / 16;
+    for i in 0..groups {
+        flip_some(chunks, 16 * i, 16);
+    }
+    flip_some(chunks, 16 * groups, chunks.len() - 16 * groups);
+}
+
+// Inverts every bit of `count` chunks from the index `from` on.
+fn flip_some<const N: usize>(chunks: &mut [[u8; N]], from: usize, count: usize)
+    requires positive { 0 < N }
+    requires within { from + count ≤ length chunks.old }
+    ensures count { length chunks.new ≡ length chunks.old }
+    ensures bits { (k : ℕ) → from ≤ k → k < from + count → (t : ℕ) → chunk_bit N (slice_index_or chunks.new k []) t ≡ not (chunk_bit N (slice_index_or chunks.old k []) t) }
+    ensures below { (k : ℕ) → k < from → slice_index_or chunks.new k [] ≡ slice_index_or chunks.old k [] }
+    ensures above { (k : ℕ) → from + count ≤ k → slice_index_or chunks.new k [] ≡ slice_index_or chunks.old k [] }
+{
+    for i in from..from + count {
+        whole::flip(&mut chunks[i]);
     }
 }
 
@@ -49,13 +75,32 @@ pub fn combine<B: Bitwise, const N: usize>(
     combine_slices::<B, N>(tail, back);
 }
 
+// Sixteen chunks a turn, as `flip_slice` goes.
 fn combine_slices<B: Bitwise, const N: usize>(chunks: &mut [[u8; N]], others: &[[u8; N]])
     requires positive { 0 < N }
     requires same { length chunks.old ≡ length others.now }
     ensures { IsCombined N B.gives chunks.old others.now chunks.new }
 {
-    for i in 0..chunks.len() {
-        whole::combine::<B, N>(&mut chunks[i], &others[i]);
+    let groups = chunks.len() / 16;
+    for i in 0..groups {
+        // A copy, so that no write can be taken for one to the others: all sixteen are combined at once.
+        let theirs: [[u8; N]; 16] = others[16 * i..16 * i + 16].try_into().unwrap();
+        combine_some::<B, N>(chunks, &theirs, 16 * i);
+    }
+    combine_some::<B, N>(chunks, &others[16 * groups..], 16 * groups);
+}
+
+// Combines the chunks from the index `from` on with the others, as many as these are.
+fn combine_some<B: Bitwise, const N: usize>(chunks: &mut [[u8; N]], others: &[[u8; N]], from: usize)
+    requires positive { 0 < N }
+    requires within { from + length others.now ≤ length chunks.old }
+    ensures count { length chunks.new ≡ length chunks.old }
+    ensures bits { (k : ℕ) → k < length others.now → (t : ℕ) → chunk_bit N (slice_index_or chunks.new (from + k) []) t ≡ B.gives (chunk_bit N (slice_index_or chunks.old (from + k) []) t) (chunk_bit N (slice_index_or others.now k []) t) }
+    ensures below { (k : ℕ) → k < from → slice_index_or chunks.new k [] ≡ slice_index_or chunks.old k [] }
+    ensures above { (k : ℕ) → from + length others.now ≤ k → slice_index_or chunks.new k [] ≡ slice_index_or chunks.old k [] }
+{
+    for i in 0..others.len() {
+        whole::combine::<B, N>(&mut chunks[from + i], &others[i]);
     }
 }
 

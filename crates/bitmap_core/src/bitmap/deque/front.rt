@@ -8,6 +8,9 @@ use crate::chunk::facts::from_own_bits;
 use std::alloc::AllocError;
 use std::collections::VecDeque;
 
+// How many chunks are dropped one by one, which is faster for a few of them.
+const FEW: usize = 8;
+
 // The chunk at an index.
 pub fn chunk_at<const N: usize>(chunks: &VecDeque<[u8; N]>, index: usize) -> &[u8; N]
     requires { index < length chunks.now.items }
@@ -30,6 +33,10 @@ pub fn drop_front<const N: usize>(chunks: &mut VecDeque<[u8; N]>, count: usize)
     requires { count ≤ length chunks.old.items }
     ensures { chunks.new.items ≡ drop count chunks.old.items }
 {
+    if count > FEW {
+        drop(chunks.drain(..count));
+        return;
+    }
     for _ in 0..count {
         let _ = chunks.pop_front();
     }

@@ -1,6 +1,6 @@
 //! A dense bitmap as its readers see it.
 
-ghost use Rattle.std.specs.Prelude.{◌≡◌, ◌≤◌, false, length, slice_index_or};
+ghost use Rattle.std.specs.Prelude.{◌≤◌};
 ghost use Rattle.std.specs.List.{filter, range_with_len};
 ghost use Rattle.bitmap_core.specs.Meaning.{words_between};
 

@@ -38,7 +38,7 @@ struct Cursor<const N: usize> {
 }
 
 impl<'a, B: Readable<N>, const N: usize> Model for OnesIter<'a, B, N> {
-    ghost use Rattle.bitmap_core.specs.Meaning.{IsScan, IsCut, Scan, left_from, words_between};
+    ghost use Rattle.bitmap_core.specs.Meaning.{IsIterating, Scan, left_from, words_between};
 
     ghost Value = { Scan };
 
@@ -48,7 +48,7 @@ impl<'a, B: Readable<N>, const N: usize> Model for OnesIter<'a, B, N> {
       words = words_between N s.cursor.first s.end;
     } };
 
-    ghost invariant = { λ s. IsScan N (B.meaning s.readable.now) s.cursor.base s.end s.cursor.chunk s.cursor.loads s.cursor.first × IsCut s.cursor.base s.cursor.word s.end };
+    ghost invariant = { λ s. IsIterating N (B.meaning s.readable.now) s.cursor.base s.cursor.word s.end s.cursor.chunk s.cursor.loads s.cursor.first };
 }
 
 // The word at `base` of its chunk, with zeros from the end of the chunk and from `end` on. Each call counts as one load.
@@ -131,6 +131,7 @@ impl<'a, B: Readable<N>, const N: usize> OnesIter<'a, B, N> {
         ensures lawful { IsLawful N (B.meaning readable.now) }
         ensures words { result.words ≡ words N (B.meaning readable.now) range.start range.end }
         ensures loads { result.loads ≤ result.words }
+        ensures bound { length result.left < 2 ^ 64 }
     {
         let end = range.end.min(readable.len());
         let position = range.start.max(readable.pruned_bits());

@@ -1,62 +1,444 @@
-//! The edits that a batch has pending.
+//! The edits of a batch that are pending.
 
-ghost use Rattle.std.specs.Prelude.{◌≡◌, IfOk};
-ghost use Rattle.bitmap_core.specs.Chunk.{IsWidth};
-ghost use Rattle.historical_bitmap.specs.Pending.{unedited};
+ghost use Rattle.std.specs.Prelude.{◌≡◌, ℕ, ◌+◌, ◌-◌, ◌*◌, ◌/◌, ◌%◌, ◌^◌, ◌<◌, ◌≤◌, ◌++◌, List, length, map, true, false, if◌then◌else◌, nat_lt, IfOk, MatchOption, None, OnOk, OnErr, IsOk, IsSome, nat_eq, unwrap_or, slice_index, [], vec_len, vec_capacity};
+ghost use Rattle.std.specs.List.{range_with_len};
+ghost use Rattle.std.specs.List.Sorted.{IsStrictlySortedBy};
+ghost use Rattle.std.specs.Map.{keys_of, lookup};
+ghost use Rattle.std.specs.Option.{option_map};
+ghost use Rattle.std.specs.Ordering.{nat_cmp};
+ghost use Rattle.std.specs.Set.{distinct_count};
+ghost use Rattle.bitmap_core.specs.Chunk.{bit_in, byte_bits, chunk_bit, chunk_bits, IsChunk, IsWidth};
+ghost use Rattle.bitmap_core.specs.PrunedBits.{PrunedBits, bit_at, bit_len, chunk, HasBit, pruned_bits, truncated};
+ghost use Rattle.historical_bitmap.specs.Edits.{from_to};
+ghost use Rattle.historical_bitmap.specs.Pending.{Appends, diff_of, edited_chunk, IsNextMember, layer_marks, LayerFits, old_chunk, pending_bits, pending_chunk, Pops, Prunes, ReversesLayer, run_bits, unedited, Writes};
+ghost use Rattle.historical_bitmap.specs.Record.{LeadsBack};
+ghost use Rattle.historical_bitmap.specs.Stored.{diff_value};
+ghost use Rattle.historical_bitmap.specs.Undo.{CanUndo};
 
-use bitmap_core::bitmap::Prunable;
+use crate::bitmap::historical::edited::{EditedChunks, known, replace_bit};
+use crate::bitmap::historical::record::{ChunkDiff, CommitDiff};
+use bitmap_core::bitmap::prunable::Prunable;
+use bitmap_core::chunk::join::{chunk_from, join};
+use bitmap_core::chunk::{chunk_index, chunk_width, clear_from, get_bit};
 use std::alloc::{AllocError, Global};
 use std::collections::BTreeMap;
 use std::marker::Model;
 
-/// Edits are pending.
+/// Edits are pending: the length and the number of pruned chunks that they leave, the chunks that they edit, and the old bytes of those that they prune.
 #[derive(Debug, Drop)]
 pub struct Dirty<const N: usize> {
     len: u64,
     pruned: usize,
-    edited: BTreeMap<usize, [u8; N]>,
+    edited: EditedChunks<N>,
     captured: Vec<[u8; N]>,
     alloc: Global,
 }
 
 impl<const N: usize> Model for Dirty<N> {
-    ghost use Rattle.historical_bitmap.specs.Pending.{Layer};
     ghost use Rattle.bitmap_core.specs.Chunk.{IsWidth};
+    ghost use Rattle.historical_bitmap.specs.Pending.{Layer};
 
     ghost Value = { Layer };
 
-    ghost view = { λ d. record { len = d.len; pruned = d.pruned; edited = d.edited.entries; captured = d.captured.items } };
+    ghost view = { λ d. record { len = d.len; pruned = d.pruned; edited = d.edited; captured = d.captured.items } };
 
-    ghost invariant = { λ _. IsWidth N };
+    ghost invariant = { λ d. IsWidth N };
+}
+
+// Clears the bits of a chunk from bit `from` on.
+fn cut<const N: usize>(bytes: &mut [u8; N], from: u64)
+    requires width { IsWidth N }
+    ensures known { IsChunk N bytes.new }
+    ensures bits { (k : ℕ) → chunk_bit N bytes.new k ≡ (if nat_lt (k % (8 * N)) from then chunk_bit N bytes.old k else false) }
+{
+    if from < chunk_width::<N>() {
+        clear_from(bytes, from);
+    }
+    known(bytes);
+}
+
+// Chunk i of the current bitmap, with the bits from `len` on cleared.
+fn first_chunk<const N: usize>(current: &Prunable<N>, len: u64, i: usize) -> [u8; N]
+    requires from { current.now.pruned ≤ i }
+    requires fits { 8 * N * i < 2 ^ 64 }
+    ensures value { result ≡ chunk N (truncated N current.now len) i }
+    ensures known { IsChunk N result }
+{
+    let total = current.len();
+    let start = chunk_width::<N>() * i as u64;
+    let mut bytes = [0; N];
+    if start < total {
+        bytes = *current.get_chunk(i);
+    }
+    cut(&mut bytes, len.saturating_sub(start));
+    bytes
+}
+
+// The bytes of chunk i with the edits.
+fn chunk_with<const N: usize>(
+    edited: &EditedChunks<N>,
+    current: &Prunable<N>,
+    len: u64,
+    i: usize,
+) -> [u8; N]
+    requires from { current.now.pruned ≤ i }
+    requires fits { 8 * N * i < 2 ^ 64 }
+    ensures value { result ≡ unwrap_or (lookup (nat_eq i) edited.now) (chunk N (truncated N current.now len) i) }
+    ensures known { IsChunk N result }
+{
+    match edited.get(i) {
+        Some(bytes) => {
+            known(bytes);
+            *bytes
+        }
+        None => first_chunk(current, len, i),
+    }
+}
+
+// The bytes that a prune captures of chunk i.
+fn chunk_before<const N: usize>(
+    edited: &EditedChunks<N>,
+    current: &Prunable<N>,
+    len: u64,
+    i: usize,
+) -> [u8; N]
+    requires from { current.now.pruned ≤ i }
+    requires fits { 8 * N * i < 2 ^ 64 }
+    ensures { result ≡ old_chunk N current.now (record { len = len; pruned = 0; edited = edited.now; captured = [] }) i }
+{
+    let total = current.len();
+    if chunk_width::<N>() * (i as u64) < total {
+        *current.get_chunk(i)
+    } else {
+        chunk_with(edited, current, len, i)
+    }
+}
+
+// Captures the chunks from `from` up to `to`, for which there is room.
+fn capture<const N: usize>(
+    captured: &mut Vec<[u8; N]>,
+    edited: &EditedChunks<N>,
+    current: &Prunable<N>,
+    len: u64,
+    from: usize,
+    to: usize,
+)
+    requires low { current.now.pruned ≤ from }
+    requires rises { from ≤ to }
+    requires fits { 8 * N * to < 2 ^ 64 }
+    requires room { vec_len captured.old + (to - from) ≤ vec_capacity captured.old }
+    ensures { captured.new.items ≡ captured.old.items ++ map (old_chunk N current.now (record { len = len; pruned = 0; edited = edited.now; captured = [] })) (from_to from to) }
+{
+    let _ = current.len();
+    for i in from..to {
+        captured.push_reserved(chunk_before(edited, current, len, i));
+    }
 }
 
 impl<const N: usize> Dirty<N> {
-    // No edits of a bitmap. No memory.
+    // No edits. No memory.
     pub(crate) fn new(alloc: Global, current: &Prunable<N>) -> Self
         ensures { result ≡ unedited N current.now }
     {
         Dirty {
             len: current.len(),
             pruned: current.pruned_chunks(),
-            edited: BTreeMap::new(alloc),
+            edited: EditedChunks::new(alloc),
             captured: Vec::new(alloc),
             alloc,
         }
     }
 
-    // Where memory is taken from.
+    // The length that the edits leave.
+    pub(crate) fn len(&self) -> u64
+        ensures value { result ≡ self.now.len }
+        ensures width { IsWidth N }
+        ensures bound { self.now.len < 2 ^ 64 }
+    {
+        self.len
+    }
+
+    // The number of pruned chunks that the edits leave.
+    pub(crate) fn pruned_chunks(&self) -> usize
+        ensures value { result ≡ self.now.pruned }
+    {
+        self.pruned
+    }
+
+    // The allocator.
     pub(crate) fn allocator(&self) -> Global {
         self.alloc
     }
 
-    // The same edits. Takes memory for their chunks, and errs where that is refused.
+    // The bytes of chunk i with the edits.
+    pub(crate) fn chunk(&self, current: &Prunable<N>, i: usize) -> [u8; N]
+        requires from { current.now.pruned ≤ i }
+        requires fits { 8 * N * i < 2 ^ 64 }
+        ensures value { result ≡ pending_chunk N current.now self.now i }
+        ensures known { IsChunk N result }
+    {
+        chunk_with(&self.edited, current, self.len, i)
+    }
+
+    // The bit at a position that the edits leave retained.
+    pub(crate) fn get_bit(&self, current: &Prunable<N>, k: u64) -> bool
+        requires layer { LayerFits N current.now self.now }
+        requires retained { HasBit N (pending_bits N current.now self.now) k }
+        ensures { result ≡ bit_at N (pending_bits N current.now self.now) k }
+    {
+        match self.edited.get(chunk_index::<N>(k)) {
+            Some(bytes) => get_bit(bytes, k),
+            None => current.get_bit(k),
+        }
+    }
+
+    // Writes bit k in its chunk. Where that is edited it takes no memory, and succeeds.
+    pub(crate) fn write(
+        &mut self,
+        current: &Prunable<N>,
+        k: u64,
+        value: bool,
+    ) -> Result<(), AllocError>
+        requires low { pruned_bits N current.now ≤ k }
+        ensures ok { OnOk result (Writes N current.now self.old k value self.old.len self.new) }
+        ensures err { OnErr result (self.new ≡ self.old) }
+        ensures edited { IsSome (edited_chunk self.old (k / (8 * N))) → IsOk result }
+    {
+        let len = self.len;
+        let i = chunk_index::<N>(k);
+        if self.edited.replace_bit(i, k, value).is_some() {
+            return Ok(());
+        }
+        let mut bytes = first_chunk(current, len, i);
+        let _ = replace_bit(&mut bytes, k, value);
+        self.edited.write(i, bytes)?;
+        Ok(())
+    }
+
+    // Appends a bit. Where its chunk is edited it takes no memory, and succeeds.
+    pub(crate) fn push(&mut self, current: &Prunable<N>, value: bool) -> Result<(), AllocError>
+        requires low { pruned_bits N current.now ≤ self.old.len }
+        requires fits { self.old.len + 1 < 2 ^ 64 }
+        ensures ok { OnOk result (Writes N current.now self.old self.old.len value (self.old.len + 1) self.new) }
+        ensures err { OnErr result (self.new ≡ self.old) }
+        ensures edited { IsSome (edited_chunk self.old (self.old.len / (8 * N))) → IsOk result }
+    {
+        let len = self.len();
+        self.write(current, len, value)?;
+        self.len = len + 1;
+        Ok(())
+    }
+
+    // Takes the last bit off, and answers it where its chunk is edited. No memory.
+    pub(crate) fn pop(&mut self) -> Option<bool>
+        requires some { 0 < self.old.len }
+        ensures pops { Pops N self.old self.new }
+        ensures bit { result ≡ option_map (λ bytes. chunk_bit N bytes (self.old.len - 1)) (edited_chunk self.old ((self.old.len - 1) / (8 * N))) }
+    {
+        let last = self.len - 1;
+        let i = chunk_index::<N>(last);
+        self.len = last;
+        if last % chunk_width::<N>() == 0 {
+            return match self.edited.remove(i) {
+                Some(bytes) => Some(get_bit(&bytes, last)),
+                None => None,
+            };
+        }
+        self.edited.replace_bit(i, last, false)
+    }
+
+    // Prunes the chunks before chunk q, and keeps their old bytes: of all of them or, refused, of none.
+    pub(crate) fn prune(&mut self, current: &Prunable<N>, q: usize) -> Result<(), AllocError>
+        requires from { current.now.pruned ≤ self.old.pruned }
+        requires fits { 8 * N * q < 2 ^ 64 }
+        ensures ok { OnOk result (Prunes N current.now self.old q self.new) }
+        ensures err { OnErr result (self.new ≡ self.old) }
+        ensures nothing { q ≤ self.old.pruned → IsOk result }
+    {
+        let first = self.pruned;
+        if q <= first {
+            return Ok(());
+        }
+        self.captured.reserve(q - first)?;
+        capture(
+            &mut self.captured,
+            &self.edited,
+            current,
+            self.len,
+            first,
+            q,
+        );
+        self.pruned = q;
+        Ok(())
+    }
+
+    // Appends the bits of some bytes, at most a chunk, at any length: to all the chunks that take them or, refused, to none.
+    // Where all stay in an edited chunk it takes no memory, and succeeds.
+    fn append(&mut self, current: &Prunable<N>, bytes: &[u8]) -> Result<(), AllocError>
+        requires layer { LayerFits N current.now self.old }
+        requires some { 0 < length bytes.now }
+        requires short { length bytes.now ≤ N }
+        requires fits { self.old.len + 8 * length bytes.now < 2 ^ 64 }
+        ensures ok { OnOk result (Appends N current.now self.old (run_bits bytes.now) self.new) }
+        ensures err { OnErr result (self.new ≡ self.old) }
+        ensures edited { IsSome (edited_chunk self.old (self.old.len / (8 * N))) → self.old.len % (8 * N) + 8 * length bytes.now ≤ 8 * N → IsOk result }
+    {
+        let len = self.len();
+        let count = 8 * bytes.len() as u64;
+        let first = chunk_index::<N>(len);
+        let room = chunk_width::<N>() - len % chunk_width::<N>();
+        let mut begun = self.chunk(current, first);
+        join(&mut begun, len, bytes, &[]);
+        known(&begun);
+        if count <= room {
+            self.edited.write(first, begun)?;
+            self.len = len + count;
+            return Ok(());
+        }
+        let rest = chunk_from(bytes, &[], room);
+        known(&rest);
+        self.edited.write_two(first, begun, rest)?;
+        self.len = len + count;
+        Ok(())
+    }
+
+    // Appends a byte at a multiple of 8 to the chunk of the length, where that is held, and answers whether it did. No memory.
+    fn put_byte(&mut self, byte: u8) -> bool
+        requires fits { self.old.len + 8 < 2 ^ 64 }
+        ensures done { result ≡ true → (b : PrunedBits) → LayerFits N b self.old → Appends N b self.old (byte_bits byte) self.new }
+        ensures other { result ≡ false → self.new ≡ self.old }
+    {
+        let len = self.len;
+        if len % 8 != 0 {
+            return false;
+        }
+        if !self.edited.replace_byte(chunk_index::<N>(len), len, byte) {
+            return false;
+        }
+        self.len = len + 8;
+        true
+    }
+
+    // Appends the eight bits of a byte, the lowest first, at any length. Where all stay in an edited chunk it takes no memory, and succeeds.
+    pub(crate) fn push_byte(&mut self, current: &Prunable<N>, byte: u8) -> Result<(), AllocError>
+        requires layer { LayerFits N current.now self.old }
+        requires fits { self.old.len + 8 < 2 ^ 64 }
+        ensures ok { OnOk result (Appends N current.now self.old (byte_bits byte) self.new) }
+        ensures err { OnErr result (self.new ≡ self.old) }
+        ensures edited { IsSome (edited_chunk self.old (self.old.len / (8 * N))) → self.old.len % (8 * N) + 8 ≤ 8 * N → IsOk result }
+    {
+        let _ = self.len();
+        if self.put_byte(byte) {
+            return Ok(());
+        }
+        self.append(current, &[byte])
+    }
+
+    // Appends the bits of a chunk, at any length.
+    pub(crate) fn push_chunk(
+        &mut self,
+        current: &Prunable<N>,
+        chunk: &[u8; N],
+    ) -> Result<(), AllocError>
+        requires layer { LayerFits N current.now self.old }
+        requires fits { self.old.len + 8 * N < 2 ^ 64 }
+        ensures ok { OnOk result (Appends N current.now self.old (chunk_bits N chunk.now) self.new) }
+        ensures err { OnErr result (self.new ≡ self.old) }
+    {
+        let _ = self.len();
+        self.append(current, chunk)
+    }
+
+    // The first edited chunk from chunk `from` on.
+    pub(crate) fn next_edited(&self, from: usize) -> Option<usize>
+        ensures { IsNextMember (keys_of self.now.edited) from result }
+    {
+        self.edited.next_from(from)
+    }
+
+    // The first chunk from chunk `from` on that the edits name.
+    pub(crate) fn next_marked(&self, current: &Prunable<N>, from: usize) -> Option<usize>
+        requires layer { LayerFits N current.now self.now }
+        requires low { current.now.pruned ≤ from }
+        ensures { IsNextMember (layer_marks N current.now self.now) from result }
+    {
+        if from < self.pruned_chunks() {
+            return Some(from);
+        }
+        let total = current.len();
+        let edited = self.next_edited(from);
+        if self.len() < total {
+            let at = from.max(chunk_index::<N>(self.len()));
+            if at <= chunk_index::<N>(total - 1) {
+                return match edited {
+                    Some(i) if i < at => Some(i),
+                    _ => Some(at),
+                };
+            }
+        }
+        edited
+    }
+
+    // What a commit does to a chunk that the edits name, with its old bytes.
+    pub(crate) fn diff(&self, current: &Prunable<N>, i: usize) -> ChunkDiff<N>
+        requires low { current.now.pruned ≤ i }
+        requires count { length self.now.captured ≡ self.now.pruned - current.now.pruned }
+        requires fits { 8 * N * i < 2 ^ 64 }
+        ensures { diff_value result ≡ diff_of N current.now self.now i }
+    {
+        if i < self.pruned {
+            return ChunkDiff::Pruned(self.captured[i - current.pruned_chunks()]);
+        }
+        let start = chunk_width::<N>() * i as u64;
+        if start >= current.len() {
+            return ChunkDiff::Added;
+        }
+        let old = *current.get_chunk(i);
+        if start < self.len {
+            ChunkDiff::Modified(old)
+        } else {
+            ChunkDiff::Removed(old)
+        }
+    }
+
+    // The record of the edits, which leads back over them: one entry for each chunk that they name, in one ascending pass.
+    pub(crate) fn record(
+        &self,
+        current: &Prunable<N>,
+        alloc: Global,
+    ) -> Result<CommitDiff<N>, AllocError>
+        requires layer { LayerFits N current.now self.now }
+        ensures reverses { IfOk result (λ r. ReversesLayer N current.now self.now r) }
+        ensures leads_back { IfOk result (λ r. LeadsBack N r current.now (pending_bits N current.now self.now)) }
+        ensures can_undo { IfOk result (λ r. CanUndo N r (pending_bits N current.now self.now)) }
+        ensures bound { IfOk result (λ r. length r.entries ≤ distinct_count nat_eq (layer_marks N current.now self.now)) }
+    {
+        let _ = self.len();
+        let total = current.len();
+        let mut from = current.pruned_chunks();
+        let mut record = CommitDiff::new(alloc, total, from);
+        while let Some(i) = self.next_marked(current, from) {
+            record.push(i, self.diff(current, i))?;
+            from = i + 1;
+        }
+        Ok(record)
+    }
+
+    // The edited chunks by index. No memory.
+    pub(crate) fn into_edited(self) -> BTreeMap<usize, [u8; N]>
+        ensures { result.entries ≡ self.entry.edited }
+    {
+        self.edited.into_map()
+    }
+
+    // The same edits once more. Takes memory for their chunks.
     pub(crate) fn duplicate(&self) -> Result<Self, AllocError>
         ensures { IfOk result (λ copy. copy ≡ self.now) }
     {
         Ok(Dirty {
             len: self.len,
             pruned: self.pruned,
-            edited: self.edited.clone()?,
+            edited: self.edited.duplicate()?,
             captured: self.captured.clone()?,
             alloc: self.alloc,
         })

@@ -1,20 +1,77 @@
-//! A record undone.
+//! A commit undone: from what it left and its record, what stood before it.
 
-ghost use Rattle.std.specs.Prelude.{◌≡◌, OnOk};
-ghost use Rattle.historical_bitmap.specs.Record.{before};
-ghost use Rattle.historical_bitmap.specs.Undo.{CanUndo};
+ghost use Rattle.std.specs.Prelude.{◌≡◌, ℕ, ◌≤◌, MatchOption, OnOk, nat_eq, nat_le, option_copied};
+ghost use Rattle.std.specs.List.{filter};
+ghost use Rattle.std.specs.List.Sorted.{IsStrictlySortedBy};
+ghost use Rattle.std.specs.Map.{keys_of, lookup};
+ghost use Rattle.std.specs.Ordering.{nat_cmp};
+ghost use Rattle.bitmap_core.specs.Chunk.{IsWidth};
+ghost use Rattle.bitmap_core.specs.PrunedBits.{bit_len, pruned_bits};
+ghost use Rattle.historical_bitmap.specs.Record.{before, bytes_of};
+ghost use Rattle.historical_bitmap.specs.Stored.{entry_values};
+ghost use Rattle.historical_bitmap.specs.Undo.{CanUndo, IsOldChunk, put_back, put_back_one, resized};
 
-use crate::bitmap::historical::record::CommitDiff;
+use crate::bitmap::historical::record::{ChunkDiff, CommitDiff};
 use bitmap_core::bitmap::Prunable;
 use std::alloc::AllocError;
 
-// Leads from what a commit left back to what stood before it, by the record of the commit.
+// Makes of what a commit left what stood before it. Takes memory for the chunks that it puts back.
+// Refused, nothing is promised of the bitmap: it is a working copy.
 pub(crate) fn undo<const N: usize>(
     newer: &mut Prunable<N>,
     diff: &CommitDiff<N>,
 ) -> Result<(), AllocError>
     requires { CanUndo N diff.now newer.old }
-    ensures ok { OnOk result (newer.new ≡ before N diff.now newer.old) }
+    ensures { OnOk result (newer.new ≡ before N diff.now newer.old) }
 {
-    Err(AllocError)
+    let len = diff.len();
+    let pruned = newer.pruned_chunks();
+    let front = diff.pruned_bytes(pruned)?;
+    newer.unprune(&front)?;
+    resize(newer, len)?;
+    put_back_from(newer, diff.chunk_diffs(), pruned);
+    Ok(())
+}
+
+// Cuts the bitmap, or fills it with zeros, to a length.
+fn resize<const N: usize>(bitmap: &mut Prunable<N>, len: u64) -> Result<(), AllocError>
+    requires { pruned_bits N bitmap.old ≤ len }
+    ensures { OnOk result (bitmap.new ≡ resized N bitmap.old len) }
+{
+    if bitmap.len() < len {
+        return bitmap.extend_to(len);
+    }
+    bitmap.truncate(len);
+    Ok(())
+}
+
+// Puts the old bytes that entries keep back in place, of the chunks from an index on. No memory.
+fn put_back_from<const N: usize>(
+    bitmap: &mut Prunable<N>,
+    entries: &[(usize, ChunkDiff<N>)],
+    from: usize,
+)
+    requires width { IsWidth N }
+    requires sorted { IsStrictlySortedBy nat_cmp (keys_of (entry_values entries.now)) }
+    requires retained { bitmap.old.pruned ≤ from }
+    requires old { (i : ℕ) → from ≤ i → MatchOption (bytes_of (lookup (nat_eq i) (entry_values entries.now))) (Unit {0}) (IsOldChunk N (bit_len N bitmap.old) i) }
+    ensures { bitmap.new ≡ put_back N bitmap.old (filter (λ entry. nat_le from entry.0) (entry_values entries.now)) }
+{
+    for entry in entries {
+        if from <= entry.0 {
+            put_back_chunk(bitmap, entry.0, entry.1.old_bytes());
+        }
+    }
+}
+
+// Replaces the bits of a chunk by its old bytes, where there are some. No memory.
+fn put_back_chunk<const N: usize>(bitmap: &mut Prunable<N>, chunk: usize, bytes: Option<&[u8; N]>)
+    requires width { IsWidth N }
+    requires retained { bitmap.old.pruned ≤ chunk }
+    requires old { MatchOption (option_copied bytes) (Unit {0}) (IsOldChunk N (bit_len N bitmap.old) chunk) }
+    ensures { bitmap.new ≡ put_back_one N bitmap.old chunk (option_copied bytes.entry) }
+{
+    if let Some(bytes) = bytes {
+        bitmap.set_chunk_by_index(chunk, bytes);
+    }
 }

@@ -10,4 +10,6 @@ returns-in-Ok g c =
       | in_default-via-in-None-1 w ↦ search rules
       | in_default-via-in-Some+else-number-previous w ↦ search rules
     ] in
-    rw (c.in-Dirty.is, c.in-Ok.ensures) (commit_accepted g.row.N c.in-Dirty.dirty.current c.in-Dirty.dirty.pending c.in-Dirty.dirty.history c.args.number c.if-number-eq18446744073709551615.false above)
+    let store = c.in-Dirty.dirty in
+    let not_reserved = c.if-number-eq18446744073709551615.false in
+    rw (c.in-Dirty.is, c.in-Ok.ensures) (commit_accepted g.row.N store.current store.pending store.history c.args.number not_reserved above)

@@ -4,4 +4,6 @@ use Rattle.replay.proofs.session.start.Goals as goal
 
 pub returns-in-Ok : goal.returns-in-Ok
 returns-in-Ok g c =
-    rw (c.in-Clean.is, c.new.ensures, c.in-Ok.ensures.ok) (start_accepted g.row.N c.args.chunks c.in-Clean.clean.current c.in-Clean.clean.history (c.in-Ok.ensures.exact.0 refl))
+    let store = c.in-Clean.clean in
+    let fits = c.in-Ok.ensures.exact.0 refl in
+    rw (c.in-Clean.is, c.new.ensures, c.in-Ok.ensures.ok) (start_accepted g.row.N c.args.chunks store.current store.history fits)

@@ -23,14 +23,14 @@ returns-in-Commit g c = rw c.in-Commit.is c.commit.ensures
 pub returns-in-Abort : goal.returns-in-Abort
 returns-in-Abort g c = rw c.in-Abort.is c.abort.ensures
 
-pub returns-in-At : goal.returns-in-At
-returns-in-At g c = rw c.in-At.is c.at-reply.ensures
-
 pub returns-in-Ones : goal.returns-in-Ones
-returns-in-Ones g c = rw c.in-Ones.is c.ones_of_current-reply.ensures
+returns-in-Ones g c = rw c.in-Ones.is c.ones_of_current.ensures
 
-pub returns-in-Encode : goal.returns-in-Encode
-returns-in-Encode g c = rw c.in-Encode.is c.encode-reply.ensures
+pub returns-in-At : goal.returns-in-At
+returns-in-At g c = rw c.in-At.is c.at.ensures
 
 pub returns-in-Decode : goal.returns-in-Decode
-returns-in-Decode g c = rw c.in-Decode.is (decode_stepped c.args.state c.in-Decode.text c.in-Decode.range (said c.decode-reply.result) (rw (← c.as_slice.ensures.value) c.decode-reply.ensures))
+returns-in-Decode g c =
+    rw c.in-Decode.is
+    (decode_stepped c.args.state c.in-Decode.text c.in-Decode.range (said c.decode.result)
+    (rw (← c.as_slice.ensures.value) c.decode.ensures))

@@ -1,7 +1,7 @@
 use Rattle.std.proofs.Common.{◌%◌, ◌*◌, ◌∙◌, ap, arith, sym}
 use Rattle.std.proofs.lemmas.Bool.{false≢true}
-use Rattle.bitmap_core.proofs.BitLists.{bits-same, len_is}
-use Rattle.bitmap_core.proofs.ByteEdits.{bits-byte, IsChunkCount-byte, IsZeroFrom-byte}
+use Rattle.bitmap_core.proofs.Lists.Bits.{bits-same, len_is}
+use Rattle.bitmap_core.proofs.Chunks.ByteWritten.{bits-byte, IsChunkCount-byte, IsZeroFrom-byte}
 use Rattle.bitmap_core.proofs.bitmap.BitMap.append_byte.Goals as goal
 
 pub returns-in_err-make_room-clause-partial : goal.returns-in_err-make_room-clause-partial
@@ -14,7 +14,11 @@ overflow_add-self g c = omega (arith, len_is _ _ _ _ c.self.view_is)
 pub invariant_of-self-2 : goal.invariant_of-self-2
 invariant_of-self-2 g c =
     let a = ap (λ x. x % 8) (sym (len_is _ _ _ _ c.self.view_is)) ∙ c.requires.aligned in
-    record { width = c.self.invariant.width; count = rw c.set_byte.ensures.count (IsChunkCount-byte _ _ _ a c.in_ok-make_room.ensures.room); zero = IsZeroFrom-byte _ _ _ _ _ a c.set_byte.ensures (λ i h. c.in_ok-make_room.ensures.same i ∙ c.self.invariant.zero i h) }
+    record {
+      width = c.self.invariant.width;
+      count = rw c.set_byte.ensures.count (IsChunkCount-byte _ _ _ a c.in_ok-make_room.ensures.room);
+      zero = IsZeroFrom-byte _ _ _ _ _ a c.set_byte.ensures (λ i h. c.in_ok-make_room.ensures.same i ∙ c.self.invariant.zero i h);
+    }
 
 pub returns-clause-ok : goal.returns-clause-ok
 returns-clause-ok g c =

@@ -1,21 +1,35 @@
 use Rattle.std.proofs.Common.{◌≡◌, ◌∙◌, sym, ap, length, arith}
 use Rattle.bitmap_core.specs.Bits.{bits}
-use Rattle.bitmap_core.proofs.BitLists.{len_is}
-use Rattle.bitmap_core.proofs.Places.{count_unique}
-use Rattle.bitmap_core.proofs.WholeBits.{bits-zip, IsZeroFrom-zip}
+use Rattle.bitmap_core.proofs.Lists.Bits.{len_is}
+use Rattle.bitmap_core.proofs.Chunks.Places.{count_unique}
+use Rattle.bitmap_core.proofs.Lists.WholeBits.{bits-zip, IsZeroFrom-zip}
 use Rattle.bitmap_core.proofs.bitmap.BitMap.combine.Goals as goal
 
 pub combine-requires : goal.combine-requires
 combine-requires g c =
-    let e : c.other.inside.len ≡ c.self.inside.len = sym (len_is _ _ _ _ c.other.view_is) ∙ sym c.requires ∙ len_is _ _ _ _ c.self.view_is in
-    (omega (arith, c.self.invariant.width.fits), (c.self.invariant.width.positive, count_unique g.row.N (length c.self.inside.chunks.items) (length c.other.inside.chunks.items) c.self.inside.len c.self.invariant.count (rw e at c.other.invariant.count)))
+    let held = c.self.invariant in
+    let e : c.other.inside.len ≡ c.self.inside.len = sym (len_is _ _ _ _ c.other.view_is) ∙ sym c.requires ∙ len_is _ _ _ _ c.self.view_is in (
+      omega (arith, held.width.fits),
+      (
+        held.width.positive,
+        count_unique g.row.N (length c.self.inside.chunks.items) (length c.other.inside.chunks.items) c.self.inside.len held.count
+            (rw e at c.other.invariant.count),
+      ),
+    )
 
 pub invariant_of-self : goal.invariant_of-self
 invariant_of-self g c =
+    let held = c.self.invariant in
     let e : c.other.inside.len ≡ c.self.inside.len = sym (len_is _ _ _ _ c.other.view_is) ∙ sym c.requires ∙ len_is _ _ _ _ c.self.view_is in
-    (record { width = c.self.invariant.width; count = rw c.combine.ensures.count c.self.invariant.count; zero = IsZeroFrom-zip _ _ _ _ _ _ g.B.Bitwise.keeps_zeros c.combine.ensures c.self.invariant.zero (rw e at c.other.invariant.zero) })
+    (record {
+      width = held.width;
+      count = rw c.combine.ensures.count held.count;
+      zero = IsZeroFrom-zip _ _ _ _ _ _ g.B.Bitwise.keeps_zeros c.combine.ensures held.zero (rw e at c.other.invariant.zero);
+    })
 
 pub returns : goal.returns
 returns g c =
+    let held = c.self.invariant in
     let e : c.other.inside.len ≡ c.self.inside.len = sym (len_is _ _ _ _ c.other.view_is) ∙ sym c.requires ∙ len_is _ _ _ _ c.self.view_is in
-    bits-zip g.row.N _ c.self.inside.chunks.items c.other.inside.chunks.items c.combine.new.chunks.items c.self.inside.len _ _ c.self.invariant.width.positive c.self.invariant.count c.combine.ensures c.self.view_is (ap (λ k. bits g.row.N c.other.inside.chunks.items k) (sym e) ∙ c.other.view_is)
+    bits-zip g.row.N _ c.self.inside.chunks.items c.other.inside.chunks.items c.combine.new.chunks.items c.self.inside.len _ _ held.width.positive held.count c.combine.ensures c.self.view_is
+    (ap (λ k. bits g.row.N c.other.inside.chunks.items k) (sym e) ∙ c.other.view_is)

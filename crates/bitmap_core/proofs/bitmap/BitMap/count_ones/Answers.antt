@@ -1,16 +1,18 @@
 use Rattle.std.proofs.Common.{◌*◌, ◌∙◌, length, arith}
 use Rattle.bitmap_core.specs.Bits.{bit_of}
-use Rattle.bitmap_core.proofs.BitLists.{len_is}
-use Rattle.bitmap_core.proofs.Counts.{count-bits, ones_from_bound}
-use Rattle.bitmap_core.proofs.PlaceCounts.{count-whole}
+use Rattle.bitmap_core.proofs.Lists.Bits.{len_is}
+use Rattle.bitmap_core.proofs.Counting.Ones.{count-bits, ones_from_bound}
+use Rattle.bitmap_core.proofs.Counting.Places.{count-whole}
 use Rattle.bitmap_core.proofs.bitmap.BitMap.count_ones.Goals as goal
 
 pub count_ones-requires : goal.count_ones-requires
 count_ones-requires g c =
+    let held = c.self.invariant in
     let e = count-bits g.row.N c.self.inside.chunks.items (8 * g.row.N * length c.self.inside.chunks.items) in
-    let b = ones_from_bound (bit_of g.row.N c.self.inside.chunks.items) c.self.inside.len (8 * g.row.N * length c.self.inside.chunks.items) c.self.invariant.zero in
     let l = len_is _ _ _ _ c.self.view_is in
-    (omega (arith, c.self.invariant.width.fits), (c.self.invariant.width.positive, omega arith))
+    let b = ones_from_bound (bit_of g.row.N c.self.inside.chunks.items) c.self.inside.len
+    (8 * g.row.N * length c.self.inside.chunks.items) held.zero in
+    (omega (arith, held.width.fits), (held.width.positive, omega arith))
 
 pub returns : goal.returns
 returns g c = c.count_ones.ensures ∙ count-whole _ _ _ _ c.self.view_is c.self.invariant.count c.self.invariant.zero

@@ -1,8 +1,8 @@
 use Rattle.std.proofs.Common.{◌%◌, ◌*◌, ◌∙◌, ap, arith}
 use Rattle.std.proofs.lemmas.Bool.{false≢true}
-use Rattle.bitmap_core.proofs.BitLists.{len_is, bits-same}
-use Rattle.bitmap_core.proofs.BitEdits.{bits-push}
-use Rattle.bitmap_core.proofs.ChunkLists.{IsBitPut_same}
+use Rattle.bitmap_core.proofs.Lists.Bits.{len_is, bits-same}
+use Rattle.bitmap_core.proofs.Lists.Edits.{bits-push}
+use Rattle.bitmap_core.proofs.Chunks.Lists.{IsBitPut_same}
 use Rattle.bitmap_core.proofs.bitmap.BitMap.push.Goals as goal
 use Rattle.bitmap_core.proofs.bitmap.BitMap.push.Goals.{then-bit, else-bit}
 
@@ -15,8 +15,11 @@ overflow_add-self g c = omega (arith, len_is _ _ _ _ c.self.view_is)
 
 pub returns-clause-ok : goal.returns-clause-ok
 returns-clause-ok g c =
+    let held = c.self.invariant in
     let e = bits-same _ _ _ _ (λ i _. c.in_ok-make_room.ensures.same i) ∙ c.self.view_is in
     elim c.if-bit.branch [
       | then-bit w ↦ rw (w.self-inside-is, w.if-bit.true) (bits-push _ _ _ _ _ _ w.set_bit.ensures e)
-      | else-bit w ↦ rw (w.self-inside-is, w.if-bit.false) (bits-push _ _ _ _ _ _ (IsBitPut_same _ _ _ _ (c.in_ok-make_room.ensures.same _ ∙ c.self.invariant.zero _ (omega arith))) e)
+      | else-bit w ↦
+          rw (w.self-inside-is, w.if-bit.false)
+          (bits-push _ _ _ _ _ _ (IsBitPut_same _ _ _ _ (c.in_ok-make_room.ensures.same _ ∙ held.zero _ (omega arith))) e)
     ]

@@ -1,6 +1,6 @@
 use Rattle.std.proofs.Common.{arith}
-use Rattle.bitmap_core.proofs.BitLists.{len_is}
-use Rattle.bitmap_core.proofs.BitEdits.{bits-take}
+use Rattle.bitmap_core.proofs.Lists.Bits.{len_is}
+use Rattle.bitmap_core.proofs.Lists.Edits.{bits-take}
 use Rattle.bitmap_core.proofs.bitmap.BitMap.truncate.Goals as goal
 
 pub shorten-requires : goal.shorten-requires

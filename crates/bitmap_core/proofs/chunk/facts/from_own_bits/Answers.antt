@@ -1,6 +1,6 @@
 use Rattle.std.proofs.Common.{refl}
 use Rattle.bitmap_core.specs.Chunk.{chunk_bit}
-use Rattle.bitmap_core.proofs.MadeBytes.{bytes_are}
+use Rattle.bitmap_core.proofs.Bytes.Made.{bytes_are}
 use Rattle.bitmap_core.proofs.chunk.facts.from_own_bits.Goals as goal
 
 pub returns-clause-bytes : goal.returns-clause-bytes

@@ -1,6 +1,6 @@
 use Rattle.std.proofs.Common.{◌≡◌, ◌∙◌, ◌+◌, ◌-◌, ◌%◌, ◌*◌, ap, arith}
 use Rattle.bitmap_core.specs.Chunk.{bit_in}
-use Rattle.bitmap_core.proofs.Runs.{filled_bits}
+use Rattle.bitmap_core.proofs.Bytes.Shifted.{filled_bits}
 use Rattle.bitmap_core.proofs.chunk.join.chunk_within.Goals as goal
 
 pub returns : goal.returns

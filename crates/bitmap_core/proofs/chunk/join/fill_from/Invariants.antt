@@ -7,5 +7,6 @@ abbrev pub invariant-loop-j : goal.invariant-loop-j
 invariant-loop-j g l = record {
   size : length l.chunk ≡ g.row.N;
   kept : (k : ℕ) → k < l.from → get_or l.chunk k 0 ≡ get_or l.initial.chunk k 0;
-  done : (k t : ℕ) → l.from ≤ k → k < l.j → t < 8 → eqb (bit_at (get_or l.chunk k 0) t) 1 ≡ bit_in (l.front ++ l.back) (l.bit + (8 * (k - l.from) + t));
+  done : (k t : ℕ) → l.from ≤ k → k < l.j → t < 8
+      → eqb (bit_at (get_or l.chunk k 0) t) 1 ≡ bit_in (l.front ++ l.back) (l.bit + (8 * (k - l.from) + t));
 }

@@ -12,6 +12,9 @@ loop-word-preserved g c = record {
     | inr u ↦
         let e : k ≡ 8 * c.loop-word.word + (k - 8 * c.loop-word.word) = omega arith in
         let q : 8 * (8 * c.loop-word.word) + c.args.skip + (8 * (k - 8 * c.loop-word.word) + t) ≡ c.args.skip + (8 * k + t) = omega arith in
-        ap (λ m. eqb (bit_at (get_or c.put_word.new.chunk m 0) t) 1) e ∙ ap (λ x. eqb x 1) (c.put_word.ensures.here (k - 8 * c.loop-word.word) t (omega arith) s) ∙ c.word_from.ensures (8 * (k - 8 * c.loop-word.word) + t) (omega arith) ∙ ap (bit_in c.args.bytes.now) q
+        ap (λ m. eqb (bit_at (get_or c.put_word.new.chunk m 0) t) 1) e
+        ∙ ap (λ x. eqb x 1) (c.put_word.ensures.here (k - 8 * c.loop-word.word) t (omega arith) s)
+        ∙ c.word_from.ensures (8 * (k - 8 * c.loop-word.word) + t) (omega arith)
+        ∙ ap (bit_in c.args.bytes.now) q
   ];
 }

@@ -1,5 +1,5 @@
 use Rattle.std.proofs.Common.{arith}
-use Rattle.bitmap_core.proofs.Runs.{joined_low, joined_high}
+use Rattle.bitmap_core.proofs.Bytes.Shifted.{joined_low, joined_high}
 use Rattle.bitmap_core.proofs.chunk.join.joined_word.Goals as goal
 
 pub returns-clause-low : goal.returns-clause-low

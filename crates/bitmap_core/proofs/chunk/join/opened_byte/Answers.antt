@@ -1,4 +1,4 @@
-use Rattle.bitmap_core.proofs.Runs.{opened_low, opened_high}
+use Rattle.bitmap_core.proofs.Bytes.Shifted.{opened_low, opened_high}
 use Rattle.bitmap_core.proofs.chunk.join.opened_byte.Goals as goal
 
 pub returns-clause-low : goal.returns-clause-low

@@ -1,5 +1,5 @@
 use Rattle.std.proofs.Common.{ap, eqb}
-use Rattle.bitmap_core.proofs.WordMasks.{high_bit_kept, high_bit_cut}
+use Rattle.bitmap_core.proofs.Words.Masks.{high_bit_kept, high_bit_cut}
 use Rattle.bitmap_core.proofs.chunk.load.high_bits.Goals as goal
 
 pub returns-clause-kept : goal.returns-clause-kept

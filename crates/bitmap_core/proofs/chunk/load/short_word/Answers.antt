@@ -1,7 +1,7 @@
 use Rattle.std.proofs.Common.{◌≡◌, ℕ, ◌<◌, get_or, sym, ◌∙◌, inl, inr, arith}
 use Rattle.std.proofs.lemmas.List.{get_or_past}
 use Rattle.std.proofs.lemmas.Bool.{cases_lt}
-use Rattle.bitmap_core.proofs.WordBytes.{word_bits}
+use Rattle.bitmap_core.proofs.Words.OfBytes.{word_bits}
 use Rattle.bitmap_core.proofs.chunk.load.short_word.Goals as goal
 use Rattle.bitmap_core.proofs.chunk.load.short_word.Goals.{After-from_le_bytes}
 

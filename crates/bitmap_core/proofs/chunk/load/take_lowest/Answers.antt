@@ -1,5 +1,5 @@
 use Rattle.std.proofs.Common.{ap, eqb, arith}
-use Rattle.bitmap_core.proofs.WordMasks.{lowest, without_here, without_other}
+use Rattle.bitmap_core.proofs.Words.Masks.{lowest, without_here, without_other}
 use Rattle.bitmap_core.proofs.chunk.load.take_lowest.Goals as goal
 
 pub returns-clause-set : goal.returns-clause-set
@@ -12,4 +12,6 @@ pub returns-clause-cleared : goal.returns-clause-cleared
 returns-clause-cleared c = let l = lowest c.args.word.now c.requires (omega arith) in ap (λ x. eqb x 1) (without_here c.args.word.now _ l.1 l.2)
 
 pub returns-clause-others : goal.returns-clause-others
-returns-clause-others c t s d = let l = lowest c.args.word.now c.requires (omega arith) in ap (λ x. eqb x 1) (without_other c.args.word.now _ l.1 l.2 t d)
+returns-clause-others c t s d =
+    let l = lowest c.args.word.now c.requires (omega arith) in
+    ap (λ x. eqb x 1) (without_other c.args.word.now _ l.1 l.2 t d)

@@ -1,7 +1,7 @@
 use Rattle.std.proofs.Common.{◌/◌, ◌%◌, ◌∙◌, ap, eqb, get_or}
 use Rattle.std.proofs.lemmas.List.{take_rest}
 use Rattle.std.specs.Int.{bit_at}
-use Rattle.bitmap_core.proofs.WordMasks.{rest_bit}
+use Rattle.bitmap_core.proofs.Words.Masks.{rest_bit}
 use Rattle.bitmap_core.proofs.chunk.load.word_at.Goals as goal
 
 pub returns-clause-inside : goal.returns-clause-inside

@@ -1,11 +1,13 @@
-use Rattle.std.proofs.Common.{◌≡◌, ◌*◌, ◌∙◌, length, sym, ap, eqb, arith}
-use Rattle.bitmap_core.proofs.Counts.{ones_from}
+use Rattle.std.proofs.Common.{get_or, ◌<◌, ◌≡◌, ◌*◌, ◌∙◌, length, sym, ap, eqb, arith}
+use Rattle.bitmap_core.proofs.Counting.Ones.{ones_from}
 use Rattle.bitmap_core.specs.Chunk.{bit_in}
-use Rattle.bitmap_core.proofs.WordBits.{none_chunk, zero_byte, other_byte}
+use Rattle.bitmap_core.proofs.Counting.Words.{none_chunk, zero_byte, other_byte}
 use Rattle.bitmap_core.proofs.chunk.words.are_bytes_zero.Goals as goal
 
 pub returns-then-byte-ne0 : goal.returns-then-byte-ne0
-returns-then-byte-ne0 c = sym (other_byte c.args.bytes.now c.loop-byte.byte-index c.loop-byte-test.true (omega (arith, c.type_inv.bytes c.loop-byte.byte-index)) c.if-byte-ne0.true c.loop-byte.invariant)
+returns-then-byte-ne0 c =
+    let is_byte : get_or c.args.bytes.now c.loop-byte.byte-index 0 < 256 = omega (arith, c.type_inv.bytes c.loop-byte.byte-index) in
+    sym (other_byte c.args.bytes.now c.loop-byte.byte-index c.loop-byte-test.true is_byte c.if-byte-ne0.true c.loop-byte.invariant)
 
 pub loop-byte-preserved : goal.loop-byte-preserved
 loop-byte-preserved c = zero_byte c.args.bytes.now c.loop-byte.byte-index c.if-byte-ne0.false c.loop-byte.invariant
@@ -13,4 +15,5 @@ loop-byte-preserved c = zero_byte c.args.bytes.now c.loop-byte.byte-index c.if-b
 pub returns : goal.returns
 returns c =
     let e : c.loop-byte.byte-index ≡ length c.args.bytes.now = omega arith in
-    sym (none_chunk (length c.args.bytes.now) c.args.bytes.now ∙ ap (λ x. eqb x 0) (sym (ap (λ k. ones_from (bit_in c.args.bytes.now) 0 (8 * k)) e) ∙ c.loop-byte.invariant))
+    let none = sym (ap (λ k. ones_from (bit_in c.args.bytes.now) 0 (8 * k)) e) ∙ c.loop-byte.invariant in
+    sym (none_chunk (length c.args.bytes.now) c.args.bytes.now ∙ ap (λ x. eqb x 0) none)

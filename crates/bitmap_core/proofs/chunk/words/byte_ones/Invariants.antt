@@ -1,5 +1,5 @@
 use Rattle.std.proofs.Common.{◌≡◌, ◌*◌}
-use Rattle.bitmap_core.proofs.Counts.{ones_from}
+use Rattle.bitmap_core.proofs.Counting.Ones.{ones_from}
 use Rattle.bitmap_core.specs.Chunk.{bit_in}
 use Rattle.bitmap_core.proofs.chunk.words.byte_ones.Given as goal
 

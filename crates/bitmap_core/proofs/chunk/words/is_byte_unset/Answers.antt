@@ -1,4 +1,4 @@
-use Rattle.bitmap_core.proofs.ByteRanges.{none_masked}
+use Rattle.bitmap_core.proofs.Counting.ByteRanges.{none_masked}
 use Rattle.bitmap_core.proofs.chunk.words.is_byte_unset.Goals as goal
 
 pub returns : goal.returns

@@ -1,6 +1,6 @@
 use Rattle.std.proofs.Common.{◌∙◌, ap, eqb}
 use Rattle.std.specs.Int.{bit_at}
-use Rattle.bitmap_core.proofs.WordBits.{word_chunk_bit}
+use Rattle.bitmap_core.proofs.Counting.Words.{word_chunk_bit}
 use Rattle.bitmap_core.proofs.chunk.words.load.Goals as goal
 
 pub returns : goal.returns

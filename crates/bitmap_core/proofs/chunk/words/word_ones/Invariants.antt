@@ -1,6 +1,6 @@
 use Rattle.std.proofs.Common.{◌≡◌, ◌*◌}
 use Rattle.bitmap_core.specs.Bits.{bit_of}
-use Rattle.bitmap_core.proofs.Counts.{ones_from}
+use Rattle.bitmap_core.proofs.Counting.Ones.{ones_from}
 use Rattle.bitmap_core.proofs.chunk.words.word_ones.Given as goal
 
 abbrev pub invariant-loop-word : goal.invariant-loop-word

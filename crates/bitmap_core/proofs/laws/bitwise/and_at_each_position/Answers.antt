@@ -1,5 +1,5 @@
 use Rattle.std.proofs.Common.{◌&&◌}
-use Rattle.bitmap_core.proofs.BitByBit.{joined_len, joined_at}
+use Rattle.bitmap_core.proofs.Lists.BitByBit.{joined_len, joined_at}
 use Rattle.bitmap_core.proofs.laws.bitwise.and_at_each_position.Goals as goal
 
 pub returns-clause-len : goal.returns-clause-len

@@ -1,6 +1,6 @@
 use Rattle.std.proofs.Math.Bool.{xor}
 use Rattle.std.proofs.lemmas.Result.{IfOk-weaker}
-use Rattle.bitmap_core.proofs.BitByBit.{joined_len, joined_at}
+use Rattle.bitmap_core.proofs.Lists.BitByBit.{joined_len, joined_at}
 use Rattle.bitmap_core.proofs.laws.bitwise.bitxor_at_each_position.Goals as goal
 
 pub returns-clause-len : goal.returns-clause-len

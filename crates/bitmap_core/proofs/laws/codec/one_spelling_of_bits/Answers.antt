@@ -1,4 +1,4 @@
-use Rattle.bitmap_core.proofs.Texts.{same_spelling}
+use Rattle.bitmap_core.proofs.Texts.Spellings.{same_spelling}
 use Rattle.bitmap_core.proofs.laws.codec.one_spelling_of_bits.Goals as goal
 
 pub returns : goal.returns

@@ -1,4 +1,4 @@
-use Rattle.bitmap_core.proofs.PrunedTexts.{same_pruned_spelling}
+use Rattle.bitmap_core.proofs.Pruned.Texts.{same_pruned_spelling}
 use Rattle.bitmap_core.proofs.laws.codec.one_spelling_of_pruned_bits.Goals as goal
 
 pub returns : goal.returns

@@ -1,4 +1,4 @@
-use Rattle.bitmap_core.proofs.Texts.{bits_in_spelled}
+use Rattle.bitmap_core.proofs.Texts.Spellings.{bits_in_spelled}
 use Rattle.bitmap_core.proofs.laws.codec.spelled_bits_are_read_off.Goals as goal
 
 pub returns : goal.returns

@@ -1,4 +1,4 @@
-use Rattle.bitmap_core.proofs.PrunedTexts.{pruned_in_spelled}
+use Rattle.bitmap_core.proofs.Pruned.Texts.{pruned_in_spelled}
 use Rattle.bitmap_core.proofs.laws.codec.spelled_pruned_bits_are_read_off.Goals as goal
 
 pub returns : goal.returns

@@ -1,4 +1,4 @@
-use Rattle.bitmap_core.proofs.Members.{ones_between-ascend, ones-exact}
+use Rattle.bitmap_core.proofs.Lists.Members.{ones_between-ascend, ones-exact}
 use Rattle.bitmap_core.proofs.laws.positions.set_positions.Goals as goal
 
 pub returns-clause-ascend : goal.returns-clause-ascend

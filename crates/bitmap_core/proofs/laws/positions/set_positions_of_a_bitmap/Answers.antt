@@ -1,7 +1,7 @@
 use Rattle.std.proofs.lemmas.Iterator.{items_from_collect}
 use Rattle.std.proofs.lemmas.Iterator.Consumers.{YieldsList-from_first}
 use Rattle.std.proofs.lemmas.Result.{IfOk-weaker}
-use Rattle.bitmap_core.proofs.Members.{positions-ascend, positions-exact, positions-count}
+use Rattle.bitmap_core.proofs.Lists.Members.{positions-ascend, positions-exact, positions-count}
 use Rattle.bitmap_core.proofs.laws.positions.set_positions_of_a_bitmap.Goals as goal
 
 pub returns-clause-ascend : goal.returns-clause-ascend

@@ -1,4 +1,4 @@
-use Rattle.bitmap_core.proofs.PrunedEdits.{len_appended, bit_extended}
+use Rattle.bitmap_core.proofs.Pruned.Edits.{len_appended, bit_extended}
 use Rattle.bitmap_core.proofs.laws.prunable.extend_by_position.Goals as goal
 
 pub returns-clause-len : goal.returns-clause-len

@@ -1,4 +1,4 @@
-use Rattle.bitmap_core.proofs.PrunedEdits.{len_pruned_to, bit_pruned, unpruned_pruned}
+use Rattle.bitmap_core.proofs.Pruned.Edits.{len_pruned_to, bit_pruned, unpruned_pruned}
 use Rattle.bitmap_core.proofs.laws.prunable.prune_by_position.Goals as goal
 
 pub returns-clause-len : goal.returns-clause-len

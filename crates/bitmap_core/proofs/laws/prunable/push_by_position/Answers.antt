@@ -1,4 +1,4 @@
-use Rattle.bitmap_core.proofs.PrunedEdits.{len_pushed, bit_pushed}
+use Rattle.bitmap_core.proofs.Pruned.Edits.{len_pushed, bit_pushed}
 use Rattle.bitmap_core.proofs.laws.prunable.push_by_position.Goals as goal
 
 pub returns-clause-len : goal.returns-clause-len

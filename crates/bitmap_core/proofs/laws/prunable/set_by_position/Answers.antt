@@ -1,4 +1,4 @@
-use Rattle.bitmap_core.proofs.PrunedEdits.{len_set, bit_set}
+use Rattle.bitmap_core.proofs.Pruned.Edits.{len_set, bit_set}
 use Rattle.bitmap_core.proofs.laws.prunable.set_by_position.Goals as goal
 
 pub returns-clause-len : goal.returns-clause-len

@@ -1,4 +1,4 @@
-use Rattle.bitmap_core.proofs.PrunedEdits.{popped_is, len_truncated, bit_truncated}
+use Rattle.bitmap_core.proofs.Pruned.Edits.{popped_is, len_truncated, bit_truncated}
 use Rattle.bitmap_core.proofs.laws.prunable.truncate_by_position.Goals as goal
 
 pub returns-clause-len : goal.returns-clause-len

@@ -1,4 +1,4 @@
-use Rattle.bitmap_core.proofs.BitByBit.{counts-sum}
+use Rattle.bitmap_core.proofs.Lists.BitByBit.{counts-sum}
 use Rattle.bitmap_core.proofs.laws.whole.counts_add_up.Goals as goal
 
 pub returns-clause-sum : goal.returns-clause-sum

@@ -1,5 +1,5 @@
 use Rattle.std.proofs.Common.{ap, ◌∙◌, not, map}
-use Rattle.bitmap_core.proofs.BitByBit.{map-not-twice}
+use Rattle.bitmap_core.proofs.Lists.BitByBit.{map-not-twice}
 use Rattle.bitmap_core.proofs.laws.whole.flip_all_twice.Goals as goal
 
 pub returns-clause-same : goal.returns-clause-same

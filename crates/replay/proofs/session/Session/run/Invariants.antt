@@ -1,12 +1,14 @@
 use Rattle.std.proofs.Common.{◌≡◌, ◌+◌, ◌-◌, ◌≤◌, List, ◌++◌, length, take, map}
 use Rattle.std.specs.Prelude.{vec_len, vec_capacity}
-use Rattle.replay.specs.declared.command.Reply.{Reply}
+use Rattle.replay.specs.declared.reply.Reply.{Reply}
 use Rattle.replay.specs.Machine.{RunsOn}
 use Rattle.replay.specs.Seen.{said}
 use Rattle.replay.proofs.session.Session.run.Given as goal
 
 abbrev pub invariant-loop-command : goal.invariant-loop-command
 invariant-loop-command g l = record {
-  run : (new : List (Reply g.row.N)) × (l.replies.items ≡ l.fn.replies.items ++ new) × RunsOn g.row.N l.fn.self (take l.command-index l.commands) (map said new) l.self;
+  run : (new : List (Reply g.row.N))
+      × (l.replies.items ≡ l.fn.replies.items ++ new)
+      × RunsOn g.row.N l.fn.self (take l.command-index l.commands) (map said new) l.self;
   room : vec_len l.replies + (length l.commands - l.command-index) ≤ vec_capacity l.replies;
 }

@@ -10,7 +10,8 @@ invariant-loop-chunks g l = record {
   within : length l.chunks.items ≤ l.count;
   more : length l.fn.chunks.items ≤ length l.chunks.items;
   kept : (i : ℕ) → i / (8 * g.row.N) < length l.fn.chunks.items → bit_of g.row.N l.chunks.items i ≡ bit_of g.row.N l.fn.chunks.items i;
-  done : (i : ℕ) → length l.fn.chunks.items ≤ i / (8 * g.row.N) → i / (8 * g.row.N) < length l.chunks.items → bit_of g.row.N l.chunks.items i ≡ bit_in (l.front ++ l.back) (i - l.len);
+  done : (i : ℕ) → length l.fn.chunks.items ≤ i / (8 * g.row.N) → i / (8 * g.row.N) < length l.chunks.items
+      → bit_of g.row.N l.chunks.items i ≡ bit_in (l.front ++ l.back) (i - l.len);
 }
 
 abbrev pub decreases-loop-chunks : goal.decreases-loop-chunks

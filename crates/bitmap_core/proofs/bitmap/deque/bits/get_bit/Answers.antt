@@ -7,4 +7,6 @@ pub index-requires : goal.index-requires
 index-requires g c = rw c.chunk_index.ensures (omega (arith, c.args.chunks.now.ok.0))
 
 pub returns : goal.returns
-returns g c = c.get_bit.ensures ∙ ap (λ x. chunk_bit g.row.N x c.args.bit) (get_or_read _ _ _ c.requires.within (rw c.chunk_index.ensures at c.index.ensures) [])
+returns g c =
+    c.get_bit.ensures
+    ∙ ap (λ x. chunk_bit g.row.N x c.args.bit) (get_or_read _ _ _ c.requires.within (rw c.chunk_index.ensures at c.index.ensures) [])

@@ -1,9 +1,12 @@
 use Rattle.std.proofs.Common.{arith}
-use Rattle.bitmap_core.proofs.ChunkLists.{IsBitPut-chunk}
+use Rattle.bitmap_core.proofs.Chunks.Lists.{IsBitPut-chunk}
 use Rattle.bitmap_core.proofs.bitmap.deque.bits.set_bit.Goals as goal
 
 pub index_mut-requires : goal.index_mut-requires
 index_mut-requires g c = rw c.chunk_index.ensures (omega (arith, c.args.chunks.now.ok.0))
 
 pub returns : goal.returns
-returns g c = rw c.chunk_index.ensures (IsBitPut-chunk _ _ _ _ _ _ c.requires.width.positive c.requires.within (rw c.chunk_index.ensures at c.index_mut.ensures.value) c.set_bit.ensures)
+returns g c =
+    let positive = c.requires.width.positive in
+    let index = c.chunk_index.ensures in
+    rw index (IsBitPut-chunk _ _ _ _ _ _ positive c.requires.within (rw index at c.index_mut.ensures.value) c.set_bit.ensures)

@@ -1,10 +1,16 @@
 use Rattle.std.proofs.Common.{◌+◌, ◌*◌, ◌≤◌, length, arith, subst, sym}
 use Rattle.std.specs.Int.{div_ceil}
 use Rattle.bitmap_core.specs.PrunedBits.{bit_len}
-use Rattle.bitmap_core.proofs.PrunedBitsFacts.{ceil_front}
+use Rattle.bitmap_core.proofs.Pruned.Positions.{ceil_front}
 use Rattle.bitmap_core.proofs.bitmap.prunable.Prunable.extend_from_bitmap.Goals as goal
 
 pub returns-clause-roomy : goal.returns-clause-roomy
 returns-clause-roomy g c = λ h.
-    let room : bit_len g.row.N (record { pruned = c.self.inside.pruned_chunks; bits = c.self.inside.bitmap }) + length c.args.other.now ≤ 8 * g.row.N * div_ceil (8 * g.row.N * c.self.inside.pruned_chunks + length c.self.inside.bitmap) (8 * g.row.N) = subst (λ b. bit_len g.row.N b + length c.args.other.now ≤ 8 * g.row.N * div_ceil (bit_len g.row.N b) (8 * g.row.N)) (sym c.self.view_is) h in
-    c.extend_from_bitmap.ensures.roomy (omega (arith, room, ceil_front g.row.N c.self.inside.pruned_chunks (length c.self.inside.bitmap) c.self.invariant.width.positive))
+    let held = c.self.invariant in
+    let room : bit_len g.row.N (record {
+      pruned = c.self.inside.pruned_chunks;
+      bits = c.self.inside.bitmap;
+    }) + length c.args.other.now ≤ 8 * g.row.N * div_ceil (8 * g.row.N * c.self.inside.pruned_chunks + length c.self.inside.bitmap) (8 * g.row.N) =
+    subst (λ b. bit_len g.row.N b + length c.args.other.now ≤ 8 * g.row.N * div_ceil (bit_len g.row.N b) (8 * g.row.N)) (sym c.self.view_is) h in
+    c.extend_from_bitmap.ensures.roomy
+    (omega (arith, room, ceil_front g.row.N c.self.inside.pruned_chunks (length c.self.inside.bitmap) held.width.positive))

@@ -1,6 +1,6 @@
 use Rattle.std.proofs.Common.{arith}
-use Rattle.bitmap_core.proofs.LoadedWords.{left_loaded}
-use Rattle.bitmap_core.proofs.WordScan.{step}
+use Rattle.bitmap_core.proofs.Words.Loaded.{left_loaded}
+use Rattle.bitmap_core.proofs.Words.Scan.{step}
 use Rattle.bitmap_core.proofs.bitmap.readable.ones.load_next.Goals as goal
 
 pub turn_chunk-requires : goal.turn_chunk-requires

@@ -1,4 +1,4 @@
-use Rattle.bitmap_core.proofs.ByteBits.{and_bit}
+use Rattle.bitmap_core.proofs.Bytes.Bits.{and_bit}
 use Rattle.bitmap_core.proofs.chunk.whole.AndBitwise.of_bytes.Goals as goal
 
 pub returns : goal.returns

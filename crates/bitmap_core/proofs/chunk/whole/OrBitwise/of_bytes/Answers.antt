@@ -1,4 +1,4 @@
-use Rattle.bitmap_core.proofs.ByteBits.{or_bit}
+use Rattle.bitmap_core.proofs.Bytes.Bits.{or_bit}
 use Rattle.bitmap_core.proofs.chunk.whole.OrBitwise.of_bytes.Goals as goal
 
 pub returns : goal.returns

@@ -1,4 +1,4 @@
-use Rattle.bitmap_core.proofs.ByteBits.{xor_bit}
+use Rattle.bitmap_core.proofs.Bytes.Bits.{xor_bit}
 use Rattle.bitmap_core.proofs.chunk.whole.XorBitwise.of_bytes.Goals as goal
 
 pub returns : goal.returns

@@ -15,4 +15,4 @@ undo-requires g c = (
 pub loop-record-preserved : goal.loop-record-preserved
 loop-record-preserved g c =
     last_undone g.row.N c.in-Some.field-0-0.now c.loop-record.record-iterator.iter c.next.new.self.iter c.in-Some.record.now c.loop-record.bitmap c.undo.new.newer _
-    c.in-Some.ensures.steps c.in_ok-undo.ensures.ok c.loop-record.invariant
+    c.in-Some.ensures.steps c.in_ok-undo.ensures c.loop-record.invariant

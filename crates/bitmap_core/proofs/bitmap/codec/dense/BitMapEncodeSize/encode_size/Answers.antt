@@ -1,5 +1,5 @@
 use Rattle.std.proofs.Common.{arith, ◌∙◌, sym, refl, length}
-use Rattle.bitmap_core.proofs.TextParts.{spelling-lt, all_bytes}
+use Rattle.bitmap_core.proofs.Texts.Parts.{spelling-lt, all_bytes}
 use Rattle.bitmap_core.proofs.bitmap.codec.dense.BitMapEncodeSize.encode_size.Goals as goal
 
 pub max_encode_size-requires-clause-room : goal.max_encode_size-requires-clause-room

@@ -1,4 +1,4 @@
-use Rattle.bitmap_core.proofs.Meanings.{plain_lawful}
+use Rattle.bitmap_core.proofs.Meanings.Plain.{plain_lawful}
 use Rattle.bitmap_core.proofs.bitmap.readable.dense.BitMapReadable.len.Goals as goal
 
 pub returns-clause-lawful : goal.returns-clause-lawful

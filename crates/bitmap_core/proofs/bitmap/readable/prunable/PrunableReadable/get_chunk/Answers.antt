@@ -1,4 +1,4 @@
-use Rattle.bitmap_core.proofs.PrunedMeanings.{pruned_shows}
+use Rattle.bitmap_core.proofs.Meanings.Pruned.{pruned_shows}
 use Rattle.bitmap_core.proofs.bitmap.readable.prunable.PrunableReadable.get_chunk.Goals as goal
 
 pub returns : goal.returns

@@ -1,4 +1,4 @@
-use Rattle.bitmap_core.proofs.PrunedMeanings.{pruned_lawful}
+use Rattle.bitmap_core.proofs.Meanings.Pruned.{pruned_lawful}
 use Rattle.bitmap_core.proofs.bitmap.readable.prunable.PrunableReadable.pruned_chunks.Goals as goal
 
 pub returns-clause-lawful : goal.returns-clause-lawful

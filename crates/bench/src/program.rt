@@ -1,0 +1,137 @@
+//! What a run does.
+
+ghost use Rattle.std.specs.Prelude.{◌*◌, ◌^◌, ◌<◌, ◌≤◌, length, IfOk};
+
+use crate::call::{Call, named};
+use crate::{edits, growth, pruned, reads};
+use bitmap_core::bitmap::BitMap;
+use std::alloc::{AllocError, Global};
+
+/// Why nothing was printed.
+#[derive(Drop)]
+pub enum Fault {
+    Usage,
+    OutOfMemory,
+    CannotWrite,
+}
+
+impl Fault {
+    /// What is said of it.
+    pub fn text(&self) -> &'static str {
+        match self {
+            Fault::Usage => {
+                "bench: usage: bench CALL WIDTH BYTES TIMES, WIDTH one of 1, 3, 8, 32, BYTES at most 2^32"
+            }
+            Fault::OutOfMemory => "bench: out of memory",
+            Fault::CannotWrite => "bench: cannot write",
+        }
+    }
+
+    /// The exit status.
+    pub fn status(&self) -> u8 {
+        match self {
+            Fault::Usage => 2,
+            Fault::OutOfMemory | Fault::CannotWrite => 3,
+        }
+    }
+}
+
+impl From<AllocError> for Fault {
+    fn from(_error: AllocError) -> Fault {
+        Fault::OutOfMemory
+    }
+}
+
+const MOST_BYTES: u64 = 1 << 32;
+
+// A bitmap of `bytes` bytes. Of each eight bits four are set.
+fn filled<const N: usize>(alloc: Global, bytes: u64) -> Result<BitMap<N>, AllocError>
+    requires positive { 0 < N }
+    requires fits { 8 * N < 2 ^ 64 }
+    requires most { bytes ≤ 2 ^ 32 }
+    ensures { IfOk result (λ map. length map ≤ 2 ^ 35) }
+{
+    let bits = 8 * bytes;
+    let byte = [false, true, true, false, true, false, false, true];
+    let mut map = BitMap::<N>::from_bools(alloc, byte.as_slice())?;
+    for _ in 0..40 {
+        if map.len() < bits {
+            let more = map.clone()?;
+            map.extend_from_bitmap(&more)?;
+        }
+    }
+    map.truncate(bits.min(map.len()));
+    Ok(map)
+}
+
+// Runs a call on a bitmap of width `N`, with another of width `M` where it takes one of another width.
+fn run_at<const N: usize, const M: usize>(
+    alloc: Global,
+    call: Call,
+    bytes: u64,
+    times: u64,
+) -> Result<u64, AllocError>
+    requires positive { 0 < N }
+    requires fits { 8 * N < 2 ^ 64 }
+    requires other_positive { 0 < M }
+    requires other_fits { 8 * M < 2 ^ 64 }
+    requires most { bytes ≤ 2 ^ 32 }
+{
+    let mut map = filled::<N>(alloc, bytes)?;
+    match call {
+        Call::Copy => growth::copy(alloc, &map, times),
+        Call::Push => edits::push(&mut map, times),
+        Call::Pop => edits::pop(&mut map, times),
+        Call::Get => Ok(reads::get(&map, times)),
+        Call::Set => Ok(edits::set(&mut map, times)),
+        Call::FlipAll => Ok(edits::flip_all(&mut map, times)),
+        Call::SetAll => Ok(edits::set_all(&mut map, times)),
+        Call::And => edits::and(&mut map, times),
+        Call::Or => edits::or(&mut map, times),
+        Call::Xor => edits::xor(&mut map, times),
+        Call::Equal => reads::equal(&mut map, times),
+        Call::Hash => Ok(reads::hash(&map, times)),
+        Call::CountOnes => Ok(reads::count_ones(&map, times)),
+        Call::IsUnset => Ok(reads::is_unset(&mut map, times)),
+        Call::Iter => Ok(reads::iter(&map, times)),
+        Call::OnesIter => Ok(reads::ones_iter(&map, times)),
+        Call::ExtendSame => growth::extend(&map, &mut BitMap::<N>::new(alloc), times),
+        Call::ExtendSameShifted => growth::extend(&map, &mut BitMap::<N>::ones(alloc, 3)?, times),
+        Call::ExtendOther => growth::extend(&map, &mut BitMap::<M>::new(alloc), times),
+        Call::ExtendOtherShifted => growth::extend(&map, &mut BitMap::<M>::ones(alloc, 3)?, times),
+        Call::ExtendTo => growth::extend_to(alloc, &map, times),
+        Call::Truncate => growth::truncate(&mut map, times),
+        Call::Clone => growth::clone(&map, times),
+        Call::ToBools => growth::to_bools(&map, times),
+        Call::FromBools => growth::from_bools(alloc, &map, times),
+        Call::Write => growth::write(alloc, &map, times),
+        Call::Read => growth::read(alloc, &map, times),
+        Call::PrunablePush => pruned::push(alloc, &map, times),
+        Call::PushByte => pruned::push_byte(alloc, &map, times),
+        Call::PushChunk => pruned::push_chunk(alloc, &map, times),
+        Call::Prune => pruned::prune(alloc, &map, times),
+        Call::Unprune => pruned::unprune(alloc, &map, times),
+        Call::GetBit => pruned::get_bit(alloc, &map, times),
+        Call::SetBit => pruned::set_bit(alloc, &map, times),
+    }
+}
+
+/// Runs what the words name, and answers a number that depends on what the calls answered.
+pub fn run(alloc: Global, words: &[String]) -> Result<u64, Fault> {
+    let [call, width, bytes, times] = words else {
+        return Err(Fault::Usage);
+    };
+    let call = named(call.as_str()).ok_or(Fault::Usage)?;
+    let bytes = bytes.as_str().parse::<u64>().map_err(|_| Fault::Usage)?;
+    let times = times.as_str().parse::<u64>().map_err(|_| Fault::Usage)?;
+    if bytes > MOST_BYTES {
+        return Err(Fault::Usage);
+    }
+    match width.as_bytes() {
+        b"1" => Ok(run_at::<1, 8>(alloc, call, bytes, times)?),
+        b"3" => Ok(run_at::<3, 8>(alloc, call, bytes, times)?),
+        b"8" => Ok(run_at::<8, 3>(alloc, call, bytes, times)?),
+        b"32" => Ok(run_at::<32, 8>(alloc, call, bytes, times)?),
+        _ => Err(Fault::Usage),
+    }
+}

@@ -1,0 +1,12 @@
+-- Chunks of bytes: where a bit stands in them, what edits do to their bits, and what bytes they are.
+pub mod Bits
+pub mod AsBytes
+pub mod Lists
+pub mod Equal
+pub mod OfBytes
+pub mod Front
+pub mod Whole
+pub mod Combined
+pub mod Places
+pub mod ByteWritten
+pub mod Packed

@@ -1,0 +1,8 @@
+-- How many bits of a range are true, and whether none is: by position, byte, word and chunk.
+pub mod Ones
+pub mod Places
+pub mod Tests
+pub mod ByteRanges
+pub mod JoinedChunks
+pub mod Words
+pub mod Blocks

@@ -1,0 +1,4 @@
+-- Bitmaps with a pruned front.
+pub mod Positions
+pub mod Edits
+pub mod Texts

@@ -1,0 +1,11 @@
+use Rattle.std.proofs.Common.{◌≡◌, ℕ, ◌+◌, ◌<◌, ◌≤◌, length, get_or, []}
+use Rattle.bitmap_core.specs.Chunk.{chunk_bit}
+use Rattle.bitmap_core.proofs.bitmap.deque.every.combine_some.Given as goal
+
+abbrev pub invariant-loop-i : goal.invariant-loop-i
+invariant-loop-i g l = record {
+  count : length l.chunks ≡ length l.initial.chunks;
+  done : (k : ℕ) → k < l.i → (t : ℕ) → chunk_bit g.row.N (get_or l.chunks (l.from + k) []) t ≡ g.B.Bitwise.gives (chunk_bit g.row.N (get_or l.initial.chunks (l.from + k) []) t) (chunk_bit g.row.N (get_or l.others k []) t);
+  below : (k : ℕ) → k < l.from → get_or l.chunks k [] ≡ get_or l.initial.chunks k [];
+  rest : (k : ℕ) → l.from + l.i ≤ k → get_or l.chunks k [] ≡ get_or l.initial.chunks k [];
+}

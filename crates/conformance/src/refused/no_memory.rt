@@ -1,0 +1,232 @@
+//! Calls that take no memory.
+//!
+//! All requests of a scenario here are those of its set-up. Their number stands in tools/requests.txt, so a call that
+//! begins to take memory shows there, whether or not it hands a refusal on.
+
+ghost use Rattle.std.specs.Prelude.{◌*◌, ◌^◌, ◌<◌};
+
+mod codec;
+mod pruned;
+mod readable;
+
+use crate::answers::{hash_of, holds};
+use bitmap_core::bitmap::BitMap;
+use std::alloc::Global;
+use std::fmt;
+use std::fmt::Write;
+use std::process::Abort;
+
+// Takes text and keeps its length alone.
+#[derive(Drop)]
+struct Length {
+    bytes: usize,
+}
+
+impl Write for Length {
+    fn write_str(&mut self, s: &str) -> fmt::Result {
+        self.bytes = self.bytes.wrapping_add(s.len());
+        Ok(())
+    }
+}
+
+// So many bits, of which each third is set, unless their memory is refused.
+fn thirds<const N: usize>(rt: &impl Abort, alloc: Global, len: u64) -> Option<BitMap<N>>
+    requires positive { 0 < N }
+    requires fits { 8 * N < 2 ^ 64 }
+{
+    let mut map = BitMap::zeroes(alloc, len).ok()?;
+    for position in (0..len).step_by(3) {
+        assert!(rt; position < map.len());
+        map.set(position, true);
+    }
+    Some(map)
+}
+
+// What is asked of a bitmap as a whole, or of a part of it, where each third of its bits is set.
+fn check_reads<const N: usize>(rt: &impl Abort, map: &BitMap<N>, len: u64) {
+    assert!(rt; map.len() == len && len > 8);
+    assert!(rt; !map.is_empty() && map.is_chunk_aligned() == (len % (8 * N as u64) == 0));
+    for position in 0..len {
+        assert_eq!(rt; map.get(position), position % 3 == 0);
+        assert!(rt; map.is_unset(position..position + 1) != map.get(position));
+    }
+    assert!(rt; map.is_unset(7..9) && map.is_unset(9..7) && !map.is_unset(1..len));
+    assert_eq!(rt; map.count_ones(), len.div_ceil(3));
+    assert_eq!(rt; map.count_zeros(), len - len.div_ceil(3));
+    assert!(rt; map.iter().eq((0..len).map(|position| position % 3 == 0)));
+    assert!(rt; map.iter().size_hint() == (len as usize, Some(len as usize)));
+    assert!(rt; map.ones_iter().eq((0..len).step_by(3)));
+    let mut text = Length { bytes: 0 };
+    assert!(rt; write!(text, "{map:?}").is_ok());
+    assert_eq!(rt; text.bytes as u64, if len > 64 { 75 } else { len + 8 });
+}
+
+// What is asked of one bitmap, and of two that have the same bits or do not.
+fn check_whole<const N: usize>(rt: &impl Abort, alloc: Global, len: u64)
+    requires positive { 0 < N }
+    requires fits { 8 * N < 2 ^ 64 }
+{
+    let Some(map) = thirds::<N>(rt, alloc, len) else {
+        return;
+    };
+    let Some(mut other) = thirds::<N>(rt, alloc, len) else {
+        return;
+    };
+    check_reads(rt, &map, len);
+    assert!(rt; map == other && hash_of(&map) == hash_of(&other));
+    assert!(rt; other.len() > 0);
+    other.flip(0);
+    assert!(rt; map != other);
+}
+
+// Bitmaps of as many bits joined in place.
+fn check_joins<const N: usize>(rt: &impl Abort, map: &mut BitMap<N>, other: &BitMap<N>) {
+    map.flip_all();
+    assert!(rt; map.len() == other.len());
+    map.or(other);
+    assert!(rt; map.count_zeros() == 0 && map.len() == other.len());
+    map.and(other);
+    assert!(rt; *map == *other && map.len() == other.len());
+    map.xor(other);
+    assert!(rt; map.count_ones() == 0);
+}
+
+// Single bits changed and taken from the end, and the front kept. Two bits are left.
+fn check_changes<const N: usize>(rt: &impl Abort, map: &mut BitMap<N>, len: u64) {
+    assert!(rt; map.len() == len && len > 8);
+    map.set(0, true);
+    map.flip(len - 1);
+    assert!(rt; map.count_ones() == 2 && map.len() == len);
+    assert!(rt; map.pop());
+    assert!(rt; map.len() >= 2);
+    map.truncate(2);
+    assert!(rt; holds(map, &[true, false], &[]));
+    map.set_all(true);
+    assert!(rt; holds(map, &[true, true], &[]));
+}
+
+// Each edit in place.
+fn check_edits<const N: usize>(rt: &impl Abort, alloc: Global, len: u64)
+    requires positive { 0 < N }
+    requires fits { 8 * N < 2 ^ 64 }
+{
+    let Some(mut map) = thirds::<N>(rt, alloc, len) else {
+        return;
+    };
+    let Some(other) = thirds::<N>(rt, alloc, len) else {
+        return;
+    };
+    check_joins(rt, &mut map, &other);
+    check_changes(rt, &mut map, len);
+}
+
+// Each way to append bits to the last chunk, which has room for them.
+fn check_appends<const N: usize>(rt: &impl Abort, alloc: Global, len: u64)
+    requires positive { 0 < N }
+    requires fits { 8 * N < 2 ^ 64 }
+{
+    let Some(mut map) = thirds::<N>(rt, alloc, len) else {
+        return;
+    };
+    let Ok(two) = BitMap::<3>::ones(alloc, 2) else {
+        return;
+    };
+    assert!(rt; map.len() == len && len < 2000 && two.len() == 2);
+    assert!(rt; map.push(true).is_ok() && map.extend_to(len + 2).is_ok());
+    assert!(rt; map.len() == len + 2);
+    assert!(rt; map.extend_from_bitmap(&two).is_ok());
+    assert!(rt; map.extend_to(len).is_ok() && map.len() == len + 4);
+    for want in [true, true, false, true] {
+        assert!(rt; !map.is_empty());
+        assert_eq!(rt; map.pop(), want);
+    }
+    check_reads(rt, &map, len);
+}
+
+// Bitmaps made without bits.
+fn check_no_bits<const N: usize>(rt: &impl Abort, alloc: Global)
+    requires positive { 0 < N }
+    requires fits { 8 * N < 2 ^ 64 }
+{
+    let mut map = BitMap::<N>::new(alloc);
+    assert!(rt; map.is_empty() && map == BitMap::<N>::default(alloc));
+    assert!(rt; BitMap::<N>::with_capacity(alloc, 0).is_ok());
+    assert!(rt; BitMap::<N>::zeroes(alloc, 0).is_ok());
+    assert!(rt; BitMap::<N>::ones(alloc, 0).is_ok());
+    assert!(rt; BitMap::<N>::from_bools(alloc, &[]).is_ok());
+    assert!(rt; map.extend_to(0).is_ok() && map.iter().next().is_none());
+    assert!(rt; map.ones_iter().next().is_none() && map.is_chunk_aligned());
+    map.set_all(true);
+    map.flip_all();
+    map.truncate(0);
+    assert!(rt; map.count_ones() == 0 && map.count_zeros() == 0 && map.is_unset(0..0));
+}
+
+// No bits appended to two full chunks.
+fn check_full<const N: usize>(rt: &impl Abort, alloc: Global)
+    requires positive { 0 < N }
+    requires fits { 8 * N < 2 ^ 64 }
+{
+    assert!(rt; N <= 64);
+    let len = 16 * N as u64;
+    let Some(mut map) = thirds::<N>(rt, alloc, len) else {
+        return;
+    };
+    assert!(rt; map.extend_to(len).is_ok());
+    assert_eq!(rt; map.len(), len);
+    assert!(rt; map.extend_from_bitmap(&BitMap::<3>::new(alloc)).is_ok());
+    check_reads(rt, &map, len);
+}
+
+#[test]
+fn bits_read(rt: HostRuntime) {
+    check_whole::<1>(&rt, rt.alloc(), 27);
+    check_whole::<3>(&rt, rt.alloc(), 64);
+    check_whole::<8>(&rt, rt.alloc(), 192);
+    check_whole::<9>(&rt, rt.alloc(), 150);
+    check_whole::<32>(&rt, rt.alloc(), 600);
+}
+
+#[test]
+fn bits_edited(rt: HostRuntime) {
+    check_edits::<1>(&rt, rt.alloc(), 27);
+    check_edits::<3>(&rt, rt.alloc(), 64);
+    check_edits::<8>(&rt, rt.alloc(), 192);
+    check_edits::<9>(&rt, rt.alloc(), 150);
+    check_edits::<32>(&rt, rt.alloc(), 600);
+}
+
+#[test]
+fn bits_appended_to_an_open_chunk(rt: HostRuntime) {
+    check_appends::<1>(&rt, rt.alloc(), 27);
+    check_appends::<3>(&rt, rt.alloc(), 64);
+    check_appends::<8>(&rt, rt.alloc(), 150);
+    check_appends::<9>(&rt, rt.alloc(), 150);
+    check_appends::<32>(&rt, rt.alloc(), 600);
+}
+
+#[test]
+fn no_bits(rt: HostRuntime) {
+    check_no_bits::<1>(&rt, rt.alloc());
+    check_no_bits::<3>(&rt, rt.alloc());
+    check_no_bits::<8>(&rt, rt.alloc());
+    check_no_bits::<9>(&rt, rt.alloc());
+    check_no_bits::<32>(&rt, rt.alloc());
+}
+
+#[test]
+fn no_bits_appended(rt: HostRuntime) {
+    check_full::<1>(&rt, rt.alloc());
+    check_full::<3>(&rt, rt.alloc());
+    check_full::<8>(&rt, rt.alloc());
+    check_full::<9>(&rt, rt.alloc());
+    check_full::<32>(&rt, rt.alloc());
+}
+
+#[test]
+fn sizes_and_places(rt: HostRuntime) {
+    assert_eq!(rt; BitMap::<1>::max_encode_size(17), 11);
+    assert_eq!(rt; BitMap::<9>::max_encode_size(145), 35);
+    assert!(rt; BitMap::<1>::get_bit_from_chunk(&[4], 10));
+    assert!(rt; BitMap::<9>::get_bit_from_chunk(&[0, 0, 0, 0, 0, 0, 0, 0, 2], 137));
+}

@@ -1,0 +1,150 @@
+-- Whether a record leads back, and whether it can be undone in steps. Each chunk has one byte.
+use Rattle.std.specs.Prelude.{◌≡◌, ℕ, ◌/◌, ◌≤◌, false, [], ◌∷◌, MatchOption, is_some}
+use Rattle.std.specs.List.Sorted.{IsStrictlySortedBy}
+use Rattle.std.specs.Ordering.{nat_cmp}
+use Rattle.std.proofs.Common.{refl, ap, arith, get_or, subst, sym}
+use mathlib.Core.Bool.{false≢true}
+use Rattle.std.proofs.lemmas.Bool.{cases_eq, ne_eqb}
+use mathlib.Core.Logic.{inl, inr, ◌⊎◌}
+use Rattle.bitmap_core.specs.Chunk.{chunk_bit}
+use Rattle.bitmap_core.specs.PrunedBits.{HasChunk, chunk}
+use Rattle.historical_bitmap.specs.Record.{kept, IsUnchanged, LeadsBack}
+use Rattle.historical_bitmap.specs.Record.ChunkDiff.{Modified, Removed, Added, Pruned}
+use Rattle.historical_bitmap.specs.Undo.{CanUndo, IsOldChunk, kept_between}
+use Rattle.historical_bitmap.specs.Pending.{CanApply, IsEdited, ReversesLayer, edited_chunk, layer_of, pending_bits}
+use Rattle.historical_bitmap.proofs.Examples.Undos.{twelve, shorter, from_shorter, behind_one}
+use Rattle.historical_bitmap.proofs.Examples.Layers.{base, rewritten, back}
+
+-- the indices of the records below rise
+first_two : IsStrictlySortedBy nat_cmp (0 ∷ 1 ∷ [])
+unfolding IsStrictlySortedBy
+first_two = ((refl, tt), (tt, tt))
+
+first_three : IsStrictlySortedBy nat_cmp (0 ∷ 1 ∷ 2 ∷ [])
+unfolding IsStrictlySortedBy
+first_three = ((refl, (refl, tt)), ((refl, tt), (tt, tt)))
+
+-- ---- a record that can be undone in steps
+-- the byte 0F of chunk 1 has no bit from position 12 on
+clear_past_twelve : (k : ℕ) → k / 8 ≡ 1 → 12 ≤ k → chunk_bit 1 (15 ∷ []) k ≡ false
+clear_past_twelve k e past = elim (four k e past) [
+  | inl a ↦ subst (λ j. chunk_bit 1 (15 ∷ []) j ≡ false) (sym a) refl
+  | inr (inl a) ↦ subst (λ j. chunk_bit 1 (15 ∷ []) j ≡ false) (sym a) refl
+  | inr (inr (inl a)) ↦ subst (λ j. chunk_bit 1 (15 ∷ []) j ≡ false) (sym a) refl
+  | inr (inr (inr a)) ↦ subst (λ j. chunk_bit 1 (15 ∷ []) j ≡ false) (sym a) refl
+]
+  where
+    four : (k : ℕ) → k / 8 ≡ 1 → 12 ≤ k → (k ≡ 12) ⊎ ((k ≡ 13) ⊎ ((k ≡ 14) ⊎ (k ≡ 15)))
+    four k e past = elim (cases_eq k 12) [
+      | inl a ↦ inl a
+      | inr b ↦ elim (cases_eq k 13) [
+        | inl a ↦ inr (inl a)
+        | inr d ↦ elim (cases_eq k 14) [ inl a ↦ inr (inr (inl a)) | inr f ↦ inr (inr (inr (omega (arith, e, past, b, d, f)))) ]
+      ]
+    ]
+
+-- chunk 0 cut to three bits, and chunk 1 cut off: both come back
+shorter_can : CanUndo 1 from_shorter shorter
+shorter_can = record {
+  rises = omega arith;
+  fits = omega arith;
+  pruned = λ i low high. absurd (omega (arith, low, high));
+  others = λ i low. other i;
+  sorted = first_two;
+}
+  where
+    other : (i : ℕ) → MatchOption (kept from_shorter i) (Unit {0}) (IsOldChunk 1 12 i)
+    other i = elim (cases_eq i 0) [
+      | inl a ↦ subst (λ j. MatchOption (kept from_shorter j) (Unit {0}) (IsOldChunk 1 12 j)) (sym a) (record { high = omega arith; clear = λ k e past. absurd (omega (arith, e, past)) })
+      | inr b ↦ elim (cases_eq i 1) [
+        | inl a ↦ subst (λ j. MatchOption (kept from_shorter j) (Unit {0}) (IsOldChunk 1 12 j)) (sym a) (record { high = omega arith; clear = clear_past_twelve })
+        | inr d ↦ rw (ne_eqb i 0 b, ne_eqb i 1 d) tt
+      ]
+    ]
+
+-- a record that does not keep the bytes of a pruned chunk cannot
+forgotten_cannot : CanUndo 1 (record { len = 12; pruned = 0; entries = [] }) behind_one → ⊥
+forgotten_cannot can = absurd (false≢true (can.pruned 0 (omega arith) (omega arith)))
+
+-- nor one that keeps bytes for a chunk past the end
+past_the_end_cannot : CanUndo 1 (record { len = 12; pruned = 0; entries = (2, Removed (1 ∷ [])) ∷ [] }) shorter → ⊥
+past_the_end_cannot can = omega (arith, (can.others 2 (omega arith)).high)
+
+-- the bytes of chunks 1 and 2, in order; what was made keeps none
+between : kept_between 1 3 ((0, Modified (9 ∷ [])) ∷ (1, Pruned (7 ∷ [])) ∷ (2, Pruned (5 ∷ [])) ∷ (3, Added) ∷ []) ≡ (7 ∷ []) ∷ (5 ∷ []) ∷ []
+between = refl
+
+-- ---- a record that leads back
+-- what the record is to say of chunk i
+abbrev SaysOf : ℕ → Type 0
+SaysOf i = MatchOption (kept from_shorter i) (IsUnchanged 1 twelve shorter i) (λ bytes. bytes ≡ chunk 1 twelve i)
+
+shorter_leads_back : LeadsBack 1 from_shorter twelve shorter
+shorter_leads_back = record { len = refl; pruned = refl; chunks = λ i h. at i h }
+  where
+    at : (i : ℕ) → HasChunk 1 twelve i → SaysOf i
+    at i h = elim (cases_eq i 0) [
+      | inl a ↦ subst SaysOf (sym a) refl
+      | inr b ↦ let one : i ≡ 1 = omega (arith, b, h.1) in subst SaysOf (sym one) refl
+    ]
+
+-- other old bytes do not
+wrong_byte_does_not : LeadsBack 1 (record { len = 12; pruned = 0; entries = (0, Modified (254 ∷ [])) ∷ (1, Removed (15 ∷ [])) ∷ [] }) twelve shorter → ⊥
+wrong_byte_does_not back = omega (arith, ap (λ bytes. get_or bytes 0 0) (back.chunks 0 (omega arith, omega arith)))
+
+-- nor does a record that keeps nothing of a chunk that was cut
+cut_must_be_kept : LeadsBack 1 (record { len = 12; pruned = 0; entries = (1, Removed (15 ∷ [])) ∷ [] }) twelve shorter → ⊥
+cut_must_be_kept back = omega (arith, (back.chunks 0 (omega arith, omega arith) 5 refl (omega arith, omega arith)).0.1)
+
+-- ---- a record of pending edits: each chunk that they name, with what became of it
+rewritten_is_reversed : ReversesLayer 1 base rewritten back
+rewritten_is_reversed = record {
+  len = refl;
+  pruned = refl;
+  sorted = first_three;
+  entries = λ i. elim (cases_eq i 0) [
+    | inl a ↦ rw a refl
+    | inr b ↦ elim (cases_eq i 1) [
+      | inl a ↦ rw a refl
+      | inr d ↦ elim (cases_eq i 2) [ inl a ↦ rw a refl | inr f ↦ rw (ne_eqb i 0 b, ne_eqb i 1 d, ne_eqb i 2 f) refl ]
+    ]
+  ];
+}
+
+-- one without the chunk that was cut off is none
+without_the_cut_chunk : ReversesLayer 1 base rewritten (record { len = 20; pruned = 0; entries = (0, Pruned (255 ∷ [])) ∷ (1, Modified (255 ∷ [])) ∷ [] }) → ⊥
+without_the_cut_chunk r = absurd (false≢true (ap is_some (r.entries 2)))
+
+-- ---- pending edits that can be made in steps
+rewritten_alone : pending_bits 1 base (layer_of 14 1 rewritten.edited) ≡ pending_bits 1 base rewritten
+rewritten_alone = refl
+
+-- an edited chunk past the pending length cannot be
+past_the_length_cannot : CanApply 1 base (layer_of 14 1 ((2, 0 ∷ []) ∷ [])) → ⊥
+past_the_length_cannot can = omega (arith, (can.edited 2).high)
+
+-- nor can any edit where the bitmap is too short
+too_short_cannot : CanApply 1 base (layer_of 21 0 []) → ⊥
+too_short_cannot can = omega (arith, can.long)
+
+edited_clear : (k : ℕ) → k / 8 ≡ 1 → 14 ≤ k → chunk_bit 1 (7 ∷ []) k ≡ false
+edited_clear k e past = elim (cases_eq k 14) [
+  | inl a ↦ subst (λ j. chunk_bit 1 (7 ∷ []) j ≡ false) (sym a) refl
+  | inr b ↦ let last : k ≡ 15 = omega (arith, e, past, b) in subst (λ j. chunk_bit 1 (7 ∷ []) j ≡ false) (sym last) refl
+]
+
+-- an edited chunk i is right
+abbrev RightAt : ℕ → Type 0
+RightAt i = MatchOption (edited_chunk (layer_of 14 1 rewritten.edited) i) (Unit {0}) (IsEdited 1 base (layer_of 14 1 rewritten.edited) i)
+
+rewritten_can : CanApply 1 base (layer_of 14 1 rewritten.edited)
+rewritten_can = record { long = omega arith; front = omega arith; rises = omega arith; edited = edited }
+  where
+    edited : (i : ℕ) → RightAt i
+    edited i = elim (cases_eq i 0) [
+      | inl a ↦ subst RightAt (sym a) (record { low = omega arith; high = omega arith; size = refl; clear = λ k e past. absurd (omega (arith, e, past)) })
+      | inr b ↦ elim (cases_eq i 1) [
+        | inl a ↦ subst RightAt (sym a) (record { low = omega arith; high = omega arith; size = refl; clear = edited_clear })
+        | inr d ↦ rw (ne_eqb i 0 b, ne_eqb i 1 d) tt
+      ]
+    ]

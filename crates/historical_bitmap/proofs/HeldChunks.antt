@@ -1,0 +1,115 @@
+-- Entries of chunks, one of which is held beside them: what is read and written.
+use Rattle.std.proofs.Common.{◌≡◌, ℕ, Bool, true, false, cond, List, [], ◌∷◌, Some, None, refl, sym, ap, ◌∙◌, subst}
+use mathlib.Core.Logic.{inl, inr, ◌≢◌}
+use Rattle.std.proofs.lemmas.Bool.{cases_Bool, cases_eq, eq-eqb, ne_eqb, eqb-true, eqb-false}
+use Rattle.std.proofs.lemmas.Cmp.{nat_eq_equiv}
+use Rattle.std.proofs.lemmas.Map.{keys-set_value, lookup-set_value}
+use Rattle.std.proofs.lemmas.Map.Steps.{set_value_same}
+use Rattle.std.specs.Prelude.{nat_eq, Option, IsSome, IfSome}
+use Rattle.std.specs.BTreeMap.{is_at}
+use Rattle.std.specs.List.Sorted.{IsStrictlySortedBy}
+use Rattle.std.specs.Map.{keys_of, lookup, set_value}
+use Rattle.std.specs.Ordering.{nat_cmp}
+use Rattle.historical_bitmap.specs.Held.{IsHeld, is_held_at, with_held}
+use Rattle.historical_bitmap.specs.Pending.{IsSetIn, IsWritten, Puts}
+use Rattle.historical_bitmap.proofs.EditedMaps.{is_at_is, not_some}
+use Rattle.historical_bitmap.proofs.OldStates.{same_lookup}
+
+pub held_keys : (es : List (ℕ × List ℕ)) (held : Option ℕ) (chunk : List ℕ) → keys_of (with_held es held chunk) ≡ keys_of es
+held_keys es None chunk = refl
+held_keys es (Some h) chunk = keys-set_value (is_at (nat_cmp h)) es chunk
+
+pub held_sorted : (n : ℕ) (es : List (ℕ × List ℕ)) (held : Option ℕ) (chunk : List ℕ) → IsHeld n es held → IsStrictlySortedBy nat_cmp (keys_of (with_held es held chunk))
+held_sorted n es held chunk ok = rw (held_keys es held chunk) ok.sorted
+
+-- what is found once a value is replaced
+lookup_set : (es : List (ℕ × List ℕ)) (h q : ℕ) (w : List ℕ) → IsSome (lookup (nat_eq h) es) → lookup (nat_eq q) (set_value (is_at (nat_cmp h)) es w) ≡ cond (nat_eq q h) (Some w) (lookup (nat_eq q) es)
+lookup_set es h q w some = lookup-set_value nat_eq_equiv (is_at (nat_cmp h)) one q w es (rw (same_lookup h es) some) ∙ ap (λ t. cond t (Some w) (lookup (nat_eq q) es)) (is_at_is h q)
+  where
+    one : (x y : ℕ) → is_at (nat_cmp h) x ≡ true → is_at (nat_cmp h) y ≡ nat_eq x y
+    one x y e =
+        let f : x ≡ h = eqb-true x h (sym (is_at_is h x) ∙ e) in
+        is_at_is h y ∙ elim (cases_eq y h) [
+          | inl g ↦ rw (eq-eqb y h g, eq-eqb x y (f ∙ sym g)) refl
+          | inr ne ↦ rw (ne_eqb y h ne, ne_eqb x y (λ g. ne (sym g ∙ f))) refl
+        ]
+
+-- what is held is found
+pub lookup_here : (n : ℕ) (es : List (ℕ × List ℕ)) (held : Option ℕ) (chunk : List ℕ) (i : ℕ) → IsHeld n es held → is_held_at held i ≡ true → lookup (nat_eq i) (with_held es held chunk) ≡ Some chunk
+lookup_here n es None chunk i ok e = cc
+lookup_here n es (Some h) chunk i ok e = lookup_set es h i chunk ok.found ∙ rw (eq-eqb i h (sym (eqb-true h i e))) refl
+
+-- what is not held is found among the entries
+pub lookup_beside : (n : ℕ) (es : List (ℕ × List ℕ)) (held : Option ℕ) (chunk : List ℕ) (i : ℕ) → IsHeld n es held → is_held_at held i ≡ false → lookup (nat_eq i) (with_held es held chunk) ≡ lookup (nat_eq i) es
+lookup_beside n es None chunk i ok e = refl
+lookup_beside n es (Some h) chunk i ok e = lookup_set es h i chunk ok.found ∙ rw (ne_eqb i h (λ f. eqb-false h i e (sym f))) refl
+
+-- the chunk that is held is written
+pub puts_here : (n : ℕ) (es : List (ℕ × List ℕ)) (held : Option ℕ) (old new : List ℕ) (i : ℕ) → IsHeld n es held → is_held_at held i ≡ true → Puts (with_held es held old) (with_held es held new) i (Some new)
+puts_here n es None old new i ok e = cc
+puts_here n es (Some h) old new i ok e = λ q. lookup_set es h q new ok.found ∙ elim (cases_eq q i) [
+  | inl f ↦ rw (eq-eqb q i f, eq-eqb q h (f ∙ sym (eqb-true h i e))) refl
+  | inr ne ↦
+      let other : q ≢ h = λ f. ne (f ∙ eqb-true h i e) in
+      rw (ne_eqb q i ne, ne_eqb q h other) (sym (lookup_set es h q old ok.found ∙ rw (ne_eqb q h other) refl))
+]
+
+-- the chunk that is held is taken out
+pub takes_here : (n : ℕ) (es fs : List (ℕ × List ℕ)) (held : Option ℕ) (chunk : List ℕ) (i : ℕ) → IsHeld n es held → is_held_at held i ≡ true → Puts es fs i None → Puts (with_held es held chunk) fs i None
+takes_here n es fs None chunk i ok e put = cc
+takes_here n es fs (Some h) chunk i ok e put = λ q. put q ∙ elim (cases_eq q i) [
+  | inl f ↦ rw (eq-eqb q i f) refl
+  | inr ne ↦ rw (ne_eqb q i ne) (sym (lookup_set es h q chunk ok.found ∙ rw (ne_eqb q h (λ f. ne (f ∙ eqb-true h i e))) refl))
+]
+
+-- another chunk is put or taken out
+pub held_beside : (n : ℕ) (es fs : List (ℕ × List ℕ)) (held : Option ℕ) (i : ℕ) (o : Option (List ℕ)) → IsHeld n es held → is_held_at held i ≡ false → IsStrictlySortedBy nat_cmp (keys_of fs) → Puts es fs i o → IsHeld n fs held
+held_beside n es fs None i o ok e sorted put = record { width = ok.width; sorted = sorted; found = tt }
+held_beside n es fs (Some h) i o ok e sorted put = record { width = ok.width; sorted = sorted; found = rw (put h, ne_eqb h i (eqb-false h i e)) ok.found }
+
+pub puts_beside : (n : ℕ) (es fs : List (ℕ × List ℕ)) (held : Option ℕ) (chunk : List ℕ) (i : ℕ) (o : Option (List ℕ)) → IsHeld n es held → is_held_at held i ≡ false → IsStrictlySortedBy nat_cmp (keys_of fs) → Puts es fs i o → Puts (with_held es held chunk) (with_held fs held chunk) i o
+puts_beside n es fs None chunk i o ok e sorted put = put
+puts_beside n es fs (Some h) chunk i o ok e sorted put =
+    let kept = held_beside n es fs (Some h) i o ok e sorted put in
+    λ q. lookup_set fs h q chunk kept.found ∙ elim (cases_eq q h) [
+      | inl f ↦ rw (eq-eqb q h f, ne_eqb q i (λ g. eqb-false h i e (sym f ∙ g))) (sym (lookup_set es h q chunk ok.found ∙ rw (eq-eqb q h f) refl))
+      | inr ne ↦ rw (ne_eqb q h ne) (put q ∙ ap (λ y. cond (nat_eq q i) o y) (sym (lookup_set es h q chunk ok.found ∙ rw (ne_eqb q h ne) refl)))
+    ]
+
+-- a chunk held as it is changes nothing
+pub hold_same : (es : List (ℕ × List ℕ)) (i : ℕ) (chunk : List ℕ) → lookup (nat_eq i) es ≡ Some chunk → with_held es (Some i) chunk ≡ es
+hold_same es i chunk e = set_value_same (is_at (nat_cmp i)) es chunk (same_lookup i es ∙ e)
+
+-- where there is no chunk none is replaced
+pub put_nothing : (es : List (ℕ × List ℕ)) (i : ℕ) (chunk : List ℕ) → lookup (is_at (nat_cmp i)) es ≡ None → es ≡ with_held es (Some i) chunk
+put_nothing [] i chunk e = refl
+put_nothing (e ∷ es) i chunk none = elim (cases_Bool (is_at (nat_cmp i) e.0)) [
+  | inl f ↦ absurd (not_some e.1 (sym (ap (λ t. cond t (Some e.1) (lookup (is_at (nat_cmp i)) es)) f) ∙ none))
+  | inr f ↦
+      let rest : es ≡ with_held es (Some i) chunk = put_nothing es i chunk (sym (ap (λ t. cond t (Some e.1) (lookup (is_at (nat_cmp i)) es)) f) ∙ none) in
+      ap (λ xs. e ∷ xs) rest ∙ sym (ap (λ t. cond t ((e.0, chunk) ∷ es) (e ∷ with_held es (Some i) chunk)) f)
+]
+
+-- ---- a bit of another chunk is written, where there is one
+module _ (n : ℕ) (es fs : List (ℕ × List ℕ)) (held : Option ℕ) (beside : List ℕ) (i bit : ℕ) (value : Bool) (ok : IsHeld n es held) (out : is_held_at held i ≡ false) (sorted : IsStrictlySortedBy nat_cmp (keys_of fs)) (none : lookup (nat_eq i) es ≡ None → fs ≡ es) (some : IfSome (lookup (nat_eq i) es) (λ chunk. IsSetIn n es fs i chunk bit value)) where
+  pub set_held : IsHeld n fs held
+  set_held = go (lookup (nat_eq i) es) refl some
+    where
+      go : (o : Option (List ℕ)) → lookup (nat_eq i) es ≡ o → IfSome o (λ chunk. IsSetIn n es fs i chunk bit value) → IsHeld n fs held
+      go None e s = subst (λ xs. IsHeld n xs held) (sym (none e)) ok
+      go (Some chunk) e s = held_beside n es fs held i (Some s.bytes) ok out sorted s.edited
+
+  pub set_none : lookup (nat_eq i) (with_held es held beside) ≡ None → with_held fs held beside ≡ with_held es held beside
+  set_none e = ap (λ xs. with_held xs held beside) (none (sym (lookup_beside n es held beside i ok out) ∙ e))
+
+  pub set_some : IfSome (lookup (nat_eq i) (with_held es held beside)) (λ chunk. IsSetIn n (with_held es held beside) (with_held fs held beside) i chunk bit value)
+  set_some = subst (λ o. IfSome o (λ chunk. IsSetIn n (with_held es held beside) (with_held fs held beside) i chunk bit value)) (sym (lookup_beside n es held beside i ok out)) (go (lookup (nat_eq i) es) some)
+    where
+      go : (o : Option (List ℕ)) → IfSome o (λ chunk. IsSetIn n es fs i chunk bit value) → IfSome o (λ chunk. IsSetIn n (with_held es held beside) (with_held fs held beside) i chunk bit value)
+      go None s = tt
+      go (Some chunk) s = record { bytes = s.bytes; written = s.written; edited = puts_beside n es fs held beside i (Some s.bytes) ok out sorted s.edited }
+
+-- ---- a bit of the chunk that is held is written
+module _ (n : ℕ) (es : List (ℕ × List ℕ)) (held : Option ℕ) (old new : List ℕ) (i bit : ℕ) (value : Bool) (ok : IsHeld n es held) (here : is_held_at held i ≡ true) where
+  pub held_some : IsWritten n old bit value new → IfSome (lookup (nat_eq i) (with_held es held old)) (λ chunk. IsSetIn n (with_held es held old) (with_held es held new) i chunk bit value)
+  held_some written = subst (λ o. IfSome o (λ chunk. IsSetIn n (with_held es held old) (with_held es held new) i chunk bit value)) (sym (lookup_here n es held old i ok here)) (record { bytes = new; written = written; edited = puts_here n es held old new i ok here })

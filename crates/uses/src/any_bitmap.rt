@@ -1,0 +1,47 @@
+//! Functions over any bitmap of any width: dense, with a pruned front, or a reader of one's own.
+
+ghost use Rattle.std.specs.Prelude.{◌≡◌, ◌↔◌, [], IsFalse};
+ghost use Rattle.bitmap_core.specs.Meaning.{ones};
+
+use bitmap_core::bitmap::Readable;
+
+/// Whether a bit is set among the retained positions from `from` up to `to`.
+pub fn is_any_set<B: Readable<N>, const N: usize>(bitmap: &B, from: u64, to: u64) -> bool
+    ensures { IsFalse result ↔ (ones N (B.meaning bitmap.now) from to ≡ []) }
+{
+    // Tells the proof how large `N` may be.
+    let _ = bitmap.len();
+    bitmap.ones_iter_range(from..to).next().is_some()
+}
+
+/// The set positions from `from` on, added up, as far as the sum fits.
+pub fn position_sum<B: Readable<N>, const N: usize>(bitmap: &B, from: u64) -> u64 {
+    // Tells the proof how large `N` may be.
+    let _ = bitmap.len();
+    let mut sum: u64 = 0;
+    for position in bitmap.ones_iter_from(from) {
+        sum = sum.saturating_add(position);
+    }
+    sum
+}
+
+#[cfg(test)]
+mod tests {
+    use super::*;
+    use bitmap_core::bitmap::{BitMap, Prunable};
+    use std::alloc::AllocError;
+
+    #[test]
+    fn takes_both_bitmaps(rt: HostRuntime) -> Result<(), AllocError> {
+        let dense = BitMap::<3>::from_bools(rt.alloc(), [false, true, false, true].as_slice())?;
+        assert!(rt; is_any_set(&dense, 2, 4) && !is_any_set(&dense, 2, 3));
+        assert_eq!(rt; position_sum(&dense, 0), 4);
+        let mut pruned = Prunable::<1>::new(rt.alloc());
+        pruned.push_byte(255)?;
+        pruned.push_byte(5)?;
+        pruned.prune_to_bit(8);
+        assert!(rt; !is_any_set(&pruned, 0, 8));
+        assert_eq!(rt; position_sum(&pruned, 0), 18);
+        Ok(())
+    }
+}

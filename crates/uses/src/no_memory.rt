@@ -1,0 +1,33 @@
+//! A refusal of memory that is survived: what was edited is as it was, and is used further.
+
+ghost use Rattle.std.specs.Prelude.{◌≡◌, ◌+◌, ◌-◌, ◌^◌, ◌<◌, ◌++◌, ◌∷◌, [], length, slice_set, OnOk, OnErr};
+
+use bitmap_core::bitmap::BitMap;
+use std::alloc::AllocError;
+
+/// Notes an outcome behind the others. Where there is no memory for it, it takes the place of the last one.
+pub fn note(outcomes: &mut BitMap<8>, outcome: bool) -> Result<(), AllocError>
+    requires some { 0 < length outcomes.old }
+    requires room { length outcomes.old + 1 < 2 ^ 64 }
+    ensures ok { OnOk result (outcomes.new ≡ outcomes.old ++ outcome ∷ []) }
+    ensures err { OnErr result (outcomes.new ≡ slice_set outcomes.old (length outcomes.old - 1) outcome) }
+{
+    let noted = outcomes.push(outcome);
+    if noted.is_err() {
+        outcomes.set(outcomes.len() - 1, outcome);
+    }
+    noted
+}
+
+#[cfg(test)]
+mod tests {
+    use super::*;
+
+    #[test]
+    fn behind_the_others(rt: HostRuntime) -> Result<(), AllocError> {
+        let mut outcomes = BitMap::<8>::ones(rt.alloc(), 64)?;
+        note(&mut outcomes, false)?;
+        assert_eq!(rt; (outcomes.len(), outcomes.get(64)), (65, false));
+        Ok(())
+    }
+}

@@ -1,0 +1,21 @@
+//! The bits of one chunk.
+
+use bitmap_core::chunk;
+
+/// The chunk 8, 0, 0, 0, and whether its bit 3 is set, which it is.
+pub fn marked() -> ([u8; 4], bool) {
+    let mut marks = [0; 4];
+    chunk::set_bit(&mut marks, 3, true);
+    let is_set = chunk::get_bit(&marks, 3);
+    (marks, is_set)
+}
+
+#[cfg(test)]
+mod tests {
+    use super::*;
+
+    #[test]
+    fn marks_its_bit(rt: HostRuntime) {
+        assert_eq!(rt; marked(), ([8, 0, 0, 0], true));
+    }
+}

@@ -1,0 +1,27 @@
+//! A dense bitmap, made, edited and read.
+
+use bitmap_core::bitmap::{BitMap, DEFAULT_CHUNK_SIZE};
+use std::alloc::{AllocError, Global};
+
+/// The slots that are taken, which are 3, 64 and 100.
+pub fn taken_slots(alloc: Global) -> Result<Vec<u64>, AllocError> {
+    let mut taken = BitMap::<DEFAULT_CHUNK_SIZE>::zeroes(alloc, 100)?;
+    taken.set(3, true);
+    taken.set(64, true);
+    taken.push(true)?;
+    taken.ones_iter().collect(alloc)
+}
+
+#[cfg(test)]
+mod tests {
+    use super::*;
+
+    #[test]
+    fn are_those_three(rt: HostRuntime) -> Result<(), AllocError> {
+        assert_eq!(rt;
+            taken_slots(rt.alloc())?.as_slice(),
+            [3, 64, 100].as_slice()
+        );
+        Ok(())
+    }
+}

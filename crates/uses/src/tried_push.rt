@@ -1,0 +1,28 @@
+//! A law that is rested on.
+
+ghost use Rattle.std.specs.Prelude.{◌≡◌, ◌+◌, ◌^◌, ◌<◌, length};
+
+use bitmap_core::bitmap::BitMap;
+use bitmap_core::laws::whole::push_then_pop;
+use std::alloc::AllocError;
+
+/// Changes nothing, by the law of `push_then_pop`.
+pub fn tried<const N: usize>(bitmap: &mut BitMap<N>) -> Result<bool, AllocError>
+    requires { length bitmap.old + 1 < 2 ^ 64 }
+    ensures { bitmap.new ≡ bitmap.old }
+{
+    push_then_pop(bitmap, true)
+}
+
+#[cfg(test)]
+mod tests {
+    use super::*;
+
+    #[test]
+    fn answers_its_bit(rt: HostRuntime) -> Result<(), AllocError> {
+        let mut bitmap = BitMap::<3>::zeroes(rt.alloc(), 24)?;
+        assert!(rt; tried(&mut bitmap)?);
+        assert_eq!(rt; bitmap.len(), 24);
+        Ok(())
+    }
+}
