@@ -99,7 +99,7 @@ impl Batch {
 
     // Appends the bits of a byte.
     fn push_byte(&mut self, byte: u8) -> Result<(), AllocError> {
-        for i in 0..8 {
+        for i in 0..8u32 {
             self.push((byte >> i) & 1 == 1)?;
         }
         Ok(())
