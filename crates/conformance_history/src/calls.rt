@@ -1,7 +1,8 @@
 //! Each public call once with ample memory, and both states behind their trait.
 
 use crate::asked::{
-    commit, current_bit, current_chunk, pending_bit, pending_chunk, pending_shows, shows,
+    commit, current_bit, current_chunk, pending_bit, pending_chunk, pending_shows, push, push_byte,
+    set_bit, shows,
 };
 use historical_bitmap::bitmap::historical::{BitMap, Clean, CleanBitMap, Dirty, Error, State};
 use std::alloc::{AllocError, Global};
@@ -62,7 +63,7 @@ fn commits_listed_and_dropped(rt: HostRuntime) -> Result<(), Fail> {
     let mut map = CleanBitMap::<3>::new(rt.alloc());
     for number in [3, 5, 8] {
         let mut batch = map.into_dirty();
-        batch.push_byte(number as u8)?;
+        push_byte(&rt, &mut batch, number as u8)?;
         map = commit(&rt, batch, number)?;
     }
     assert!(rt; map.commit_exists(5) && !map.commit_exists(4));
@@ -88,7 +89,8 @@ fn both_states_copied(rt: HostRuntime) -> Result<(), Fail> {
     let mut map = CleanBitMap::<3>::new(rt.alloc()).into_dirty();
     map.push_byte(0x4d)?;
     let mut map = commit(&rt, map, 6)?.into_dirty();
-    map.set_bit(0, false)?.push(true)?;
+    set_bit(&rt, &mut map, 0, false)?;
+    push(&rt, &mut map, true)?;
     let batch = copy::<3, Dirty<3>>(&map)?;
     assert!(rt; pending_shows(&rt, &batch, 0, b"001100101"));
     let map = copy::<3, Clean>(&map.abort())?;
