@@ -1,0 +1,267 @@
+//! The calls that ask for something, each of which tests first what is asked, and what compares bitmaps.
+
+ghost use Rattle.std.specs.Prelude.{◌≡◌};
+ghost use Rattle.bitmap_core.specs.PrunedBits.{pruned_bits};
+ghost use Rattle.historical_bitmap.specs.View.{pending_of};
+
+use historical_bitmap::bitmap::Prunable;
+use historical_bitmap::bitmap::historical::{CleanBitMap, DirtyBitMap, Error};
+use std::alloc::AllocError;
+use std::process::Abort;
+
+/// The bit at a retained position.
+pub fn get_bit<const N: usize>(rt: &impl Abort, map: &Prunable<N>, bit: u64) -> bool {
+    assert!(rt; map.pruned_bits() <= bit && bit < map.len());
+    map.get_bit(bit)
+}
+
+/// The bit of the current bitmap at a retained position.
+pub fn current_bit<const N: usize>(rt: &impl Abort, map: &CleanBitMap<N>, bit: u64) -> bool {
+    assert!(rt; map.current().pruned_bits() <= bit && bit < map.current().len());
+    map.get_bit(bit)
+}
+
+/// A copy of the chunk of a retained position of the current bitmap.
+pub fn current_chunk<const N: usize>(rt: &impl Abort, map: &CleanBitMap<N>, bit: u64) -> [u8; N] {
+    assert!(rt; map.current().pruned_bits() <= bit && bit < map.current().len());
+    *map.get_chunk_containing(bit)
+}
+
+/// The number of bits that are pruned with the pending edits.
+pub fn front<const N: usize>(rt: &impl Abort, map: &DirtyBitMap<N>) -> u64
+    ensures { result ≡ pruned_bits N (pending_of N map.now) }
+{
+    let _ = map.len();
+    let bits = (8 * N as u64).checked_mul(map.pruned_chunks() as u64);
+    assert!(rt; bits.is_some());
+    bits.unwrap_or(0)
+}
+
+/// The bit at a position that is retained with the pending edits.
+pub fn pending_bit<const N: usize>(rt: &impl Abort, map: &DirtyBitMap<N>, bit: u64) -> bool {
+    assert!(rt; front(rt, map) <= bit && bit < map.len());
+    map.get_bit(bit)
+}
+
+/// The chunk of a position that is retained with the pending edits.
+pub fn pending_chunk<const N: usize>(rt: &impl Abort, map: &DirtyBitMap<N>, bit: u64) -> [u8; N] {
+    assert!(rt; front(rt, map) <= bit && bit < map.len());
+    map.get_chunk(bit)
+}
+
+/// Replaces the bit at a position that is retained with the pending edits.
+pub fn set_bit<const N: usize>(
+    rt: &impl Abort,
+    map: &mut DirtyBitMap<N>,
+    bit: u64,
+    value: bool,
+) -> Result<(), AllocError> {
+    assert!(rt; front(rt, map) <= bit && bit < map.len());
+    map.set_bit(bit, value)?;
+    Ok(())
+}
+
+/// Appends a bit.
+pub fn push<const N: usize>(
+    rt: &impl Abort,
+    map: &mut DirtyBitMap<N>,
+    bit: bool,
+) -> Result<(), AllocError> {
+    assert!(rt; map.len() < u64::MAX);
+    map.push(bit)?;
+    Ok(())
+}
+
+/// Appends the bits of a byte.
+pub fn push_byte<const N: usize>(
+    rt: &impl Abort,
+    map: &mut DirtyBitMap<N>,
+    byte: u8,
+) -> Result<(), AllocError> {
+    assert!(rt; u64::MAX - map.len() >= 8);
+    map.push_byte(byte)?;
+    Ok(())
+}
+
+/// Appends the bits of a chunk.
+pub fn push_chunk<const N: usize>(
+    rt: &impl Abort,
+    map: &mut DirtyBitMap<N>,
+    chunk: &[u8; N],
+) -> Result<(), AllocError> {
+    assert!(rt; u64::MAX - map.len() >= 8 * N as u64);
+    map.push_chunk(chunk)?;
+    Ok(())
+}
+
+/// Removes the last bit, which is retained with the pending edits.
+pub fn pop<const N: usize>(rt: &impl Abort, map: &mut DirtyBitMap<N>) -> bool {
+    assert!(rt; front(rt, map) < map.len());
+    map.pop()
+}
+
+/// Prunes every chunk before that of a position, which is not past the pending length.
+pub fn prune_to_bit<const N: usize>(
+    rt: &impl Abort,
+    map: &mut DirtyBitMap<N>,
+    bit: u64,
+) -> Result<(), AllocError> {
+    assert!(rt; bit <= map.len());
+    map.prune_to_bit(bit)?;
+    Ok(())
+}
+
+/// Appends so many equal bits.
+pub fn push_run<const N: usize>(
+    rt: &impl Abort,
+    map: &mut DirtyBitMap<N>,
+    count: u64,
+    bit: bool,
+) -> Result<(), AllocError> {
+    for _ in 0..count {
+        push(rt, map, bit)?;
+    }
+    Ok(())
+}
+
+/// Removes so many bits, which all are as given.
+pub fn pop_run<const N: usize>(rt: &impl Abort, map: &mut DirtyBitMap<N>, count: u64, bit: bool) {
+    for _ in 0..count {
+        assert_eq!(rt; pop(rt, map), bit);
+    }
+}
+
+/// Commits under a number that may be used.
+pub fn commit<const N: usize>(
+    rt: &impl Abort,
+    map: DirtyBitMap<N>,
+    number: u64,
+) -> Result<CleanBitMap<N>, AllocError> {
+    match map.commit(number) {
+        Ok(map) => Ok(map),
+        Err((_, why)) => {
+            assert!(rt; why == Error::Memory(AllocError), "{number}");
+            Err(AllocError)
+        }
+    }
+}
+
+/// Commits under a number that may not be used, and answers the bitmap that is handed back.
+pub fn refuse<const N: usize>(
+    rt: &impl Abort,
+    map: DirtyBitMap<N>,
+    number: u64,
+    why: Error,
+) -> DirtyBitMap<N> {
+    match map.commit(number) {
+        Ok(map) => {
+            assert!(rt; false, "{number}");
+            map.into_dirty()
+        }
+        Err((map, found)) => {
+            assert!(rt; found == why, "{number}");
+            map
+        }
+    }
+}
+
+/// Whether so many chunks are pruned, and the retained bits are those that digits stand for.
+pub fn shows<const N: usize>(
+    rt: &impl Abort,
+    map: &Prunable<N>,
+    pruned_chunks: usize,
+    digits: &[u8],
+) -> bool {
+    let mut at = map.pruned_bits();
+    for digit in digits {
+        if at >= map.len() || get_bit(rt, map, at) != (*digit == b'1') {
+            return false;
+        }
+        at = at.saturating_add(1);
+    }
+    at == map.len() && map.pruned_chunks() == pruned_chunks
+}
+
+/// The same of a bitmap with its pending edits.
+pub fn pending_shows<const N: usize>(
+    rt: &impl Abort,
+    map: &DirtyBitMap<N>,
+    pruned_chunks: usize,
+    digits: &[u8],
+) -> bool {
+    let mut at = front(rt, map);
+    for digit in digits {
+        if at >= map.len() || pending_bit(rt, map, at) != (*digit == b'1') {
+            return false;
+        }
+        at = at.saturating_add(1);
+    }
+    at == map.len() && map.pruned_chunks() == pruned_chunks
+}
+
+// Whether the bits from one position up to another are all as given.
+fn is_run<const N: usize>(
+    rt: &impl Abort,
+    map: &Prunable<N>,
+    from: u64,
+    to: u64,
+    bit: bool,
+) -> bool {
+    for position in from..to {
+        if position >= map.len() || get_bit(rt, map, position) != bit {
+            return false;
+        }
+    }
+    true
+}
+
+/// Whether so many chunks are pruned, and the retained bits are runs of equal bits, each of such a length.
+pub fn shows_runs<const N: usize>(
+    rt: &impl Abort,
+    map: &Prunable<N>,
+    pruned_chunks: usize,
+    runs: &[(u64, bool)],
+) -> bool {
+    let mut at = map.pruned_bits();
+    for (count, bit) in runs {
+        let end = at.saturating_add(*count);
+        if !is_run(rt, map, at, end, *bit) {
+            return false;
+        }
+        at = end;
+    }
+    at == map.len() && map.pruned_chunks() == pruned_chunks
+}
+
+/// Whether a number is kept, with so many pruned chunks and the bits that digits stand for.
+pub fn was<const N: usize>(
+    rt: &impl Abort,
+    map: &CleanBitMap<N>,
+    number: u64,
+    pruned_chunks: usize,
+    digits: &[u8],
+) -> Result<bool, AllocError> {
+    match map.get_at_commit(number)? {
+        Some(old) => Ok(shows(rt, &old, pruned_chunks, digits)),
+        None => Ok(false),
+    }
+}
+
+/// Whether a number is kept, with so many pruned chunks and such runs of equal bits.
+pub fn was_runs<const N: usize>(
+    rt: &impl Abort,
+    map: &CleanBitMap<N>,
+    number: u64,
+    pruned_chunks: usize,
+    runs: &[(u64, bool)],
+) -> Result<bool, AllocError> {
+    match map.get_at_commit(number)? {
+        Some(old) => Ok(shows_runs(rt, &old, pruned_chunks, runs)),
+        None => Ok(false),
+    }
+}
+
+/// Whether these are the kept numbers, in order.
+pub fn keeps<const N: usize>(map: &CleanBitMap<N>, numbers: &[u64]) -> bool {
+    map.commits().eq(numbers.iter().copied())
+}

@@ -1,0 +1,13 @@
+//! Tests of the bitmaps that keep their history from outside, through their public calls alone.
+#![tactic(auto)]
+
+#[cfg(test)]
+mod asked;
+#[cfg(test)]
+mod calls;
+#[cfg(test)]
+mod plain;
+#[cfg(test)]
+mod refused;
+#[cfg(test)]
+mod rows;

@@ -1,0 +1,375 @@
+//! Requests for memory that are refused.
+//!
+//! Each test is a scenario for runs in which requests are refused. It is over where its set-up is refused.
+//! After a refused call the value is as before, and is used further. Run by itself, a scenario has ample memory.
+
+mod no_memory;
+
+use crate::asked::{
+    commit, get_bit, pending_shows, pop, pop_run, prune_to_bit, push, push_byte, push_chunk,
+    push_run, set_bit, shows, shows_runs,
+};
+use historical_bitmap::bitmap::Prunable;
+use historical_bitmap::bitmap::historical::{CleanBitMap, DirtyBitMap, Error};
+use std::alloc::{AllocError, Global};
+use std::process::Abort;
+
+// The pending bits of `begun`, behind one pruned chunk.
+const PENDING: &[u8] = b"011101011111000";
+
+// Two commits of bytes, the second of which prunes one. Unless its memory is refused.
+fn committed(rt: &impl Abort, alloc: Global) -> Option<CleanBitMap<1>> {
+    let mut map = CleanBitMap::<1>::new(alloc).into_dirty();
+    push_byte(rt, &mut map, 0x4d).ok()?;
+    push_byte(rt, &mut map, 0xae).ok()?;
+    let mut map = commit(rt, map, 1).ok()?.into_dirty();
+    prune_to_bit(rt, &mut map, 8).ok()?;
+    push_byte(rt, &mut map, 0x0f).ok()?;
+    commit(rt, map, 2).ok()
+}
+
+// The same with a batch begun, which has popped a bit, and a copy from before the batch.
+fn begun(rt: &impl Abort, alloc: Global) -> Option<(DirtyBitMap<1>, CleanBitMap<1>)> {
+    let before = committed(rt, alloc)?;
+    let mut map = before.clone().ok()?.into_dirty();
+    assert!(rt; !pop(rt, &mut map));
+    assert!(rt; pending_shows(rt, &map, 1, PENDING));
+    Some((map, before))
+}
+
+// Whether two bitmaps have as many pruned chunks, and the same bits behind them.
+fn same<const N: usize>(rt: &impl Abort, map: &Prunable<N>, other: &Prunable<N>) -> bool {
+    if map.len() != other.len() || map.pruned_chunks() != other.pruned_chunks() {
+        return false;
+    }
+    for position in map.pruned_bits()..map.len() {
+        if get_bit(rt, map, position) != get_bit(rt, other, position) {
+            return false;
+        }
+    }
+    true
+}
+
+// Whether a number is kept with the same bitmap in both, as far as there is memory to read them.
+fn same_at<const N: usize>(
+    rt: &impl Abort,
+    map: &CleanBitMap<N>,
+    other: &CleanBitMap<N>,
+    number: u64,
+) -> bool {
+    let Ok(found) = map.get_at_commit(number) else {
+        return true;
+    };
+    let Ok(wanted) = other.get_at_commit(number) else {
+        return true;
+    };
+    match (found, wanted) {
+        (Some(found), Some(wanted)) => same(rt, &found, &wanted),
+        _ => false,
+    }
+}
+
+// Whether two bitmaps are the same, with their histories.
+fn same_history<const N: usize>(
+    rt: &impl Abort,
+    map: &CleanBitMap<N>,
+    other: &CleanBitMap<N>,
+) -> bool {
+    for number in other.commits() {
+        if !same_at(rt, map, other, number) {
+            return false;
+        }
+    }
+    same(rt, map.current(), other.current())
+        && map.commits().eq(other.commits())
+        && map.reverse_entries() == other.reverse_entries()
+}
+
+// Uses a batch on `committed` further: it is given up, which leaves what was before it, and its commits are dropped.
+fn use_further(rt: &impl Abort, map: DirtyBitMap<1>, before: &CleanBitMap<1>) {
+    let mut map = map.abort();
+    assert!(rt; same_history(rt, &map, before));
+    assert_eq!(rt; map.prune_commits_before(2), 1);
+    assert!(rt; map.commits().eq([2].iter().copied()));
+    let mut map = map.into_dirty();
+    assert!(rt; !pop(rt, &mut map));
+    assert!(rt; pending_shows(rt, &map, 1, PENDING));
+}
+
+#[test]
+fn bit_set(rt: HostRuntime) {
+    let Some((mut map, before)) = begun(&rt, rt.alloc()) else {
+        return;
+    };
+    let refused = set_bit(&rt, &mut map, 8, true).is_err()
+        && {
+            assert!(rt; pending_shows(&rt, &map, 1, PENDING));
+            set_bit(&rt, &mut map, 8, true).is_err()
+        };
+    let after: &[u8] = if refused { PENDING } else { b"111101011111000" };
+    assert!(rt; pending_shows(&rt, &map, 1, after));
+    use_further(&rt, map, &before);
+}
+
+#[test]
+fn bit_pushed(rt: HostRuntime) {
+    let Some((mut map, before)) = begun(&rt, rt.alloc()) else {
+        return;
+    };
+    let refused = push(&rt, &mut map, true).is_err()
+        && {
+            assert!(rt; pending_shows(&rt, &map, 1, PENDING));
+            push(&rt, &mut map, true).is_err()
+        };
+    let after: &[u8] = if refused {
+        PENDING
+    } else {
+        b"0111010111110001"
+    };
+    assert!(rt; pending_shows(&rt, &map, 1, after));
+    use_further(&rt, map, &before);
+}
+
+#[test]
+fn byte_pushed(rt: HostRuntime) {
+    let Some((mut map, before)) = begun(&rt, rt.alloc()) else {
+        return;
+    };
+    let refused = push_byte(&rt, &mut map, 0x4d).is_err()
+        && {
+            assert!(rt; pending_shows(&rt, &map, 1, PENDING));
+            push_byte(&rt, &mut map, 0x4d).is_err()
+        };
+    let after: &[u8] = if refused {
+        PENDING
+    } else {
+        b"01110101111100010110010"
+    };
+    assert!(rt; pending_shows(&rt, &map, 1, after));
+    use_further(&rt, map, &before);
+}
+
+#[test]
+fn chunk_pushed(rt: HostRuntime) {
+    let Some((mut map, before)) = begun(&rt, rt.alloc()) else {
+        return;
+    };
+    let refused = push_chunk(&rt, &mut map, &[0x4d]).is_err()
+        && {
+            assert!(rt; pending_shows(&rt, &map, 1, PENDING));
+            push_chunk(&rt, &mut map, &[0x4d]).is_err()
+        };
+    let after: &[u8] = if refused {
+        PENDING
+    } else {
+        b"01110101111100010110010"
+    };
+    assert!(rt; pending_shows(&rt, &map, 1, after));
+    use_further(&rt, map, &before);
+}
+
+#[test]
+fn front_pruned(rt: HostRuntime) {
+    let Some((mut map, before)) = begun(&rt, rt.alloc()) else {
+        return;
+    };
+    let refused = prune_to_bit(&rt, &mut map, 16).is_err()
+        && {
+            assert!(rt; pending_shows(&rt, &map, 1, PENDING));
+            prune_to_bit(&rt, &mut map, 16).is_err()
+        };
+    if refused {
+        assert!(rt; pending_shows(&rt, &map, 1, PENDING));
+    } else {
+        assert!(rt; pending_shows(&rt, &map, 2, b"1111000"));
+    }
+    use_further(&rt, map, &before);
+}
+
+#[test]
+fn batch_committed_after_a_refused_prune(rt: HostRuntime) {
+    let mut map = CleanBitMap::<4>::new(rt.alloc()).into_dirty();
+    if push_run(&rt, &mut map, 96, true).is_err() {
+        return;
+    }
+    let Ok(map) = commit(&rt, map, 1) else {
+        return;
+    };
+    let mut map = map.into_dirty();
+    let refused = prune_to_bit(&rt, &mut map, 64).is_err();
+    let Ok(map) = commit(&rt, map, 2) else {
+        return;
+    };
+    let pruned = if refused { 0 } else { 2 };
+    let count = if refused { 96 } else { 32 };
+    assert!(rt; shows_runs(&rt, map.current(), pruned, &[(count, true)]));
+    if let Ok(Some(old)) = map.get_at_commit(1) {
+        assert!(rt; shows_runs(&rt, &old, 0, &[(96, true)]));
+    }
+    if let Ok(Some(old)) = map.get_at_commit(2) {
+        assert!(rt; same(&rt, &old, map.current()));
+    }
+}
+
+// A batch on sixteen bytes of ones that has set the first bit of so many chunks, and popped four bits.
+fn edited(rt: &impl Abort, alloc: Global, chunks: u64) -> Option<DirtyBitMap<1>> {
+    let mut map = CleanBitMap::<1>::new(alloc).into_dirty();
+    for _ in 0..16 {
+        push_byte(rt, &mut map, 0xff).ok()?;
+    }
+    let mut map = commit(rt, map, 1).ok()?.into_dirty();
+    for chunk in 0..chunks {
+        set_bit(rt, &mut map, chunk.saturating_mul(8), true).ok()?;
+    }
+    pop_run(rt, &mut map, 4, true);
+    Some(map)
+}
+
+// A byte of zeros pushed across two chunks that are not edited, where so many others are.
+fn push_across(rt: &impl Abort, alloc: Global, chunks: u64) {
+    let Some(mut map) = edited(rt, alloc, chunks) else {
+        return;
+    };
+    let refused = push_byte(rt, &mut map, 0).is_err()
+        && {
+            assert_eq!(rt; map.len(), 124);
+            push_byte(rt, &mut map, 0).is_err()
+        };
+    assert_eq!(rt; map.len(), if refused { 124 } else { 132 });
+    if !refused {
+        pop_run(rt, &mut map, 8, false);
+    }
+    pop_run(rt, &mut map, 124, true);
+    assert!(rt; map.is_empty());
+    let map = map.abort();
+    assert!(rt; shows_runs(rt, map.current(), 0, &[(128, true)]));
+}
+
+#[test]
+fn byte_pushed_across_chunks(rt: HostRuntime) {
+    for chunks in 0..13 {
+        push_across(&rt, rt.alloc(), chunks);
+    }
+}
+
+// A commit of 10 under 1, then a batch that clears the first bit and appends one.
+fn cleared_and_appended(rt: &impl Abort, alloc: Global) -> Option<DirtyBitMap<4>> {
+    let mut map = CleanBitMap::<4>::new(alloc).into_dirty();
+    push(rt, &mut map, true).ok()?;
+    push(rt, &mut map, false).ok()?;
+    let mut map = commit(rt, map, 1).ok()?.into_dirty();
+    set_bit(rt, &mut map, 0, false).ok()?;
+    push(rt, &mut map, true).ok()?;
+    Some(map)
+}
+
+// What a bitmap answers with that batch committed under 2.
+fn check_committed(rt: &impl Abort, map: &CleanBitMap<4>) {
+    assert!(rt; map.commits().eq([1, 2].iter().copied()));
+    assert!(rt; shows(rt, map.current(), 0, b"001"));
+    assert!(rt; map.reverse_entries() <= 2);
+    if let Ok(old) = map.get_at_commit(1) {
+        assert!(rt; old.is_some_and(|old| shows(rt, &old, 0, b"10")));
+    }
+    if let Ok(old) = map.get_at_commit(2) {
+        assert!(rt; old.is_some_and(|old| shows(rt, &old, 0, b"001")));
+    }
+}
+
+// What it answers with that batch given up.
+fn check_given_up(rt: &impl Abort, map: DirtyBitMap<4>) {
+    assert!(rt; pending_shows(rt, &map, 0, b"001"));
+    let map = map.abort();
+    assert!(rt; map.commits().eq([1].iter().copied()));
+    assert!(rt; shows(rt, map.current(), 0, b"10"));
+    assert!(rt; map.reverse_entries() <= 1);
+}
+
+#[test]
+fn batch_committed(rt: HostRuntime) {
+    let Some(map) = cleared_and_appended(&rt, rt.alloc()) else {
+        return;
+    };
+    match map.commit(2) {
+        Ok(map) => check_committed(&rt, &map),
+        Err((map, why)) => {
+            assert!(rt; why == Error::Memory(AllocError));
+            assert!(rt; pending_shows(&rt, &map, 0, b"001"));
+            match map.commit(2) {
+                Ok(map) => check_committed(&rt, &map),
+                Err((map, why)) => {
+                    assert!(rt; why == Error::Memory(AllocError));
+                    check_given_up(&rt, map);
+                }
+            }
+        }
+    }
+}
+
+#[test]
+fn first_batch_committed(rt: HostRuntime) {
+    let mut map = CleanBitMap::<1>::new(rt.alloc()).into_dirty();
+    if push_run(&rt, &mut map, 40, true).is_err() {
+        return;
+    }
+    match map.commit(7) {
+        Ok(map) => {
+            assert!(rt; shows_runs(&rt, map.current(), 0, &[(40, true)]));
+            assert!(rt; map.commits().eq([7].iter().copied()));
+            assert!(rt; map.reverse_entries() <= 5);
+        }
+        Err((mut map, why)) => {
+            assert!(rt; why == Error::Memory(AllocError));
+            pop_run(&rt, &mut map, 40, true);
+            let map = map.abort();
+            assert!(rt; map.is_empty() && map.latest_commit().is_none());
+            assert_eq!(rt; map.reverse_entries(), 0);
+        }
+    }
+}
+
+#[test]
+fn old_state_read(rt: HostRuntime) {
+    let Some(map) = committed(&rt, rt.alloc()) else {
+        return;
+    };
+    if let Ok(old) = map.get_at_commit(1) {
+        assert!(rt; old.is_some_and(|old| shows(&rt, &old, 0, b"1011001001110101")));
+    }
+    if let Ok(old) = map.get_at_commit(2) {
+        assert!(rt; old.is_some_and(|old| shows(&rt, &old, 1, b"0111010111110000")));
+    }
+    assert!(rt; shows(&rt, map.current(), 1, b"0111010111110000"));
+    assert!(rt; map.commits().eq([1, 2].iter().copied()));
+}
+
+#[test]
+fn clean_bitmap_copied(rt: HostRuntime) {
+    let Some(map) = committed(&rt, rt.alloc()) else {
+        return;
+    };
+    if let Ok(copy) = map.clone() {
+        assert!(rt; same_history(&rt, &copy, &map));
+        let mut copy = copy.into_dirty();
+        assert!(rt; !pop(&rt, &mut copy));
+        use_further(&rt, copy, &map);
+    }
+    assert!(rt; shows(&rt, map.current(), 1, b"0111010111110000"));
+    assert!(rt; map.commits().eq([1, 2].iter().copied()));
+}
+
+#[test]
+fn dirty_bitmap_copied(rt: HostRuntime) {
+    let Some((mut map, before)) = begun(&rt, rt.alloc()) else {
+        return;
+    };
+    if set_bit(&rt, &mut map, 8, true).is_err() || prune_to_bit(&rt, &mut map, 16).is_err() {
+        return;
+    }
+    if let Ok(copy) = map.clone() {
+        assert!(rt; pending_shows(&rt, &copy, 2, b"1111000"));
+        use_further(&rt, copy, &before);
+    }
+    assert!(rt; pending_shows(&rt, &map, 2, b"1111000"));
+    use_further(&rt, map, &before);
+}

@@ -1,0 +1,155 @@
+//! Calls that take no memory: where every request is refused they answer as they do with ample memory.
+
+use crate::asked::{
+    commit, current_bit, current_chunk, keeps, pending_bit, pending_chunk, pending_shows, pop,
+    pop_run, prune_to_bit, push, push_byte, push_run, refuse, set_bit, shows,
+};
+use crate::refused::{PENDING, begun, committed};
+use historical_bitmap::bitmap::historical::{CleanBitMap, DirtyBitMap, Error};
+use std::alloc::Global;
+use std::process::Abort;
+
+// A batch on one chunk of 32 true bits, unless its memory is refused.
+fn one_chunk(rt: &impl Abort, alloc: Global) -> Option<DirtyBitMap<4>> {
+    let mut map = CleanBitMap::<4>::new(alloc).into_dirty();
+    push_run(rt, &mut map, 32, true).ok()?;
+    Some(commit(rt, map, 1).ok()?.into_dirty())
+}
+
+#[test]
+fn chunk_popped(rt: HostRuntime) {
+    let Some(mut map) = one_chunk(&rt, rt.alloc()) else {
+        return;
+    };
+    pop_run(&rt, &mut map, 32, true);
+    assert_eq!(rt; map.len(), 0);
+}
+
+#[test]
+fn edited_chunk_popped(rt: HostRuntime) {
+    let Some(mut map) = one_chunk(&rt, rt.alloc()) else {
+        return;
+    };
+    if set_bit(&rt, &mut map, 0, false).is_err() {
+        return;
+    }
+    pop_run(&rt, &mut map, 31, true);
+    pop_run(&rt, &mut map, 1, false);
+    assert_eq!(rt; map.len(), 0);
+}
+
+#[test]
+fn edited_chunk_set(rt: HostRuntime) {
+    let Some(mut map) = one_chunk(&rt, rt.alloc()) else {
+        return;
+    };
+    if set_bit(&rt, &mut map, 0, false).is_err() {
+        return;
+    }
+    for bit in 1..32 {
+        assert!(rt; set_bit(&rt, &mut map, bit, false).is_ok(), "{bit}");
+    }
+    assert_eq!(rt; pending_chunk(&rt, &map, 31), [0; 4]);
+}
+
+#[test]
+fn edited_chunk_filled(rt: HostRuntime) {
+    let Some(mut map) = one_chunk(&rt, rt.alloc()) else {
+        return;
+    };
+    if set_bit(&rt, &mut map, 0, false).is_err() {
+        return;
+    }
+    pop_run(&rt, &mut map, 12, true);
+    assert!(rt; push_byte(&rt, &mut map, 0x35).is_ok());
+    for _ in 0..4 {
+        assert!(rt; push(&rt, &mut map, true).is_ok());
+    }
+    assert_eq!(rt; pending_chunk(&rt, &map, 0), [0xfe, 0xff, 0x5f, 0xf3]);
+}
+
+#[test]
+fn front_pruned_no_further(rt: HostRuntime) {
+    let Some((mut map, _before)) = begun(&rt, rt.alloc()) else {
+        return;
+    };
+    for bit in 0..16 {
+        assert!(rt; prune_to_bit(&rt, &mut map, bit).is_ok(), "{bit}");
+    }
+    assert!(rt; pending_shows(&rt, &map, 1, PENDING));
+}
+
+#[test]
+fn values_made(rt: HostRuntime) {
+    assert!(rt; CleanBitMap::<4>::new(rt.alloc()).is_empty());
+    assert!(rt; CleanBitMap::<4>::default(rt.alloc()).is_empty());
+    let made = CleanBitMap::<4>::new_with_pruned_chunks(rt.alloc(), 3);
+    assert!(rt; made.is_ok_and(|map| map.into_dirty().abort().pruned_chunks() == 3));
+    let refused = CleanBitMap::<4>::new_with_pruned_chunks(rt.alloc(), 576460752303423488);
+    assert!(rt; refused.is_err_and(|why| why == Error::PrunedChunksOverflow));
+}
+
+#[test]
+fn current_bitmap_read(rt: HostRuntime) {
+    let Some(map) = committed(&rt, rt.alloc()) else {
+        return;
+    };
+    assert!(rt; map.len() == 24 && !map.is_empty() && map.pruned_chunks() == 1);
+    assert!(rt; current_bit(&rt, &map, 9) && !current_bit(&rt, &map, 8));
+    assert_eq!(rt; current_chunk(&rt, &map, 23), [0x0f]);
+    assert!(rt; shows(&rt, map.current(), 1, b"0111010111110000"));
+}
+
+#[test]
+fn pending_bitmap_read(rt: HostRuntime) {
+    let Some((map, _before)) = begun(&rt, rt.alloc()) else {
+        return;
+    };
+    assert!(rt; map.len() == 23 && !map.is_empty() && map.pruned_chunks() == 1);
+    assert!(rt; pending_bit(&rt, &map, 9) && !pending_bit(&rt, &map, 8));
+    assert_eq!(rt; pending_chunk(&rt, &map, 22), [0x0f]);
+    assert!(rt; keeps(&map.abort(), &[1, 2]));
+}
+
+#[test]
+fn numbers_refused(rt: HostRuntime) {
+    let Some((map, _before)) = begun(&rt, rt.alloc()) else {
+        return;
+    };
+    let map = refuse(&rt, map, u64::MAX, Error::ReservedCommitNumber);
+    let why = Error::NonMonotonicCommit {
+        previous: 2,
+        attempted: 2,
+    };
+    let map = refuse(&rt, map, 2, why);
+    assert!(rt; pending_shows(&rt, &map, 1, PENDING));
+}
+
+#[test]
+fn number_not_kept(rt: HostRuntime) {
+    let Some(map) = committed(&rt, rt.alloc()) else {
+        return;
+    };
+    for number in [0, 3, u64::MAX] {
+        assert!(rt;
+            map.get_at_commit(number).is_ok_and(|old| old.is_none()),
+            "{number}"
+        );
+    }
+}
+
+#[test]
+fn commits_listed_and_dropped(rt: HostRuntime) {
+    let Some(mut map) = committed(&rt, rt.alloc()) else {
+        return;
+    };
+    assert!(rt; map.commit_exists(1) && map.commit_exists(2) && !map.commit_exists(3));
+    assert!(rt; map.earliest_commit() == Some(1) && map.latest_commit() == Some(2));
+    assert!(rt; keeps(&map, &[1, 2]));
+    assert!(rt; map.reverse_entries() <= 4);
+    assert_eq!(rt; map.prune_commits_before(2), 1);
+    assert!(rt; keeps(&map, &[2]));
+    map.clear_history();
+    assert!(rt; keeps(&map, &[]) && map.reverse_entries() == 0);
+    assert!(rt; shows(&rt, map.current(), 1, b"0111010111110000"));
+}
