@@ -14,7 +14,7 @@ use std::alloc::{AllocError, Global};
 use std::collections::BTreeMap;
 use std::marker::Model;
 
-// Chunks by index. One of them is held beside the map, in which older bytes may stand under its index: that which was written twice in a row.
+// Chunks by index. One of them is held beside the map, in which older bytes may stand under its index: the last that was written twice in a row or put in anew.
 // A write to it searches no map, and that of another chunk searches it once.
 #[derive(Debug, Drop)]
 pub(crate) struct EditedChunks<const N: usize> {
