@@ -1,5 +1,5 @@
 -- What a map says of its entries, as look-ups by number.
-use Rattle.std.proofs.Common.{◌≡◌, ℕ, ◌<◌, ◌≤◌, true, false, cond, List, [], ◌∷◌, Some, None, Result, Ok, Err, refl, sym, ap, ◌∙◌, arith}
+use Rattle.std.proofs.Common.{◌≡◌, ℕ, ◌<◌, ◌≤◌, true, false, cond, List, [], ◌∷◌, Some, None, Result, Ok, Err, refl, sym, ap, ◌∙◌, subst, arith}
 use mathlib.Core.Logic.{inl, inr, ◌≢◌}
 use Rattle.std.proofs.lemmas.Option.{same_Some}
 use Rattle.std.specs.List.{AllByRecursion}
@@ -8,10 +8,9 @@ use Rattle.std.specs.List.Sorted.{IsStrictlySortedBy}
 use Rattle.std.proofs.lemmas.Bool.{cases_order, cases_eq, cases_Bool, eq-eqb, ne_eqb, lt-ltb, le-ltb}
 use Rattle.std.proofs.lemmas.Map.Keys.{le_from_not_gt}
 use Rattle.std.proofs.lemmas.Map.Made.{is_some-lookup}
-use Rattle.std.specs.Prelude.{nat_eq, Option, is_some, is_err, OnErr}
+use Rattle.std.specs.Prelude.{nat_eq, Option, is_some, is_err, OnErr, OnOk}
 use Rattle.std.specs.BTreeMap.{is_at}
 use Rattle.std.specs.Map.{keys_of, lookup}
-use Rattle.std.specs.Option.{option_map}
 use Rattle.std.specs.Ordering.{nat_cmp, is_gt}
 use Rattle.std.specs.Set.{is_member}
 use Rattle.historical_bitmap.specs.Pending.{Puts, IsNextMember}
@@ -28,6 +27,10 @@ is_at_is k q = elim (cases_order q k) [
 -- what a map says of an update
 pub puts_from : {X : Type 0} (es fs : List (ℕ × X)) (k : ℕ) (o : Option X) → ((q : ℕ) → lookup (is_at (nat_cmp q)) fs ≡ cond (is_at (nat_cmp k) q) o (lookup (is_at (nat_cmp q)) es)) → Puts es fs k o
 puts_from es fs k o h = λ q. sym (same_lookup q fs) ∙ (h q ∙ (ap (λ t. cond t o (lookup (is_at (nat_cmp q)) es)) (is_at_is k q) ∙ ap (λ y. cond (nat_eq q k) o y) (same_lookup q es)))
+
+-- the same of other entries that are the same
+pub puts_as : {X : Type 0} (es fs gs : List (ℕ × X)) (k : ℕ) (o : Option X) → fs ≡ gs → Puts es gs k o → Puts es fs k o
+puts_as es fs gs k o e = subst (λ xs. Puts es xs k o) (sym e)
 
 -- ---- entries in order
 below : (a b : ℕ) → nat_cmp a b ≡ Less → a < b
@@ -81,14 +84,9 @@ pub on_err : {A E : Type 0} (r : Result A E) (P : Type 0) → is_err r ≡ true 
 on_err (Ok x) P e h = cc
 on_err (Err x) P e h = h
 
--- what was not found is not there
-pub not_found : {X Y : Type 0} (f : X → Y) (o : Option X) (r : Option Y) → r ≡ option_map f o → is_some r ≡ false → o ≡ None
-not_found f None r e h = refl
-not_found f (Some x) r e h = cc
-
-pub found_mapped : {X Y : Type 0} (f : X → Y) (o : Option X) (r : Option Y) → r ≡ option_map f o → is_some r ≡ true → is_some o ≡ true
-found_mapped f None r e h = sym (ap is_some e) ∙ h
-found_mapped f (Some x) r e h = refl
+pub on_ok : {A E : Type 0} (r : Result A E) (P : Type 0) → is_err r ≡ false → OnOk r P → P
+on_ok (Ok x) P e h = h
+on_ok (Err x) P e h = cc
 
 -- ---- what a map says of a range
 not_gt : (a b : ℕ) → a ≤ b → is_gt (nat_cmp a b) ≡ false

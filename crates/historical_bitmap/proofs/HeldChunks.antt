@@ -1,5 +1,5 @@
 -- Entries of chunks, one of which is held beside them: what is read and written.
-use Rattle.std.proofs.Common.{◌≡◌, ℕ, Bool, true, false, cond, List, [], ◌∷◌, Some, None, refl, sym, ap, ◌∙◌, subst}
+use Rattle.std.proofs.Common.{◌≡◌, ℕ, ◌+◌, Bool, true, false, cond, List, [], ◌∷◌, Some, None, refl, sym, ap, ◌∙◌, subst, arith}
 use mathlib.Core.Logic.{inl, inr, ◌≢◌}
 use Rattle.std.proofs.lemmas.Bool.{cases_Bool, cases_eq, eq-eqb, ne_eqb, eqb-true, eqb-false}
 use Rattle.std.proofs.lemmas.Cmp.{nat_eq_equiv}
@@ -11,7 +11,7 @@ use Rattle.std.specs.List.Sorted.{IsStrictlySortedBy}
 use Rattle.std.specs.Map.{keys_of, lookup, set_value}
 use Rattle.std.specs.Ordering.{nat_cmp}
 use Rattle.historical_bitmap.specs.Held.{IsHeld, is_held_at, with_held}
-use Rattle.historical_bitmap.specs.Pending.{IsSetIn, IsWritten, Puts}
+use Rattle.historical_bitmap.specs.Pending.{IsSetIn, IsWritten, Puts, PutsTwo, SetsIn}
 use Rattle.historical_bitmap.proofs.EditedMaps.{is_at_is, not_some}
 use Rattle.historical_bitmap.proofs.OldStates.{same_lookup}
 
@@ -90,24 +90,31 @@ put_nothing (e ∷ es) i chunk none = elim (cases_Bool (is_at (nat_cmp i) e.0)) 
       ap (λ xs. e ∷ xs) rest ∙ sym (ap (λ t. cond t ((e.0, chunk) ∷ es) (e ∷ with_held es (Some i) chunk)) f)
 ]
 
--- ---- a bit of another chunk is written, where there is one
-module _ (n : ℕ) (es fs : List (ℕ × List ℕ)) (held : Option ℕ) (beside : List ℕ) (i bit : ℕ) (value : Bool) (ok : IsHeld n es held) (out : is_held_at held i ≡ false) (sorted : IsStrictlySortedBy nat_cmp (keys_of fs)) (none : lookup (nat_eq i) es ≡ None → fs ≡ es) (some : IfSome (lookup (nat_eq i) es) (λ chunk. IsSetIn n es fs i chunk bit value)) where
-  pub set_held : IsHeld n fs held
-  set_held = go (lookup (nat_eq i) es) refl some
-    where
-      go : (o : Option (List ℕ)) → lookup (nat_eq i) es ≡ o → IfSome o (λ chunk. IsSetIn n es fs i chunk bit value) → IsHeld n fs held
-      go None e s = subst (λ xs. IsHeld n xs held) (sym (none e)) ok
-      go (Some chunk) e s = held_beside n es fs held i (Some s.bytes) ok out sorted s.edited
+-- a chunk is held in the place of another one
+pub holds : (es : List (ℕ × List ℕ)) (i : ℕ) (old new : List ℕ) → lookup (nat_eq i) es ≡ Some old → Puts es (with_held es (Some i) new) i (Some new)
+holds es i old new e = λ q. lookup_set es i q new (rw e refl)
 
-  pub set_none : lookup (nat_eq i) (with_held es held beside) ≡ None → with_held fs held beside ≡ with_held es held beside
-  set_none e = ap (λ xs. with_held xs held beside) (none (sym (lookup_beside n es held beside i ok out) ∙ e))
+-- what is put is found
+pub lookup_put : (es fs : List (ℕ × List ℕ)) (i : ℕ) (chunk : List ℕ) → Puts es fs i (Some chunk) → lookup (nat_eq i) fs ≡ Some chunk
+lookup_put es fs i chunk put = put i ∙ ap (λ t. cond t (Some chunk) (lookup (nat_eq i) es)) (eq-eqb i i refl)
 
-  pub set_some : IfSome (lookup (nat_eq i) (with_held es held beside)) (λ chunk. IsSetIn n (with_held es held beside) (with_held fs held beside) i chunk bit value)
-  set_some = subst (λ o. IfSome o (λ chunk. IsSetIn n (with_held es held beside) (with_held fs held beside) i chunk bit value)) (sym (lookup_beside n es held beside i ok out)) (go (lookup (nat_eq i) es) some)
-    where
-      go : (o : Option (List ℕ)) → IfSome o (λ chunk. IsSetIn n es fs i chunk bit value) → IfSome o (λ chunk. IsSetIn n (with_held es held beside) (with_held fs held beside) i chunk bit value)
-      go None s = tt
-      go (Some chunk) s = record { bytes = s.bytes; written = s.written; edited = puts_beside n es fs held beside i (Some s.bytes) ok out sorted s.edited }
+-- a chunk that was put is held as it is
+pub hold_put : (es fs : List (ℕ × List ℕ)) (i : ℕ) (chunk : List ℕ) → Puts es fs i (Some chunk) → with_held fs (Some i) chunk ≡ fs
+hold_put es fs i chunk put = hold_same fs i chunk (lookup_put es fs i chunk put)
+
+-- two chunks are put, and the second of them is held as it is
+pub puts_two : (es mid fs : List (ℕ × List ℕ)) (i : ℕ) (first second : List ℕ) → Puts es mid (i + 1) (Some second) → Puts mid fs i (Some first) → PutsTwo es (with_held fs (Some (i + 1)) second) i first second
+puts_two es mid fs i first second two one =
+    let other : i + 1 ≢ i = λ e. absurd (omega (arith, e)) in
+    let found : lookup (nat_eq (i + 1)) fs ≡ Some second = one (i + 1) ∙ rw (ne_eqb (i + 1) i other) (lookup_put es mid (i + 1) second two) in
+    rw (hold_same fs (i + 1) second found) (λ q. one q ∙ ap (λ o. cond (nat_eq q i) (Some first) o) (two q))
+
+-- ---- a bit of another chunk is written
+pub sets_beside : (n : ℕ) (first : List ℕ) (es fs : List (ℕ × List ℕ)) (held : Option ℕ) (beside : List ℕ) (i bit : ℕ) (value : Bool) (bytes : List ℕ) → IsHeld n es held → is_held_at held i ≡ false → IsStrictlySortedBy nat_cmp (keys_of fs) → SetsIn n first es fs i bit value bytes → SetsIn n first (with_held es held beside) (with_held fs held beside) i bit value bytes
+sets_beside n first es fs held beside i bit value bytes ok out sorted s = record {
+  written = rw (lookup_beside n es held beside i ok out) s.written;
+  edited = puts_beside n es fs held beside i (Some bytes) ok out sorted s.edited;
+}
 
 -- ---- a bit of the chunk that is held is written
 module _ (n : ℕ) (es : List (ℕ × List ℕ)) (held : Option ℕ) (old new : List ℕ) (i bit : ℕ) (value : Bool) (ok : IsHeld n es held) (here : is_held_at held i ≡ true) where

@@ -2,7 +2,7 @@
 use Rattle.std.proofs.Common.{◌≡◌, ℕ, suc, ◌-◌, ◌^◌, ◌<◌, ◌≤◌, List, [], ◌∷◌, ◌++◌, length, refl, ap, arith, sym, ◌∙◌}
 use mathlib.Core.Logic.{inl, inr}
 use Rattle.std.proofs.lemmas.Bool.{lt-ltb, le-ltb, le-leb, lt-leb, cases_lt, cases_eq, cases_order, eq-eqb, ne_eqb}
-use Rattle.std.proofs.lemmas.List.Elements.{All-head, All-tail, All-weaker, All-filter}
+use Rattle.std.proofs.lemmas.List.Elements.{All-head, All-tail, All-weaker, All-filter, All-nil, All-cons}
 use Rattle.std.proofs.lemmas.List.Kept.{IsStrictlySortedBy-filter}
 use Rattle.std.proofs.lemmas.Map.Entries.{length-keys_of}
 use Rattle.std.proofs.lemmas.Option.{slice_get-map}
@@ -15,10 +15,10 @@ use Rattle.std.specs.Ordering.{nat_cmp}
 use Rattle.std.specs.Prelude.{Option, Some, None, is_some, IsSome, slice_get, nat_le}
 use Rattle.std.specs.Option.{option_map}
 use Rattle.bitmap_core.specs.PrunedBits.{PrunedBits}
-use Rattle.historical_bitmap.specs.History.{undone, snapshots, costs, from_number, past_number, latest, RiseInNumber, AllCanUndo, AreUpTo, AreKept, kept_under}
+use Rattle.historical_bitmap.specs.History.{undone, snapshots, costs, from_number, past_number, up_to_number, latest, RiseInNumber, AllCanUndo, AreUpTo, AreKept, kept_under}
 use Rattle.historical_bitmap.specs.Record.{Reverse, before}
 use Rattle.historical_bitmap.specs.Undo.{CanUndo}
-use Rattle.historical_bitmap.proofs.OldStates.{same_lookup, snapshot_at, snapshot_none, snapshots_numbers, can_undo_from, undone_push}
+use Rattle.historical_bitmap.proofs.OldStates.{same_lookup, snapshot_at, snapshot_none, snapshots_numbers, can_undo_from, can_undo_rewound, snapshots_rewound, undone_push}
 
 -- ---- the numbers of a history are those of the commits
 pub same_number : (n i : ℕ) (cs : List (ℕ × Reverse)) (b : PrunedBits) → option_map (λ e. e.0) (slice_get (snapshots n cs b) i) ≡ option_map (λ e. e.0) (slice_get cs i)
@@ -133,3 +133,51 @@ found_under n m cs b rise there = by_record (kept_under cs m) refl
     by_record : (o : Option Reverse) → kept_under cs m ≡ o → kept_under (snapshots n cs b) m ≡ Some (undone n (past_number m cs) b)
     by_record None e = let none = rw (snapshot_none n m cs b e) at there in cc
     by_record (Some r) e = snapshot_at n m cs b r rise e
+
+-- ---- gone back to a kept number
+numbers_up_to : {X : Type 0} (m : ℕ) (es : List (ℕ × X)) → keys_of (up_to_number m es) ≡ filter (λ k. nat_le k m) (keys_of es)
+numbers_up_to m [] = refl
+numbers_up_to m (e ∷ es) = elim (cases_lt m e.0) [
+  | inl l ↦ rw (lt-leb e.0 m l) (numbers_up_to m es)
+  | inr l ↦ rw (le-leb e.0 m l) (ap (λ numbers. e.0 ∷ numbers) (numbers_up_to m es))
+]
+
+none_above : (m : ℕ) (numbers : List ℕ) → All (λ k. k ≤ m) (filter (λ k. nat_le k m) numbers)
+none_above m [] = All-nil (λ k. k ≤ m)
+none_above m (number ∷ numbers) = elim (cases_lt m number) [
+  | inl l ↦ rw (lt-leb number m l) (none_above m numbers)
+  | inr l ↦ rw (le-leb number m l) (All-cons (λ k. k ≤ m) number (filter (λ k. nat_le k m) numbers) l (none_above m numbers))
+]
+
+-- it is not the reserved one
+not_reserved : (n m : ℕ) (b : PrunedBits) (cs : List (ℕ × Reverse)) (last : Option ℕ) → m < 2 ^ 64 → AreKept n b cs last → IsSome (kept_under (snapshots n cs b) m) → m < 2 ^ 64 - 1
+not_reserved n m b cs last small kept there = elim (cases_eq m (2 ^ 64 - 1)) [
+  | inl e ↦ let none = rw (e, reserved_never n b cs last kept) at there in cc
+  | inr ne ↦ omega (arith, small, ne)
+]
+
+-- the bitmap under it is the one from which the commits up to it can be undone
+module _ (n m : ℕ) (b older : PrunedBits) (cs : List (ℕ × Reverse)) (last : Option ℕ)
+    (small : m < 2 ^ 64) (kept : AreKept n b cs last) (found : kept_under (snapshots n cs b) m ≡ Some older) where
+  there : IsSome (kept_under (snapshots n cs b) m)
+  there = rw found refl
+
+  older_is : older ≡ undone n (past_number m cs) b
+  older_is = let e = found_under n m cs b kept.rise there in cc
+
+  pub kept_rewound : AreKept n older (up_to_number m cs) (Some m)
+  kept_rewound = record {
+    undo = rw older_is (can_undo_rewound n m cs b kept.rise kept.undo);
+    rise = rw (numbers_up_to m cs) (IsStrictlySortedBy-filter nat_cmp (λ k. nat_le k m) (keys_of cs) kept.rise);
+    numbers = (not_reserved n m b cs last small kept there, rw (numbers_up_to m cs) (none_above m (keys_of cs)));
+  }
+
+  pub history_rewound : snapshots n (up_to_number m cs) older ≡ up_to_number m (snapshots n cs b)
+  history_rewound = rw older_is (snapshots_rewound n m cs b kept.rise)
+
+pub costs_rewound : (m : ℕ) (cs : List (ℕ × Reverse)) → costs (up_to_number m cs) ≡ up_to_number m (costs cs)
+costs_rewound m [] = refl
+costs_rewound m (c ∷ cs) = elim (cases_lt m c.0) [
+  | inl l ↦ rw (lt-leb c.0 m l) (costs_rewound m cs)
+  | inr l ↦ rw (le-leb c.0 m l) (ap (λ rest. (c.0, length c.1.entries) ∷ rest) (costs_rewound m cs))
+]

@@ -1,6 +1,8 @@
 pub mod Restored
 pub mod OldStates
 pub mod KeptCommits
+pub mod KeptUnder
+pub mod InPlace
 pub mod UndoSteps
 pub mod EntryPasses
 pub mod Counting

@@ -21,7 +21,7 @@ use Rattle.historical_bitmap.specs.Record.{ChunkDiff, Reverse, bit_from, kept, b
 use Rattle.historical_bitmap.specs.Undo.{CanUndo, IsOldChunk}
 use Rattle.historical_bitmap.specs.Pending.{Layer, edited_chunk, pending_bits, layer_marks, diff_of, LayerFits, ReversesLayer}
 use Rattle.historical_bitmap.proofs.Counting.{count_marked}
-use Rattle.historical_bitmap.proofs.Restored.{bit_in_chunk}
+use Rattle.historical_bitmap.proofs.Restored.{bit_in_chunk, has_chunk}
 use Rattle.historical_bitmap.proofs.PendingEdits.{pending_len, pending_at}
 use Rattle.historical_bitmap.proofs.PendingMarks.{IsMarked, mark, none_before}
 
@@ -97,6 +97,10 @@ layer_can_undo n b l r pos fits h = record {
     | inl e ↦ rw (kept_marked n b l r h i e, h.len) (old_of_marked n b l i pos high)
     | inr e ↦ let k = kept_unmarked n b l r h i e in rw k tt
   ];
+  unkept = λ k low high none.
+      let has : HasBit n b k = (rw h.pruned at low, rw h.len at high) in
+      let led = (layer_leads_back n b l r pos fits h).chunks (k / (8 * n)) (has_chunk n b k pos has) in
+      ((rw none at led) k refl has).0;
   sorted = h.sorted;
 }
 

@@ -1,5 +1,5 @@
 -- What is written into chunks makes an edit of the pending layer.
-use Rattle.std.proofs.Common.{◌≡◌, ℕ, ◌+◌, ◌-◌, ◌*◌, ◌/◌, ◌%◌, ◌<◌, ◌≤◌, Bool, true, false, cond, List, [], ◌∷◌, ◌++◌, eqb, length, get_or, map, replicate, append_assoc, Some, None, refl, ap, sym, ◌∙◌, arith}
+use Rattle.std.proofs.Common.{◌≡◌, ℕ, ◌+◌, ◌-◌, ◌*◌, ◌/◌, ◌%◌, ◌<◌, ◌≤◌, Bool, false, cond, List, [], ◌∷◌, ◌++◌, eqb, length, get_or, map, replicate, append_assoc, Some, None, refl, ap, sym, ◌∙◌, arith}
 use mathlib.Core.Logic.{inl, inr, ◌≢◌, ◌⊎◌}
 use Rattle.std.proofs.lemmas.Bool.{cases_lt, cases_eq, eq-eqb, ne_eqb, lt-ltb, le-ltb}
 use Rattle.std.proofs.lemmas.Option.{same_Some}
@@ -7,7 +7,7 @@ use Rattle.std.proofs.lemmas.List.{get_or_past, get_or-replicate, append-nil}
 use Rattle.std.proofs.lemmas.List.FromFn.{get_or-map-range_with_len, length-map-range_with_len, map-range_with_len_more}
 use Rattle.std.proofs.lemmas.Nat.{mul-le, mod_below}
 use Rattle.std.proofs.lemmas.Nat.Bits.{bit_at-zero}
-use Rattle.std.specs.Prelude.{nat_lt, nat_eq, Option, MatchOption, IfSome, is_some}
+use Rattle.std.specs.Prelude.{nat_lt, nat_eq, Option, MatchOption, IfSome}
 use Rattle.std.proofs.Math.Nat.{mod-eq_of_lt}
 use Rattle.std.specs.Int.{bit_at as bit_at_byte}
 use Rattle.std.specs.List.{range_with_len}
@@ -20,7 +20,7 @@ use Rattle.bitmap_core.proofs.Pruned.Edits.{bit_truncated}
 use Rattle.bitmap_core.proofs.Chunks.Bits.{mod_parts}
 use Rattle.historical_bitmap.specs.Edits.{from_to}
 use Rattle.historical_bitmap.specs.Record.{bit_from}
-use Rattle.historical_bitmap.specs.Pending.{Layer, LayerFits, IsEdited, IsWritten, IsSetIn, IsByteSetIn, Puts, PutsTwo, Writes, Pops, HasAppended, Appends, edited_chunk, pending_bits, pending_chunk, run_bits}
+use Rattle.historical_bitmap.specs.Pending.{Layer, LayerFits, IsEdited, IsSetIn, IsByteSetIn, Puts, PutsTwo, Writes, Pops, HasAppended, Appends, SetsIn, edited_chunk, pending_bits, pending_chunk, run_bits}
 use Rattle.historical_bitmap.proofs.PendingChunks.{chunk_with_bits}
 use Rattle.historical_bitmap.proofs.PendingEdits.{pending_at, pending_len}
 
@@ -56,29 +56,15 @@ module _ (n : ℕ) (b : PrunedBits) (l : Layer) (pos : 0 < n) (fits : LayerFits 
   has_current none = (omega (arith, has.0, mul-le (8 * n) b.pruned (8 * n) l.pruned (omega arith) fits.rises), fits.covered k has.0 inside none)
 
 -- ---- a bit written
-pub writes_new : (n : ℕ) (b : PrunedBits) (l m : Layer) (k : ℕ) (value : Bool) (old bytes : List ℕ) → m.len ≡ l.len → m.pruned ≡ l.pruned → m.captured ≡ l.captured → edited_chunk l (k / (8 * n)) ≡ None → old ≡ chunk n (truncated n b l.len) (k / (8 * n)) → IsWritten n old k value bytes → Puts l.edited m.edited (k / (8 * n)) (Some bytes) → Writes n b l k value l.len m
-writes_new n b l m k value old bytes len pruned captured none first written put = record {
+pub writes_set : (n : ℕ) (b : PrunedBits) (l m : Layer) (k : ℕ) (value : Bool) (bytes : List ℕ) → m.len ≡ l.len → m.pruned ≡ l.pruned → m.captured ≡ l.captured → SetsIn n (chunk n (truncated n b l.len) (k / (8 * n))) l.edited m.edited (k / (8 * n)) k value bytes → Writes n b l k value l.len m
+writes_set n b l m k value bytes len pruned captured s = record {
   len = len;
   pruned = pruned;
   captured = captured;
   bytes = bytes;
-  written = rw (none, sym first) written;
-  edited = put;
+  written = s.written;
+  edited = s.edited;
 }
-
-pub writes_edited : (n : ℕ) (b : PrunedBits) (l m : Layer) (k : ℕ) (value : Bool) → m.len ≡ l.len → m.pruned ≡ l.pruned → m.captured ≡ l.captured → is_some (edited_chunk l (k / (8 * n))) ≡ true → IfSome (edited_chunk l (k / (8 * n))) (λ chunk. IsSetIn n l.edited m.edited (k / (8 * n)) chunk k value) → Writes n b l k value l.len m
-writes_edited n b l m k value len pruned captured found some = go (edited_chunk l (k / (8 * n))) refl found some
-  where
-    go : (o : Option (List ℕ)) → edited_chunk l (k / (8 * n)) ≡ o → is_some o ≡ true → IfSome o (λ chunk. IsSetIn n l.edited m.edited (k / (8 * n)) chunk k value) → Writes n b l k value l.len m
-    go None e f s = cc
-    go (Some chunk) e f s = record {
-      len = len;
-      pruned = pruned;
-      captured = captured;
-      bytes = s.bytes;
-      written = rw e s.written;
-      edited = s.edited;
-    }
 
 pub writes_longer : (n : ℕ) (b : PrunedBits) (l mid m : Layer) (k : ℕ) (value : Bool) (total : ℕ) → Writes n b l k value l.len mid → m.len ≡ total → m.pruned ≡ mid.pruned → m.captured ≡ mid.captured → m.edited ≡ mid.edited → Writes n b l k value total m
 writes_longer n b l mid m k value total w len pruned captured edited = record {

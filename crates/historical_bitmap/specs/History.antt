@@ -1,12 +1,13 @@
 -- Old states: what was committed, by number. A chunk has n bytes.
-use Rattle.std.specs.Prelude.{◌≡◌, ℕ, ◌-◌, ◌^◌, ◌<◌, ◌≤◌, List, [], ◌∷◌, length, map, Option, Some, None, slice_get, nat_eq, nat_lt, nat_le}
+use Rattle.std.specs.Prelude.{◌≡◌, ℕ, ◌-◌, ◌*◌, ◌^◌, ◌<◌, ◌≤◌, List, [], ◌∷◌, length, map, Option, Some, None, slice_get, nat_eq, nat_lt, nat_le}
 use Rattle.std.specs.List.{All, filter}
 use Rattle.std.specs.List.Sorted.{IsStrictlySortedBy}
 use Rattle.std.specs.Map.{lookup, keys_of}
-use Rattle.std.specs.Option.{option_map}
+use Rattle.std.specs.Option.{option_map, option_or}
 use Rattle.std.specs.Ordering.{nat_cmp}
-use Rattle.bitmap_core.specs.PrunedBits.{PrunedBits}
-use Rattle.historical_bitmap.specs.Record.{Reverse, before}
+use Rattle.bitmap_core.specs.Chunk.{IsWidth}
+use Rattle.bitmap_core.specs.PrunedBits.{PrunedBits, bit_len}
+use Rattle.historical_bitmap.specs.Record.{Reverse, before, kept}
 use Rattle.historical_bitmap.specs.Undo.{CanUndo}
 
 -- what is kept under a number, where it is kept
@@ -41,6 +42,26 @@ past_number number history = filter (λ e. nat_lt number e.0) history
 abbrev pub undone : ℕ → List (ℕ × Reverse) → PrunedBits → PrunedBits
 undone n [] current = current
 undone n (commit ∷ later) current = before n commit.1 (undone n later current)
+
+-- what the last commit up to a number left: the current bitmap with the records past it undone
+abbrev pub left_by : ℕ → ℕ → List (ℕ × Reverse) → PrunedBits → PrunedBits
+left_by n number commits current = undone n (past_number number commits) current
+
+-- the length and the number of pruned chunks of what the last commit up to a number left
+pub record IsLeftBy (n number : ℕ) (commits : List (ℕ × Reverse)) (current : PrunedBits) (len pruned : ℕ) : Type 0 where
+  pub width : IsWidth n
+  pub len_is : bit_len n (left_by n number commits current) ≡ len
+  pub pruned_is : (left_by n number commits current).pruned ≡ pruned
+  pub within : 8 * n * pruned ≤ len
+
+-- the entries of each record rise by chunk
+abbrev pub EntriesRise : List (ℕ × Reverse) → Type 0
+EntriesRise commits = All (λ commit. IsStrictlySortedBy nat_cmp (keys_of commit.1.entries)) commits
+
+-- the old bytes that the first of some records to keep any keeps of chunk i
+abbrev pub first_kept : List (ℕ × Reverse) → ℕ → Option (List ℕ)
+first_kept [] i = None
+first_kept (commit ∷ later) i = option_or (kept commit.1 i) (first_kept later i)
 
 -- the number of each commit and what it left: the current bitmap with the later records undone
 abbrev pub snapshots : ℕ → List (ℕ × Reverse) → PrunedBits → List (ℕ × PrunedBits)

@@ -6,3 +6,4 @@ pub mod History
 pub mod Pending
 pub mod Held
 pub mod View
+pub mod Batch

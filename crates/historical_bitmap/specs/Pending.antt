@@ -84,6 +84,11 @@ pub record IsSetIn (n : ℕ) (old new : List (ℕ × List ℕ)) (i : ℕ) (chunk
   pub written : IsWritten n chunk k value bytes
   pub edited : Puts old new i (Some bytes)
 
+-- the new entries have these bytes under i, which are its chunk's with bit k as value, or a first one's where there is none, and else what the old ones have
+pub record SetsIn (n : ℕ) (first : List ℕ) (old new : List (ℕ × List ℕ)) (i k : ℕ) (value : Bool) (bytes : List ℕ) : Type 0 where
+  pub written : IsWritten n (unwrap_or (lookup (nat_eq i) old) first) k value bytes
+  pub edited : Puts old new i (Some bytes)
+
 -- the new entries have byte where bit k of the chunk under i stands, and else what the old ones have
 pub record IsByteSetIn (n : ℕ) (old new : List (ℕ × List ℕ)) (i k byte : ℕ) : Type 0 where
   pub chunk : List ℕ

@@ -1,5 +1,5 @@
 -- A historical bitmap, clean or with edits pending, as contracts see it. A chunk has n bytes.
-use Rattle.std.specs.Prelude.{◌≡◌, ℕ, ◌+◌, ◌-◌, ◌*◌, ◌%◌, ◌/◌, ◌^◌, ◌++◌, Bool, List, Option, Some, None, IsSome, nat_lt, nat_le, nat_eq, ◌==◌, ◌&&◌, if◌then◌else◌}
+use Rattle.std.specs.Prelude.{⊤, ◌≡◌, ℕ, ◌+◌, ◌-◌, ◌*◌, ◌%◌, ◌/◌, ◌^◌, ◌++◌, Bool, List, Option, Some, None, IsSome, nat_lt, nat_le, nat_eq, ◌==◌, ◌&&◌, if◌then◌else◌}
 use Rattle.std.specs.Set.{distinct_count}
 use Rattle.bitmap_core.specs.PrunedBits.{PrunedBits, bit_len}
 use Rattle.historical_bitmap.specs.declared.bitmap.historical.error.Error.{Error}
@@ -55,6 +55,12 @@ pub record IsRunOf (n : ℕ) (old : View Layer) (edits : List Edit) (new : View 
   pub last : new.last ≡ old.last
   pub pending : pending_of n new ≡ after_all n (pending_of n old) edits
   pub marks : IsWithin (marks_of n new) (marks_of n old ++ touched n (pending_of n old) edits)
+
+-- a batch is on a bitmap that was begun: it has its current bitmap, its commits and its last number
+pub record IsBatchOn (begun : View ⊤) (batch : View Layer) : Type 0 where
+  pub current : batch.current ≡ begun.current
+  pub commits : batch.commits ≡ begun.commits
+  pub last : batch.last ≡ begun.last
 
 -- why no commit may have the number after the last one, where there is one: it is not above it
 abbrev pub refusal_after : Option ℕ → ℕ → Option Error

@@ -1,5 +1,5 @@
 -- Whether a record leads back, and whether it can be undone in steps. Each chunk has one byte.
-use Rattle.std.specs.Prelude.{◌≡◌, ℕ, ◌/◌, ◌≤◌, false, [], ◌∷◌, MatchOption, is_some}
+use Rattle.std.specs.Prelude.{◌≡◌, ℕ, ◌/◌, ◌<◌, ◌≤◌, None, false, [], ◌∷◌, MatchOption, is_some}
 use Rattle.std.specs.List.Sorted.{IsStrictlySortedBy}
 use Rattle.std.specs.Ordering.{nat_cmp}
 use Rattle.std.proofs.Common.{refl, ap, arith, get_or, subst, sym}
@@ -50,9 +50,16 @@ shorter_can = record {
   fits = omega arith;
   pruned = λ i low high. absurd (omega (arith, low, high));
   others = λ i low. other i;
+  unkept = λ k low high none. absurd (none_unkept k high none);
   sorted = first_two;
 }
   where
+    none_unkept : (k : ℕ) → k < 12 → kept from_shorter (k / 8) ≡ None → ⊥
+    none_unkept k high none = elim (cases_eq (k / 8) 0) [
+      | inl a ↦ let e = rw a at none in cc
+      | inr b ↦ let second : k / 8 ≡ 1 = omega (arith, high, b) in let e = rw second at none in cc
+    ]
+
     other : (i : ℕ) → MatchOption (kept from_shorter i) (Unit {0}) (IsOldChunk 1 12 i)
     other i = elim (cases_eq i 0) [
       | inl a ↦ subst (λ j. MatchOption (kept from_shorter j) (Unit {0}) (IsOldChunk 1 12 j)) (sym a) (record { high = omega arith; clear = λ k e past. absurd (omega (arith, e, past)) })
@@ -69,6 +76,10 @@ forgotten_cannot can = absurd (false≢true (can.pruned 0 (omega arith) (omega a
 -- nor one that keeps bytes for a chunk past the end
 past_the_end_cannot : CanUndo 1 (record { len = 12; pruned = 0; entries = (2, Removed (1 ∷ [])) ∷ [] }) shorter → ⊥
 past_the_end_cannot can = omega (arith, (can.others 2 (omega arith)).high)
+
+-- nor one that keeps nothing of what was cut off
+cut_off_cannot : CanUndo 1 (record { len = 12; pruned = 0; entries = [] }) shorter → ⊥
+cut_off_cannot can = omega (arith, (can.unkept 11 (omega arith) (omega arith) refl).1)
 
 -- the bytes of chunks 1 and 2, in order; what was made keeps none
 between : kept_between 1 3 ((0, Modified (9 ∷ [])) ∷ (1, Pruned (7 ∷ [])) ∷ (2, Pruned (5 ∷ [])) ∷ (3, Added) ∷ []) ≡ (7 ∷ []) ∷ (5 ∷ []) ∷ []

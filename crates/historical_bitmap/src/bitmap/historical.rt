@@ -1,6 +1,8 @@
 //! A bitmap with a history of commits.
 
 mod apply;
+mod at;
+mod batch;
 mod clean;
 mod commits;
 mod dirty;
@@ -12,9 +14,10 @@ mod record;
 mod state;
 mod undo;
 
+pub use crate::bitmap::historical::at::AtCommit;
 pub use crate::bitmap::historical::commits::{Commits, Numbers};
 pub use crate::bitmap::historical::edit::{Edit, Lent};
-pub use crate::bitmap::historical::error::Error;
+pub use crate::bitmap::historical::error::{ApplyError, Error, RewindError};
 pub use crate::bitmap::historical::pending::Dirty;
 use crate::bitmap::historical::record::CommitDiff;
 pub use crate::bitmap::historical::state::{Clean, State};

@@ -1,15 +1,17 @@
-//! The commits of a historical bitmap: what is kept under which number, and what is dropped.
+//! The commits of a historical bitmap: what is kept under which number, what is dropped, and going back.
 
-ghost use Rattle.std.specs.Prelude.{◌≡◌, ℕ, ◌+◌, ◌-◌, ◌^◌, [], length, None, Some, Ok, is_some, IsSome, nat_le, IfOk, OnOk};
+ghost use Rattle.std.specs.Prelude.{◌≡◌, ℕ, ◌+◌, ◌-◌, ◌^◌, [], length, None, Some, Ok, is_some, IsSome, nat_le, IfErr, IfOk, OnOk, if◌then◌else◌, alloc_error};
 ghost use Rattle.std.specs.List.{sum_by};
 ghost use Rattle.std.specs.Map.{keys_of};
-ghost use Rattle.historical_bitmap.specs.History.{AllCanUndo, earliest, from_number, kept_under, latest, past_number, RiseInNumber, undone};
+ghost use Rattle.historical_bitmap.specs.History.{AllCanUndo, earliest, from_number, kept_under, latest, past_number, RiseInNumber, undone, up_to_number};
 ghost use Rattle.historical_bitmap.specs.View.{costs_of, history_of};
+ghost use Rattle.historical_bitmap.specs.declared.bitmap.historical.error.RewindError.TheVariants.{Memory, NoSuchCommit};
 
-use crate::bitmap::historical::BitMap;
+use crate::bitmap::historical::error::RewindError;
 use crate::bitmap::historical::record::CommitDiff;
 use crate::bitmap::historical::state::Clean;
 use crate::bitmap::historical::undo::undo;
+use crate::bitmap::historical::{BitMap, CleanBitMap};
 use bitmap_core::bitmap::Prunable;
 use std::alloc::AllocError;
 use std::collections::BTreeMap;
@@ -159,6 +161,65 @@ impl<const N: usize> BitMap<N, Clean> {
             { *kept >= number },
         );
         before - self.commits.len()
+    }
+
+    /// Goes back to what was committed under a number: it is current again, the commits past it are dropped, and the next number has to be above it.
+    ///
+    /// The other commits stay as they are.
+    ///
+    /// It errs with `NoSuchCommit` exactly where the number is not kept, as `u64::MAX` never is, else with `Memory` where memory is refused,
+    /// and hands back the value as it was.
+    ///
+    /// Takes memory for a bitmap where the number is kept, and none elsewhere.
+    ///
+    /// ```
+    /// ghost use Rattle.std.specs.Prelude.{◌≡◌, None, Some, Err, OnErr, OnOk};
+    /// ghost use Rattle.historical_bitmap.specs.History.{kept_under};
+    /// ghost use Rattle.historical_bitmap.specs.View.{history_of};
+    /// ghost use Rattle.historical_bitmap.specs.declared.bitmap.historical.error.RewindError.TheVariants.{NoSuchCommit};
+    ///
+    /// use historical_bitmap::bitmap::historical::{CleanBitMap, RewindError};
+    ///
+    /// /// Takes flags back to a checkpoint. Else they stay as they are, and it tells why.
+    /// pub fn restored(flags: CleanBitMap<8>, checkpoint: u64) -> (CleanBitMap<8>, Result<(), RewindError>)
+    ///     ensures back { OnOk result.1 (kept_under (history_of 8 flags) checkpoint ≡ Some result.0.current) }
+    ///     ensures stay { OnErr result.1 (result.0 ≡ flags) }
+    ///     ensures unknown { kept_under (history_of 8 flags) checkpoint ≡ None → result.1 ≡ Err NoSuchCommit }
+    /// {
+    ///     match flags.rewind_to(checkpoint) {
+    ///         Ok(flags) => (flags, Ok(())),
+    ///         Err((flags, why)) => (flags, Err(why)),
+    ///     }
+    /// }
+    /// ```
+    pub fn rewind_to(self, number: u64) -> Result<CleanBitMap<N>, (CleanBitMap<N>, RewindError)>
+        ensures refused { IfErr result (λ e. e.1 ≡ (if is_some (kept_under (history_of N self.entry) number) then Memory alloc_error else NoSuchCommit)) }
+        ensures unchanged { IfErr result (λ e. e.0 ≡ self.entry) }
+        ensures current { IfOk result (λ b. kept_under (history_of N self.entry) number ≡ Some b.current) }
+        ensures history { IfOk result (λ b. history_of N b ≡ up_to_number number (history_of N self.entry)) }
+        ensures costs { IfOk result (λ b. costs_of b ≡ up_to_number number (costs_of self.entry)) }
+        ensures last { IfOk result (λ b. b.last ≡ Some number) }
+        ensures reserved { kept_under (history_of N self.entry) (2 ^ 64 - 1) ≡ None }
+    {
+        if !self.commit_exists(number) {
+            return Err((self, RewindError::NoSuchCommit));
+        }
+        let Ok(current) = self.undone_to(number) else {
+            return Err((self, RewindError::Memory(AllocError)));
+        };
+        let mut commits = self.commits;
+        commits.retain(
+            |kept: &u64, _record: &mut CommitDiff<N>| -> bool
+                ensures kept { result ≡ nat_le kept.entry.now number }
+                ensures same { _record.exit.now ≡ _record.entry.now }
+            { *kept <= number },
+        );
+        Ok(BitMap {
+            current,
+            commits,
+            last: Some(number),
+            state: self.state,
+        })
     }
 
     /// Drops all commits. The current bitmap and the last number stay as they are. No memory.

@@ -1,21 +1,24 @@
 //! The edited chunks of a batch, by index.
 
-ghost use Rattle.std.specs.Prelude.{◌≡◌, ℕ, ◌+◌, ◌*◌, ◌/◌, ◌^◌, ◌<◌, [], List, length, Option, Some, None, IfOk, IfSome, OnOk, OnErr, IsOk, IsSome, nat_eq, slice_index, true, false};
+ghost use Rattle.std.specs.Prelude.{◌≡◌, ℕ, ◌+◌, ◌*◌, ◌/◌, ◌%◌, ◌^◌, ◌<◌, ◌≤◌, [], List, length, Option, Some, None, IfOk, IfSome, OnOk, OnErr, IsOk, IsSome, nat_eq, nat_lt, if◌then◌else◌, slice_index, true, false};
 ghost use Rattle.std.specs.List.Sorted.{IsStrictlySortedBy};
 ghost use Rattle.std.specs.Map.{keys_of, lookup};
 ghost use Rattle.std.specs.Option.{option_copied, option_map};
 ghost use Rattle.std.specs.Ordering.{nat_cmp};
 ghost use Rattle.bitmap_core.specs.Chunk.{chunk_bit, IsChunk, IsWidth};
+ghost use Rattle.bitmap_core.specs.PrunedBits.{chunk, truncated};
 ghost use Rattle.historical_bitmap.specs.Held.{is_held_at, with_held};
-ghost use Rattle.historical_bitmap.specs.Pending.{IsByteSetIn, IsNextMember, IsSetIn, IsWritten, Puts, PutsTwo};
+ghost use Rattle.historical_bitmap.specs.Pending.{IsByteSetIn, IsNextMember, IsSetIn, IsWritten, Puts, PutsTwo, SetsIn};
 
-use bitmap_core::chunk;
+use bitmap_core::bitmap::prunable::Prunable;
+use bitmap_core::chunk::{self, chunk_width, clear_from};
 use std::alloc::{AllocError, Global};
 use std::collections::BTreeMap;
+use std::collections::btree_map::Entry;
 use std::marker::Model;
 
-// Chunks by index. One of them is held beside the map, in which older bytes may stand under its index: the last that was written twice in a row or put in anew.
-// A write to it searches no map, and that of another chunk searches it once.
+// Chunks by index. One of them is held beside the map, in which older bytes may stand under its index: the last that bits were pushed to or popped from, or that was set twice in a row.
+// A write to it searches no map. That of another chunk searches it once, and once more where that one is held in place of it.
 #[derive(Debug, Drop)]
 pub(crate) struct EditedChunks<const N: usize> {
     chunks: BTreeMap<usize, [u8; N]>,
@@ -58,6 +61,35 @@ pub(crate) fn replace_bit<const N: usize>(chunk: &mut [u8; N], bit: u64, value: 
     old
 }
 
+// Clears the bits of a chunk from bit `from` on.
+fn cut<const N: usize>(bytes: &mut [u8; N], from: u64)
+    requires width { IsWidth N }
+    ensures known { IsChunk N bytes.new }
+    ensures bits { (k : ℕ) → chunk_bit N bytes.new k ≡ (if nat_lt (k % (8 * N)) from then chunk_bit N bytes.old k else false) }
+{
+    if from < chunk_width::<N>() {
+        clear_from(bytes, from);
+    }
+    known(bytes);
+}
+
+// Chunk i of the current bitmap, with the bits from `len` on cleared.
+pub(crate) fn first_chunk<const N: usize>(current: &Prunable<N>, len: u64, i: usize) -> [u8; N]
+    requires from { current.now.pruned ≤ i }
+    requires fits { 8 * N * i < 2 ^ 64 }
+    ensures value { result ≡ chunk N (truncated N current.now len) i }
+    ensures known { IsChunk N result }
+{
+    let total = current.len();
+    let start = chunk_width::<N>() * i as u64;
+    let mut bytes = [0; N];
+    if start < total {
+        bytes = *current.get_chunk(i);
+    }
+    cut(&mut bytes, len.saturating_sub(start));
+    bytes
+}
+
 // Whether an index is the one that is held.
 fn is_held(held: Option<usize>, index: usize) -> bool
     ensures { result ≡ is_held_at held index }
@@ -68,23 +100,37 @@ fn is_held(held: Option<usize>, index: usize) -> bool
     }
 }
 
-// Replaces a bit of the chunk at an index, and answers the old one, where there is one. No memory.
+// Writes a bit of the chunk at an index, at first that of the current bitmap, and answers its bytes. It searches once. Where a chunk stands there it takes no memory, and succeeds.
 #[inline(never)]
-fn replace_in<const N: usize>(
+fn write_in<const N: usize>(
     chunks: &mut BTreeMap<usize, [u8; N]>,
+    current: &Prunable<N>,
+    len: u64,
     index: usize,
     bit: u64,
     value: bool,
-) -> Option<bool>
+) -> Result<[u8; N], AllocError>
     requires width { IsWidth N }
-    ensures bit { result ≡ option_map (λ chunk. chunk_bit N chunk bit) (lookup (nat_eq index) chunks.old.entries) }
-    ensures none { lookup (nat_eq index) chunks.old.entries ≡ None → chunks.new.entries ≡ chunks.old.entries }
-    ensures some { IfSome (lookup (nat_eq index) chunks.old.entries) (λ chunk. IsSetIn N chunks.old.entries chunks.new.entries index chunk bit value) }
-    ensures sorted { IsStrictlySortedBy nat_cmp (keys_of chunks.new.entries) }
+    requires from { current.now.pruned ≤ index }
+    requires fits { 8 * N * index < 2 ^ 64 }
+    ensures ok { IfOk result (λ bytes. SetsIn N (chunk N (truncated N current.now len) index) chunks.old.entries chunks.new.entries index bit value bytes) }
+    ensures err { OnErr result (chunks.new.entries ≡ chunks.old.entries) }
+    ensures absent { OnErr result (lookup (nat_eq index) chunks.old.entries ≡ None) }
+    ensures sorted { OnOk result (IsStrictlySortedBy nat_cmp (keys_of chunks.new.entries)) }
 {
-    match chunks.get_mut(&index) {
-        Some(chunk) => Some(replace_bit(chunk, bit, value)),
-        None => None,
+    match chunks.entry(index) {
+        Ok(Entry::Occupied(entry)) => {
+            let place = entry.into_mut();
+            let _ = replace_bit(place, bit, value);
+            Ok(*place)
+        }
+        Ok(Entry::Vacant(entry)) => {
+            let mut bytes = first_chunk(current, len, index);
+            let _ = replace_bit(&mut bytes, bit, value);
+            entry.insert(bytes);
+            Ok(bytes)
+        }
+        Err(_) => Err(AllocError),
     }
 }
 
@@ -123,21 +169,54 @@ impl<const N: usize> EditedChunks<N> {
         self.chunks.get(&index)
     }
 
-    // Holds the chunk at an index beside the map, where there is one, in place of the one that is held. No memory.
+    // Holds a chunk beside the map in the place of the one at an index, and no longer the one that was held. No memory.
     #[inline(never)]
-    fn hold(&mut self, index: usize)
-        ensures same { self.new ≡ self.old }
+    fn hold(&mut self, index: usize, chunk: [u8; N])
+        requires there { IsSome (lookup (nat_eq index) self.old) }
+        ensures { self.new ≡ with_held self.old (Some index) chunk.entry }
     {
         if let Some(held) = self.held {
             put_in(&mut self.chunks, held, self.chunk);
         }
-        match self.chunks.get(&index) {
-            Some(chunk) => {
-                self.chunk = *chunk;
-                self.held = Some(index);
-            }
-            None => self.held = None,
+        self.chunk = chunk;
+        self.held = Some(index);
+    }
+
+    // Takes the next write of a bit at an index for one of a run, which holds its chunk. No memory.
+    pub(crate) fn expect(&mut self, index: usize)
+        ensures same { self.new ≡ self.old }
+    {
+        self.recent = index;
+    }
+
+    // Writes a bit of the chunk at an index, at first that of the current bitmap, cut to a length. Where a chunk stands there it takes no memory, and succeeds.
+    #[inline]
+    pub(crate) fn write_bit(
+        &mut self,
+        current: &Prunable<N>,
+        len: u64,
+        index: usize,
+        bit: u64,
+        value: bool,
+    ) -> Result<(), AllocError>
+        requires width { IsWidth N }
+        requires from { current.now.pruned ≤ index }
+        requires fits { 8 * N * index < 2 ^ 64 }
+        ensures ok { OnOk result ((bytes : List ℕ) × SetsIn N (chunk N (truncated N current.now len) index) self.old self.new index bit value bytes) }
+        ensures err { OnErr result (self.new ≡ self.old) }
+        ensures edited { IsSome (lookup (nat_eq index) self.old) → IsOk result }
+    {
+        if is_held(self.held, index) {
+            let _ = replace_bit(&mut self.chunk, bit, value);
+            return Ok(());
         }
+        let chunk = write_in(&mut self.chunks, current, len, index, bit, value)?;
+        let is_second = self.recent == index;
+        self.recent = index;
+        if is_second {
+            self.hold(index, chunk);
+        }
+        Ok(())
     }
 
     // Replaces a bit of the chunk at an index, and answers the old one, where there is one. No memory.
@@ -152,14 +231,10 @@ impl<const N: usize> EditedChunks<N> {
         if is_held(self.held, index) {
             return Some(replace_bit(&mut self.chunk, bit, value));
         }
-        let is_second = self.recent == index;
-        self.recent = index;
-        let old = replace_in(&mut self.chunks, index, bit, value);
-        if !is_second {
-            return old;
-        }
-        self.hold(index);
-        old
+        let mut chunk = *self.chunks.get(&index)?;
+        let old = replace_bit(&mut chunk, bit, value);
+        self.hold(index, chunk);
+        Some(old)
     }
 
     // Writes a whole byte of the chunk at an index where it is held, and answers whether it is. No memory.
@@ -177,7 +252,7 @@ impl<const N: usize> EditedChunks<N> {
     }
 
     // Puts a chunk at an index. Where one stands there it takes no memory, and succeeds.
-    pub(crate) fn write(&mut self, index: usize, chunk: [u8; N]) -> Result<(), AllocError>
+    fn put(&mut self, index: usize, chunk: [u8; N]) -> Result<(), AllocError>
         ensures ok { OnOk result (Puts self.old self.new index (Some chunk.entry)) }
         ensures err { OnErr result (self.new ≡ self.old) }
         ensures edited { IsSome (lookup (nat_eq index) self.old) → IsOk result }
@@ -188,17 +263,26 @@ impl<const N: usize> EditedChunks<N> {
             self.chunk = chunk;
             return Ok(());
         }
-        let is_second = self.recent == index;
-        self.recent = index;
         self.chunks.insert(index, chunk)?;
-        if !is_second {
-            return Ok(());
-        }
-        self.hold(index);
         Ok(())
     }
 
-    // Puts two chunks at an index and the next one, at which there is none: both or, refused, neither.
+    // Puts a chunk at an index, and holds it. Where one stands there it takes no memory, and succeeds.
+    pub(crate) fn write(&mut self, index: usize, chunk: [u8; N]) -> Result<(), AllocError>
+        ensures ok { OnOk result (Puts self.old self.new index (Some chunk.entry)) }
+        ensures err { OnErr result (self.new ≡ self.old) }
+        ensures edited { IsSome (lookup (nat_eq index) self.old) → IsOk result }
+        ensures was_sorted { IsStrictlySortedBy nat_cmp (keys_of self.old) }
+        ensures sorted { IsStrictlySortedBy nat_cmp (keys_of self.new) }
+    {
+        self.put(index, chunk)?;
+        if !is_held(self.held, index) {
+            self.hold(index, chunk);
+        }
+        Ok(())
+    }
+
+    // Puts two chunks at an index and the next one, at which there is none, and holds the second: both or, refused, neither.
     pub(crate) fn write_two(
         &mut self,
         index: usize,
@@ -210,11 +294,12 @@ impl<const N: usize> EditedChunks<N> {
         ensures ok { OnOk result (PutsTwo self.old self.new index first.entry second.entry) }
         ensures err { OnErr result (self.new ≡ self.old) }
     {
-        self.write(index + 1, second)?;
-        if self.write(index, first).is_err() {
+        self.put(index + 1, second)?;
+        if self.put(index, first).is_err() {
             let _ = self.remove(index + 1);
             return Err(AllocError);
         }
+        self.hold(index + 1, second);
         Ok(())
     }
 

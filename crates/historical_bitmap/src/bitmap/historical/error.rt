@@ -1,4 +1,4 @@
-//! Why a historical bitmap was not made or not committed.
+//! Why a historical bitmap was not made, not committed or not taken back to a commit.
 
 use bitmap_core::bitmap::prunable;
 use std::alloc::AllocError;
@@ -29,6 +29,18 @@ pub enum Error {
     Memory(AllocError),
 }
 
+/// Why a historical bitmap was not taken back to a commit.
+#[derive(Clone, Copy, Debug, PartialEq, Eq, ErrorDerive)]
+pub enum RewindError {
+    /// No commit is kept under the number.
+    #[error("no commit is kept under that number")]
+    NoSuchCommit,
+
+    /// Memory was refused.
+    #[error("out of memory")]
+    Memory(AllocError),
+}
+
 impl From<AllocError> for Error {
     ghost use Rattle.std.specs.Prelude.{◌≡◌};
     ghost use Rattle.historical_bitmap.specs.declared.bitmap.historical.error.Error.TheVariants.{Memory};
@@ -49,4 +61,14 @@ impl From<prunable::Error> for Error {
     fn from(_error: prunable::Error) -> Error {
         Error::PrunedChunksOverflow
     }
+}
+
+/// Why a batch was not applied.
+#[derive(Debug, Drop)]
+pub enum ApplyError<E> {
+    /// What its closure answered.
+    Batch(E),
+
+    /// Its commit was refused.
+    Commit(Error),
 }

@@ -15,7 +15,7 @@ ghost use Rattle.historical_bitmap.specs.Record.{LeadsBack};
 ghost use Rattle.historical_bitmap.specs.Stored.{diff_value};
 ghost use Rattle.historical_bitmap.specs.Undo.{CanUndo};
 
-use crate::bitmap::historical::edited::{EditedChunks, known, replace_bit};
+use crate::bitmap::historical::edited::{EditedChunks, first_chunk, known};
 use crate::bitmap::historical::record::{ChunkDiff, CommitDiff};
 use bitmap_core::bitmap::prunable::Prunable;
 use bitmap_core::chunk::join::{chunk_from, join};
@@ -43,35 +43,6 @@ impl<const N: usize> Model for Dirty<N> {
     ghost view = { λ d. record { len = d.len; pruned = d.pruned; edited = d.edited; captured = d.captured.items } };
 
     ghost invariant = { λ d. IsWidth N };
-}
-
-// Clears the bits of a chunk from bit `from` on.
-fn cut<const N: usize>(bytes: &mut [u8; N], from: u64)
-    requires width { IsWidth N }
-    ensures known { IsChunk N bytes.new }
-    ensures bits { (k : ℕ) → chunk_bit N bytes.new k ≡ (if nat_lt (k % (8 * N)) from then chunk_bit N bytes.old k else false) }
-{
-    if from < chunk_width::<N>() {
-        clear_from(bytes, from);
-    }
-    known(bytes);
-}
-
-// Chunk i of the current bitmap, with the bits from `len` on cleared.
-fn first_chunk<const N: usize>(current: &Prunable<N>, len: u64, i: usize) -> [u8; N]
-    requires from { current.now.pruned ≤ i }
-    requires fits { 8 * N * i < 2 ^ 64 }
-    ensures value { result ≡ chunk N (truncated N current.now len) i }
-    ensures known { IsChunk N result }
-{
-    let total = current.len();
-    let start = chunk_width::<N>() * i as u64;
-    let mut bytes = [0; N];
-    if start < total {
-        bytes = *current.get_chunk(i);
-    }
-    cut(&mut bytes, len.saturating_sub(start));
-    bytes
 }
 
 // The bytes of chunk i with the edits.
@@ -206,12 +177,7 @@ impl<const N: usize> Dirty<N> {
     {
         let len = self.len;
         let i = chunk_index::<N>(k);
-        if self.edited.replace_bit(i, k, value).is_some() {
-            return Ok(());
-        }
-        let mut bytes = first_chunk(current, len, i);
-        let _ = replace_bit(&mut bytes, k, value);
-        self.edited.write(i, bytes)?;
+        self.edited.write_bit(current, len, i, k, value)?;
         Ok(())
     }
 
@@ -224,6 +190,7 @@ impl<const N: usize> Dirty<N> {
         ensures edited { IsSome (edited_chunk self.old (self.old.len / (8 * N))) → IsOk result }
     {
         let len = self.len();
+        self.edited.expect(chunk_index::<N>(len));
         self.write(current, len, value)?;
         self.len = len + 1;
         Ok(())

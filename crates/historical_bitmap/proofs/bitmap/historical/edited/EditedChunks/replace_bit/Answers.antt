@@ -1,6 +1,9 @@
-use Rattle.std.proofs.Common.{Some, ap, sym, ◌∙◌}
+use Rattle.std.proofs.Common.{◌≡◌, Some, None, ap, refl, sym, ◌∙◌, arith}
+use Rattle.std.specs.Prelude.{nat_eq}
+use Rattle.std.specs.Map.{lookup}
 use Rattle.historical_bitmap.proofs.EditedMaps.{not_some}
-use Rattle.historical_bitmap.proofs.HeldChunks.{held_sorted, held_some, lookup_here, lookup_beside, set_held, set_none, set_some}
+use Rattle.historical_bitmap.proofs.HeldChunks.{held_keys, held_sorted, held_some, holds, lookup_here, lookup_beside}
+use Rattle.historical_bitmap.proofs.OldStates.{same_lookup}
 use Rattle.historical_bitmap.proofs.bitmap.historical.edited.EditedChunks.replace_bit.Goals as goal
 
 pub returns-then-is_held-clause-bit : goal.returns-then-is_held-clause-bit
@@ -19,32 +22,42 @@ returns-then-is_held-clause-some g c = rw (sym c.self.view_is) (held_some g.row.
 pub returns-then-is_held-clause-sorted : goal.returns-then-is_held-clause-sorted
 returns-then-is_held-clause-sorted g c = held_sorted g.row.N c.self.inside.chunks.entries c.self.inside.held c.replace_bit.new.chunk c.self.invariant
 
-pub invariant_of-self-then-not-is_second : goal.invariant_of-self-then-not-is_second
-invariant_of-self-then-not-is_second g c = set_held g.row.N c.self.inside.chunks.entries c.replace_in-old.new.chunks.entries c.self.inside.held c.self.inside.chunk c.args.index c.args.bit c.args.value c.self.invariant (sym c.is_held.ensures ∙ c.if-is_held.false) c.replace_in-old.ensures.sorted c.replace_in-old.ensures.none c.replace_in-old.ensures.some
+pub returns-in_err-chunk-clause-bit : goal.returns-in_err-chunk-clause-bit
+returns-in_err-chunk-clause-bit g c =
+    let none : lookup (nat_eq c.args.index) c.args.self.now ≡ None = rw (sym c.self.view_is) (lookup_beside g.row.N c.self.inside.chunks.entries c.self.inside.held c.self.inside.chunk c.args.index c.self.invariant (sym c.is_held.ensures ∙ c.if-is_held.false) ∙ sym (c.in_err-chunk.ensures.value ∙ same_lookup c.args.index c.self.inside.chunks.entries)) in
+    rw none c.from_residual.ensures
 
-pub invariant_of-self-2 : goal.invariant_of-self-2
-invariant_of-self-2 g c = set_held g.row.N c.self.inside.chunks.entries c.replace_in-old.new.chunks.entries c.self.inside.held c.self.inside.chunk c.args.index c.args.bit c.args.value c.self.invariant (sym c.is_held.ensures ∙ c.if-is_held.false) c.replace_in-old.ensures.sorted c.replace_in-old.ensures.none c.replace_in-old.ensures.some
+pub returns-in_err-chunk-clause-some : goal.returns-in_err-chunk-clause-some
+returns-in_err-chunk-clause-some g c =
+    let none : lookup (nat_eq c.args.index) c.args.self.now ≡ None = rw (sym c.self.view_is) (lookup_beside g.row.N c.self.inside.chunks.entries c.self.inside.held c.self.inside.chunk c.args.index c.self.invariant (sym c.is_held.ensures ∙ c.if-is_held.false) ∙ sym (c.in_err-chunk.ensures.value ∙ same_lookup c.args.index c.self.inside.chunks.entries)) in
+    rw none tt
 
-pub returns-then-not-is_second-clause-bit : goal.returns-then-not-is_second-clause-bit
-returns-then-not-is_second-clause-bit g c = rw (sym c.self.view_is, lookup_beside g.row.N c.self.inside.chunks.entries c.self.inside.held c.self.inside.chunk c.args.index c.self.invariant (sym c.is_held.ensures ∙ c.if-is_held.false)) c.replace_in-old.ensures.bit
+pub returns-in_err-chunk-clause-sorted : goal.returns-in_err-chunk-clause-sorted
+returns-in_err-chunk-clause-sorted g c = rw (sym c.self.view_is) (held_sorted g.row.N c.self.inside.chunks.entries c.self.inside.held c.self.inside.chunk c.self.invariant)
 
-pub returns-then-not-is_second-clause-none : goal.returns-then-not-is_second-clause-none
-returns-then-not-is_second-clause-none g c = rw (sym c.self.view_is) (set_none g.row.N c.self.inside.chunks.entries c.replace_in-old.new.chunks.entries c.self.inside.held c.self.inside.chunk c.args.index c.args.bit c.args.value c.self.invariant (sym c.is_held.ensures ∙ c.if-is_held.false) c.replace_in-old.ensures.sorted c.replace_in-old.ensures.none c.replace_in-old.ensures.some)
-
-pub returns-then-not-is_second-clause-some : goal.returns-then-not-is_second-clause-some
-returns-then-not-is_second-clause-some g c = rw (sym c.self.view_is) (set_some g.row.N c.self.inside.chunks.entries c.replace_in-old.new.chunks.entries c.self.inside.held c.self.inside.chunk c.args.index c.args.bit c.args.value c.self.invariant (sym c.is_held.ensures ∙ c.if-is_held.false) c.replace_in-old.ensures.sorted c.replace_in-old.ensures.none c.replace_in-old.ensures.some)
-
-pub returns-then-not-is_second-clause-sorted : goal.returns-then-not-is_second-clause-sorted
-returns-then-not-is_second-clause-sorted g c = held_sorted g.row.N c.replace_in-old.new.chunks.entries c.self.inside.held c.self.inside.chunk (set_held g.row.N c.self.inside.chunks.entries c.replace_in-old.new.chunks.entries c.self.inside.held c.self.inside.chunk c.args.index c.args.bit c.args.value c.self.invariant (sym c.is_held.ensures ∙ c.if-is_held.false) c.replace_in-old.ensures.sorted c.replace_in-old.ensures.none c.replace_in-old.ensures.some)
+pub hold-requires : goal.hold-requires
+hold-requires g c =
+    let found : lookup (nat_eq c.args.index) c.args.self.now ≡ Some c.in_ok-chunk.field-0.now = rw (sym c.self.view_is) (lookup_beside g.row.N c.self.inside.chunks.entries c.self.inside.held c.self.inside.chunk c.args.index c.self.invariant (sym c.is_held.ensures ∙ c.if-is_held.false) ∙ sym (c.in_ok-chunk.ensures.value ∙ same_lookup c.args.index c.self.inside.chunks.entries)) in
+    (omega (arith, c.requires.width.fits), (omega (arith, c.requires.width.fits), rw found refl))
 
 pub returns-clause-bit : goal.returns-clause-bit
-returns-clause-bit g c = rw (sym c.self.view_is, lookup_beside g.row.N c.self.inside.chunks.entries c.self.inside.held c.self.inside.chunk c.args.index c.self.invariant (sym c.is_held.ensures ∙ c.if-is_held.false)) c.replace_in-old.ensures.bit
+returns-clause-bit g c =
+    let found : lookup (nat_eq c.args.index) c.args.self.now ≡ Some c.in_ok-chunk.field-0.now = rw (sym c.self.view_is) (lookup_beside g.row.N c.self.inside.chunks.entries c.self.inside.held c.self.inside.chunk c.args.index c.self.invariant (sym c.is_held.ensures ∙ c.if-is_held.false) ∙ sym (c.in_ok-chunk.ensures.value ∙ same_lookup c.args.index c.self.inside.chunks.entries)) in
+    rw found (ap Some c.replace_bit-old.ensures.old)
 
 pub returns-clause-none : goal.returns-clause-none
-returns-clause-none g c = rw (c.hold.ensures.same, sym c.self.view_is) (set_none g.row.N c.self.inside.chunks.entries c.replace_in-old.new.chunks.entries c.self.inside.held c.self.inside.chunk c.args.index c.args.bit c.args.value c.self.invariant (sym c.is_held.ensures ∙ c.if-is_held.false) c.replace_in-old.ensures.sorted c.replace_in-old.ensures.none c.replace_in-old.ensures.some)
+returns-clause-none g c =
+    let found : lookup (nat_eq c.args.index) c.args.self.now ≡ Some c.in_ok-chunk.field-0.now = rw (sym c.self.view_is) (lookup_beside g.row.N c.self.inside.chunks.entries c.self.inside.held c.self.inside.chunk c.args.index c.self.invariant (sym c.is_held.ensures ∙ c.if-is_held.false) ∙ sym (c.in_ok-chunk.ensures.value ∙ same_lookup c.args.index c.self.inside.chunks.entries)) in
+    λ none. absurd (not_some c.in_ok-chunk.field-0.now (sym found ∙ none))
 
 pub returns-clause-some : goal.returns-clause-some
-returns-clause-some g c = rw (c.hold.ensures.same, sym c.self.view_is) (set_some g.row.N c.self.inside.chunks.entries c.replace_in-old.new.chunks.entries c.self.inside.held c.self.inside.chunk c.args.index c.args.bit c.args.value c.self.invariant (sym c.is_held.ensures ∙ c.if-is_held.false) c.replace_in-old.ensures.sorted c.replace_in-old.ensures.none c.replace_in-old.ensures.some)
+returns-clause-some g c =
+    let found : lookup (nat_eq c.args.index) c.args.self.now ≡ Some c.in_ok-chunk.field-0.now = rw (sym c.self.view_is) (lookup_beside g.row.N c.self.inside.chunks.entries c.self.inside.held c.self.inside.chunk c.args.index c.self.invariant (sym c.is_held.ensures ∙ c.if-is_held.false) ∙ sym (c.in_ok-chunk.ensures.value ∙ same_lookup c.args.index c.self.inside.chunks.entries)) in
+    rw (found, c.hold.ensures) (record {
+      bytes = c.replace_bit-old.new.chunk;
+      written = c.replace_bit-old.ensures.new;
+      edited = holds c.args.self.now c.args.index c.in_ok-chunk.field-0.now c.replace_bit-old.new.chunk found;
+    })
 
 pub returns-clause-sorted : goal.returns-clause-sorted
-returns-clause-sorted g c = rw c.hold.ensures.same (held_sorted g.row.N c.replace_in-old.new.chunks.entries c.self.inside.held c.self.inside.chunk (set_held g.row.N c.self.inside.chunks.entries c.replace_in-old.new.chunks.entries c.self.inside.held c.self.inside.chunk c.args.index c.args.bit c.args.value c.self.invariant (sym c.is_held.ensures ∙ c.if-is_held.false) c.replace_in-old.ensures.sorted c.replace_in-old.ensures.none c.replace_in-old.ensures.some))
+returns-clause-sorted g c = rw (c.hold.ensures, held_keys c.args.self.now (Some c.args.index) c.replace_bit-old.new.chunk, sym c.self.view_is) (held_sorted g.row.N c.self.inside.chunks.entries c.self.inside.held c.self.inside.chunk c.self.invariant)

@@ -3,8 +3,8 @@ use Rattle.bitmap_core.specs.Chunk.{chunk_bit}
 use Rattle.bitmap_core.specs.PrunedBits.{bit_at, bit_len}
 use Rattle.historical_bitmap.proofs.Restored.{bit_in_chunk}
 use Rattle.historical_bitmap.proofs.PendingWrites.{cut_is, zeros_past}
-use Rattle.historical_bitmap.proofs.bitmap.historical.pending.first_chunk.Goals as goal
-use Rattle.historical_bitmap.proofs.bitmap.historical.pending.first_chunk.Goals.{then-start-total, else-start-total}
+use Rattle.historical_bitmap.proofs.bitmap.historical.edited.first_chunk.Goals as goal
+use Rattle.historical_bitmap.proofs.bitmap.historical.edited.first_chunk.Goals.{then-start-total, else-start-total}
 
 pub returns-clause-value : goal.returns-clause-value
 returns-clause-value g c =

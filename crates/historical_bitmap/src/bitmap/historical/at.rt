@@ -1,0 +1,171 @@
+//! Old states read where they stand, without a bitmap of their own.
+
+ghost use Rattle.std.specs.Prelude.{◌≡◌, ◌-◌, ◌^◌, None, option_copied, option_map, slice_get};
+ghost use Rattle.bitmap_core.specs.Meaning.{pruned_meaning, ShowsChunk};
+ghost use Rattle.bitmap_core.specs.PrunedBits.{HasChunk};
+ghost use Rattle.historical_bitmap.specs.History.{EntriesRise, first_kept as first_kept_of, IsLeftBy, kept_under, left_by, past_number};
+ghost use Rattle.historical_bitmap.specs.View.{history_of};
+
+use crate::bitmap::historical::record::CommitDiff;
+use crate::bitmap::historical::{BitMap, Clean};
+use bitmap_core::bitmap::Readable;
+use bitmap_core::chunk::{chunk_index, chunk_width};
+use std::collections::BTreeMap;
+use std::marker::Model;
+use std::ops::Bound;
+
+/// A bitmap that was committed under a kept number, read in place: its bits are looked for in the records of later commits, and then in the current bitmap.
+///
+/// It reads as any `Readable` does, and takes no memory. Its length and its number of pruned chunks are at hand. Each chunk
+/// that is asked for costs a binary search in the record of each later commit, up to the first that has it.
+///
+/// So it is the cheaper way to a few bits, and far back to many. Whoever reads much of a recent commit makes a bitmap of its
+/// own of it by `get_at_commit`: that costs a copy of the current one and a pass over the later records, and then a bit costs next to nothing.
+#[derive(Drop)]
+pub struct AtCommit<'a, const N: usize> {
+    of: &'a BitMap<N, Clean>,
+    number: u64,
+    len: u64,
+    pruned: usize,
+}
+
+impl<'a, const N: usize> Model for AtCommit<'a, N> {
+    ghost use Rattle.bitmap_core.specs.PrunedBits.{PrunedBits};
+    ghost use Rattle.historical_bitmap.specs.History.{IsLeftBy, left_by};
+
+    ghost Value = { PrunedBits };
+
+    ghost view = { λ a. left_by N a.number a.of.now.commits a.of.now.current };
+
+    ghost invariant = { λ a. IsLeftBy N a.number a.of.now.commits a.of.now.current a.len a.pruned };
+}
+
+// The first record past a number.
+fn first_past<const N: usize>(
+    commits: &BTreeMap<u64, CommitDiff<N>>,
+    number: u64,
+) -> Option<&CommitDiff<N>>
+    ensures { option_copied result ≡ option_map (λ commit. commit.1) (slice_get (past_number number commits.now.entries) 0) }
+{
+    let later = (Bound::Excluded(number), Bound::Unbounded);
+    match commits.range(later).next() {
+        Some((_, record)) => Some(record),
+        None => None,
+    }
+}
+
+// The old bytes that the first record past a number to keep any keeps of a chunk.
+fn first_kept<const N: usize>(
+    commits: &BTreeMap<u64, CommitDiff<N>>,
+    number: u64,
+    chunk: usize,
+) -> Option<&[u8; N]>
+    requires { EntriesRise (past_number number commits.now.entries) }
+    ensures { option_copied result ≡ first_kept_of (past_number number commits.now.entries) chunk }
+{
+    let later = (Bound::Excluded(number), Bound::Unbounded);
+    for (_, record) in commits.range(later) {
+        if let Some(bytes) = record.kept(chunk) {
+            return Some(bytes);
+        }
+    }
+    None
+}
+
+impl<const N: usize> BitMap<N, Clean> {
+    /// The bitmap that was committed under a number, to be read in place, where that commit is kept. `u64::MAX` is never kept.
+    ///
+    /// No memory.
+    ///
+    /// How many bits of an old version are set in a range:
+    ///
+    /// ```
+    /// ghost use Rattle.std.specs.Prelude.{◌≡◌, length};
+    /// ghost use Rattle.std.specs.Option.{option_map};
+    /// ghost use Rattle.bitmap_core.specs.Meaning.{ones, pruned_meaning};
+    /// ghost use Rattle.historical_bitmap.specs.History.{kept_under};
+    /// ghost use Rattle.historical_bitmap.specs.View.{history_of};
+    ///
+    /// use historical_bitmap::bitmap::Readable;
+    /// use historical_bitmap::bitmap::historical::CleanBitMap;
+    /// use std::ops::Range;
+    ///
+    /// /// How many bits of a version are set in a range, where that version is kept.
+    /// pub fn count_in_version<const N: usize>(
+    ///     versions: &CleanBitMap<N>,
+    ///     number: u64,
+    ///     range: Range<u64>,
+    /// ) -> Option<usize>
+    ///     ensures { result ≡ option_map (λ version. length (ones N (pruned_meaning N version) range.start range.end)) (kept_under (history_of N versions.now) number) }
+    /// {
+    ///     let version = versions.at(number)?;
+    ///     let _ = version.len();
+    ///     Some(version.ones_iter_range(range).count())
+    /// }
+    /// ```
+    pub fn at(&self, number: u64) -> Option<AtCommit<'_, N>>
+        ensures value { result ≡ kept_under (history_of N self.now) number }
+        ensures reserved { kept_under (history_of N self.now) (2 ^ 64 - 1) ≡ None }
+    {
+        let _ = self.current.len();
+        if !self.commit_exists(number) {
+            return None;
+        }
+        let (len, pruned) = self.extent_at(number);
+        Some(AtCommit {
+            of: self,
+            number,
+            len,
+            pruned,
+        })
+    }
+
+    // The length and the number of pruned chunks that the last commit up to a number left.
+    fn extent_at(&self, number: u64) -> (u64, usize)
+        ensures { IsLeftBy N number self.now.commits self.now.current result.0 result.1 }
+    {
+        match first_past(&self.commits, number) {
+            Some(record) => (record.len(), record.pruned_chunks()),
+            None => (self.current.len(), self.current.pruned_chunks()),
+        }
+    }
+
+    // A chunk that the last commit up to a number left: its bits below the length then, and any bits past it.
+    fn chunk_at(&self, number: u64, chunk: usize) -> [u8; N]
+        requires { HasChunk N (left_by N number self.now.commits self.now.current) chunk }
+        ensures { ShowsChunk N (pruned_meaning N (left_by N number self.now.commits self.now.current)) chunk result }
+    {
+        let _ = self.current.len();
+        match first_kept(&self.commits, number, chunk) {
+            Some(bytes) => *bytes,
+            None => *self.current.get_chunk(chunk),
+        }
+    }
+}
+
+impl<'a, const N: usize> Readable<N> for AtCommit<'a, N> {
+    ghost meaning = { pruned_meaning N };
+
+    fn complete_chunks(&self) -> usize {
+        chunk_index::<N>(self.len)
+    }
+
+    fn get_chunk(&self, chunk: usize) -> [u8; N] {
+        self.of.chunk_at(self.number, chunk)
+    }
+
+    fn last_chunk(&self) -> ([u8; N], u64) {
+        let last = self.len - 1;
+        let chunk = self.of.chunk_at(self.number, chunk_index::<N>(last));
+        (chunk, last % chunk_width::<N>() + 1)
+    }
+
+    fn pruned_chunks(&self) -> usize {
+        let _ = self.len();
+        self.pruned
+    }
+
+    fn len(&self) -> u64 {
+        self.len
+    }
+}
