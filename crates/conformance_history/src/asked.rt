@@ -4,8 +4,8 @@ ghost use Rattle.std.specs.Prelude.{◌≡◌};
 ghost use Rattle.bitmap_core.specs.PrunedBits.{pruned_bits};
 ghost use Rattle.historical_bitmap.specs.View.{pending_of};
 
-use historical_bitmap::bitmap::Prunable;
-use historical_bitmap::bitmap::historical::{CleanBitMap, DirtyBitMap, Error};
+use historical_bitmap::bitmap::historical::{CleanBitMap, DirtyBitMap, Error, RewindError};
+use historical_bitmap::bitmap::{Prunable, Readable};
 use std::alloc::AllocError;
 use std::process::Abort;
 
@@ -165,6 +165,35 @@ pub fn refuse<const N: usize>(
     }
 }
 
+/// Goes back to a number that is kept.
+pub fn go_back<const N: usize>(
+    rt: &impl Abort,
+    map: CleanBitMap<N>,
+    number: u64,
+) -> Result<CleanBitMap<N>, AllocError> {
+    match map.rewind_to(number) {
+        Ok(map) => Ok(map),
+        Err((_, why)) => {
+            assert!(rt; why == RewindError::Memory(AllocError), "{number}");
+            Err(AllocError)
+        }
+    }
+}
+
+/// Asks to go back to a number that is not kept, and answers the bitmap that is handed back.
+pub fn stay<const N: usize>(rt: &impl Abort, map: CleanBitMap<N>, number: u64) -> CleanBitMap<N> {
+    match map.rewind_to(number) {
+        Ok(map) => {
+            assert!(rt; false, "{number}");
+            map
+        }
+        Err((map, why)) => {
+            assert!(rt; why == RewindError::NoSuchCommit, "{number}");
+            map
+        }
+    }
+}
+
 /// Whether so many chunks are pruned, and the retained bits are those that digits stand for.
 pub fn shows<const N: usize>(
     rt: &impl Abort,
@@ -259,6 +288,29 @@ pub fn was_runs<const N: usize>(
         Some(old) => Ok(shows_runs(rt, &old, pruned_chunks, runs)),
         None => Ok(false),
     }
+}
+
+/// The bit at a retained position of any bitmap.
+pub fn read_bit<B: Readable<N>, const N: usize>(rt: &impl Abort, map: &B, bit: u64) -> bool {
+    assert!(rt; map.pruned_bits() <= bit && bit < map.len());
+    map.get_bit(bit)
+}
+
+/// Whether two bitmaps are as long, with as many pruned chunks, and have the same retained bits.
+pub fn reads_alike<A: Readable<N>, B: Readable<N>, const N: usize>(
+    rt: &impl Abort,
+    map: &A,
+    other: &B,
+) -> bool {
+    if map.len() != other.len() || map.pruned_chunks() != other.pruned_chunks() {
+        return false;
+    }
+    for bit in map.pruned_bits()..map.len() {
+        if read_bit(rt, map, bit) != read_bit(rt, other, bit) {
+            return false;
+        }
+    }
+    map.complete_chunks() == other.complete_chunks()
 }
 
 /// Whether these are the kept numbers, in order.

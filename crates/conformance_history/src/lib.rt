@@ -2,9 +2,13 @@
 #![tactic(auto)]
 
 #[cfg(test)]
+mod applied;
+#[cfg(test)]
 mod asked;
 #[cfg(test)]
 mod calls;
+#[cfg(test)]
+mod in_place;
 #[cfg(test)]
 mod plain;
 #[cfg(test)]

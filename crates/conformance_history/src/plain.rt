@@ -5,10 +5,10 @@ ghost use Rattle.bitmap_core.specs.Chunk.{IsWidth};
 
 use crate::asked::{
     commit, front, get_bit, pending_bit, pending_chunk, pop, prune_to_bit, push, push_byte,
-    push_chunk, set_bit,
+    push_chunk, reads_alike, set_bit,
 };
-use historical_bitmap::bitmap::Prunable;
 use historical_bitmap::bitmap::historical::{CleanBitMap, DirtyBitMap};
+use historical_bitmap::bitmap::{Prunable, Readable};
 use std::alloc::{AllocError, Global};
 use std::collections::BTreeSet;
 use std::process::Abort;
@@ -234,7 +234,21 @@ fn pending_is<const N: usize>(rt: &impl Abort, map: &DirtyBitMap<N>, whole: &Who
     map.len() == whole.len() && map.pruned_chunks() as u64 == whole.pruned
 }
 
-// The old states of some commits, each read back whole.
+// Whether what is kept under a number reads in place as it does whole.
+fn is_in_place<const N: usize>(
+    rt: &impl Abort,
+    map: &CleanBitMap<N>,
+    number: u64,
+    old: &Prunable<N>,
+) -> bool {
+    match map.at(number) {
+        Some(then) => reads_alike(rt, &then, old)
+            && then.ones_iter_from(0).eq(old.ones_iter_from(0)),
+        None => false,
+    }
+}
+
+// The old states of some commits, each read back whole and in place.
 fn check_old<const N: usize>(
     rt: &impl Abort,
     map: &CleanBitMap<N>,
@@ -243,7 +257,10 @@ fn check_old<const N: usize>(
     for kept in all {
         assert!(rt; map.commit_exists(kept.number), "{}", kept.number);
         match map.get_at_commit(kept.number)? {
-            Some(old) => assert!(rt; is(rt, &old, &kept.whole), "{}", kept.number),
+            Some(old) => {
+                assert!(rt; is(rt, &old, &kept.whole), "{}", kept.number);
+                assert!(rt; is_in_place(rt, map, kept.number, &old), "{}", kept.number);
+            }
             None => assert!(rt; false, "{}", kept.number),
         }
     }

@@ -3,14 +3,15 @@
 //! Each test is a scenario for runs in which requests are refused. It is over where its set-up is refused.
 //! After a refused call the value is as before, and is used further. Run by itself, a scenario has ample memory.
 
+mod applied;
 mod no_memory;
 
 use crate::asked::{
-    commit, get_bit, pending_shows, pop, pop_run, prune_to_bit, push, push_byte, push_chunk,
-    push_run, set_bit, shows, shows_runs,
+    commit, get_bit, keeps, pending_shows, pop, pop_run, prune_to_bit, push, push_byte, push_chunk,
+    push_run, refuse, set_bit, shows, shows_runs,
 };
 use historical_bitmap::bitmap::Prunable;
-use historical_bitmap::bitmap::historical::{CleanBitMap, DirtyBitMap, Error};
+use historical_bitmap::bitmap::historical::{CleanBitMap, DirtyBitMap, Error, RewindError};
 use std::alloc::{AllocError, Global};
 use std::process::Abort;
 
@@ -252,12 +253,17 @@ fn byte_pushed_across_chunks(rt: HostRuntime) {
     }
 }
 
-// A commit of 10 under 1, then a batch that clears the first bit and appends one.
-fn cleared_and_appended(rt: &impl Abort, alloc: Global) -> Option<DirtyBitMap<4>> {
+// The bits 10, committed under 1. Unless its memory is refused.
+fn ten(rt: &impl Abort, alloc: Global) -> Option<CleanBitMap<4>> {
     let mut map = CleanBitMap::<4>::new(alloc).into_dirty();
     push(rt, &mut map, true).ok()?;
     push(rt, &mut map, false).ok()?;
-    let mut map = commit(rt, map, 1).ok()?.into_dirty();
+    commit(rt, map, 1).ok()
+}
+
+// The same with a batch that clears the first bit and appends one.
+fn cleared_and_appended(rt: &impl Abort, alloc: Global) -> Option<DirtyBitMap<4>> {
+    let mut map = ten(rt, alloc)?.into_dirty();
     set_bit(rt, &mut map, 0, false).ok()?;
     push(rt, &mut map, true).ok()?;
     Some(map)
@@ -279,7 +285,11 @@ fn check_committed(rt: &impl Abort, map: &CleanBitMap<4>) {
 // What it answers with that batch given up.
 fn check_given_up(rt: &impl Abort, map: DirtyBitMap<4>) {
     assert!(rt; pending_shows(rt, &map, 0, b"001"));
-    let map = map.abort();
+    check_ten(rt, &map.abort());
+}
+
+// What it answers without that batch.
+fn check_ten(rt: &impl Abort, map: &CleanBitMap<4>) {
     assert!(rt; map.commits().eq([1].iter().copied()));
     assert!(rt; shows(rt, map.current(), 0, b"10"));
     assert!(rt; map.reverse_entries() <= 1);
@@ -341,6 +351,45 @@ fn old_state_read(rt: HostRuntime) {
     }
     assert!(rt; shows(&rt, map.current(), 1, b"0111010111110000"));
     assert!(rt; map.commits().eq([1, 2].iter().copied()));
+}
+
+// What `committed` answers once it has gone back to 1. A batch on it is not committed under 1 again, and is edited.
+fn check_gone_back(rt: &impl Abort, map: CleanBitMap<1>) {
+    assert!(rt; shows(rt, map.current(), 0, b"1011001001110101"));
+    assert!(rt; keeps(&map, &[1]) && map.reverse_entries() <= 2);
+    let why = Error::NonMonotonicCommit {
+        previous: 1,
+        attempted: 1,
+    };
+    let mut map = refuse(rt, map.into_dirty(), 1, why);
+    assert!(rt; pop(rt, &mut map));
+    assert!(rt; pending_shows(rt, &map, 0, b"101100100111010"));
+}
+
+#[test]
+fn gone_back(rt: HostRuntime) {
+    let Some(map) = committed(&rt, rt.alloc()) else {
+        return;
+    };
+    let Ok(before) = map.clone() else {
+        return;
+    };
+    match map.rewind_to(1) {
+        Ok(map) => check_gone_back(&rt, map),
+        Err((map, why)) => {
+            assert!(rt; why == RewindError::Memory(AllocError));
+            assert!(rt; same_history(&rt, &map, &before));
+            match map.rewind_to(1) {
+                Ok(map) => check_gone_back(&rt, map),
+                Err((map, why)) => {
+                    assert!(rt; why == RewindError::Memory(AllocError));
+                    let mut map = map.into_dirty();
+                    assert!(rt; !pop(&rt, &mut map));
+                    use_further(&rt, map, &before);
+                }
+            }
+        }
+    }
 }
 
 #[test]

@@ -1,5 +1,7 @@
 //! Batches whose bits and costs were worked out by hand.
 
+mod going_back;
+
 use crate::asked::{
     commit, keeps, pending_chunk, pending_shows, pop, pop_run, prune_to_bit, push, push_byte,
     push_chunk, push_run, refuse, set_bit, shows, shows_runs, was, was_runs,
@@ -17,6 +19,16 @@ fn ones(rt: &impl Abort, alloc: Global, count: u64) -> Result<CleanBitMap<4>, Al
     commit(rt, map, 1)
 }
 
+// The bitmap 10 under 1, then its first bit cleared and a bit appended under 2.
+fn changed_and_appended(rt: &impl Abort, alloc: Global) -> Result<CleanBitMap<4>, AllocError> {
+    let mut map = CleanBitMap::<4>::new(alloc).into_dirty();
+    map.push(true)?.push(false)?;
+    let mut map = commit(rt, map, 1)?.into_dirty();
+    set_bit(rt, &mut map, 0, false)?;
+    push(rt, &mut map, true)?;
+    commit(rt, map, 2)
+}
+
 // The bitmap 101 under 1, then 61 false bits and all of it pruned under 2.
 fn grown_and_pruned(rt: &impl Abort, alloc: Global) -> Result<CleanBitMap<4>, AllocError> {
     let mut map = CleanBitMap::<4>::new(alloc).into_dirty();
@@ -32,6 +44,19 @@ fn popped_and_pruned(rt: &impl Abort, alloc: Global) -> Result<CleanBitMap<4>, A
     let mut map = ones(rt, alloc, 96)?.into_dirty();
     pop_run(rt, &mut map, 32, true);
     prune_to_bit(rt, &mut map, 64)?;
+    commit(rt, map, 2)
+}
+
+// 96 true bits under 1, then 40 popped, 50 false ones pushed, one of them set and a chunk pruned under 2.
+fn popped_and_pushed_and_pruned(
+    rt: &impl Abort,
+    alloc: Global,
+) -> Result<CleanBitMap<4>, AllocError> {
+    let mut map = ones(rt, alloc, 96)?.into_dirty();
+    pop_run(rt, &mut map, 40, true);
+    push_run(rt, &mut map, 50, false)?;
+    set_bit(rt, &mut map, 60, true)?;
+    prune_to_bit(rt, &mut map, 32)?;
     commit(rt, map, 2)
 }
 
@@ -57,12 +82,7 @@ fn written(alloc: Global, map: &CleanBitMap<4>) -> Result<Vec<u8>, AllocError> {
 
 #[test]
 fn bit_changed_and_bit_appended(rt: HostRuntime) -> Result<(), Fail> {
-    let mut map = CleanBitMap::<4>::new(rt.alloc()).into_dirty();
-    map.push(true)?.push(false)?;
-    let mut map = commit(&rt, map, 1)?.into_dirty();
-    set_bit(&rt, &mut map, 0, false)?;
-    push(&rt, &mut map, true)?;
-    let map = commit(&rt, map, 2)?;
+    let map = changed_and_appended(&rt, rt.alloc())?;
     assert!(rt; shows(&rt, map.current(), 0, b"001"));
     assert!(rt; was(&rt, &map, 1, 0, b"10")?);
     assert!(rt; was(&rt, &map, 2, 0, b"001")?);
@@ -164,12 +184,7 @@ fn bits_popped_and_others_pushed(rt: HostRuntime) -> Result<(), Fail> {
 
 #[test]
 fn popped_below_a_chunk_then_pushed_set_and_pruned(rt: HostRuntime) -> Result<(), Fail> {
-    let mut map = ones(&rt, rt.alloc(), 96)?.into_dirty();
-    pop_run(&rt, &mut map, 40, true);
-    push_run(&rt, &mut map, 50, false)?;
-    set_bit(&rt, &mut map, 60, true)?;
-    prune_to_bit(&rt, &mut map, 32)?;
-    let map = commit(&rt, map, 2)?;
+    let map = popped_and_pushed_and_pruned(&rt, rt.alloc())?;
     assert_eq!(rt; map.len(), 106);
     let runs = [(24, true), (4, false), (1, true), (45, false)];
     assert!(rt; shows_runs(&rt, map.current(), 1, &runs));

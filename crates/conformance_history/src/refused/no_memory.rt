@@ -2,9 +2,10 @@
 
 use crate::asked::{
     commit, current_bit, current_chunk, keeps, pending_bit, pending_chunk, pending_shows, pop,
-    pop_run, prune_to_bit, push, push_byte, push_run, refuse, set_bit, shows,
+    pop_run, prune_to_bit, push, push_byte, push_run, read_bit, refuse, set_bit, shows, stay,
 };
 use crate::refused::{PENDING, begun, committed};
+use historical_bitmap::bitmap::Readable;
 use historical_bitmap::bitmap::historical::{CleanBitMap, DirtyBitMap, Error};
 use std::alloc::Global;
 use std::process::Abort;
@@ -136,6 +137,33 @@ fn number_not_kept(rt: HostRuntime) {
             "{number}"
         );
     }
+}
+
+#[test]
+fn old_state_read_in_place(rt: HostRuntime) {
+    let Some(map) = committed(&rt, rt.alloc()) else {
+        return;
+    };
+    assert!(rt; map.at(0).is_none() && map.at(3).is_none() && map.at(u64::MAX).is_none());
+    let Some(then) = map.at(1) else {
+        assert!(rt; false);
+        return;
+    };
+    assert!(rt; then.len() == 16 && then.pruned_chunks() == 0 && then.complete_chunks() == 2);
+    assert!(rt; read_bit(&rt, &then, 2) && !read_bit(&rt, &then, 8));
+    assert!(rt; then.ones_iter_range(3..10).eq([3, 6, 9]));
+}
+
+#[test]
+fn number_not_gone_back_to(rt: HostRuntime) {
+    let Some(mut map) = committed(&rt, rt.alloc()) else {
+        return;
+    };
+    for number in [0, 3, u64::MAX] {
+        map = stay(&rt, map, number);
+    }
+    assert!(rt; keeps(&map, &[1, 2]) && map.reverse_entries() <= 4);
+    assert!(rt; shows(&rt, map.current(), 1, b"0111010111110000"));
 }
 
 #[test]

@@ -1,0 +1,113 @@
+//! Batches that a closure edits, which answers so or refuses, and which may put another bitmap in place of the one that it is lent.
+
+use crate::asked::{commit, keeps, push, push_run, shows};
+use historical_bitmap::bitmap::historical::{ApplyError, CleanBitMap, DirtyBitMap, Error};
+use std::alloc::{AllocError, Global};
+use std::process::Abort;
+use std::test::Fail;
+
+// What comes of a batch whose closure may answer a number.
+type Applied = Result<CleanBitMap<4>, (CleanBitMap<4>, ApplyError<u8>)>;
+
+// The bits 10, committed under a number.
+fn committed(rt: &impl Abort, alloc: Global, number: u64) -> Result<CleanBitMap<4>, AllocError> {
+    let mut map = CleanBitMap::<4>::new(alloc).into_dirty();
+    map.push(true)?.push(false)?;
+    commit(rt, map, number)
+}
+
+// Three true bits committed under 9, and a batch begun that has pushed one more.
+fn other(rt: &impl Abort, alloc: Global) -> Result<DirtyBitMap<4>, AllocError> {
+    let mut map = CleanBitMap::<4>::new(alloc).into_dirty();
+    push_run(rt, &mut map, 3, true)?;
+    let mut map = commit(rt, map, 9)?.into_dirty();
+    push(rt, &mut map, false)?;
+    Ok(map)
+}
+
+// What is handed back, where the closure answered this number.
+fn given_up(rt: &impl Abort, applied: Applied, number: u8) -> Option<CleanBitMap<4>> {
+    assert!(rt; applied.is_err());
+    let (map, why) = applied.err()?;
+    assert!(rt; matches!(why, ApplyError::Batch(answered) if answered == number));
+    Some(map)
+}
+
+// What is handed back, where the commit was refused for this.
+fn not_committed(rt: &impl Abort, applied: Applied, why: Error) -> Option<CleanBitMap<4>> {
+    assert!(rt; applied.is_err());
+    let (map, found) = applied.err()?;
+    assert!(rt; matches!(found, ApplyError::Commit(found) if found == why));
+    Some(map)
+}
+
+#[test]
+fn number_that_is_committed_already(rt: HostRuntime) -> Result<(), Fail> {
+    let applied = committed(&rt, rt.alloc(), 5)?.apply_batch(5, |batch| {
+        assert!(rt; push(&rt, batch, true).is_ok());
+        Ok(())
+    });
+    let why = Error::NonMonotonicCommit {
+        previous: 5,
+        attempted: 5,
+    };
+    let map = not_committed(&rt, applied, why);
+    assert!(rt; map.is_some_and(|map| keeps(&map, &[5]) && shows(&rt, map.current(), 0, b"10")));
+    Ok(())
+}
+
+#[test]
+fn closure_that_refuses(rt: HostRuntime) -> Result<(), Fail> {
+    let applied = committed(&rt, rt.alloc(), 5)?.apply_batch(5, |batch| {
+        assert!(rt; push(&rt, batch, true).is_ok());
+        Err(7)
+    });
+    let map = given_up(&rt, applied, 7);
+    assert!(rt; map.is_some_and(|map| keeps(&map, &[5]) && shows(&rt, map.current(), 0, b"10")));
+    Ok(())
+}
+
+#[test]
+fn empty_bitmap_put_in_place(rt: HostRuntime) -> Result<(), Fail> {
+    let alloc = rt.alloc();
+    let applied: Applied = committed(&rt, alloc, 5)?.apply_batch(5, |batch| {
+        *batch = CleanBitMap::new(alloc).into_dirty();
+        assert!(rt; push(&rt, batch, true).is_ok());
+        Ok(())
+    });
+    let map = applied.ok();
+    assert!(rt;
+        map.is_some_and(|map| map.len() == 1
+            && keeps(&map, &[5])
+            && shows(&rt, map.current(), 0, b"1"))
+    );
+    Ok(())
+}
+
+#[test]
+fn other_bitmap_put_in_place(rt: HostRuntime) -> Result<(), Fail> {
+    let other = other(&rt, rt.alloc())?;
+    let applied = committed(&rt, rt.alloc(), 1)?.apply_batch(5, |batch| {
+        *batch = other;
+        Ok(())
+    });
+    let why = Error::NonMonotonicCommit {
+        previous: 9,
+        attempted: 5,
+    };
+    let map = not_committed(&rt, applied, why);
+    assert!(rt; map.is_some_and(|map| keeps(&map, &[9]) && shows(&rt, map.current(), 0, b"111")));
+    Ok(())
+}
+
+#[test]
+fn other_bitmap_put_in_place_and_refused(rt: HostRuntime) -> Result<(), Fail> {
+    let other = other(&rt, rt.alloc())?;
+    let applied = committed(&rt, rt.alloc(), 1)?.apply_batch(5, |batch| {
+        *batch = other;
+        Err(7)
+    });
+    let map = given_up(&rt, applied, 7);
+    assert!(rt; map.is_some_and(|map| keeps(&map, &[9]) && shows(&rt, map.current(), 0, b"111")));
+    Ok(())
+}

@@ -1,0 +1,52 @@
+//! A batch applied by a closure, where a request of the closure or of its commit is refused.
+
+use crate::asked::{pop, push, set_bit};
+use crate::refused::{check_committed, check_ten, ten};
+use historical_bitmap::bitmap::historical::{ApplyError, CleanBitMap, Error};
+use std::alloc::AllocError;
+use std::process::Abort;
+
+// Clears the first bit of the bits 10 and appends one, under 2. Refused, the bitmap is handed back.
+fn apply(rt: &impl Abort, map: CleanBitMap<4>) -> Result<CleanBitMap<4>, CleanBitMap<4>> {
+    let mut is_edited = false;
+    let applied = map.apply_batch(2, |batch| -> Result<(), AllocError> {
+        set_bit(rt, batch, 0, false)?;
+        push(rt, batch, true)?;
+        is_edited = true;
+        Ok(())
+    });
+    match applied {
+        Ok(map) => Ok(map),
+        Err((map, why)) => {
+            assert!(rt;
+                match why {
+                    ApplyError::Batch(AllocError) => !is_edited,
+                    ApplyError::Commit(why) => is_edited && why == Error::Memory(AllocError),
+                }
+            );
+            Err(map)
+        }
+    }
+}
+
+#[test]
+fn batch_applied(rt: HostRuntime) {
+    let Some(map) = ten(&rt, rt.alloc()) else {
+        return;
+    };
+    match apply(&rt, map) {
+        Ok(map) => check_committed(&rt, &map),
+        Err(map) => {
+            check_ten(&rt, &map);
+            match apply(&rt, map) {
+                Ok(map) => check_committed(&rt, &map),
+                Err(map) => {
+                    check_ten(&rt, &map);
+                    let mut map = map.into_dirty();
+                    assert!(rt; !pop(&rt, &mut map));
+                    check_ten(&rt, &map.abort());
+                }
+            }
+        }
+    }
+}
