@@ -6,12 +6,16 @@
 pub mod any_bitmap;
 pub mod byte_forms;
 pub mod free_slots;
+pub mod kept_bits;
 pub mod loops;
 pub mod next_set;
 pub mod no_memory;
+pub mod old_version;
 pub mod one_byte;
 pub mod one_chunk;
 pub mod recent_log;
+pub mod restored;
 pub mod strangers;
 pub mod taken_slots;
 pub mod tried_push;
+pub mod two_bits;

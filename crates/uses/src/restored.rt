@@ -1,0 +1,43 @@
+//! Flags that are taken back to a checkpoint.
+
+ghost use Rattle.std.specs.Prelude.{◌≡◌, None, Some, Err, OnErr, OnOk};
+ghost use Rattle.historical_bitmap.specs.History.{kept_under};
+ghost use Rattle.historical_bitmap.specs.View.{history_of};
+ghost use Rattle.historical_bitmap.specs.declared.bitmap.historical.error.RewindError.TheVariants.{NoSuchCommit};
+
+use historical_bitmap::bitmap::historical::{CleanBitMap, RewindError};
+
+/// Takes flags back to a checkpoint. Else they stay as they are, and it tells why.
+pub fn restored(flags: CleanBitMap<8>, checkpoint: u64) -> (CleanBitMap<8>, Result<(), RewindError>)
+    ensures back { OnOk result.1 (kept_under (history_of 8 flags) checkpoint ≡ Some result.0.current) }
+    ensures stay { OnErr result.1 (result.0 ≡ flags) }
+    ensures unknown { kept_under (history_of 8 flags) checkpoint ≡ None → result.1 ≡ Err NoSuchCommit }
+{
+    match flags.rewind_to(checkpoint) {
+        Ok(flags) => (flags, Ok(())),
+        Err((flags, why)) => (flags, Err(why)),
+    }
+}
+
+#[cfg(test)]
+mod tests {
+    use super::*;
+    use std::alloc::AllocError;
+
+    #[test]
+    fn are_back_or_stay(rt: HostRuntime) -> Result<(), AllocError> {
+        let mut flags = CleanBitMap::<8>::new(rt.alloc()).into_dirty();
+        flags.push(true)?;
+        let flags = flags.commit(1).map_err(|_| AllocError)?;
+        let mut flags = flags.into_dirty();
+        assert!(rt; flags.len() < u64::MAX);
+        flags.push(false)?;
+        let flags = flags.commit(2).map_err(|_| AllocError)?;
+        let (flags, outcome) = restored(flags, 1);
+        assert!(rt; outcome.is_ok() && flags.len() == 1);
+        let (flags, outcome) = restored(flags, 2);
+        assert_eq!(rt; outcome, Err(RewindError::NoSuchCommit));
+        assert_eq!(rt; flags.len(), 1);
+        Ok(())
+    }
+}
