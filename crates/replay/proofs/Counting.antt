@@ -7,7 +7,7 @@ use Rattle.std.proofs.lemmas.Map.Made.{length-le_from_is_member}
 use Rattle.std.specs.List.{IsDistinct, AllByRecursion}
 use Rattle.std.specs.Prelude.{true, false, nat_eq, ◌||◌}
 use Rattle.std.specs.Set.{is_member, unique_keys, distinct_count}
-use Rattle.replay.specs.History.{IsWithin}
+use Rattle.historical_bitmap.specs.Edits.{IsWithin}
 
 -- what stands in the list once more changes no membership
 again : (xs : List ℕ) (x q : ℕ) → is_member nat_eq xs x ≡ true → is_member nat_eq (x ∷ xs) q ≡ is_member nat_eq xs q

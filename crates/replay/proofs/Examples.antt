@@ -1,5 +1,4 @@
 -- Definitions computed on small values whose results were worked out by hand.
-pub mod Histories
 pub mod Refusals
 pub mod Replies
 pub mod Steps

@@ -1,6 +1,8 @@
-pub mod Ends
 pub mod Counting
 pub mod Simulates
 pub mod Runs
 pub mod Steps
+pub mod Moves
+pub mod KeptNumbers
+pub mod GoingBack
 pub mod Examples

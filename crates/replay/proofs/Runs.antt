@@ -3,7 +3,8 @@ use Rattle.std.proofs.Common.{ℕ, ◌+◌, ◌<◌, ◌≤◌, List, [], ◌∷
 use Rattle.std.proofs.lemmas.List.{take_all, take_more, map-append}
 use Rattle.replay.specs.declared.command.Command.{Command}
 use Rattle.replay.specs.declared.reply.Reply.{Reply}
-use Rattle.replay.specs.Machine.{Machine, Agrees, Answer, Step, StepTo, Run, RunsOn}
+use Rattle.replay.specs.Answers.{Answer}
+use Rattle.replay.specs.Machine.{Machine, Agrees, Step, StepTo, Run, RunsOn}
 use Rattle.replay.specs.Seen.{said}
 use Rattle.replay.proofs.Simulates.{simulates}
 

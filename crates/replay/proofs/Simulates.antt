@@ -3,8 +3,10 @@ use Rattle.std.proofs.Common.{◌≡◌, ℕ, ◌≤◌, List, [], ◌∷◌, �
 use Rattle.std.specs.Prelude.{◌&&◌, MatchOption, IsTrue, ◌⊎◌, ◌||◌, nat_eq, if◌then◌else◌}
 use Rattle.std.specs.Set.{is_member}
 use Rattle.replay.specs.declared.command.Command.{Command}
-use Rattle.replay.specs.History.{IsWithin}
-use Rattle.replay.specs.Machine.{Machine, State, Answer, Refusal, NoMemory, Agrees, StepTo, Step, Accepts, Refuses, after, most_cost, refusal_of, takes_memory, is_dirty, state_after, touches}
+use Rattle.historical_bitmap.specs.Edits.{IsWithin}
+use Rattle.replay.specs.Answers.{Answer, Refusal}
+use Rattle.replay.specs.Answers.Refusal.{NoMemory}
+use Rattle.replay.specs.Machine.{Machine, State, Agrees, StepTo, Step, Accepts, Refuses, after, most_cost, refusal_of, takes_memory, is_dirty, state_after, touches}
 use Rattle.replay.proofs.Counting.{count_within}
 
 or_assoc : (a b c : Bool) → (a || (b || c)) ≡ ((a || b) || c)

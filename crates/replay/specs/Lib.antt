@@ -1,4 +1,5 @@
-pub mod History
+pub mod Answers
+pub mod Laws
 pub mod Machine
 pub mod Seen
 pub mod Width

@@ -1,30 +1,38 @@
 -- The machine that keeps every committed bitmap whole, and what it replies.
 use Rattle.std.specs.Prelude.{◌≡◌, ℕ, ◌+◌, ◌-◌, ◌*◌, ◌/◌, ◌%◌, ◌^◌, ◌≤◌, Bool, true, false, not, ◌==◌, ◌&&◌, ◌⊎◌, List, [], ◌∷◌, ◌++◌, length, Option, Some, None, nat_lt, nat_le, nat_eq, IsTrue, MatchOption, if◌then◌else◌, unwrap_or, is_some, option_and_then}
+use Rattle.std.specs.List.{sum_by}
+use Rattle.std.specs.Map.{keys_of}
 use Rattle.std.specs.Option.{option_or, option_map}
 use Rattle.std.specs.Set.{distinct_count}
-use Rattle.bitmap_core.specs.PrunedBits.{PrunedBits, pruned_bits, bit_len, bit_at, pushed, popped, last_bit, set_at}
+use Rattle.bitmap_core.specs.Chunk.{byte_bits, chunk_bits}
+use Rattle.bitmap_core.specs.PrunedBits.{PrunedBits, pruned_bits, bit_len, bit_at, chunk, last_bit}
 use Rattle.bitmap_core.specs.Meaning.{ones, pruned_meaning}
 use Rattle.bitmap_core.specs.Spelling.{pruned_spelling}
-use Rattle.bitmap_core.specs.Reading.{Fault, admits, is_past_64, pruned_fault, pruned_in}
+use Rattle.bitmap_core.specs.Reading.{admits, is_past_64, pruned_fault, pruned_in}
+use Rattle.historical_bitmap.specs.Edits.{Edit, IsWithin, after_all, pushes, touched}
+use Rattle.historical_bitmap.specs.History.{earliest, from_number, kept_under, latest, up_to_number}
 use Rattle.replay.specs.declared.command.Command.{Command}
-use Rattle.replay.specs.declared.command.Command.TheVariants.{Start, Begin, Push, Pop, Set, Commit, Abort, Len, PrunedChunks, Get, Ones, Encode, At, Decode}
-use Rattle.replay.specs.History.{History, kept_under, latest, IsWithin}
+use Rattle.replay.specs.declared.command.Command.TheVariants.{Start, Begin, Push, PushByte, PushChunk, Pop, Set, Prune, Commit, Abort, Rewind, Len, PrunedChunks, Get, Chunk, Ones, Encode, At, OnesAt, EncodeAt, Decode, Commits, Exists, Latest, Earliest, DropBefore, Clear, Entries}
+use Rattle.replay.specs.Answers.{Refusal, Answer}
+use Rattle.replay.specs.Answers.Answer.{Done, Bit, Number, Wide, Maybe, Positions, Bytes, Snapshot, Read, Refused}
+use Rattle.replay.specs.Answers.Refusal.{WrongMode, OutOfBounds, Pruned, TooLong, NoRetainedBit, ReservedCommitNumber, NonMonotonicCommit, PrunedChunksOverflow, Codec, NoSuchCommit, NoMemory}
 
--- the current bitmap, in dirty mode the pending one, the history, and what each kept number costs
+-- the current bitmap, in dirty mode the pending one, what is kept under which number, what each kept number costs, and the number last committed or gone back to
 pub record State : Type 0 where
   pub current : PrunedBits
   pub pending : Option PrunedBits
-  pub history : History
+  pub history : List (ℕ × PrunedBits)
   pub costs : List (ℕ × ℕ)
+  pub last : Option ℕ
 
 -- a state, with the chunks that the batch has touched
 pub record Machine : Type 0 where
   pub state : State
   pub touched : List ℕ
 
--- no bits behind so many pruned chunks, no batch, and no commits
+-- no bits behind so many pruned chunks, no batch, no commits, and no number committed
 abbrev pub anew : ℕ → State
-anew chunks = record { current = record { pruned = chunks; bits = [] }; pending = None; history = []; costs = [] }
+anew chunks = record { current = record { pruned = chunks; bits = [] }; pending = None; history = []; costs = []; last = None }
 
 -- the machine before the first command: nothing pruned, and nothing touched
 abbrev pub first_machine : Machine
@@ -42,38 +50,29 @@ shown s = unwrap_or s.pending s.current
 abbrev pub edited : State → PrunedBits → State
 edited s bitmap = record s { pending = Some bitmap }
 
--- the pending bitmap is current, and kept under the number, at the cost
+-- the pending bitmap is current, and kept under the number, at the cost; the number is the last one
 abbrev pub committed : State → ℕ → ℕ → State
 committed s number cost = record {
   current = shown s;
   pending = None;
   history = s.history ++ (number, shown s) ∷ [];
   costs = s.costs ++ (number, cost) ∷ [];
+  last = Some number;
 }
 
--- why a command is refused: of a text, its first fault
-pub data Refusal : Type 0 where
-  WrongMode : Refusal
-  OutOfBounds : Refusal
-  Pruned : Refusal
-  TooLong : Refusal
-  NoRetainedBit : Refusal
-  ReservedCommitNumber : Refusal
-  NonMonotonicCommit : (previous attempted : ℕ) → Refusal
-  PrunedChunksOverflow : Refusal
-  Codec : (fault : Option Fault) → Refusal
-  NoMemory : Refusal
+-- what is kept under the number is current again, the commits past it are gone, and it is the last one
+abbrev pub rewound : State → ℕ → State
+rewound s number = record {
+  current = unwrap_or (kept_under s.history number) s.current;
+  pending = None;
+  history = up_to_number number s.history;
+  costs = up_to_number number s.costs;
+  last = Some number;
+}
 
--- what a reply says
-pub data Answer : Type 0 where
-  Done : Answer
-  Bit : (bit : Bool) → Answer
-  Number : (number : ℕ) → Answer
-  Positions : (positions : Option (List ℕ)) → Answer
-  Bytes : (bytes : Option (List ℕ)) → Answer
-  Snapshot : (bitmap : Option PrunedBits) → Answer
-  Read : (bitmap : PrunedBits) (left : ℕ) → Answer
-  Refused : (refusal : Refusal) → Answer
+-- only the commits from the number on are kept
+abbrev pub dropped_before : State → ℕ → State
+dropped_before s number = record s { history = from_number number s.history; costs = from_number number s.costs }
 
 -- the refusal, where the test holds
 abbrev pub when : Bool → Refusal → Option Refusal
@@ -109,32 +108,34 @@ wants_no_batch s = when (is_dirty s) WrongMode
 abbrev pub wants_retained : State → Option Refusal
 wants_retained s = when (length (shown s).bits == 0) NoRetainedBit
 
--- the refusals of a number to commit under: it is the greatest of u64, or not above the latest kept one
+-- the refusals of a number to commit under: it is the greatest of u64, or not above the last one
 abbrev pub wants_number : State → ℕ → List (Option Refusal)
 wants_number s number =
     when (number == 2 ^ 64 - 1) ReservedCommitNumber
-    ∷ option_and_then (λ previous. when (nat_le number previous) (NonMonotonicCommit previous number)) (latest s.history)
+    ∷ option_and_then (λ previous. when (nat_le number previous) (NonMonotonicCommit previous number)) s.last
     ∷ []
+
+-- a number is kept
+abbrev pub is_kept : State → ℕ → Bool
+is_kept s number = is_some (kept_under s.history number)
+
+-- where the number is not kept, the refusal of a command that goes back to it
+abbrev pub wants_kept : State → ℕ → Option Refusal
+wants_kept s number = when (not (is_kept s number)) NoSuchCommit
 
 -- a command that reads
 abbrev pub reads : State → List (Option Refusal) → Bool → Answer → Rule
 reads s refusals takes_memory answer =
     record { refusals = refusals; takes_memory = takes_memory; answer = answer; after = λ cost. s; touches = [] }
 
--- a command that edits the pending bitmap, and touches these chunks
-abbrev pub edits : State → List (Option Refusal) → Bool → Answer → PrunedBits → List ℕ → Rule
-edits s refusals takes_memory answer bitmap chunks = record {
-  refusals = wants_batch s ∷ refusals;
-  takes_memory = takes_memory;
-  answer = answer;
-  after = λ cost. edited s bitmap;
-  touches = chunks;
-}
+-- a command that reads what is kept under a number, where it is kept
+abbrev pub reads_kept : State → ℕ → (Option PrunedBits → Answer) → Rule
+reads_kept s number answer = reads s (wants_no_batch s ∷ []) (is_kept s number) (answer (kept_under s.history number))
 
--- a command that begins or ends a batch, or starts anew
-abbrev pub turns : List (Option Refusal) → Bool → (ℕ → State) → Rule
-turns refusals takes_memory after =
-    record { refusals = refusals; takes_memory = takes_memory; answer = Done; after = after; touches = [] }
+-- a command that begins or ends a batch, drops commits or goes back to one, or starts anew
+abbrev pub turns : List (Option Refusal) → Bool → Answer → (ℕ → State) → Rule
+turns refusals takes_memory answer after =
+    record { refusals = refusals; takes_memory = takes_memory; answer = answer; after = after; touches = [] }
 
 -- A chunk has N bytes.
 module _ (N : ℕ) where
@@ -152,6 +153,10 @@ module _ (N : ℕ) where
       when (nat_le (shown_len s) position) OutOfBounds
       ∷ when (nat_lt position (pruned_bits N (shown s))) Pruned
       ∷ []
+
+  -- where a position is past the length, the refusal of a command that prunes up to it
+  abbrev pub wants_end : State → ℕ → Option Refusal
+  wants_end s position = when (nat_lt (shown_len s) position) OutOfBounds
 
   -- where so many bits more would take the length past u64, the refusal of a command that appends them
   abbrev pub wants_room : State → ℕ → Option Refusal
@@ -175,24 +180,58 @@ module _ (N : ℕ) where
       ((answer ≡ decoded text) ⊎ (answer ≡ Refused NoMemory))
       (λ fault. answer ≡ Refused (Codec (Some fault)))
 
+  -- the set positions of a bitmap in a range
+  abbrev pub ones_of : ℕ → ℕ → PrunedBits → List ℕ
+  ones_of from to bitmap = ones N (pruned_meaning N bitmap) from to
+
+  -- a command that edits the pending bitmap, and touches what its edits touch
+  abbrev pub edits : State → List (Option Refusal) → Bool → Answer → List Edit → Rule
+  edits s refusals takes_memory answer these = record {
+    refusals = wants_batch s ∷ refusals;
+    takes_memory = takes_memory;
+    answer = answer;
+    after = λ cost. edited s (after_all N (shown s) these);
+    touches = touched N (shown s) these;
+  }
+
+  -- a command that appends so many bits
+  abbrev pub appends : State → ℕ → List Bool → Rule
+  appends s more bits = edits s (wants_room s more ∷ []) true Done (pushes bits)
+
   -- what the machine does at each command
   abbrev pub rule : State → Command N → Rule
-  rule s (Start chunks) = turns (wants_no_batch s ∷ wants_fitting chunks ∷ []) false (λ cost. anew chunks)
-  rule s Begin = turns (wants_no_batch s ∷ []) true (λ cost. edited s s.current)
-  rule s (Push value) = edits s (wants_room s 1 ∷ []) true Done (pushed (shown s) value) (chunk_index (shown_len s) ∷ [])
-  rule s Pop = edits s (wants_retained s ∷ []) false (Bit (last_bit (shown s))) (popped (shown s)) (chunk_index (shown_len s - 1) ∷ [])
-  rule s (Set position value) = edits s (wants_bit s position) true Done (set_at N (shown s) position value) (chunk_index position ∷ [])
-  rule s (Commit number) = turns (wants_batch s ∷ wants_number s number) true (λ cost. committed s number cost)
-  rule s Abort = turns (wants_batch s ∷ []) false (λ cost. record s { pending = None })
+  rule s (Start chunks) = turns (wants_no_batch s ∷ wants_fitting chunks ∷ []) false Done (λ cost. anew chunks)
+  rule s Begin = turns (wants_no_batch s ∷ []) false Done (λ cost. edited s s.current)
+  rule s (Push value) = appends s 1 (value ∷ [])
+  rule s (PushByte byte) = appends s 8 (byte_bits byte)
+  rule s (PushChunk bytes) = appends s (8 * N) (chunk_bits N bytes)
+  rule s Pop = edits s (wants_retained s ∷ []) false (Bit (last_bit (shown s))) (Edit.Pop ∷ [])
+  rule s (Set position value) = edits s (wants_bit s position) true Done (Edit.Set position value ∷ [])
+  rule s (Prune position) =
+      edits s (wants_end s position ∷ []) (nat_lt (shown s).pruned (chunk_index position)) Done (Edit.Prune position ∷ [])
+  rule s (Commit number) = turns (wants_batch s ∷ wants_number s number) true Done (λ cost. committed s number cost)
+  rule s Abort = turns (wants_batch s ∷ []) false Done (λ cost. record s { pending = None })
+  rule s (Rewind number) =
+      turns (wants_no_batch s ∷ wants_kept s number ∷ []) (is_kept s number) Done (λ cost. rewound s number)
   rule s Len = reads s [] false (Number (shown_len s))
   rule s PrunedChunks = reads s [] false (Number (shown s).pruned)
   rule s (Get position) = reads s (wants_bit s position) false (Bit (bit_at N (shown s) position))
-  rule s (Ones from to) = reads s (wants_no_batch s ∷ []) true (Positions (Some (ones N (pruned_meaning N s.current) from to)))
+  rule s (Chunk position) = reads s (wants_bit s position) false (Answer.Chunk (chunk N (shown s) (chunk_index position)))
+  rule s (Ones from to) = reads s (wants_no_batch s ∷ []) true (Positions (Some (ones_of from to s.current)))
   rule s Encode = reads s (wants_no_batch s ∷ []) true (Bytes (Some (pruned_spelling N s.current)))
-  rule s (At number) =
-      let kept = kept_under s.history number in
-      reads s (wants_no_batch s ∷ []) (is_some kept) (Snapshot kept)
+  rule s (At number) = reads_kept s number Snapshot
+  rule s (OnesAt number from to) = reads_kept s number (λ kept. Positions (option_map (ones_of from to) kept))
+  rule s (EncodeAt number) = reads_kept s number (λ kept. Bytes (option_map (pruned_spelling N) kept))
   rule s (Decode text range) = reads s (wants_readable (admits range) text.items ∷ []) true (decoded text.items)
+  rule s Commits = reads s (wants_no_batch s ∷ []) true (Positions (Some (keys_of s.history)))
+  rule s (Exists number) = reads s (wants_no_batch s ∷ []) false (Bit (is_kept s number))
+  rule s Latest = reads s (wants_no_batch s ∷ []) false (Maybe (latest s.history))
+  rule s Earliest = reads s (wants_no_batch s ∷ []) false (Maybe (earliest s.history))
+  rule s (DropBefore number) =
+      let kept = from_number number s.history in
+      turns (wants_no_batch s ∷ []) false (Number (length s.history - length kept)) (λ cost. dropped_before s number)
+  rule s Clear = turns (wants_no_batch s ∷ []) false Done (λ cost. record s { history = []; costs = [] })
+  rule s Entries = reads s (wants_no_batch s ∷ []) false (Wide (sum_by (λ kept. kept.1) s.costs))
 
   -- the first refusal that holds, in their order
   abbrev pub refusal_of : State → Command N → Option Refusal

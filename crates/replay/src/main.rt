@@ -2,12 +2,12 @@
 #![tactic(auto)]
 
 mod command;
+mod laws;
 mod print;
 mod program;
 mod reply;
 mod script;
 mod session;
-mod store;
 #[cfg(test)]
 mod tests;
 

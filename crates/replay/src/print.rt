@@ -27,6 +27,7 @@ fn write_refusal<W: Write>(out: &mut W, refusal: &Refusal) -> io::Result<()> {
         Refusal::Codec(CodecError::Invalid(what, why)) => {
             writeln!(out, "refused codec invalid {what}: {why}")
         }
+        Refusal::NoSuchCommit => writeln!(out, "refused no-such-commit"),
         Refusal::Codec(CodecError::OutOfMemory) | Refusal::NoMemory => {
             writeln!(out, "refused no-memory")
         }
@@ -56,9 +57,9 @@ fn write_positions<W: Write>(out: &mut W, positions: &[u64]) -> io::Result<()> {
     writeln!(out)
 }
 
-// Each byte as two hexadecimal digits.
-fn write_bytes<W: Write>(out: &mut W, bytes: &[u8]) -> io::Result<()> {
-    write!(out, "bytes ")?;
+// A word, and each byte as two hexadecimal digits.
+fn write_bytes<W: Write>(out: &mut W, word: &str, bytes: &[u8]) -> io::Result<()> {
+    write!(out, "{word} ")?;
     for byte in bytes {
         write!(out, "{byte:02x}")?;
     }
@@ -73,11 +74,11 @@ fn write_reply<const N: usize, W: Write>(out: &mut W, reply: &Reply<N>) -> io::R
             writeln!(out, "bit {digit}")
         }
         Reply::Number(number) => writeln!(out, "number {number}"),
-        Reply::Positions(None) | Reply::Bytes(None) | Reply::Snapshot(None) => {
-            writeln!(out, "none")
-        }
+        Reply::Wide(number) => writeln!(out, "entries {number}"),
+        Reply::Chunk(bytes) => write_bytes(out, "chunk", &bytes[..]),
+        Reply::Maybe(Some(number)) => writeln!(out, "some {number}"),
         Reply::Positions(Some(positions)) => write_positions(out, positions.as_slice()),
-        Reply::Bytes(Some(bytes)) => write_bytes(out, bytes.as_slice()),
+        Reply::Bytes(Some(bytes)) => write_bytes(out, "bytes", bytes.as_slice()),
         Reply::Snapshot(Some(bitmap)) => {
             write!(out, "bitmap ")?;
             write_bitmap(out, bitmap)?;
@@ -88,6 +89,8 @@ fn write_reply<const N: usize, W: Write>(out: &mut W, reply: &Reply<N>) -> io::R
             write_bitmap(out, bitmap)?;
             writeln!(out, " {left}")
         }
+        Reply::Maybe(None) | Reply::Positions(None) | Reply::Bytes(None) | Reply::Snapshot(None) =>
+            writeln!(out, "none"),
         Reply::Refused(refusal) => write_refusal(out, refusal),
     }
 }

@@ -73,7 +73,9 @@ fn read_all<R: Read + Drop>(alloc: Global, script: Result<R, io::Error>) -> Resu
 }
 
 // Finds the first line that is no command, and takes no memory.
-fn check_lines<const N: usize>(text: &[u8]) -> Result<(), Fault> {
+fn check_lines<const N: usize>(text: &[u8]) -> Result<(), Fault>
+    requires width { IsWidth N }
+{
     for (index, line) in text.split(|byte| *byte == b'\n').enumerate() {
         if !script::is_skipped(line) && Line::<N>::parse(line).is_none() {
             return Err(Fault::NotACommand(index));
@@ -82,7 +84,9 @@ fn check_lines<const N: usize>(text: &[u8]) -> Result<(), Fault> {
     Ok(())
 }
 
-fn read_commands<const N: usize>(alloc: Global, text: &[u8]) -> Result<Vec<Command<N>>, Fault> {
+fn read_commands<const N: usize>(alloc: Global, text: &[u8]) -> Result<Vec<Command<N>>, Fault>
+    requires width { IsWidth N }
+{
     check_lines::<N>(text)?;
     let mut commands = Vec::new(alloc);
     for line in text.split(|byte| *byte == b'\n') {

@@ -104,6 +104,27 @@ impl<'a> Words<'a> {
         hex_bytes(self.word()?)
     }
 
+    // One byte, of two hexadecimal digits.
+    fn byte(&mut self) -> Option<u8> {
+        match self.word()? {
+            [high, low] => hex_byte(&[*high, *low]),
+            _ => None,
+        }
+    }
+
+    // The bytes of a chunk, two hexadecimal digits each.
+    fn chunk<const N: usize>(&mut self) -> Option<[u8; N]> {
+        let pairs = self.hex()?;
+        if pairs.len() != N {
+            return None;
+        }
+        let mut bytes = [0; N];
+        for (index, pair) in pairs.iter().enumerate() {
+            bytes[index] = hex_byte(pair)?;
+        }
+        Some(bytes)
+    }
+
     // The numbers that a word admits.
     fn range(&mut self) -> Option<RangeCfg> {
         let mut words = Words::new(self.word()?, b':');
@@ -143,17 +164,34 @@ impl<'a, const N: usize> Line<'a, N> {
             b"start" => Line::Plain(Command::Start(words.count()?)),
             b"begin" => Line::Plain(Command::Begin),
             b"push" => Line::Plain(Command::Push(words.bit()?)),
+            b"push-byte" => Line::Plain(Command::PushByte(words.byte()?)),
+            b"push-chunk" => Line::Plain(Command::PushChunk(words.chunk()?)),
             b"pop" => Line::Plain(Command::Pop),
             b"set" => Line::Plain(Command::Set(words.number()?, words.bit()?)),
+            b"prune" => Line::Plain(Command::Prune(words.number()?)),
             b"commit" => Line::Plain(Command::Commit(words.number()?)),
             b"abort" => Line::Plain(Command::Abort),
+            b"rewind" => Line::Plain(Command::Rewind(words.number()?)),
             b"len" => Line::Plain(Command::Len),
             b"pruned-chunks" => Line::Plain(Command::PrunedChunks),
             b"get" => Line::Plain(Command::Get(words.number()?)),
+            b"chunk" => Line::Plain(Command::Chunk(words.number()?)),
             b"ones" => Line::Plain(Command::Ones(words.number()?, words.number()?)),
             b"encode" => Line::Plain(Command::Encode),
             b"at" => Line::Plain(Command::At(words.number()?)),
+            b"ones-at" => {
+                let number = words.number()?;
+                Line::Plain(Command::OnesAt(number, words.number()?, words.number()?))
+            }
+            b"encode-at" => Line::Plain(Command::EncodeAt(words.number()?)),
             b"decode" => Line::Decode(words.hex()?, words.range()?),
+            b"commits" => Line::Plain(Command::Commits),
+            b"exists" => Line::Plain(Command::Exists(words.number()?)),
+            b"latest" => Line::Plain(Command::Latest),
+            b"earliest" => Line::Plain(Command::Earliest),
+            b"drop-before" => Line::Plain(Command::DropBefore(words.number()?)),
+            b"clear" => Line::Plain(Command::Clear),
+            b"entries" => Line::Plain(Command::Entries),
             _ => return None,
         };
         words.end()?;

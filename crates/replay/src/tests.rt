@@ -1,5 +1,7 @@
 //! Scripts and what is printed for them.
 
+mod batches;
+mod commits;
 mod faults;
 mod long;
 

@@ -6,8 +6,9 @@ use Rattle.bitmap_core.specs.PrunedBits.{PrunedBits}
 use Rattle.bitmap_core.specs.declared.bitmap.codec.range.RangeCfg.{RangeCfg}
 use Rattle.bitmap_core.specs.Reading.{admits, pruned_fault}
 use Rattle.bitmap_core.specs.Reading.Fault.{EndOfBuffer, InvalidLength}
-use Rattle.replay.specs.declared.command.Command.TheVariants.{Start, Begin, Push, Pop, Set, Commit, Abort, Len, PrunedChunks, Get, Ones, Encode, At, Decode}
-use Rattle.replay.specs.Machine.{State, first_machine, is_dirty, shown, edited, WrongMode, OutOfBounds, Pruned, TooLong, NoRetainedBit, ReservedCommitNumber, NonMonotonicCommit, PrunedChunksOverflow, Codec, when, first, wants_batch, wants_no_batch, wants_retained, wants_number, chunk_index, shown_len, wants_bit, wants_room, wants_fitting, wants_readable, refusal_of, takes_memory}
+use Rattle.replay.specs.declared.command.Command.TheVariants.{Start, Begin, Push, PushByte, PushChunk, Pop, Set, Prune, Commit, Abort, Rewind, Len, PrunedChunks, Get, Chunk, Ones, Encode, At, OnesAt, EncodeAt, Decode, Commits, Exists, Latest, Earliest, DropBefore, Clear, Entries}
+use Rattle.replay.specs.Answers.Refusal.{WrongMode, OutOfBounds, Pruned, TooLong, NoRetainedBit, ReservedCommitNumber, NonMonotonicCommit, PrunedChunksOverflow, Codec, NoSuchCommit}
+use Rattle.replay.specs.Machine.{State, first_machine, is_dirty, shown, edited, when, first, wants_batch, wants_no_batch, wants_retained, wants_number, chunk_index, shown_len, wants_bit, wants_room, wants_fitting, wants_readable, refusal_of, takes_memory, wants_end, wants_kept, is_kept}
 
 -- two bits behind one pruned chunk: positions 8 and 9
 abbrev pub two_bits : PrunedBits
@@ -19,11 +20,11 @@ three_bits = record { pruned = 1; bits = true ∷ false ∷ true ∷ [] }
 
 -- no batch, one commit under 5
 abbrev pub clean : State
-clean = record { current = two_bits; pending = None; history = (5, two_bits) ∷ []; costs = (5, 1) ∷ [] }
+clean = record { current = two_bits; pending = None; history = (5, two_bits) ∷ []; costs = (5, 1) ∷ []; last = Some 5 }
 
 -- a batch that has appended a bit
 abbrev pub dirty : State
-dirty = record { current = two_bits; pending = Some three_bits; history = (5, two_bits) ∷ []; costs = (5, 1) ∷ [] }
+dirty = record { current = two_bits; pending = Some three_bits; history = (5, two_bits) ∷ []; costs = (5, 1) ∷ []; last = Some 5 }
 
 -- seven set bits behind so many pruned chunks that u64 has no room for one more
 abbrev pub greatest_length : PrunedBits
@@ -31,11 +32,11 @@ greatest_length = record { pruned = 2305843009213693951; bits = true ∷ true �
 
 -- a batch at the greatest length
 abbrev pub at_the_end : State
-at_the_end = record { current = two_bits; pending = Some greatest_length; history = []; costs = [] }
+at_the_end = record { current = two_bits; pending = Some greatest_length; history = []; costs = []; last = None }
 
 -- a batch with no bits behind one pruned chunk
 abbrev pub emptied : State
-emptied = record { current = two_bits; pending = Some (record { pruned = 1; bits = [] }); history = []; costs = [] }
+emptied = record { current = two_bits; pending = Some (record { pruned = 1; bits = [] }); history = []; costs = []; last = None }
 
 -- one pruned chunk and the bits 1, 0, 1 spelled, with two bytes behind them
 abbrev pub text_of_three : List ℕ
@@ -118,7 +119,7 @@ nothing_to_pop = refl
 three_to_pop : wants_retained dirty ≡ None
 three_to_pop = refl
 
--- 5 is kept: 5 is not above it, and 6 is; with no commit each number is
+-- 5 is the last number: 5 is not above it, and 6 is; where there is none each number is
 same_number : wants_number dirty 5 ≡ None ∷ Some (NonMonotonicCommit 5 5) ∷ []
 same_number = refl
 
@@ -130,6 +131,13 @@ greater_number = refl
 
 first_number : wants_number emptied 0 ≡ None ∷ None ∷ []
 first_number = refl
+
+-- 5 is still the last number where nothing is kept
+abbrev pub cleared : State
+cleared = record { current = two_bits; pending = Some three_bits; history = []; costs = []; last = Some 5 }
+
+number_of_a_cleared_history : wants_number cleared 5 ≡ None ∷ Some (NonMonotonicCommit 5 5) ∷ []
+number_of_a_cleared_history = refl
 
 -- the greatest of u64 is never kept, and the number before it may be
 greatest_number : wants_number dirty 18446744073709551615 ≡ Some ReservedCommitNumber ∷ None ∷ []
@@ -208,8 +216,8 @@ begin_accepted = refl
 begin_in_a_batch : refusal_of 1 dirty Begin ≡ Some WrongMode
 begin_in_a_batch = refl
 
-begin_takes_memory : takes_memory 1 clean Begin ≡ true
-begin_takes_memory = refl
+begin_takes_none : takes_memory 1 clean Begin ≡ false
+begin_takes_none = refl
 
 -- ---- push
 
@@ -389,3 +397,87 @@ decode_nothing text range e = rw (of_bytes range text [] e ∙ no_bytes range) r
 
 decode_takes_memory : (text : Vec ℕ) (range : RangeCfg) → takes_memory 1 clean (Decode text range) ≡ true
 decode_takes_memory text range = refl
+
+-- ---- the commands that append bytes
+
+-- the greatest length has no room for one bit, and eight bits fewer have room for a byte
+push_byte_too_long : refusal_of 1 at_the_end (PushByte 255) ≡ Some TooLong
+push_byte_too_long = refl
+
+push_byte_accepted : refusal_of 1 dirty (PushByte 255) ≡ None
+push_byte_accepted = refl
+
+push_byte_outside : refusal_of 1 clean (PushByte 255) ≡ Some WrongMode
+push_byte_outside = refl
+
+push_chunk_too_long : refusal_of 1 at_the_end (PushChunk (255 ∷ [])) ≡ Some TooLong
+push_chunk_too_long = refl
+
+push_chunk_takes_memory : takes_memory 1 dirty (PushChunk (255 ∷ [])) ≡ true
+push_chunk_takes_memory = refl
+
+-- ---- prune
+
+-- the length itself is no position past the end, and the one behind it is
+prune_to_the_end : wants_end 1 dirty 11 ≡ None
+prune_to_the_end = refl
+
+prune_past_the_end : refusal_of 1 dirty (Prune 12) ≡ Some OutOfBounds
+prune_past_the_end = refl
+
+-- one chunk is pruned already: memory is taken where a second goes
+prune_of_nothing : takes_memory 1 dirty (Prune 11) ≡ false
+prune_of_nothing = refl
+
+prune_of_a_chunk : takes_memory 1 (edited clean (record { pruned = 0; bits = true ∷ true ∷ true ∷ true ∷ true ∷ true ∷ true ∷ true ∷ [] })) (Prune 8) ≡ true
+prune_of_a_chunk = refl
+
+-- ---- going back
+
+kept_number : is_kept clean 5 ≡ true
+kept_number = refl
+
+no_such_commit : wants_kept clean 4 ≡ Some NoSuchCommit
+no_such_commit = refl
+
+rewind_accepted : refusal_of 1 clean (Rewind 5) ≡ None
+rewind_accepted = refl
+
+rewind_of_none : refusal_of 1 clean (Rewind 18446744073709551615) ≡ Some NoSuchCommit
+rewind_of_none = refl
+
+-- in a batch the mode is told before the number
+rewind_in_a_batch : refusal_of 1 dirty (Rewind 4) ≡ Some WrongMode
+rewind_in_a_batch = refl
+
+rewind_takes_memory : takes_memory 1 clean (Rewind 5) ≡ true
+rewind_takes_memory = refl
+
+rewind_of_none_takes_none : takes_memory 1 clean (Rewind 4) ≡ false
+rewind_of_none_takes_none = refl
+
+-- ---- reads of what is kept, and of the kept numbers
+
+ones_at_of_none_takes_none : takes_memory 1 clean (OnesAt 4 0 9) ≡ false
+ones_at_of_none_takes_none = refl
+
+encode_at_takes_memory : takes_memory 1 clean (EncodeAt 5) ≡ true
+encode_at_takes_memory = refl
+
+chunk_pruned : refusal_of 1 clean (Chunk 7) ≡ Some Pruned
+chunk_pruned = refl
+
+commits_in_a_batch : refusal_of 1 dirty Commits ≡ Some WrongMode
+commits_in_a_batch = refl
+
+commits_take_memory : takes_memory 1 clean Commits ≡ true
+commits_take_memory = refl
+
+-- these take none
+none_taken : (takes_memory 1 clean (Exists 5) ≡ false)
+    × (takes_memory 1 clean Latest ≡ false)
+    × (takes_memory 1 clean Earliest ≡ false)
+    × (takes_memory 1 clean (DropBefore 5) ≡ false)
+    × (takes_memory 1 clean Clear ≡ false)
+    × (takes_memory 1 clean Entries ≡ false)
+none_taken = (refl, refl, refl, refl, refl, refl)

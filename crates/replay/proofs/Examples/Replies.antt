@@ -3,13 +3,17 @@ use Rattle.std.specs.Prelude.{◌≡◌, ℕ, Bool, true, false, List, [], ◌�
 use Rattle.std.specs.Global.{Vec}
 use Rattle.std.proofs.Common.{refl, ap, ◌∙◌, inl, inr}
 use Rattle.bitmap_core.specs.PrunedBits.{PrunedBits}
+use Rattle.historical_bitmap.specs.Edits.{Edit}
 use Rattle.bitmap_core.specs.declared.bitmap.codec.range.RangeCfg.{RangeCfg}
 use Rattle.bitmap_core.specs.Spelling.{spelling, pruned_spelling}
 use Rattle.bitmap_core.specs.Reading.{pruned_fault, pruned_in, bits_in}
 use Rattle.bitmap_core.specs.Reading.Fault.{EndOfBuffer}
-use Rattle.replay.specs.declared.command.Command.TheVariants.{Start, Begin, Push, Pop, Set, Commit, Abort, Len, PrunedChunks, Get, Ones, Encode, At, Decode}
+use Rattle.replay.specs.declared.command.Command.TheVariants.{Start, Begin, Push, PushByte, PushChunk, Pop, Set, Prune, Commit, Abort, Rewind, Len, PrunedChunks, Get, Chunk, Ones, Encode, At, OnesAt, EncodeAt, Decode, Commits, Exists, Latest, Earliest, DropBefore, Clear, Entries}
 use Rattle.replay.proofs.Examples.Refusals.{text_of_three}
-use Rattle.replay.specs.Machine.{State, Machine, first_machine, anew, committed, Done, Bit, Number, Positions, Bytes, Snapshot, Read, Refused, Pruned, WrongMode, Codec, NoMemory, reads, edits, turns, rule, decoded, IsDecoded, answer_of, state_after, touches, touched_after, popped_to_chunks, most_cost, after}
+use Rattle.replay.specs.Answers.{Answer}
+use Rattle.replay.specs.Answers.Answer.{Done, Bit, Number, Positions, Bytes, Snapshot, Read, Refused, Wide, Maybe}
+use Rattle.replay.specs.Answers.Refusal.{Pruned, WrongMode, Codec, NoMemory}
+use Rattle.replay.specs.Machine.{State, Machine, first_machine, anew, committed, reads, edits, turns, rule, decoded, IsDecoded, answer_of, state_after, touches, touched_after, popped_to_chunks, most_cost, after, rewound, dropped_before}
 
 -- bits behind one pruned chunk
 abbrev pub behind_one : List Bool → PrunedBits
@@ -21,11 +25,11 @@ two_bits = behind_one (true ∷ false ∷ [])
 
 -- they are current, and kept under 5
 abbrev pub clean : State
-clean = record { current = two_bits; pending = None; history = (5, two_bits) ∷ []; costs = (5, 1) ∷ [] }
+clean = record { current = two_bits; pending = None; history = (5, two_bits) ∷ []; costs = (5, 1) ∷ []; last = Some 5 }
 
 -- in a batch some bits are pending
 abbrev pub pending : List Bool → State
-pending v = record { current = two_bits; pending = Some (behind_one v); history = (5, two_bits) ∷ []; costs = (5, 1) ∷ [] }
+pending v = record { current = two_bits; pending = Some (behind_one v); history = (5, two_bits) ∷ []; costs = (5, 1) ∷ []; last = Some 5 }
 
 -- the same, with chunks that the batch has touched
 abbrev pub touched : List Bool → List ℕ → Machine
@@ -33,11 +37,11 @@ touched v chunks = record { state = pending v; touched = chunks }
 
 -- a batch over other current bits, and nothing kept
 abbrev pub unkept : PrunedBits → PrunedBits → State
-unkept current pending = record { current = current; pending = Some pending; history = []; costs = [] }
+unkept current pending = record { current = current; pending = Some pending; history = []; costs = []; last = None }
 
 -- the machine before the first command
 nothing_yet : first_machine ≡ record {
-  state = record { current = record { pruned = 0; bits = [] }; pending = None; history = []; costs = [] };
+  state = record { current = record { pruned = 0; bits = [] }; pending = None; history = []; costs = []; last = None };
   touched = [];
 }
 nothing_yet = refl
@@ -58,7 +62,7 @@ push_rule = refl
 
 begin_rule : rule 1 clean Begin ≡ record {
   refusals = None ∷ [];
-  takes_memory = true;
+  takes_memory = false;
   answer = Done;
   after = λ cost. pending (true ∷ false ∷ []);
   touches = [];
@@ -75,16 +79,16 @@ a_read : reads clean (Some Pruned ∷ []) true Done ≡ record {
 }
 a_read = refl
 
-an_edit : edits clean (Some Pruned ∷ []) false Done (behind_one []) (4 ∷ []) ≡ record {
+an_edit : edits 1 clean (Some Pruned ∷ []) false Done (Edit.Pop ∷ Edit.Push true ∷ []) ≡ record {
   refusals = Some WrongMode ∷ Some Pruned ∷ [];
   takes_memory = false;
   answer = Done;
-  after = λ cost. pending [];
-  touches = 4 ∷ [];
+  after = λ cost. pending (true ∷ true ∷ []);
+  touches = 1 ∷ 1 ∷ [];
 }
 an_edit = refl
 
-a_turn : turns (Some Pruned ∷ []) false (λ cost. anew cost) ≡ record {
+a_turn : turns (Some Pruned ∷ []) false Done (λ cost. anew cost) ≡ record {
   refusals = Some Pruned ∷ [];
   takes_memory = false;
   answer = Done;
@@ -195,10 +199,10 @@ decode_reply text range e = ap (decoded 1) e ∙ read
 -- ---- states
 
 -- seven chunks pruned, and all else gone
-seven_pruned : anew 7 ≡ record { current = record { pruned = 7; bits = [] }; pending = None; history = []; costs = [] }
+seven_pruned : anew 7 ≡ record { current = record { pruned = 7; bits = [] }; pending = None; history = []; costs = []; last = None }
 seven_pruned = refl
 
-started : state_after 1 clean (Start 7) 0 ≡ record { current = record { pruned = 7; bits = [] }; pending = None; history = []; costs = [] }
+started : state_after 1 clean (Start 7) 0 ≡ record { current = record { pruned = 7; bits = [] }; pending = None; history = []; costs = []; last = None }
 started = refl
 
 -- a batch begins on the current bits
@@ -221,6 +225,7 @@ commit_leaves : state_after 1 (pending (true ∷ [])) (Commit 6) 2 ≡ record {
   pending = None;
   history = (5, two_bits) ∷ (6, behind_one (true ∷ [])) ∷ [];
   costs = (5, 1) ∷ (6, 2) ∷ [];
+  last = Some 6;
 }
 commit_leaves = refl
 
@@ -230,6 +235,7 @@ committed_clean : committed clean 6 0 ≡ record {
   pending = None;
   history = (5, two_bits) ∷ (6, two_bits) ∷ [];
   costs = (5, 1) ∷ (6, 0) ∷ [];
+  last = Some 6;
 }
 committed_clean = refl
 
@@ -337,3 +343,84 @@ after_a_push = refl
 
 after_an_abort : after 1 (touched (true ∷ []) (1 ∷ [])) Abort 0 ≡ record { state = clean; touched = [] }
 after_an_abort = refl
+
+-- ---- two commits, under 5 and 7
+
+abbrev pub two_kept : State
+two_kept = record {
+  current = behind_one (true ∷ []);
+  pending = None;
+  history = (5, two_bits) ∷ (7, behind_one (true ∷ [])) ∷ [];
+  costs = (5, 1) ∷ (7, 2) ∷ [];
+  last = Some 7;
+}
+
+-- what is read of them
+ones_of_the_first : answer_of 1 two_kept (OnesAt 5 0 99) ≡ Positions (Some (8 ∷ []))
+ones_of_the_first = refl
+
+ones_of_none : answer_of 1 two_kept (OnesAt 6 0 99) ≡ Positions None
+ones_of_none = refl
+
+bytes_of_the_first : answer_of 1 two_kept (EncodeAt 5) ≡ Bytes (Some text_of_two)
+unfolding pruned_spelling spelling
+bytes_of_the_first = refl
+
+bytes_of_none : answer_of 1 two_kept (EncodeAt 6) ≡ Bytes None
+bytes_of_none = refl
+
+kept_numbers : answer_of 1 two_kept Commits ≡ Positions (Some (5 ∷ 7 ∷ []))
+kept_numbers = refl
+
+kept_or_not : (answer_of 1 two_kept (Exists 5) ≡ Bit true) × (answer_of 1 two_kept (Exists 6) ≡ Bit false)
+kept_or_not = (refl, refl)
+
+ends_of_them : (answer_of 1 two_kept Latest ≡ Maybe (Some 7)) × (answer_of 1 two_kept Earliest ≡ Maybe (Some 5))
+ends_of_them = (refl, refl)
+
+ends_of_none : (answer_of 1 (anew 7) Latest ≡ Maybe None) × (answer_of 1 (anew 7) Earliest ≡ Maybe None)
+ends_of_none = (refl, refl)
+
+what_they_cost : answer_of 1 two_kept Entries ≡ Wide 3
+what_they_cost = refl
+
+-- the chunk of position 9 has the bits 1, 0
+chunk_of_nine : answer_of 1 clean (Chunk 9) ≡ Answer.Chunk (1 ∷ [])
+chunk_of_nine = refl
+
+-- below 7 one goes, below 5 none, and below 8 both; the last number stays
+one_dropped : (answer_of 1 two_kept (DropBefore 7) ≡ Number 1) × (state_after 1 two_kept (DropBefore 7) 0 ≡ record two_kept { history = (7, behind_one (true ∷ [])) ∷ []; costs = (7, 2) ∷ [] })
+one_dropped = (refl, refl)
+
+none_dropped : (answer_of 1 two_kept (DropBefore 5) ≡ Number 0) × (dropped_before two_kept 5 ≡ two_kept)
+none_dropped = (refl, refl)
+
+all_dropped : answer_of 1 two_kept (DropBefore 8) ≡ Number 2
+all_dropped = refl
+
+all_cleared : state_after 1 two_kept Clear 0 ≡ record two_kept { history = []; costs = [] }
+all_cleared = refl
+
+-- gone back to 5, its bits are current, 7 is gone, and 5 is the last number
+back_at_five : rewound two_kept 5 ≡ clean
+back_at_five = refl
+
+back_at_seven : state_after 1 two_kept (Rewind 7) 0 ≡ two_kept
+back_at_seven = refl
+
+-- a byte at length 10 goes on to 18, over the chunks 1 and 2
+byte_leaves : state_after 1 (pending (true ∷ false ∷ [])) (PushByte 5) 0 ≡ pending (true ∷ false ∷ true ∷ false ∷ true ∷ false ∷ false ∷ false ∷ false ∷ false ∷ [])
+byte_leaves = refl
+
+byte_touches : touches 1 (pending (true ∷ false ∷ [])) (PushByte 5) ≡ 1 ∷ 1 ∷ 1 ∷ 1 ∷ 1 ∷ 1 ∷ 2 ∷ 2 ∷ []
+byte_touches = refl
+
+chunk_leaves : state_after 1 (pending []) (PushChunk (3 ∷ [])) 0 ≡ pending (true ∷ true ∷ false ∷ false ∷ false ∷ false ∷ false ∷ false ∷ [])
+chunk_leaves = refl
+
+-- pruned to 16, chunk 1 goes
+prune_leaves : state_after 1 (pending (replicate 9 true)) (Prune 17) 0 ≡ record (pending []) { pending = Some (record { pruned = 2; bits = true ∷ [] }) }
+prune_leaves = refl
+
+prune_touches : touches 1 (pending (replicate 9 true)) (Prune 17) ≡ 1 ∷ []
+prune_touches = refl

@@ -5,11 +5,15 @@ use Rattle.std.proofs.Common.{refl, inl, inr, arith}
 use Rattle.bitmap_core.specs.PrunedBits.{PrunedBits}
 use Rattle.bitmap_core.specs.declared.bitmap.codec.error.CodecError.TheVariants as errors
 use Rattle.bitmap_core.specs.Reading.Fault.{EndOfBuffer, InvalidLength}
+use Rattle.historical_bitmap.specs.Record.{Reverse}
+use Rattle.historical_bitmap.specs.Record.ChunkDiff.{Added}
 use Rattle.replay.specs.declared.session.State.TheVariants as state
 use Rattle.replay.specs.declared.reply.Refusal.TheVariants as refusal
 use Rattle.replay.specs.declared.reply.Reply.TheVariants as reply
-use Rattle.replay.specs.Machine.{Done, Bit, Number, Positions, Bytes, Snapshot, Read, Refused, WrongMode, OutOfBounds, Pruned, TooLong, NoRetainedBit, ReservedCommitNumber, NonMonotonicCommit, PrunedChunksOverflow, Codec, NoMemory}
-use Rattle.replay.specs.Seen.{no_costs, reason, seen, said}
+use Rattle.replay.specs.Answers.{Answer}
+use Rattle.replay.specs.Answers.Answer.{Done, Bit, Number, Positions, Bytes, Snapshot, Read, Refused, Wide, Maybe}
+use Rattle.replay.specs.Answers.Refusal.{WrongMode, OutOfBounds, Pruned, TooLong, NoRetainedBit, ReservedCommitNumber, NonMonotonicCommit, PrunedChunksOverflow, Codec, NoMemory, NoSuchCommit}
+use Rattle.replay.specs.Seen.{reason, seen, said}
 use Rattle.replay.specs.Width.{IsOfferedWidth}
 
 -- a set bit, nothing pruned
@@ -20,20 +24,21 @@ one_bit = record { pruned = 0; bits = true ∷ [] }
 abbrev pub none : PrunedBits
 none = record { pruned = 0; bits = [] }
 
--- two commits, each at no cost
-two_costs : no_costs ((3, one_bit) ∷ (7, none) ∷ []) ≡ (3, 0) ∷ (7, 0) ∷ []
-two_costs = refl
+-- the record of a commit that made chunk 0
+abbrev pub made_a_chunk : Reverse
+made_a_chunk = record { len = 0; pruned = 0; entries = (0, Added) ∷ [] }
 
--- a session without a batch, and one in a batch
-seen_clean : seen {N = 1} (state.Clean (record { current = one_bit; history = (3, none) ∷ [] })) ≡ record {
-  state = record { current = one_bit; pending = None; history = (3, none) ∷ []; costs = (3, 0) ∷ [] };
+-- a session without a batch: under 3 the current bitmap is kept, at the cost of an entry
+seen_clean : seen {N = 1} (state.Clean (record { current = one_bit; commits = (3, made_a_chunk) ∷ []; last = Some 4; state = tt })) ≡ record {
+  state = record { current = one_bit; pending = None; history = (3, one_bit) ∷ []; costs = (3, 1) ∷ []; last = Some 4 };
   touched = [];
 }
 seen_clean = refl
 
-seen_dirty : seen {N = 1} (state.Dirty (record { current = none; history = (3, none) ∷ []; pending = one_bit })) ≡ record {
-  state = record { current = none; pending = Some one_bit; history = (3, none) ∷ []; costs = (3, 0) ∷ [] };
-  touched = [];
+-- one in a batch that has set a bit in chunk 0
+seen_dirty : seen {N = 1} (state.Dirty (record { current = none; commits = []; last = None; state = record { len = 1; pruned = 0; edited = (0, 1 ∷ []) ∷ []; captured = [] } })) ≡ record {
+  state = record { current = none; pending = Some one_bit; history = []; costs = []; last = None };
+  touched = 0 ∷ [];
 }
 seen_dirty = refl
 
@@ -45,8 +50,9 @@ reasons : (reason refusal.WrongMode ≡ WrongMode)
     × (reason refusal.NoRetainedBit ≡ NoRetainedBit)
     × (reason refusal.ReservedCommitNumber ≡ ReservedCommitNumber)
     × (reason refusal.PrunedChunksOverflow ≡ PrunedChunksOverflow)
+    × (reason refusal.NoSuchCommit ≡ NoSuchCommit)
     × (reason refusal.NoMemory ≡ NoMemory)
-reasons = (refl, refl, refl, refl, refl, refl, refl, refl)
+reasons = (refl, refl, refl, refl, refl, refl, refl, refl, refl)
 
 -- the kept number comes first, and then the one that was tried
 reason_of_a_number : reason (refusal.NonMonotonicCommit 5 3) ≡ NonMonotonicCommit 5 3
@@ -71,6 +77,15 @@ said_bit = refl
 
 said_number : said {N = 1} (reply.Number 7) ≡ Number 7
 said_number = refl
+
+said_wide : said {N = 1} (reply.Wide 7) ≡ Wide 7
+said_wide = refl
+
+said_chunk : said {N = 1} (reply.Chunk (9 ∷ [])) ≡ Answer.Chunk (9 ∷ [])
+said_chunk = refl
+
+said_maybe : said {N = 1} (reply.Maybe (Some 7)) ≡ Maybe (Some 7)
+said_maybe = refl
 
 said_positions : (v : Vec ℕ) → v.items ≡ 2 ∷ 5 ∷ [] → said {N = 1} (reply.Positions (Some v)) ≡ Positions (Some (2 ∷ 5 ∷ []))
 said_positions v e = rw e refl

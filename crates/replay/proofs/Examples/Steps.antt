@@ -1,5 +1,5 @@
 -- Steps and runs of the machine, with chunks of one byte.
-use Rattle.std.specs.Prelude.{◌≡◌, ℕ, ◌||◌, nat_eq, Bool, true, false, List, [], ◌∷◌, Some, None, map, length, slice_index, unwrap_or}
+use Rattle.std.specs.Prelude.{◌≡◌, ℕ, ◌||◌, nat_eq, Bool, true, false, List, [], ◌∷◌, Option, Some, None, map, length, slice_index, unwrap_or}
 use Rattle.std.specs.Global.{Vec}
 use Rattle.std.proofs.Common.{refl, ap, sym, ◌∙◌, inl, inr, arith}
 use Rattle.std.proofs.lemmas.Bool.{false≢true}
@@ -8,8 +8,10 @@ use Rattle.bitmap_core.specs.declared.bitmap.codec.range.RangeCfg.{RangeCfg}
 use Rattle.bitmap_core.specs.Reading.Fault.{EndOfBuffer}
 use Rattle.replay.specs.declared.command.Command.{Command}
 use Rattle.replay.specs.declared.command.Command.TheVariants.{Begin, Push, Pop, Set, Commit, Len, Ones, At, Decode}
-use Rattle.replay.specs.History.{History}
-use Rattle.replay.specs.Machine.{State, Machine, Answer, first_machine, Done, Bit, Number, Positions, Snapshot, Read, Refused, WrongMode, NonMonotonicCommit, Codec, NoMemory, Step, Run, Agrees, RunsOn, decoded}
+use Rattle.replay.specs.Answers.{Answer}
+use Rattle.replay.specs.Answers.Answer.{Done, Bit, Number, Positions, Snapshot, Read, Refused}
+use Rattle.replay.specs.Answers.Refusal.{WrongMode, NonMonotonicCommit, Codec, NoMemory}
+use Rattle.replay.specs.Machine.{State, Machine, first_machine, Step, Run, Agrees, RunsOn, decoded}
 use Rattle.replay.proofs.Examples.Refusals.{text_of_three, three_alone, no_bytes, admitted, of_bytes}
 use Rattle.replay.proofs.Examples.Replies.{behind_one, read}
 
@@ -18,13 +20,13 @@ abbrev pub plain : List Bool → PrunedBits
 plain v = record { pruned = 0; bits = v }
 
 -- no batch
-abbrev pub clean : PrunedBits → History → List (ℕ × ℕ) → Machine
-clean current history costs = record { state = record { current = current; pending = None; history = history; costs = costs }; touched = [] }
+abbrev pub clean : PrunedBits → List (ℕ × PrunedBits) → List (ℕ × ℕ) → Option ℕ → Machine
+clean current history costs last = record { state = record { current = current; pending = None; history = history; costs = costs; last = last }; touched = [] }
 
 -- a batch
-abbrev pub batch : PrunedBits → PrunedBits → History → List (ℕ × ℕ) → List ℕ → Machine
-batch current pending history costs touched = record {
-  state = record { current = current; pending = Some pending; history = history; costs = costs };
+abbrev pub batch : PrunedBits → PrunedBits → List (ℕ × PrunedBits) → List (ℕ × ℕ) → Option ℕ → List ℕ → Machine
+batch current pending history costs last touched = record {
+  state = record { current = current; pending = Some pending; history = history; costs = costs; last = last };
   touched = touched;
 }
 
@@ -38,18 +40,18 @@ one_zero = plain (true ∷ false ∷ [])
 
 -- they are kept under 1, at the cost of one entry
 abbrev pub one_kept : Machine
-one_kept = clean one_zero ((1, one_zero) ∷ []) ((1, 1) ∷ [])
+one_kept = clean one_zero ((1, one_zero) ∷ []) ((1, 1) ∷ []) (Some 1)
 
 -- each command is done, and the commit costs one entry: the chunk that both bits stand in
 first_run : Run 1 first_machine first_commit (Done ∷ Done ∷ Done ∷ Done ∷ []) one_kept
 first_run = (
-  batch (plain []) (plain []) [] [] [],
+  batch (plain []) (plain []) [] [] None [],
   inl (refl, (0, omega arith, refl)),
   (
-    batch (plain []) (plain (true ∷ [])) [] [] (0 ∷ []),
+    batch (plain []) (plain (true ∷ [])) [] [] None (0 ∷ []),
     inl (refl, (0, omega arith, refl)),
     (
-      batch (plain []) (plain (true ∷ false ∷ [])) [] [] (0 ∷ 0 ∷ []),
+      batch (plain []) (plain (true ∷ false ∷ [])) [] [] None (0 ∷ 0 ∷ []),
       inl (refl, (0, omega arith, refl)),
       (
         one_kept,
@@ -62,11 +64,11 @@ first_run = (
 
 -- a batch on them
 abbrev pub batch_on_it : List Bool → List ℕ → Machine
-batch_on_it v touched = batch one_zero (plain v) ((1, one_zero) ∷ []) ((1, 1) ∷ []) touched
+batch_on_it v touched = batch one_zero (plain v) ((1, one_zero) ∷ []) ((1, 1) ∷ []) (Some 1) touched
 
 -- other bits are current, and kept under 2 besides, at some cost
 abbrev pub kept_besides : List Bool → ℕ → Machine
-kept_besides v cost = clean (plain v) ((1, one_zero) ∷ (2, plain v) ∷ []) ((1, 1) ∷ (2, cost) ∷ [])
+kept_besides v cost = clean (plain v) ((1, one_zero) ∷ (2, plain v) ∷ []) ((1, 1) ∷ (2, cost) ∷ []) (Some 2)
 
 -- the first bit cleared in a batch, and kept under 2 at no cost
 abbrev pub two_kept : Machine

@@ -39,7 +39,7 @@ fn check_fault(
 
 #[test]
 fn a_line_that_is_no_command_stops_all(rt: HostRuntime) -> Result<(), Fail> {
-    let lines: [&[u8]; 27] = [
+    let lines: [&[u8]; 40] = [
         b"push 2",
         b"push",
         b"push  1",
@@ -67,6 +67,19 @@ fn a_line_that_is_no_command_stops_all(rt: HostRuntime) -> Result<(), Fail> {
         b"decode 00 any:",
         b"decode 00 exact:01",
         b"decode 00 between:1",
+        b"push-byte",
+        b"push-byte 1",
+        b"push-byte -",
+        b"push-byte 0102",
+        b"push-byte 0g",
+        b"push-chunk -",
+        b"push-chunk 010203",
+        b"push-chunk 0102030405",
+        b"prune -1",
+        b"rewind",
+        b"ones-at 1 2",
+        b"entries 1",
+        b"exists",
     ];
     for line in lines {
         let mut script = b"begin\npush 1\n".to_vec(rt.alloc())?;
