@@ -45,26 +45,17 @@ pub fn keep_bit(
 mod tests {
     use super::*;
 
-    // What is kept of so many bits that are appended under their own numbers, and why not all of them.
-    fn kept(rt: HostRuntime, bits: u64) -> (u64, Option<u64>, Option<NotKept>) {
-        let mut bitmap = CleanBitMap::new(rt.alloc());
-        for number in 0..bits {
-            match keep_bit(bitmap, number, true) {
-                Ok(longer) => bitmap = longer,
-                Err((same, why)) => {
-                    let why = match why {
-                        ApplyError::Batch(why) => Some(why),
-                        ApplyError::Commit(_) => None,
-                    };
-                    return (same.len(), same.latest_commit(), why);
-                }
-            }
-        }
-        (bitmap.len(), bitmap.latest_commit(), None)
-    }
-
     #[test]
-    fn at_most_32(rt: HostRuntime) {
-        assert_eq!(rt; kept(rt, 33), (32, Some(31), Some(NotKept::Full)));
+    fn at_most_32(rt: HostRuntime) -> Result<(), AllocError> {
+        let first = keep_bit(CleanBitMap::new(rt.alloc()), 7, true).map_err(|_| AllocError)?;
+        assert_eq!(rt; (first.len(), first.latest_commit()), (1, Some(7)));
+
+        let full = CleanBitMap::new_with_pruned_chunks(rt.alloc(), 1).map_err(|_| AllocError)?;
+        let Err((same, why)) = keep_bit(full, 7, true) else {
+            panic!(rt; "33 bits are kept");
+        };
+        assert_eq!(rt; (same.len(), same.latest_commit()), (32, None));
+        assert!(rt; matches!(why, ApplyError::Batch(NotKept::Full)));
+        Ok(())
     }
 }

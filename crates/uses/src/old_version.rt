@@ -30,20 +30,20 @@ mod tests {
     use std::test::Fail;
 
     #[test]
-    fn counts_what_a_later_version_has_cleared(rt: HostRuntime) -> Result<(), Fail> {
+    fn counts_no_bit_of_a_later_version(rt: HostRuntime) -> Result<(), Fail> {
         let mut edits = CleanBitMap::<8>::new(rt.alloc()).into_dirty();
         edits.push_byte(0x5d)?.push_byte(0xff)?;
         let Ok(versions) = edits.commit(1) else {
             return Err(AllocError.into());
         };
         let mut edits = versions.into_dirty();
-        edits.set_bit(2, false)?.prune_to_bit(0)?;
+        edits.push_byte(0x03)?;
         let Ok(versions) = edits.commit(2) else {
             return Err(AllocError.into());
         };
-        assert_eq!(rt; count_in_version(&versions, 1, 0..8), Some(5));
-        assert_eq!(rt; count_in_version(&versions, 2, 0..8), Some(4));
-        assert_eq!(rt; count_in_version(&versions, 3, 0..8), None);
+        assert_eq!(rt; count_in_version(&versions, 1, 4..24), Some(10));
+        assert_eq!(rt; count_in_version(&versions, 2, 4..24), Some(12));
+        assert_eq!(rt; count_in_version(&versions, 3, 4..24), None);
         Ok(())
     }
 }

@@ -36,12 +36,13 @@ mod tests {
     use super::*;
 
     #[test]
-    fn kept_under_its_number(rt: HostRuntime) {
-        let appended = append_two(CleanBitMap::new(rt.alloc()), 5);
-        assert!(rt; appended.is_ok());
-        if let Ok(bitmap) = appended {
-            assert_eq!(rt; (bitmap.len(), bitmap.latest_commit()), (2, Some(5)));
-            assert!(rt; append_two(bitmap, 5).is_err_and(|refused| refused.0.len() == 2));
-        }
+    fn kept_under_its_number(rt: HostRuntime) -> Result<(), AllocError> {
+        let bitmap = append_two(CleanBitMap::new(rt.alloc()), 5).map_err(|_| AllocError)?;
+        assert_eq!(rt; (bitmap.len(), bitmap.latest_commit()), (2, Some(5)));
+        let Err((same, _)) = append_two(bitmap, 5) else {
+            panic!(rt; "5 is kept twice");
+        };
+        assert_eq!(rt; (same.len(), same.latest_commit()), (2, Some(5)));
+        Ok(())
     }
 }
