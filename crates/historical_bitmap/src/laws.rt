@@ -6,3 +6,4 @@
 pub mod batches;
 pub mod commits;
 pub mod going_back;
+pub mod in_place;

@@ -1,6 +1,6 @@
 //! Which numbers the iterator over commits gives, and what stays where commits are dropped.
 
-ghost use Rattle.std.specs.Prelude.{◌≡◌, ℕ, List, [], None, IfOk, nat_le, if◌then◌else◌};
+ghost use Rattle.std.specs.Prelude.{◌≡◌, ◌+◌, ℕ, List, [], None, IfOk, length, nat_le, if◌then◌else◌};
 ghost use Rattle.std.specs.Iterator.{YieldsFirst};
 ghost use Rattle.std.specs.List.Sorted.{IsStrictlyIncreasing};
 ghost use Rattle.std.specs.Map.{keys_of};
@@ -31,10 +31,11 @@ pub fn numbers_stay_ended<const N: usize>(
     (numbers.next(), numbers.next())
 }
 
-/// Where the commits below a number are dropped, the same bitmap is kept as before under each number from it on, and none under those below it.
+/// Where the commits below a number are dropped, the same bitmap is kept as before under each number from it on, and none under those below it. The answer counts what went.
 pub fn drop_leaves_the_later<const N: usize>(bitmap: &mut CleanBitMap<N>, number: u64) -> usize
     ensures states { (k : ℕ) → kept_under (history_of N bitmap.new) k ≡ (if nat_le number k then kept_under (history_of N bitmap.old) k else None) }
     ensures current { bitmap.new.current ≡ bitmap.old.current }
+    ensures count { result + length (history_of N bitmap.new) ≡ length (history_of N bitmap.old) }
 {
     bitmap.prune_commits_before(number)
 }
