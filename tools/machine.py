@@ -1,0 +1,258 @@
+"""The machine of docs/SCRIPT.md, over lists: it keeps every committed bitmap whole."""
+
+from typing import NamedTuple, Optional
+
+LAST = 2**64 - 1
+
+
+class Refused(Exception):
+    """Why a command is refused, as it is printed."""
+
+
+class Bitmap(NamedTuple):
+    pruned: int = 0
+    bits: tuple = ()
+
+
+class Commit(NamedTuple):
+    bitmap: Bitmap
+    most: int  # entries that its record may have
+
+
+class State(NamedTuple):
+    current: Bitmap = Bitmap()
+    pending: Optional[Bitmap] = None
+    touched: frozenset = frozenset()  # chunks that the batch has touched
+    history: dict = {}  # from numbers to commits, ascending
+    last: Optional[int] = None
+
+
+class Step(NamedTuple):
+    """What comes of a command: the line that is printed, or how many entries it may tell, and the state after it."""
+
+    reply: object
+    state: State
+    may_lack: bool = False  # whether want of memory may be told instead, which leaves the state as it was
+
+
+def bits_of(data):
+    """The bits of some bytes, the lowest of each byte first."""
+    return tuple(byte >> place & 1 for byte in data for place in range(8))
+
+
+def bytes_of(bits):
+    """The bytes of some bits, with zeros behind the last."""
+    return bytes(sum(bit << place for place, bit in enumerate(bits[at : at + 8])) for at in range(0, len(bits), 8))
+
+
+def admits(ends, number):
+    """Whether a range admits a number."""
+    kind, *ends = ends.split(":")
+    low, high = int(ends[0]) if ends else 0, int(ends[-1]) if ends else LAST
+    return (kind == "most" or low <= number) and (kind == "least" or number <= high)
+
+
+class Machine:
+    """Runs commands on bitmaps whose chunks have `width` bytes."""
+
+    def __init__(self, width):
+        self.width, self.chunk_bits = width, 8 * width
+
+    def step(self, state, words):
+        command = getattr(self, words[0].replace("-", "_"))
+        given = [int(word) if kind == "n" else word for kind, word in zip(self.KINDS.get(words[0], ""), words[1:])]
+        wants_batch = {True: state.pending is not None, False: state.pending is None}
+        try:
+            if not wants_batch.get(words[0] in self.EDITS, True) and words[0] not in self.EITHER:
+                raise Refused("wrong-mode")
+            return command(state, *given)
+        except Refused as why:
+            return Step(f"refused {why}", state)
+
+    EDITS = {"push", "push-byte", "push-chunk", "pop", "set", "prune", "commit", "abort"}
+    EITHER = {"len", "pruned-chunks", "get", "chunk", "decode"}
+    # of each word behind the command, whether it is a number
+    KINDS = {
+        "start": "n", "push": "n", "push-byte": "h", "push-chunk": "h", "set": "nn", "prune": "n", "commit": "n", "rewind": "n", "get": "n", "chunk": "n",
+        "ones": "nn", "at": "n", "ones-at": "nnn", "encode-at": "n", "decode": "hr", "exists": "n", "drop-before": "n",
+    }
+
+    # Bitmaps
+
+    def first(self, bitmap):
+        """The position of the first retained bit."""
+        return self.chunk_bits * bitmap.pruned
+
+    def length(self, bitmap):
+        return self.first(bitmap) + len(bitmap.bits)
+
+    def place(self, bitmap, position):
+        """Where a position stands among the retained bits."""
+        if position >= self.length(bitmap):
+            raise Refused("out-of-bounds")
+        if position < self.first(bitmap):
+            raise Refused("pruned")
+        return position - self.first(bitmap)
+
+    def shown(self, bitmap):
+        return f"{bitmap.pruned} {''.join(map(str, bitmap.bits)) or '-'}"
+
+    def set_positions(self, bitmap, start, end):
+        first = self.first(bitmap)
+        found = (first + at for at, bit in enumerate(bitmap.bits) if bit)
+        return "positions" + "".join(f" {position}" for position in found if start <= position < end)
+
+    def spelled(self, bitmap):
+        data = bytes_of(bitmap.bits)
+        data += bytes(-len(data) % self.width)
+        return f"bytes {(bitmap.pruned.to_bytes(8, 'big') + len(bitmap.bits).to_bytes(8, 'big') + data).hex()}"
+
+    def read(self, data, ends):
+        """The bitmap that bytes begin with, and how many stand behind it."""
+        pruned, count = int.from_bytes(data[:8], "big"), int.from_bytes(data[8:16], "big")
+        end = 16 + -(-count // self.chunk_bits) * self.width
+        bits = bits_of(data[16:end])
+        faults = (
+            (len(data) < 8, "end-of-buffer"),
+            (self.chunk_bits * pruned > LAST, "invalid Prunable: pruned_chunks would overflow when computing pruned_bits"),
+            (len(data) < 16, "end-of-buffer"),
+            (not admits(ends, count), f"invalid-length {count}"),
+            (len(data) < end, "end-of-buffer"),
+            (any(bits[count:]), "invalid BitMap: Invalid trailing bits in encoded data"),
+            (self.chunk_bits * pruned + count > LAST, "invalid Prunable: total bitmap length (pruned + unpruned) would overflow u64"),
+        )
+        for is_so, fault in faults:
+            if is_so:
+                raise Refused(f"codec {fault}")
+        return Bitmap(pruned, bits[:count]), len(data) - end
+
+    # Commands in a batch
+
+    def edited(self, state, bitmap, touched, reply="done", may_lack=True):
+        return Step(reply, state._replace(pending=bitmap, touched=state.touched | set(touched)), may_lack)
+
+    def append(self, state, bits):
+        start = self.length(state.pending)
+        if start + len(bits) > LAST:
+            raise Refused("too-long")
+        touched = {position // self.chunk_bits for position in range(start, start + len(bits))}
+        return self.edited(state, state.pending._replace(bits=state.pending.bits + bits), touched)
+
+    def push(self, state, bit):
+        return self.append(state, (bit,))
+
+    def push_byte(self, state, digits):
+        return self.append(state, bits_of(bytes.fromhex(digits)))
+
+    def push_chunk(self, state, digits):
+        return self.append(state, bits_of(bytes.fromhex(digits)))
+
+    def pop(self, state):
+        *rest, last = state.pending.bits or (None,)
+        if last is None:
+            raise Refused("no-retained-bit")
+        bitmap = state.pending._replace(bits=tuple(rest))
+        return self.edited(state, bitmap, {self.length(bitmap) // self.chunk_bits}, f"bit {last}", may_lack=False)
+
+    def set(self, state, position, bit):
+        at, bits = self.place(state.pending, position), state.pending.bits
+        bitmap = state.pending._replace(bits=bits[:at] + (bit,) + bits[at + 1 :])
+        return self.edited(state, bitmap, {position // self.chunk_bits})
+
+    def prune(self, state, position):
+        old = state.pending
+        if position > self.length(old):
+            raise Refused("out-of-bounds")
+        pruned = max(old.pruned, position // self.chunk_bits)
+        bits = old.bits[(pruned - old.pruned) * self.chunk_bits :]
+        return self.edited(state, Bitmap(pruned, bits), range(old.pruned, pruned), may_lack=pruned > old.pruned)
+
+    def commit(self, state, number):
+        if number == LAST:
+            raise Refused("reserved-commit-number")
+        if state.last is not None and number <= state.last:
+            raise Refused(f"non-monotonic-commit {state.last} {number}")
+        kept = {**state.history, number: Commit(state.pending, len(state.touched) + 1)}
+        return Step("done", State(current=state.pending, history=kept, last=number), True)
+
+    def abort(self, state):
+        return Step("done", state._replace(pending=None, touched=frozenset()))
+
+    # Commands with a batch or without
+
+    def len(self, state):
+        return Step(f"number {self.length(state.pending or state.current)}", state)
+
+    def pruned_chunks(self, state):
+        return Step(f"number {(state.pending or state.current).pruned}", state)
+
+    def get(self, state, position):
+        bitmap = state.pending or state.current
+        return Step(f"bit {bitmap.bits[self.place(bitmap, position)]}", state)
+
+    def chunk(self, state, position):
+        bitmap = state.pending or state.current
+        start = self.place(bitmap, position) // self.chunk_bits * self.chunk_bits
+        return Step(f"chunk {bytes_of(bitmap.bits[start : start + self.chunk_bits]).ljust(self.width, bytes(1)).hex()}", state)
+
+    def decode(self, state, digits, ends):
+        bitmap, left = self.read(bytes.fromhex(digits.strip("-")), ends)
+        return Step(f"read {self.shown(bitmap)} {left}", state, True)
+
+    # Commands without a batch
+
+    def start(self, _state, chunks):
+        if self.chunk_bits * chunks > LAST:
+            raise Refused("pruned-chunks-overflow")
+        return Step("done", State(current=Bitmap(chunks)))
+
+    def begin(self, state):
+        return Step("done", state._replace(pending=state.current))
+
+    def rewind(self, state, number):
+        if number not in state.history:
+            raise Refused("no-such-commit")
+        kept = {each: commit for each, commit in state.history.items() if each <= number}
+        return Step("done", State(current=kept[number].bitmap, history=kept, last=number), True)
+
+    def ones(self, state, start, end):
+        return Step(self.set_positions(state.current, start, end), state, True)
+
+    def encode(self, state):
+        return Step(self.spelled(state.current), state, True)
+
+    def old(self, state, number, show):
+        if number not in state.history:
+            return Step("none", state)
+        return Step(show(state.history[number].bitmap), state, True)
+
+    def at(self, state, number):
+        return self.old(state, number, lambda bitmap: f"bitmap {self.shown(bitmap)}")
+
+    def ones_at(self, state, number, start, end):
+        return self.old(state, number, lambda bitmap: self.set_positions(bitmap, start, end))
+
+    def encode_at(self, state, number):
+        return self.old(state, number, self.spelled)
+
+    def commits(self, state):
+        return Step("positions" + "".join(f" {number}" for number in state.history), state, True)
+
+    def exists(self, state, number):
+        return Step(f"bit {int(number in state.history)}", state)
+
+    def latest(self, state):
+        return Step(f"some {max(state.history)}" if state.history else "none", state)
+
+    def earliest(self, state):
+        return Step(f"some {min(state.history)}" if state.history else "none", state)
+
+    def drop_before(self, state, number):
+        kept = {each: commit for each, commit in state.history.items() if each >= number}
+        return Step(f"number {len(state.history) - len(kept)}", state._replace(history=kept))
+
+    def clear(self, state):
+        return Step("done", state._replace(history={}))
+
+    def entries(self, state):
+        return Step(sum(commit.most for commit in state.history.values()), state)
