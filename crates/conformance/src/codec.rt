@@ -81,8 +81,8 @@ fn written<const N: usize>(alloc: Global, map: &Prunable<N>) -> Result<Vec<u8>, 
     Ok(out)
 }
 
-// The text of a full chunk and one bit more, all of them set.
-fn one_chunk_and_a_bit<const N: usize>(alloc: Global) -> Result<Vec<u8>, AllocError>
+/// The text of a full chunk and one bit more, all of them set.
+pub fn one_chunk_and_a_bit<const N: usize>(alloc: Global) -> Result<Vec<u8>, AllocError>
     requires positive { 0 < N }
     requires small { N < 65 }
 {
@@ -94,8 +94,8 @@ fn one_chunk_and_a_bit<const N: usize>(alloc: Global) -> Result<Vec<u8>, AllocEr
     Ok(text)
 }
 
-// A text with one byte flipped under a mask.
-fn damaged(
+/// A text with one byte flipped under a mask.
+pub fn damaged(
     rt: &impl Abort,
     alloc: Global,
     text: &[u8],

@@ -6,6 +6,8 @@ mod answers;
 #[cfg(test)]
 mod asked;
 #[cfg(test)]
+mod broken;
+#[cfg(test)]
 mod codec;
 #[cfg(test)]
 mod dense;
@@ -17,3 +19,5 @@ mod pruned;
 mod readers;
 #[cfg(test)]
 mod refused;
+#[cfg(test)]
+mod strange;

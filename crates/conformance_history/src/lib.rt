@@ -8,6 +8,8 @@ mod asked;
 #[cfg(test)]
 mod calls;
 #[cfg(test)]
+mod ends;
+#[cfg(test)]
 mod in_place;
 #[cfg(test)]
 mod plain;

@@ -1,0 +1,140 @@
+//! The ends of the positions: behind the greatest pruned front as many bits as there are positions left, at six widths.
+
+ghost use Rattle.bitmap_core.specs.Chunk.{IsWidth};
+
+use crate::asked::{
+    commit, go_back, pending_bit, pending_chunk, pop, prune_to_bit, push, push_byte, read_bit,
+    refuse, set_bit,
+};
+use historical_bitmap::bitmap::Readable;
+use historical_bitmap::bitmap::historical::{CleanBitMap, DirtyBitMap, Error};
+use std::alloc::{AllocError, Global};
+use std::process::Abort;
+use std::test::Fail;
+
+// The last position that a bitmap can have.
+const LAST: u64 = u64::MAX - 1;
+
+// The greatest front of whole chunks.
+fn greatest<const N: usize>(rt: &impl Abort, alloc: Global, chunks: usize) -> Option<CleanBitMap<N>>
+    requires { IsWidth N }
+{
+    let beyond = CleanBitMap::<N>::new_with_pruned_chunks(alloc, chunks.saturating_add(1));
+    assert!(rt; beyond.is_err_and(|why| why == Error::PrunedChunksOverflow));
+    CleanBitMap::new_with_pruned_chunks(alloc, chunks).ok()
+}
+
+// Appends a bit for each position that is left, every third of them set: as many as a byte has by `push_byte`, the others one by one.
+fn fill<const N: usize>(rt: &impl Abort, map: &mut DirtyBitMap<N>) -> Result<(), AllocError> {
+    let room = u64::MAX - map.len();
+    let bytes = u64::from(room >= 8);
+    if bytes == 1 {
+        push_byte(rt, map, 0x49)?;
+    }
+    for k in 8 * bytes..room {
+        push(rt, map, k % 3 == 0)?;
+    }
+    Ok(())
+}
+
+// Removes all retained bits.
+fn empty<const N: usize>(rt: &impl Abort, map: &mut DirtyBitMap<N>, first: u64) {
+    for _ in first..map.len() {
+        let _ = pop(rt, map);
+    }
+}
+
+// What it is while the edits are pending, at the first position behind the front and at the last, which are set anew.
+fn check_pending<const N: usize>(
+    rt: &impl Abort,
+    map: &mut DirtyBitMap<N>,
+    first: u64,
+) -> Result<(), AllocError> {
+    let last = pending_bit(rt, map, LAST);
+    set_bit(rt, map, LAST, !last)?;
+    set_bit(rt, map, first, false)?;
+    assert!(rt; matches!(pending_chunk(rt, map, LAST).first(), Some(byte) if byte & 0x3f == 0x08));
+    set_bit(rt, map, first, true)?;
+    set_bit(rt, map, LAST, last)?;
+    prune_to_bit(rt, map, u64::MAX)?;
+    prune_to_bit(rt, map, 0)?;
+    assert_eq!(rt; map.len(), u64::MAX);
+    Ok(())
+}
+
+// The bits at both ends, and set positions in ranges that are whole, of one position, empty, reversed and before the front.
+fn check<B: Readable<N>, const N: usize>(rt: &impl Abort, map: &B, first: u64) {
+    assert!(rt; map.len() == u64::MAX && first < LAST);
+    let is_last_set = (LAST - first) % 3 == 0;
+    assert!(rt; read_bit(rt, map, first) && !read_bit(rt, map, first + 1));
+    assert_eq!(rt; read_bit(rt, map, LAST), is_last_set);
+    assert_eq!(rt;
+        map.ones_iter_range(first..u64::MAX).count() as u64,
+        (LAST - first) / 3 + 1
+    );
+    assert!(rt; map.ones_iter_range(first..first + 1).eq([first]));
+    assert_eq!(rt;
+        map.ones_iter_range(LAST..u64::MAX).next().is_some(),
+        is_last_set
+    );
+    assert!(rt; map.ones_iter_range(u64::MAX..u64::MAX).next().is_none());
+    assert!(rt; map.ones_iter_range(u64::MAX..first).next().is_none());
+    assert!(rt; map.ones_iter_range(0..first).next().is_none());
+}
+
+// Commits it, takes all bits away under the greatest number, after which there is none, and goes back.
+fn check_commits<const N: usize>(
+    rt: &impl Abort,
+    map: DirtyBitMap<N>,
+    first: u64,
+) -> Result<(), AllocError> {
+    let mut map = commit(rt, map, 7)?.into_dirty();
+    empty(rt, &mut map, first);
+    let map = refuse(rt, map, u64::MAX, Error::ReservedCommitNumber);
+    let map = commit(rt, map, LAST)?.into_dirty();
+    let why = Error::NonMonotonicCommit {
+        previous: LAST,
+        attempted: LAST,
+    };
+    let map = refuse(rt, map, LAST, why).abort();
+    assert!(rt; map.at(LAST).is_some_and(|old| old.len() == first));
+    let old = map.get_at_commit(7)?;
+    assert!(rt; old.is_some());
+    if let Some(old) = old {
+        check(rt, &old, first);
+    }
+    let map = go_back(rt, map, 7)?;
+    check(rt, map.current(), first);
+    Ok(())
+}
+
+// The greatest front, the bits behind it, and its commits.
+fn check_ends<const N: usize>(
+    rt: &impl Abort,
+    alloc: Global,
+    chunks: usize,
+) -> Result<(), AllocError>
+    requires { IsWidth N }
+{
+    let made = greatest::<N>(rt, alloc, chunks);
+    assert!(rt; made.is_some());
+    if let Some(map) = made {
+        let first = map.len();
+        let mut map = map.into_dirty();
+        fill(rt, &mut map)?;
+        check_pending(rt, &mut map, first)?;
+        check_commits(rt, map, first)?;
+    }
+    Ok(())
+}
+
+#[test]
+fn greatest_fronts(rt: HostRuntime) -> Result<(), Fail> {
+    check_ends::<1>(&rt, rt.alloc(), 2305843009213693951)?;
+    check_ends::<3>(&rt, rt.alloc(), 768614336404564650)?;
+    check_ends::<7>(&rt, rt.alloc(), 329406144173384850)?;
+    check_ends::<9>(&rt, rt.alloc(), 256204778801521550)?;
+    check_ends::<32>(&rt, rt.alloc(), 72057594037927935)?;
+    check_ends::<64>(&rt, rt.alloc(), 36028797018963967)?;
+    Ok(())
+}
