@@ -2,8 +2,8 @@
 """Runs `replay` on scripts, and compares what it prints with the machine of lists in tools/machine.py.
 
 usage: check_runs.py drawn COUNT    so many drawn scripts, at each of the five widths in turn
-       check_runs.py refused COUNT  the examples, and so many drawn scripts at each of the five widths. Of each every
-                                    request for memory is refused in turn: that request alone, and all from it on
+       check_runs.py refused COUNT  the examples, and so many drawn scripts, at each of the five widths that fits. Of each
+                                    every request for memory is refused in turn: that request alone, and all from it on
 
 The program is the one that the gate has built. Scripts are drawn from fixed seeds.
 """
@@ -27,6 +27,11 @@ WIDTHS = (1, 3, 4, 8, 32)
 
 def commands_of(lines):
     return [line.split(" ") for line in lines if line and not line.startswith("#")]
+
+
+def is_script(width, lines):
+    """Whether the chunks that the lines push have as many bytes."""
+    return all(len(words[1]) == 2 * width for words in commands_of(lines) if words[0] == "push-chunk")
 
 
 def fault(width, lines, printed, lacks):
@@ -169,9 +174,10 @@ def check_refused(library, width, path):
 def try_refused(room, pool, count):
     library = f"{room}/refuse.so"
     subprocess.run(["cc", "-O2", "-shared", "-fPIC", "-o", library, TOP / "tools/refuse.c", "-ldl"], check=True)
-    scripts = [(4, path) for path in sorted((TOP / "examples").glob("*.script"))]
+    examples = sorted((TOP / "examples").glob("*.script"))
+    scripts = [(width, path) for path, width in itertools.product(examples, WIDTHS) if is_script(width, path.read_text().split("\n"))]
     for seed, width in itertools.product(range(count), WIDTHS):
-        scripts.append((width, write(room, f"{seed}_{width}.script", Drawing(seed, width).lines(100))))
+        scripts.append((width, write(room, f"{seed}_{width}.script", Drawing(seed, width).lines(200))))
     return pool.map(lambda it: check_refused(library, *it), scripts)
 
 
@@ -188,4 +194,5 @@ def main():
     return 1 if faults else 0
 
 
-sys.exit(main())
+if __name__ == "__main__":
+    sys.exit(main())

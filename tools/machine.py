@@ -3,6 +3,7 @@
 from typing import NamedTuple, Optional
 
 LAST = 2**64 - 1
+DIGITS = bytes.maketrans(bytes([0, 1]), b"01")
 
 
 class Refused(Exception):
@@ -95,7 +96,7 @@ class Machine:
         return position - self.first(bitmap)
 
     def shown(self, bitmap):
-        return f"{bitmap.pruned} {''.join(map(str, bitmap.bits)) or '-'}"
+        return f"{bitmap.pruned} {bytes(bitmap.bits).translate(DIGITS).decode() or '-'}"
 
     def set_positions(self, bitmap, start, end):
         first = self.first(bitmap)
