@@ -56,27 +56,25 @@ def admits(ends, number):
 class Machine:
     """Runs commands on bitmaps whose chunks have `width` bytes."""
 
+    EDITS = {"push", "push-byte", "push-chunk", "pop", "set", "prune", "commit", "abort"}
+    EITHER = {"len", "pruned-chunks", "get", "chunk", "decode"}
+    # commands whose words are hexadecimal digits or a range, and no numbers
+    TEXTS = {"push-byte", "push-chunk", "decode"}
+
     def __init__(self, width):
         self.width, self.chunk_bits = width, 8 * width
 
     def step(self, state, words):
-        command = getattr(self, words[0].replace("-", "_"))
-        given = [int(word) if kind == "n" else word for kind, word in zip(self.KINDS.get(words[0], ""), words[1:])]
-        wants_batch = {True: state.pending is not None, False: state.pending is None}
+        """What comes of a command, given as its words."""
+        name, *given = words
+        if name not in self.TEXTS:
+            given = [int(word) for word in given]
         try:
-            if not wants_batch.get(words[0] in self.EDITS, True) and words[0] not in self.EITHER:
+            if name not in self.EITHER and (name in self.EDITS) != (state.pending is not None):
                 raise Refused("wrong-mode")
-            return command(state, *given)
+            return getattr(self, name.replace("-", "_"))(state, *given)
         except Refused as why:
             return Step(f"refused {why}", state)
-
-    EDITS = {"push", "push-byte", "push-chunk", "pop", "set", "prune", "commit", "abort"}
-    EITHER = {"len", "pruned-chunks", "get", "chunk", "decode"}
-    # of each word behind the command, whether it is a number
-    KINDS = {
-        "start": "n", "push": "n", "push-byte": "h", "push-chunk": "h", "set": "nn", "prune": "n", "commit": "n", "rewind": "n", "get": "n", "chunk": "n",
-        "ones": "nn", "at": "n", "ones-at": "nnn", "encode-at": "n", "decode": "hr", "exists": "n", "drop-before": "n",
-    }
 
     # Bitmaps
 
@@ -149,11 +147,11 @@ class Machine:
         return self.append(state, bits_of(bytes.fromhex(digits)))
 
     def pop(self, state):
-        *rest, last = state.pending.bits or (None,)
-        if last is None:
+        bits = state.pending.bits
+        if not bits:
             raise Refused("no-retained-bit")
-        bitmap = state.pending._replace(bits=tuple(rest))
-        return self.edited(state, bitmap, {self.length(bitmap) // self.chunk_bits}, f"bit {last}", may_lack=False)
+        bitmap = state.pending._replace(bits=bits[:-1])
+        return self.edited(state, bitmap, {self.length(bitmap) // self.chunk_bits}, f"bit {bits[-1]}", may_lack=False)
 
     def set(self, state, position, bit):
         at, bits = self.place(state.pending, position), state.pending.bits
