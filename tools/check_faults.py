@@ -88,8 +88,8 @@ def cases(room):
     for name, words, told, status in refusals(str(path), room):
         found = run(words)
         yield name, None if found == (status, [], [told]) else found
-    with open("/dev/full", "w") as full:
-        found = run(["4", path], output=full)
+    with open(path) as unwritable:
+        found = run(["4", path], output=unwritable)
         yield "output that cannot be written", None if found == (3, [], [UNWRITTEN]) else found
     for name, text, line in broken_texts():
         path.write_bytes(text)
