@@ -1,5 +1,6 @@
 #!/usr/bin/env bash
-# Prints what each call costs, in nanoseconds a bit, at four widths of a chunk and on bitmaps of 64 MB and of 1 MB.
+# Prints what each call costs. Of a dense or a pruned bitmap: in nanoseconds a bit, at four widths of a chunk and on bitmaps
+# of 64 MB and of 1 MB. Of a historical one: in nanoseconds an edit, a read or an old state, on 2^20 bits at two widths.
 # A cost is the best of RUNS runs (5 where it is not given), less the best of as many runs without the call.
 # `copy` is what it costs to copy as many bytes to memory that was used before: no call that makes as many can be faster.
 # Usage: tools/bench.sh [RUNS [CALL..]]
@@ -7,19 +8,26 @@ set -euo pipefail
 cd "$(dirname "$0")/.."
 
 runs=${1:-5}
+wanted=" ${*:2} "
 # Calls that take about a nanosecond a bit, and then those that go by words.
 slow=(push pop get set iter ones_iter to_bools from_bools hash prunable_push push_byte get_bit set_bit)
 fast=(copy flip_all set_all and or xor equal count_ones is_unset extend_same extend_same_shifted extend_other
     extend_other_shifted extend_to truncate clone write read push_chunk prune unprune)
-calls=("${fast[@]}" "${slow[@]}")
-if (($# > 1)); then
-    calls=("${@:2}")
-fi
+# Calls of a historical bitmap: the name, how often it is called, and the edits, the bits or the states of one call.
+historical=("batch_set_far 2000 1000" "batch_set_near 20000 1000" "batch_push 5000 4096" "batch_push_byte 2000 4096"
+    "batch_push_chunk 200 4096" "commit_set_far 2000 1000" "commit_set_near 20000 1000" "commit_push 2000 4096"
+    "commit_push_byte 300 4096" "commit_push_chunk 20 4096" "read_oldest 50 1" "read_newest 20000 1"
+    "in_place_oldest 200 1000" "in_place_newest 2000 1000" "clone_commits 20 1")
 
 bench=crates/bench/out/bench
 if [ ! -x "$bench" ]; then
     (cd crates/bench && rt run -- copy 1 1 0) >/dev/null
 fi
+
+# Whether a call is asked for: each is where none is named.
+is_wanted() {
+    [[ $wanted == "  " || $wanted == *" $1 "* ]]
+}
 
 # The nanoseconds of the best run with these words.
 best() {
@@ -35,27 +43,46 @@ best() {
     echo "$least"
 }
 
-# The cost of call $1 at width $2 on $3 bytes, called $4 times.
+# The cost of call $1 at width $2 on $3 bytes, called $4 times, in nanoseconds a unit, of which there are $5 in all.
 cost() {
     local with without
     with=$(best "$1" "$2" "$3" "$4")
     without=$(best "$1" "$2" "$3" 0)
-    awk -v took=$((with - without)) -v bits=$(($3 * 8 * $4)) 'BEGIN { printf " %.3f |", took / bits }'
+    awk -v took=$((with - without)) -v units="$5" 'BEGIN { printf " %.3f |", took / units }'
+}
+
+# The row of a dense or a pruned bitmap: call $1, called $2 times on 64 MB.
+print_row() {
+    local large=$((64 << 20)) small=$((1 << 20)) width
+    printf '| %s |' "$1"
+    for width in 1 3 8 32; do
+        cost "$1" "$width" "$large" "$2" $((large * 8 * $2))
+    done
+    for width in 1 3 8 32; do
+        cost "$1" "$width" "$small" $(($2 * 32)) $((small * 8 * $2 * 32))
+    done
+    echo
 }
 
 echo "| ns a bit | 64 MB, width 1 | 3 | 8 | 32 | 1 MB, width 1 | 3 | 8 | 32 |"
 echo "|---|---|---|---|---|---|---|---|---|"
-for call in "${calls[@]}"; do
-    case " ${slow[*]} " in
-    *" $call "*) times=1 ;;
-    *) times=16 ;;
-    esac
-    printf '| %s |' "$call"
-    for width in 1 3 8 32; do
-        cost "$call" "$width" $((64 << 20)) "$times"
-    done
-    for width in 1 3 8 32; do
-        cost "$call" "$width" $((1 << 20)) $((times * 32))
-    done
-    echo
+for call in "${fast[@]}"; do
+    if is_wanted "$call"; then print_row "$call" 16; fi
+done
+for call in "${slow[@]}"; do
+    if is_wanted "$call"; then print_row "$call" 1; fi
+done
+
+echo
+echo "| ns | width 8 | 32 |"
+echo "|---|---|---|"
+for line in "${historical[@]}"; do
+    read -r call times units <<<"$line"
+    if is_wanted "$call"; then
+        printf '| %s |' "$call"
+        for width in 8 32; do
+            cost "$call" "$width" $((1 << 17)) "$times" $((times * units))
+        done
+        echo
+    fi
 done

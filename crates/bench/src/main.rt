@@ -1,9 +1,11 @@
 //! Runs one call of a bitmap again and again, to be timed from outside. `tools/bench.sh` makes a table of all calls.
 #![tactic(auto)]
 
+mod batches;
 mod call;
 mod edits;
 mod growth;
+mod historical;
 mod program;
 mod pruned;
 mod reads;

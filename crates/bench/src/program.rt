@@ -3,7 +3,7 @@
 ghost use Rattle.std.specs.Prelude.{◌*◌, ◌^◌, ◌<◌, ◌≤◌, length, IfOk};
 
 use crate::call::{Call, named};
-use crate::{edits, growth, pruned, reads};
+use crate::{edits, growth, historical, pruned, reads};
 use bitmap_core::bitmap::BitMap;
 use std::alloc::{AllocError, Global};
 
@@ -64,7 +64,7 @@ fn filled<const N: usize>(alloc: Global, bytes: u64) -> Result<BitMap<N>, AllocE
     Ok(map)
 }
 
-// Runs a call on a bitmap of width `N`, with another of width `M` where it takes one of another width.
+// Runs a call on a dense or pruned bitmap of width `N`, with another of width `M` where it takes one of another width.
 fn run_at<const N: usize, const M: usize>(
     alloc: Global,
     call: Call,
@@ -116,17 +116,10 @@ fn run_at<const N: usize, const M: usize>(
     }
 }
 
-/// Runs what the words name, and answers a number that depends on what the calls answered.
-pub fn run(alloc: Global, words: &[String]) -> Result<u64, Fault> {
-    let [call, width, bytes, times] = words else {
-        return Err(Fault::Usage);
-    };
-    let call = named(call.as_str()).ok_or(Fault::Usage)?;
-    let bytes = bytes.as_str().parse::<u64>().map_err(|_| Fault::Usage)?;
-    let times = times.as_str().parse::<u64>().map_err(|_| Fault::Usage)?;
-    if bytes > MOST_BYTES {
-        return Err(Fault::Usage);
-    }
+// Runs a call of a dense or pruned bitmap, at a width in words.
+fn run_call(alloc: Global, call: Call, width: &str, bytes: u64, times: u64) -> Result<u64, Fault>
+    requires most { bytes ≤ 2 ^ 32 }
+{
     match width.as_bytes() {
         b"1" => Ok(run_at::<1, 8>(alloc, call, bytes, times)?),
         b"3" => Ok(run_at::<3, 8>(alloc, call, bytes, times)?),
@@ -134,4 +127,38 @@ pub fn run(alloc: Global, words: &[String]) -> Result<u64, Fault> {
         b"32" => Ok(run_at::<32, 8>(alloc, call, bytes, times)?),
         _ => Err(Fault::Usage),
     }
+}
+
+// Runs a call of a historical bitmap, at a width in words.
+fn run_historical(
+    alloc: Global,
+    call: historical::Call,
+    width: &str,
+    bytes: u64,
+    times: u64,
+) -> Result<u64, Fault> {
+    match width.as_bytes() {
+        b"1" => Ok(historical::run::<1>(alloc, call, bytes, times)?),
+        b"3" => Ok(historical::run::<3>(alloc, call, bytes, times)?),
+        b"8" => Ok(historical::run::<8>(alloc, call, bytes, times)?),
+        b"32" => Ok(historical::run::<32>(alloc, call, bytes, times)?),
+        _ => Err(Fault::Usage),
+    }
+}
+
+/// Runs what the words name, and answers a number that depends on what the calls answered.
+pub fn run(alloc: Global, words: &[String]) -> Result<u64, Fault> {
+    let [call, width, bytes, times] = words else {
+        return Err(Fault::Usage);
+    };
+    let bytes = bytes.as_str().parse::<u64>().map_err(|_| Fault::Usage)?;
+    let times = times.as_str().parse::<u64>().map_err(|_| Fault::Usage)?;
+    if bytes > MOST_BYTES {
+        return Err(Fault::Usage);
+    }
+    if let Some(call) = historical::named(call.as_str()) {
+        return run_historical(alloc, call, width.as_str(), bytes, times);
+    }
+    let call = named(call.as_str()).ok_or(Fault::Usage)?;
+    run_call(alloc, call, width.as_str(), bytes, times)
 }
