@@ -1,5 +1,5 @@
 -- The width of a chunk, and its bits.
-use Rattle.std.specs.Prelude.{◌≡◌, ℕ, cond, ◌+◌, ◌*◌, ◌/◌, ◌%◌, ◌^◌, ◌<◌, Bool, false, List, length, map, ◌==◌, slice_index, slice_index_or}
+use Rattle.std.specs.Prelude.{◌≡◌, ℕ, cond, ◌+◌, ◌-◌, ◌*◌, ◌/◌, ◌%◌, ◌^◌, ◌<◌, ◌≤◌, ◌⊎◌, Bool, false, List, length, map, ◌==◌, slice_index, slice_index_or}
 use Rattle.std.specs.List.{range_with_len, sum_by}
 use Rattle.std.specs.Int.{bit_at}
 
@@ -54,3 +54,8 @@ chunk_of n v i = chunk_from n (λ k. slice_index_or v k false) i
 pub record IsByteWritten (n : ℕ) (old new : List ℕ) (i byte : ℕ) : Type 0 where
   pub here : (j : ℕ) → j / 8 % n ≡ i / 8 % n → chunk_bit n new j ≡ (bit_at byte (j % 8) == 1)
   pub others : (j : ℕ) → (j / 8 % n ≡ i / 8 % n → ⊥) → chunk_bit n new j ≡ chunk_bit n old j
+
+-- the chunk has the eight bits of byte from the place of bit i on, and each bit at another place as the old one has it
+pub record IsByteJoined (n : ℕ) (old new : List ℕ) (i byte : ℕ) : Type 0 where
+  pub here : (j : ℕ) → i % (8 * n) ≤ j % (8 * n) → j % (8 * n) < i % (8 * n) + 8 → chunk_bit n new j ≡ (bit_at byte (j % (8 * n) - i % (8 * n)) == 1)
+  pub others : (j : ℕ) → (j % (8 * n) < i % (8 * n)) ⊎ (i % (8 * n) + 8 ≤ j % (8 * n)) → chunk_bit n new j ≡ chunk_bit n old j

@@ -12,12 +12,11 @@ use Rattle.std.proofs.Math.Nat.{mod-eq_of_lt}
 use Rattle.std.specs.Int.{bit_at as bit_at_byte}
 use Rattle.std.specs.List.{range_with_len}
 use Rattle.std.specs.Map.{lookup}
-use Rattle.bitmap_core.specs.Chunk.{bit_in, byte_bits, chunk_bit, chunk_bits, IsChunk, IsByteWritten}
+use Rattle.bitmap_core.specs.Chunk.{bit_in, byte_bits, chunk_bit, chunk_bits, IsChunk, IsByteJoined}
 use Rattle.bitmap_core.specs.PrunedBits.{PrunedBits, pruned_bits, bit_len, bit_at, chunk, truncated, HasBit}
 use Rattle.bitmap_core.proofs.Bytes.Made.{map_range_same}
 use Rattle.bitmap_core.proofs.Pruned.Positions.{place, bit_past}
 use Rattle.bitmap_core.proofs.Pruned.Edits.{bit_truncated}
-use Rattle.bitmap_core.proofs.Chunks.Bits.{mod_parts}
 use Rattle.historical_bitmap.specs.Edits.{from_to}
 use Rattle.historical_bitmap.specs.Record.{bit_from}
 use Rattle.historical_bitmap.specs.Pending.{Layer, LayerFits, IsEdited, IsSetIn, IsByteSetIn, Puts, PutsTwo, Writes, Pops, HasAppended, Appends, SetsIn, edited_chunk, pending_bits, pending_chunk, run_bits}
@@ -203,8 +202,8 @@ module _ (n : ℕ) (b : PrunedBits) (l m : Layer) (xs : List Bool) (pos : 0 < n)
         others = λ i side. put i ∙ rw (ne_eqb i first (not_first i side), ne_eqb i (first + 1) (not_second i side z)) refl;
       }
 
--- a byte written at a multiple of 8, in the chunk of the length
-module _ (n : ℕ) (b : PrunedBits) (l : Layer) (byte : ℕ) (pos : 0 < n) (fits : LayerFits n b l) (even : l.len % 8 ≡ 0) where
+-- a byte written in the chunk of the length
+module _ (n : ℕ) (b : PrunedBits) (l : Layer) (byte : ℕ) (pos : 0 < n) (fits : LayerFits n b l) (room : l.len % (8 * n) + 8 ≤ 8 * n) where
   byte_bit : (t : ℕ) → t < 8 → get_or (byte_bits byte) t false ≡ eqb (bit_at_byte byte t) 1
   byte_bit t h = get_or-map-range_with_len (λ t. eqb (bit_at_byte byte t) 1) 0 8 t t false h (omega arith)
 
@@ -218,26 +217,24 @@ module _ (n : ℕ) (b : PrunedBits) (l : Layer) (byte : ℕ) (pos : 0 < n) (fits
       go None f is = absurd (none_some old f)
       go (Some bytes) f is = ap (λ c. chunk_bit n c k) (sym (same_Some bytes old f)) ∙ is.clear k e past
 
-  byte_has : (old new : List ℕ) → edited_chunk l (l.len / (8 * n)) ≡ Some old → length new ≡ n → IsByteWritten n old new l.len byte → HasAppended n b l (byte_bits byte) (l.len / (8 * n)) new
+  byte_has : (old new : List ℕ) → edited_chunk l (l.len / (8 * n)) ≡ Some old → length new ≡ n → IsByteJoined n old new l.len byte → HasAppended n b l (byte_bits byte) (l.len / (8 * n)) new
   byte_has old new found size w = record {
     size = size;
     bits = λ k e.
         let at : 8 * n * (l.len / (8 * n)) + k % (8 * n) ≡ k = ap (λ y. 8 * n * y + k % (8 * n)) (sym e) ∙ place (8 * n) k in
         let len = place (8 * n) l.len in
-        let mine = mod_parts n k pos in
-        let its = mod_parts n l.len pos in
-        let rest : k % 8 < 8 = mod_below k 8 (omega arith) in
-        elim (cases_eq (k / 8 % n) (l.len / 8 % n)) [
-          | inl f ↦ rw (le-ltb k l.len (omega (arith, at, len, mine, its, even, f))) (w.here k f ∙ (sym (byte_bit (k % 8) rest) ∙ ap (λ (t : ℕ). get_or (byte_bits byte) t false) (omega (arith, at, len, mine, its, even, f))))
-          | inr ne ↦ w.others k ne ∙ elim (cases_lt k l.len) [
-            | inl s ↦ rw (lt-ltb k l.len s, found) refl
-            | inr s ↦ rw (le-ltb k l.len s) (zero_past (l.len / (8 * n)) k old found e s ∙ sym (get_or_past (byte_bits byte) (k - l.len) false (omega (arith, at, len, mine, its, even, ne, s, rest))))
-          ]
+        elim (cases_lt k l.len) [
+          | inl s ↦ w.others k (inl (omega (arith, at, len, s))) ∙ rw (lt-ltb k l.len s, found) refl
+          | inr s ↦ rw (le-ltb k l.len s) (elim (cases_lt k (l.len + 8)) [
+            | inl h ↦
+                let t : k % (8 * n) - l.len % (8 * n) ≡ k - l.len = omega (arith, at, len) in
+                w.here k (omega (arith, at, len, s)) (omega (arith, at, len, h)) ∙ (ap (λ t. eqb (bit_at_byte byte t) 1) t ∙ sym (byte_bit (k - l.len) (omega (arith, s, h))))
+            | inr h ↦
+                w.others k (inr (omega (arith, at, len, h))) ∙ (zero_past (l.len / (8 * n)) k old found e s ∙ sym (get_or_past (byte_bits byte) (k - l.len) false (omega (arith, h))))
+          ])
         ];
   }
 
   pub appends_byte : (m : Layer) → m.len ≡ l.len + 8 → m.pruned ≡ l.pruned → m.captured ≡ l.captured → IsByteSetIn n l.edited m.edited (l.len / (8 * n)) l.len byte → Appends n b l (byte_bits byte) m
   appends_byte m len pruned captured set =
-      let its = mod_parts n l.len pos in
-      let below = mod_below (l.len / 8) n pos in
-      appends_one n b l m (byte_bits byte) pos (omega arith) len pruned captured set.bytes (omega (arith, its, below, even)) (byte_has set.chunk set.bytes set.found set.size set.written) set.edited
+      appends_one n b l m (byte_bits byte) pos (omega arith) len pruned captured set.bytes (omega (arith, room)) (byte_has set.chunk set.bytes set.found set.size set.written) set.edited

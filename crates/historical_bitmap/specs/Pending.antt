@@ -5,7 +5,7 @@ use Rattle.std.specs.List.Sorted.{IsStrictlySortedBy}
 use Rattle.std.specs.Map.{lookup, keys_of}
 use Rattle.std.specs.Ordering.{nat_cmp}
 use Rattle.std.specs.Set.{is_member}
-use Rattle.bitmap_core.specs.Chunk.{bit_in, chunk_bit, IsBitWritten, IsByteWritten}
+use Rattle.bitmap_core.specs.Chunk.{bit_in, chunk_bit, IsBitWritten, IsByteJoined}
 use Rattle.bitmap_core.specs.PrunedBits.{PrunedBits, bit_len, from_bits, chunk, truncated, pruned_to}
 use Rattle.historical_bitmap.specs.Edits.{Edit, from_to}
 use Rattle.historical_bitmap.specs.Edits.Edit.{Push, Pop, Set, Prune}
@@ -89,13 +89,13 @@ pub record SetsIn (n : ℕ) (first : List ℕ) (old new : List (ℕ × List ℕ)
   pub written : IsWritten n (unwrap_or (lookup (nat_eq i) old) first) k value bytes
   pub edited : Puts old new i (Some bytes)
 
--- the new entries have byte where bit k of the chunk under i stands, and else what the old ones have
+-- the new entries have the eight bits of byte from bit k of the chunk under i on, and else what the old ones have
 pub record IsByteSetIn (n : ℕ) (old new : List (ℕ × List ℕ)) (i k byte : ℕ) : Type 0 where
   pub chunk : List ℕ
   pub found : lookup (nat_eq i) old ≡ Some chunk
   pub bytes : List ℕ
   pub size : length bytes ≡ n
-  pub written : IsByteWritten n chunk bytes k byte
+  pub written : IsByteJoined n chunk bytes k byte
   pub edited : Puts old new i (Some bytes)
 
 -- the new entries have the first under i and the second under i + 1, and under other keys what the old ones have

@@ -1,14 +1,14 @@
 -- Runs of bytes shifted into chunks.
-use Rattle.std.proofs.Common.{◌≡◌, ℕ, suc, zero, ◌+◌, ◌-◌, ◌*◌, ◌/◌, ◌%◌, ◌^◌, ◌<◌, ◌≤◌, List, [], ◌∷◌, ◌++◌, length, get_or, set, take, drop, eqb, max, bit_or, bit_and, refl, sym, ap, ◌∙◌, inl, inr, arith}
+use Rattle.std.proofs.Common.{◌≡◌, ◌⊎◌, ℕ, suc, zero, ◌+◌, ◌-◌, ◌*◌, ◌/◌, ◌%◌, ◌^◌, ◌<◌, ◌≤◌, List, [], ◌∷◌, ◌++◌, length, get_or, set, take, drop, eqb, max, bit_or, bit_and, refl, sym, ap, ◌∙◌, inl, inr, arith}
 use Rattle.std.specs.Int.{bit_at}
 use Rattle.std.specs.List.{flat_map}
 use Rattle.std.proofs.Math.Nat.{div-add-mod, div-div-eq-div-mul, mod-eq_of_lt, mul-add, mul_comm, le-div_iff_mul-le, div-mul-le_self}
 use Rattle.std.proofs.Math.Pow.{pow-lt}
 use Rattle.std.proofs.lemmas.Nat.{pow-add, pow_pos, mod_below}
 use Rattle.std.proofs.lemmas.Nat.Bits.{bit_at_or, bit_at-zero, bit_at_above, bit_at_cat_low, bit_at_cat_high}
-use Rattle.std.proofs.lemmas.List.{get_or_append_left, get_or-append_right, get_or-drop, length-drop, take_all, get_or-set_same, get_or-set_other}
+use Rattle.std.proofs.lemmas.List.{get_or_append_left, get_or-append_right, get_or-drop, length-drop, take_all, get_or-set_same, get_or-set_other, length-set}
 use Rattle.std.proofs.lemmas.Bool.{cases_eq, cases_lt}
-use Rattle.bitmap_core.specs.Chunk.{chunk_bit, bit_in}
+use Rattle.bitmap_core.specs.Chunk.{chunk_bit, bit_in, IsByteJoined}
 use Rattle.bitmap_core.specs.Bits.{bit_of, IsChunkCount}
 use Rattle.bitmap_core.proofs.Bytes.Bits.{low_bit_below, low_bit_above}
 use Rattle.bitmap_core.proofs.Chunks.Places.{full_len}
@@ -194,6 +194,91 @@ opened_joined n len run old mid new b p l e high kept filled i h =
           let y : 8 - len % 8 + (i % (8 * n) - 8 * (len / 8 % n + 1)) ≡ i % (8 * n) - len % (8 * n) = omega arith in
           filled i u ∙ ap (bit_in run) y
     ]
+
+-- ---- a byte joined to a chunk
+
+-- its byte of bit i keeps the bits below and takes the low ones, the next one takes the others and keeps those above
+module _ (n i byte : ℕ) (old new : List ℕ) (pos : 0 < n) (room : i % (8 * n) + 8 ≤ 8 * n)
+    (low : (t : ℕ) → t < i % 8 → bit_at (get_or new (i / 8 % n) 0) t ≡ bit_at (get_or old (i / 8 % n) 0) t)
+    (begun : (t : ℕ) → t < 8 → i % 8 ≤ t → bit_at (get_or new (i / 8 % n) 0) t ≡ bit_at byte (t - i % 8))
+    (ended : (t : ℕ) → t < i % 8 → bit_at (get_or new (i / 8 % n + 1) 0) t ≡ bit_at byte (t + (8 - i % 8)))
+    (high : (t : ℕ) → t < 8 → i % 8 ≤ t → bit_at (get_or new (i / 8 % n + 1) 0) t ≡ bit_at (get_or old (i / 8 % n + 1) 0) t)
+    (rest : (k : ℕ) → (k ≡ i / 8 % n → ⊥) → (k ≡ i / 8 % n + 1 → ⊥) → get_or new k 0 ≡ get_or old k 0) where
+  joined_here_at : (j : ℕ) → i % (8 * n) ≤ j % (8 * n) → j % (8 * n) < i % (8 * n) + 8 → chunk_bit n new j ≡ eqb (bit_at byte (j % (8 * n) - i % (8 * n))) 1
+  joined_here_at j from to =
+      let m = mod_parts n j pos in
+      let d = mod_parts n i pos in
+      let s : j % 8 < 8 = mod_below j 8 (omega arith) in
+      let r : i % 8 < 8 = mod_below i 8 (omega arith) in
+      elim (cases_eq (j / 8 % n) (i / 8 % n)) [
+        | inl q ↦
+            let y : j % 8 - i % 8 ≡ j % (8 * n) - i % (8 * n) = omega arith in
+            ap (λ k. eqb (bit_at (get_or new k 0) (j % 8)) 1) q ∙ ap (λ x. eqb x 1) (begun (j % 8) s (omega arith)) ∙ ap (λ t. eqb (bit_at byte t) 1) y
+        | inr ne ↦
+            let q : j / 8 % n ≡ i / 8 % n + 1 = omega arith in
+            let y : j % 8 + (8 - i % 8) ≡ j % (8 * n) - i % (8 * n) = omega arith in
+            ap (λ k. eqb (bit_at (get_or new k 0) (j % 8)) 1) q ∙ ap (λ x. eqb x 1) (ended (j % 8) (omega arith)) ∙ ap (λ t. eqb (bit_at byte t) 1) y
+      ]
+
+  joined_elsewhere : (j : ℕ) → (j % (8 * n) < i % (8 * n)) ⊎ (i % (8 * n) + 8 ≤ j % (8 * n)) → chunk_bit n new j ≡ chunk_bit n old j
+  joined_elsewhere j side =
+      let m = mod_parts n j pos in
+      let d = mod_parts n i pos in
+      let s : j % 8 < 8 = mod_below j 8 (omega arith) in
+      let r : i % 8 < 8 = mod_below i 8 (omega arith) in
+      elim (cases_eq (j / 8 % n) (i / 8 % n)) [
+        | inl q ↦
+            let below : j % 8 < i % 8 = elim side [ inl h ↦ omega (arith, h, m, d, q, s, r) | inr h ↦ absurd (omega (arith, h, m, d, q, s, r)) ] in
+            ap (λ k. eqb (bit_at (get_or new k 0) (j % 8)) 1) q ∙ ap (λ x. eqb x 1) (low (j % 8) below) ∙ ap (λ k. eqb (bit_at (get_or old k 0) (j % 8)) 1) (sym q)
+        | inr ne ↦ elim (cases_eq (j / 8 % n) (i / 8 % n + 1)) [
+          | inl q ↦
+              let above : i % 8 ≤ j % 8 = elim side [ inl h ↦ absurd (omega (arith, h, m, d, q, s, r)) | inr h ↦ omega (arith, h, m, d, q, s, r) ] in
+              ap (λ k. eqb (bit_at (get_or new k 0) (j % 8)) 1) q ∙ ap (λ x. eqb x 1) (high (j % 8) s above) ∙ ap (λ k. eqb (bit_at (get_or old k 0) (j % 8)) 1) (sym q)
+          | inr nx ↦ ap (λ x. eqb (bit_at x (j % 8)) 1) (rest (j / 8 % n) ne nx)
+        ]
+      ]
+
+  pub byte_joined : IsByteJoined n old new i byte
+  byte_joined = record { here = joined_here_at; others = joined_elsewhere }
+
+-- where the byte goes into the next one there is one
+pub next_byte : (n i : ℕ) → 0 < n → i % (8 * n) + 8 ≤ 8 * n → 0 < i % 8 → i / 8 % n + 1 < n
+next_byte n i pos room h = omega (arith, mod_parts n i pos)
+
+module _ (n i byte : ℕ) (old : List ℕ) (a : ℕ) (pos : 0 < n) (size : length old ≡ n) (room : i % (8 * n) + 8 ≤ 8 * n)
+    (low : (t : ℕ) → t < i % 8 → bit_at a t ≡ bit_at (get_or old (i / 8 % n) 0) t)
+    (high : (t : ℕ) → t < 8 → i % 8 ≤ t → bit_at a t ≡ bit_at byte (t - i % 8)) where
+  within : i / 8 % n < length old
+  within = omega (arith, size, mod_below (i / 8) n pos)
+
+  at_byte : get_or (set old (i / 8 % n) a) (i / 8 % n) 0 ≡ a
+  at_byte = get_or-set_same old (i / 8 % n) a 0 within
+
+  -- at a multiple of 8 it is the byte there
+  pub joins_one : i % 8 ≡ 0 → IsByteJoined n old (set old (i / 8 % n) a) i byte
+  joins_one even = byte_joined n i byte old (set old (i / 8 % n) a) pos room
+      (λ t h. ap (λ x. bit_at x t) at_byte ∙ low t h)
+      (λ t h w. ap (λ x. bit_at x t) at_byte ∙ high t h w)
+      (λ t h. absurd (omega (arith, h, even)))
+      (λ t h w. ap (λ x. bit_at x t) (get_or-set_other old (i / 8 % n) (i / 8 % n + 1) a 0 (λ e. omega (arith, e))))
+      (λ k ne nx. get_or-set_other old (i / 8 % n) k a 0 ne)
+
+  -- elsewhere the next byte takes the rest of it
+  pub joins_two : (c : ℕ) → 0 < i % 8
+      → ((t : ℕ) → t + (8 - i % 8) < 8 → bit_at c t ≡ bit_at byte (t + (8 - i % 8)))
+      → ((t : ℕ) → t < 8 → 8 ≤ t + (8 - i % 8) → bit_at c t ≡ bit_at (get_or (set old (i / 8 % n) a) (i / 8 % n + 1) 0 / 2 ^ (i % 8)) (t + (8 - i % 8) - 8))
+      → IsByteJoined n old (set (set old (i / 8 % n) a) (i / 8 % n + 1) c) i byte
+  joins_two c some next kept =
+      let mid = set old (i / 8 % n) a in
+      let other : get_or (set mid (i / 8 % n + 1) c) (i / 8 % n) 0 ≡ a = get_or-set_other mid (i / 8 % n + 1) (i / 8 % n) c 0 (λ e. omega (arith, e)) ∙ at_byte in
+      let unchanged : get_or mid (i / 8 % n + 1) 0 ≡ get_or old (i / 8 % n + 1) 0 = get_or-set_other old (i / 8 % n) (i / 8 % n + 1) a 0 (λ e. omega (arith, e)) in
+      let same : get_or (set mid (i / 8 % n + 1) c) (i / 8 % n + 1) 0 ≡ c = get_or-set_same mid (i / 8 % n + 1) c 0 (omega (arith, length-set old (i / 8 % n) a, size, next_byte n i pos room some)) in
+      byte_joined n i byte old (set mid (i / 8 % n + 1) c) pos room
+      (λ t h. ap (λ x. bit_at x t) other ∙ low t h)
+      (λ t h w. ap (λ x. bit_at x t) other ∙ high t h w)
+      (λ t h. ap (λ x. bit_at x t) same ∙ next t (omega arith))
+      (λ t h w. ap (λ x. bit_at x t) same ∙ kept t h (omega arith) ∙ ap (λ x. bit_at (x / 2 ^ (i % 8)) (t + (8 - i % 8) - 8)) unchanged ∙ bit_at_shr (get_or old (i / 8 % n + 1) 0) (i % 8) (t + (8 - i % 8) - 8) ∙ ap (λ y. bit_at (get_or old (i / 8 % n + 1) 0) y) (omega (arith, w, some, mod_below i 8 (omega arith))))
+      (λ k ne nx. get_or-set_other mid (i / 8 % n + 1) k c 0 nx ∙ get_or-set_other old (i / 8 % n) k a 0 ne)
 
 -- ---- chunks of a deque, the first written in part
 

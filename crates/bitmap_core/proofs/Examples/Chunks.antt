@@ -1,11 +1,13 @@
 -- Bits and bytes of one chunk.
-use Rattle.std.specs.Prelude.{◌≡◌, ℕ, ◌/◌, ◌%◌, ◌<◌, true, false, not, ◌==◌, ◌||◌, [], ◌∷◌, slice_index, slice_index_or}
+use Rattle.std.specs.Prelude.{◌≡◌, ℕ, ◌/◌, ◌%◌, ◌<◌, ◌≤◌, true, false, not, nat_lt, if◌then◌else◌, ◌==◌, ◌||◌, [], ◌∷◌, slice_index, slice_index_or}
 use Rattle.std.specs.Int.{bit_at}
-use Rattle.std.proofs.Common.{zero, suc, refl, ap, arith}
+use Rattle.std.proofs.Common.{◌-◌, ◌⊎◌, ◌∙◌, zero, suc, refl, ap, sym, inl, inr, arith}
+use Rattle.std.proofs.Math.Nat.{mod-eq_of_lt}
 use Rattle.std.proofs.lemmas.Nat.{mod_below}
-use Rattle.std.proofs.lemmas.Bool.{false≢true}
-use Rattle.bitmap_core.specs.Chunk.{chunk_bit, chunk_bits, IsBitWritten, bit_in, IsChunk, bit_value, byte_of, byte_bits, chunk_from, chunk_of, IsByteWritten}
-use Rattle.bitmap_core.proofs.Examples.EachPlace.{same_places, is_other}
+use Rattle.std.proofs.lemmas.Bool.{false≢true, lt-ltb, le-ltb}
+use Rattle.bitmap_core.specs.Chunk.{chunk_bit, chunk_bits, IsBitWritten, bit_in, IsChunk, bit_value, byte_of, byte_bits, chunk_from, chunk_of, IsByteWritten, IsByteJoined}
+use Rattle.bitmap_core.proofs.Chunks.Bits.{chunk_bit-mod}
+use Rattle.bitmap_core.proofs.Examples.EachPlace.{same_at, same_places, is_other}
 
 -- bit 9 of a chunk of two bytes is the second lowest of the second byte
 ninth_bit : chunk_bit 2 (0 ∷ 2 ∷ []) 9 ≡ true
@@ -116,3 +118,27 @@ byte_written = record {
 -- where the first byte is changed as well, it is not written so
 two_bytes_written : IsByteWritten 2 (1 ∷ 2 ∷ []) (0 ∷ 7 ∷ []) 12 7 → ⊥
 two_bytes_written w = false≢true (w.others 0 (λ e. omega (arith, e)))
+
+-- 171 is 1010 1011 in binary: from place 4 of a chunk of two bytes on, its low half stands above what is kept of the first byte, its high half below what is kept of the second
+byte_joined : IsByteJoined 2 (1 ∷ 192 ∷ []) (177 ∷ 202 ∷ []) 20 171
+byte_joined = record { here = here; others = others }
+  where
+    here : (j : ℕ) → 4 ≤ j % 16 → j % 16 < 12 → chunk_bit 2 (177 ∷ 202 ∷ []) j ≡ (bit_at 171 (j % 16 - 4) == 1)
+    here j from to =
+        let below = mod_below j 16 (omega arith) in
+        chunk_bit-mod 2 (177 ∷ 202 ∷ []) j (j % 16) (omega arith) (sym (mod-eq_of_lt below))
+        ∙ same_at (λ k. if nat_lt k 4 then false else nat_lt k 12) (chunk_bit 2 (177 ∷ 202 ∷ [])) (λ k. bit_at 171 (k - 4) == 1) 16 (j % 16) refl below (rw (le-ltb (j % 16) 4 from) (lt-ltb (j % 16) 12 to))
+
+    others : (j : ℕ) → (j % 16 < 4) ⊎ (12 ≤ j % 16) → chunk_bit 2 (177 ∷ 202 ∷ []) j ≡ chunk_bit 2 (1 ∷ 192 ∷ []) j
+    others j side = same_places 2 (λ k. if nat_lt k 4 then true else not (nat_lt k 12)) (1 ∷ 192 ∷ []) (177 ∷ 202 ∷ []) j (omega arith) refl (elim side [
+      | inl h ↦ rw (lt-ltb (j % 16) 4 h) refl
+      | inr h ↦ rw (le-ltb (j % 16) 4 (omega (arith, h)), le-ltb (j % 16) 12 h) refl
+    ])
+
+-- where the rest of the second byte is cleared, it is not joined so
+byte_joined_clears_none : IsByteJoined 2 (1 ∷ 192 ∷ []) (177 ∷ 10 ∷ []) 20 171 → ⊥
+byte_joined_clears_none w = false≢true (w.others 15 (inr (omega arith)))
+
+-- where its halves change places, neither
+byte_joined_in_order : IsByteJoined 2 (1 ∷ 192 ∷ []) (161 ∷ 203 ∷ []) 20 171 → ⊥
+byte_joined_in_order w = false≢true (w.here 4 (omega arith) (omega arith))

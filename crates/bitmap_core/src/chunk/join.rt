@@ -4,7 +4,7 @@
 
 ghost use Rattle.std.specs.Prelude.{◌≡◌, ℕ, ◌+◌, ◌-◌, ◌*◌, ◌/◌, ◌%◌, ◌^◌, ◌<◌, ◌≤◌, ◌++◌, length, ◌==◌, slice_index_or};
 ghost use Rattle.std.specs.Int.{bit_at};
-ghost use Rattle.bitmap_core.specs.Chunk.{chunk_bit, bit_in, IsWidth};
+ghost use Rattle.bitmap_core.specs.Chunk.{chunk_bit, bit_in, IsByteJoined, IsWidth};
 
 use crate::chunk::byte_index;
 
@@ -144,4 +144,18 @@ pub fn join<const N: usize>(chunk: &mut [u8; N], len: u64, front: &[u8], back: &
     let shift = len % 8;
     chunk[byte] = opened_byte(chunk[byte], byte_at(front, back, 0), shift);
     fill_from(chunk, byte + 1, front, back, 8 - shift);
+}
+
+/// Writes the eight bits of a byte to the bits of a chunk from bit `bit mod 8N` on, of which it has as many, and no other. No memory.
+pub fn join_byte<const N: usize>(chunk: &mut [u8; N], bit: u64, byte: u8)
+    requires width { IsWidth N }
+    requires room { bit % (8 * N) + 8 ≤ 8 * N }
+    ensures { IsByteJoined N chunk.old chunk.new bit byte }
+{
+    let at = byte_index::<N>(bit);
+    let shift = bit % 8;
+    chunk[at] = opened_byte(chunk[at], byte, shift);
+    if shift > 0 {
+        chunk[at + 1] = joined_byte(byte, chunk[at + 1] >> shift, 8 - shift);
+    }
 }

@@ -11,6 +11,7 @@ ghost use Rattle.historical_bitmap.specs.Held.{is_held_at, with_held};
 ghost use Rattle.historical_bitmap.specs.Pending.{IsByteSetIn, IsNextMember, IsSetIn, IsWritten, Puts, PutsTwo, SetsIn};
 
 use bitmap_core::bitmap::prunable::Prunable;
+use bitmap_core::chunk::join::join_byte;
 use bitmap_core::chunk::{self, chunk_width, clear_from};
 use std::alloc::{AllocError, Global};
 use std::collections::BTreeMap;
@@ -237,16 +238,17 @@ impl<const N: usize> EditedChunks<N> {
         Some(old)
     }
 
-    // Writes a whole byte of the chunk at an index where it is held, and answers whether it is. No memory.
-    pub(crate) fn replace_byte(&mut self, index: usize, bit: u64, byte: u8) -> bool
+    // Writes the bits of a byte to the chunk at an index from a bit on, of which it has eight, where it is held, and answers whether it is. No memory.
+    pub(crate) fn join_byte(&mut self, index: usize, bit: u64, byte: u8) -> bool
         requires width { IsWidth N }
+        requires room { bit % (8 * N) + 8 ≤ 8 * N }
         ensures written { result ≡ true → IsByteSetIn N self.old self.new index bit byte }
         ensures other { result ≡ false → self.new ≡ self.old }
     {
         if !is_held(self.held, index) {
             return false;
         }
-        chunk::set_byte(&mut self.chunk, bit, byte);
+        join_byte(&mut self.chunk, bit, byte);
         known(&self.chunk);
         true
     }

@@ -269,17 +269,17 @@ impl<const N: usize> Dirty<N> {
         Ok(())
     }
 
-    // Appends a byte at a multiple of 8 to the chunk of the length, where that is held, and answers whether it did. No memory.
+    // Appends a byte to the chunk of the length, where that is held and has room for it, and answers whether it did. No memory.
     fn put_byte(&mut self, byte: u8) -> bool
         requires fits { self.old.len + 8 < 2 ^ 64 }
         ensures done { result ≡ true → (b : PrunedBits) → LayerFits N b self.old → Appends N b self.old (byte_bits byte) self.new }
         ensures other { result ≡ false → self.new ≡ self.old }
     {
         let len = self.len;
-        if len % 8 != 0 {
+        if chunk_width::<N>() - len % chunk_width::<N>() < 8 {
             return false;
         }
-        if !self.edited.replace_byte(chunk_index::<N>(len), len, byte) {
+        if !self.edited.join_byte(chunk_index::<N>(len), len, byte) {
             return false;
         }
         self.len = len + 8;

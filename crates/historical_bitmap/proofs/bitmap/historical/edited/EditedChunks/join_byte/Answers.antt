@@ -1,6 +1,6 @@
 use Rattle.std.proofs.Common.{sym, ◌∙◌}
 use Rattle.historical_bitmap.proofs.HeldChunks.{lookup_here, puts_here}
-use Rattle.historical_bitmap.proofs.bitmap.historical.edited.EditedChunks.replace_byte.Goals as goal
+use Rattle.historical_bitmap.proofs.bitmap.historical.edited.EditedChunks.join_byte.Goals as goal
 
 pub returns-clause-written : goal.returns-clause-written
 returns-clause-written g c =
@@ -8,8 +8,8 @@ returns-clause-written g c =
     λ e. rw (sym c.self.view_is) (record {
       chunk = c.self.inside.chunk;
       found = lookup_here g.row.N c.self.inside.chunks.entries c.self.inside.held c.self.inside.chunk c.args.index c.self.invariant here;
-      bytes = c.set_byte.new.chunk;
+      bytes = c.join_byte.new.chunk;
       size = c.known.ensures.len;
-      written = c.set_byte.ensures;
-      edited = puts_here g.row.N c.self.inside.chunks.entries c.self.inside.held c.self.inside.chunk c.set_byte.new.chunk c.args.index c.self.invariant here;
+      written = c.join_byte.ensures;
+      edited = puts_here g.row.N c.self.inside.chunks.entries c.self.inside.held c.self.inside.chunk c.join_byte.new.chunk c.args.index c.self.invariant here;
     })
