@@ -9,7 +9,7 @@ use Rattle.historical_bitmap.specs.History.{snapshots, costs}
 use Rattle.historical_bitmap.specs.Pending.{Layer, edited_chunk, pending_bits, layer_marks}
 use Rattle.historical_bitmap.specs.Record.{Reverse}
 
--- the current bitmap, the kept commits by number, the number last committed, and the state: a layer of pending edits, or none
+-- the current bitmap, the kept commits by number, the number last committed or gone back to, and the state: a layer of pending edits, or none
 pub record View (S : Type 0) : Type 0 where
   pub current : PrunedBits
   pub commits : List (ℕ × Reverse)

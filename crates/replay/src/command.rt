@@ -2,7 +2,10 @@
 
 use bitmap_core::bitmap::codec::RangeCfg;
 
-/// What a session is asked to do. Positions count bits from 0, pruned ones included.
+/// What a session is asked to do. Positions count bits from 0, pruned ones included. A chunk has `N` bytes.
+///
+/// `Push`, `PushByte`, `PushChunk`, `Pop`, `Set`, `Prune`, `Commit` and `Abort` want a batch; `Len`, `PrunedChunks`, `Get`, `Chunk` and
+/// `Decode` may stand in one or outside; the others want that there is none. `Refusal` says what else a command is refused for.
 #[derive(Drop, Debug)]
 pub enum Command<const N: usize> {
     /// Starts anew: no bits behind so many pruned chunks, and no commits.
@@ -35,19 +38,19 @@ pub enum Command<const N: usize> {
     Get(u64),
     /// Replies the chunk of a position, of the same bitmap as `Len`. Its bits past the length are zero.
     Chunk(u64),
-    /// Replies the set positions of the current bitmap, ascending: those from the first number up to the second.
+    /// Replies the set positions of the current bitmap, ascending: those from the first number up to the second, that one not included.
     Ones(u64, u64),
     /// Replies the bytes that spell the current bitmap.
     Encode,
-    /// Replies the bitmap that was committed under the number.
+    /// Replies the bitmap that was committed under the number, or that none is kept.
     At(u64),
     /// Replies the set positions of the bitmap that was committed under the first number, as `Ones` does from the second
     /// up to the third.
     OnesAt(u64, u64, u64),
     /// Replies the bytes that spell the bitmap that was committed under the number.
     EncodeAt(u64),
-    /// Reads a bitmap from the front of the bytes, with so many retained bits as the range admits, and replies it. The
-    /// session's own bitmaps stay as they are.
+    /// Reads a bitmap from the front of the bytes, with so many retained bits as the range admits, and replies it and how
+    /// many bytes stand behind it. The session's own bitmaps stay as they are.
     Decode(Vec<u8>, RangeCfg),
     /// Replies the kept commit numbers, ascending.
     Commits,

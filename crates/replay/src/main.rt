@@ -23,11 +23,11 @@ fn read_words(rt: &HostRuntime) -> Result<Vec<String>, io::Error> {
 // The status where the words cannot be read: words that are not text are wrong arguments too.
 fn end_without_words(rt: &HostRuntime, error: io::Error) -> ExitCode {
     if error.kind() == io::ErrorKind::OutOfMemory {
-        let _ = rt.eprintln("replay: out of memory");
-        return ExitCode::from(3);
+        let _ = rt.eprintln(program::OUT_OF_MEMORY);
+        return ExitCode::from(program::FAILED);
     }
     let _ = rt.eprintln(program::USAGE);
-    ExitCode::from(2)
+    ExitCode::from(program::WRONG_INPUT)
 }
 
 fn main(rt: HostRuntime) -> ExitCode {
@@ -37,7 +37,7 @@ fn main(rt: HostRuntime) -> ExitCode {
     };
     let Some(width) = program::read_width(words.as_slice()) else {
         let _ = rt.eprintln(program::USAGE);
-        return ExitCode::from(2);
+        return ExitCode::from(program::WRONG_INPUT);
     };
     let script = File::open(&rt, words[1].as_str());
     let status = program::run_script(

@@ -96,7 +96,7 @@ fn write_reply<const N: usize, W: Write>(out: &mut W, reply: &Reply<N>) -> io::R
 }
 
 /// Prints one line for each reply, in order, through a buffer. Takes memory for the buffer alone; where there is none
-/// the error's kind is `OutOfMemory`.
+/// the error's kind is `OutOfMemory`, and nothing is printed. Any other error is the writer's.
 pub fn write_replies<const N: usize, W: Write>(
     alloc: Global,
     replies: &[Reply<N>],

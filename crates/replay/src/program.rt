@@ -16,6 +16,15 @@ use std::io::{Read, Write};
 /// What is said of wrong arguments.
 pub const USAGE: &str = "replay: usage: replay WIDTH SCRIPT, WIDTH one of 1, 3, 4, 8, 32";
 
+/// What is said where memory is refused outside a command.
+pub const OUT_OF_MEMORY: &str = "replay: out of memory";
+
+/// The exit status where the arguments are wrong, or a line is not a command.
+pub const WRONG_INPUT: u8 = 2;
+
+/// The exit status where a file cannot be read or written, or memory is refused outside a command.
+pub const FAILED: u8 = 3;
+
 // Why a script was not run, or its replies not printed.
 enum Fault {
     CannotRead,
@@ -47,7 +56,7 @@ fn write_fault(error: io::Error) -> Fault {
     }
 }
 
-/// The width in bytes a chunk, where there are exactly two words and the first is one of the five widths.
+/// The width in bytes a chunk, where there are exactly two words and the first is one of the five widths. No memory.
 pub fn read_width(args: &[String]) -> Option<u8>
     ensures width { IfSome result IsOfferedWidth }
     ensures words { OnSome result (length args.now ≡ 2) }
@@ -134,26 +143,30 @@ fn report<E: Write>(fault: Fault, err: &mut E) -> u8 {
     match fault {
         Fault::CannotRead => {
             let _ = writeln!(err, "replay: cannot read the script");
-            3
+            FAILED
         }
         Fault::NotACommand(index) => {
             let line = index as u128 + 1;
             let _ = writeln!(err, "replay: line {line} is not a command");
-            2
+            WRONG_INPUT
         }
         Fault::OutOfMemory => {
-            let _ = writeln!(err, "replay: out of memory");
-            3
+            let _ = writeln!(err, "{OUT_OF_MEMORY}");
+            FAILED
         }
         Fault::CannotWrite => {
             let _ = writeln!(err, "replay: cannot write");
-            3
+            FAILED
         }
     }
 }
 
 /// Runs the script that opening a file answered, with chunks of `width` bytes; prints the replies to `out`, or one
-/// line on what went wrong to `err`; and answers the exit status.
+/// line on what went wrong to `err`; and answers the exit status. The width is one of the five.
+///
+/// The status is 0 after a run, refused commands included; 2 where a line is no command; and 3 where the script cannot be
+/// read, `out` cannot be written, or memory is refused outside a command. With 2 nothing is run, nor with 3 before the run,
+/// and nothing is printed to `out`. Takes memory for the script, its commands, their replies and the buffers, and what the commands take.
 pub fn run_script<R: Read + Drop, W: Write, E: Write>(
     alloc: Global,
     width: u8,

@@ -149,10 +149,12 @@ impl<'a> Words<'a> {
     }
 }
 
-/// A line that names a command. The bytes to decode are still hexadecimal digits of the script.
+/// A line that names a command.
 #[derive(Drop)]
 pub enum Line<'a, const N: usize> {
+    /// Any command but `Decode`.
     Plain(Command<N>),
+    /// `Decode`: the bytes, still as pairs of hexadecimal digits of the script, and the range.
     Decode(&'a [[u8; 2]], RangeCfg),
 }
 
@@ -198,7 +200,7 @@ impl<'a, const N: usize> Line<'a, N> {
         Some(parsed)
     }
 
-    /// The command. Takes memory for the bytes to decode alone.
+    /// The command. Takes memory for the bytes to decode alone, and errs where that is refused.
     pub fn into_command(self, alloc: Global) -> Result<Command<N>, AllocError> {
         match self {
             Line::Plain(command) => Ok(command),
@@ -210,7 +212,7 @@ impl<'a, const N: usize> Line<'a, N> {
     }
 }
 
-/// Whether a line is to be skipped: an empty one, or a comment.
+/// Whether a line is to be skipped: an empty one, or a comment, which begins with `#`. No memory.
 pub fn is_skipped(line: &[u8]) -> bool {
     line.is_empty() || line[0] == b'#'
 }

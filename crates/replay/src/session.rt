@@ -69,7 +69,7 @@ impl<const N: usize> Model for Session<N> {
 }
 
 impl<const N: usize> Session<N> {
-    /// No batch, no bits, nothing pruned and no commits. `N` is at least 1, and `8N` fits `u64`. No memory.
+    /// A session with no batch, no bits, nothing pruned and no commits. `N` is at least 1, and `8N` fits `u64`. No memory.
     pub fn new(alloc: Global) -> Self
         requires width { IsWidth N }
         ensures { result ≡ first_machine }
@@ -100,8 +100,8 @@ impl<const N: usize> Session<N> {
     /// the session after. A refused command changes nothing, and only a command that the machine marks may find no
     /// memory. Nothing is asked but that the width may be used, which holds of every session.
     ///
-    /// Room for the replies is taken first: refused there, the session and the replies are as they were. A command
-    /// that finds no memory later is answered by `NoMemory`.
+    /// Room for the replies is taken first, from the allocator of `replies`: refused there it errs, no command has run, and the
+    /// session and the replies are as they were. A command that finds no memory later is answered by `NoMemory`.
     pub fn run(
         &mut self,
         commands: &[Command<N>],

@@ -26,10 +26,13 @@ use std::alloc::AllocError;
 use std::collections::BTreeMap;
 use std::marker::Model;
 
-/// A bitmap whose front may be pruned, with what was committed before, by number.
+/// A bitmap of `N`-byte chunks whose front may be pruned, with what was committed before, by number.
 ///
 /// The current bitmap is held whole. Of each older one a record is kept of what the commits after it changed.
 /// A `CleanBitMap` is read and begun, a `DirtyBitMap` is edited and committed.
+///
+/// Positions and lengths count bits, pruned ones too. A commit's number is above the last one, which is that last committed or gone back to,
+/// whether it is still kept or not; `u64::MAX` is no commit's number.
 #[derive(Debug, Drop)]
 pub struct BitMap<const N: usize, S: State = Clean> {
     current: Prunable<N>,
@@ -62,7 +65,7 @@ impl<const N: usize, S: State> Clone for BitMap<N, S> {
 
     /// An equal bitmap, with its commits and its pending edits.
     ///
-    /// Takes memory for the current bitmap, for the records and for the pending edits, and errs where that is refused.
+    /// Takes memory for the current bitmap, for the records and for the pending edits, and errs where that is refused. The bitmap stays as it is.
     fn clone(&self) -> Result<Self, AllocError> {
         Ok(BitMap {
             current: self.current.clone()?,

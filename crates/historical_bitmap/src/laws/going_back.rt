@@ -8,7 +8,8 @@ ghost use Rattle.historical_bitmap.specs.declared.bitmap.historical.error.Error.
 use crate::bitmap::historical::{CleanBitMap, DirtyBitMap, Error, RewindError};
 use bitmap_core::bitmap::Prunable;
 
-/// What is read under the number that was gone back to is the current bitmap, and what was kept under it before.
+/// What is read under the number that was gone back to is the current bitmap, and what was kept under it before. It errs as `rewind_to` does,
+/// and with `Memory` where that for the bitmap that is read is refused.
 pub fn number_read_again<const N: usize>(
     bitmap: CleanBitMap<N>,
     number: u64,

@@ -245,7 +245,7 @@ fn entries<const N: usize>(bitmap: &CleanBitMap<N>) -> Reply<N>
     Reply::Wide(bitmap.reverse_entries())
 }
 
-/// One command where there is no batch: the reply, and the state after it.
+/// One command where there is no batch: the reply, and the state after it. Refused, the state is as it was.
 pub fn step<const N: usize>(
     mut bitmap: CleanBitMap<N>,
     alloc: Global,

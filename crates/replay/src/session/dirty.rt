@@ -208,7 +208,7 @@ fn chunk<const N: usize>(bitmap: &DirtyBitMap<N>, position: u64) -> Reply<N>
     }
 }
 
-/// One command in a batch: the reply, and the state after it.
+/// One command in a batch: the reply, and the state after it. Refused, the state is as it was.
 pub fn step<const N: usize>(
     mut bitmap: DirtyBitMap<N>,
     alloc: Global,

@@ -14,7 +14,7 @@ use bitmap_core::bitmap::Prunable;
 use bitmap_core::bitmap::codec::{CodecError, RangeCfg, Read};
 use std::alloc::Global;
 
-// Whether a position is retained in a bitmap of so many bits, the first of them pruned.
+/// Whether a position is retained in a bitmap of so many bits, the first of them pruned: else why a command is refused. No memory.
 pub fn check_position(len: u64, pruned_bits: u64, position: u64) -> Result<(), Refusal>
     ensures why { option_map reason (result_err result)
         ≡ first (when (nat_le len position) answers.Refusal.OutOfBounds ∷ when (nat_lt position pruned_bits) answers.Refusal.Pruned ∷ []) }
@@ -29,7 +29,7 @@ pub fn check_position(len: u64, pruned_bits: u64, position: u64) -> Result<(), R
     Ok(())
 }
 
-// Reads a bitmap from a text.
+/// The reply to a read of a bitmap from the front of a text, its number of retained bits in the range. Takes memory for the bitmap.
 pub fn decode<const N: usize>(alloc: Global, text: &[u8], range: &RangeCfg) -> Reply<N>
     requires width { IsWidth N }
     ensures { IsDecoded N (admits range.now) text.now (said result) }

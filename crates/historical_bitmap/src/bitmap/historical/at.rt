@@ -75,7 +75,7 @@ fn first_kept<const N: usize>(
 impl<const N: usize> BitMap<N, Clean> {
     /// The bitmap that was committed under a number, to be read in place, where that commit is kept. `u64::MAX` is never kept.
     ///
-    /// No memory.
+    /// No memory. It finds what `get_at_commit` finds, and is never refused.
     ///
     /// How many bits of an old version are set in a range:
     ///

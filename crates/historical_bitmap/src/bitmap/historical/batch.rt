@@ -62,8 +62,8 @@ impl<const N: usize> BitMap<N, Clean> {
 
     /// Edits the bitmap by a closure, and commits it under a number where the closure answers `Ok`.
     ///
-    /// The closure takes `&mut DirtyBitMap<N>`. It is called once, on `into_dirty` of the value, and may put another dirty bitmap in its place.
-    /// What it leaves is committed, and the number is compared with the one last committed of that.
+    /// The closure takes `&mut DirtyBitMap<N>`. It is called once, on `into_dirty` of the value, which has to meet what it asks for,
+    /// and may put another dirty bitmap in its place. What it leaves is committed, and the number is compared with the last one of that.
     ///
     /// It errs with `Batch` and what the closure answered where that is an `Err`, else with `Commit` and why where the commit is refused.
     /// Then it hands back what `abort` of what the closure left gives.

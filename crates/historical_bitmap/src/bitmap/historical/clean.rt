@@ -23,7 +23,7 @@ impl<const N: usize> BitMap<N, Clean> {
         Self::without_commits(alloc, Prunable::new(alloc))
     }
 
-    /// The same as `new`, on the same conditions.
+    /// The same as `new`, on the same conditions. No memory.
     pub fn default(alloc: Global) -> Self
         requires width { IsWidth N }
         ensures { result ≡ record { current = record { pruned = 0; bits = [] }; commits = []; last = None; state = tt } }
@@ -31,9 +31,9 @@ impl<const N: usize> BitMap<N, Clean> {
         Self::new(alloc)
     }
 
-    /// A bitmap whose first `pruned_chunks` chunks are pruned, with no bit behind them and no commits. Its length is `8N` times their number.
+    /// A bitmap whose first `pruned_chunks` chunks are pruned, with no bit behind them and no commits. Its length in bits is `8N` times their number.
     ///
-    /// It errs with `PrunedChunksOverflow` exactly where that passes `u64`. `N` is at least 1, and `8N` fits `u64`. No memory.
+    /// It errs with `PrunedChunksOverflow` exactly where that passes `u64`, and with nothing else. `N` is at least 1, and `8N` fits `u64`. No memory.
     pub fn new_with_pruned_chunks(alloc: Global, pruned_chunks: usize) -> Result<Self, Error>
         requires width { IsWidth N }
         ensures ok { IfOk result (λ b. b ≡ record { current = record { pruned = pruned_chunks; bits = [] }; commits = []; last = None; state = tt }) }
@@ -76,7 +76,7 @@ impl<const N: usize> BitMap<N, Clean> {
         &self.current
     }
 
-    /// The number of bits of the current bitmap, pruned ones counted. No memory.
+    /// The length of the current bitmap in bits, pruned ones counted. No memory.
     pub fn len(&self) -> u64
         ensures value { result ≡ bit_len N self.now.current }
         ensures width { IsWidth N }
@@ -99,7 +99,7 @@ impl<const N: usize> BitMap<N, Clean> {
         self.current.pruned_chunks()
     }
 
-    /// The bit of the current bitmap at a retained position. No memory.
+    /// The bit of the current bitmap at an absolute position, which is retained. No memory.
     pub fn get_bit(&self, bit: u64) -> bool
         requires { HasBit N self.now.current bit }
         ensures { result ≡ bit_at N self.now.current bit }
@@ -107,7 +107,9 @@ impl<const N: usize> BitMap<N, Clean> {
         self.current.get_bit(bit)
     }
 
-    /// The chunk of a retained position of the current bitmap. Its bits past the length are zero. No memory.
+    /// The bytes of the chunk of the current bitmap that contains an absolute position, which is retained.
+    ///
+    /// Its bits past the length are zero. No memory.
     pub fn get_chunk_containing(&self, bit: u64) -> &[u8; N]
         requires { HasBit N self.now.current bit }
         ensures { result.now ≡ chunk N self.now.current (bit / (8 * N)) }

@@ -51,7 +51,7 @@ impl<'a, V> Iterator for Numbers<'a, V> {
     }
 }
 
-/// The numbers of the kept commits of a historical bitmap, ascending.
+/// The numbers of the kept commits of a historical bitmap, ascending, each once. Going through them takes no memory, and ends.
 pub type Commits<'a, const N: usize> = Numbers<'a, CommitDiff<N>>;
 
 // Undoes the records past a number, the newest first.
@@ -134,7 +134,7 @@ impl<const N: usize> BitMap<N, Clean> {
         }
     }
 
-    /// The numbers of the kept commits, ascending. No memory.
+    /// The numbers of the kept commits, ascending, each once. No memory.
     pub fn commits(&self) -> Commits<'_, N>
         ensures items { result ≡ keys_of (history_of N self.now) }
         ensures ascending { RiseInNumber (history_of N self.now) }
@@ -167,8 +167,8 @@ impl<const N: usize> BitMap<N, Clean> {
     ///
     /// The other commits stay as they are.
     ///
-    /// It errs with `NoSuchCommit` exactly where the number is not kept, as `u64::MAX` never is, else with `Memory` where memory is refused,
-    /// and hands back the value as it was.
+    /// It errs with `NoSuchCommit` exactly where the number is not kept, as `u64::MAX` never is, else with `Memory` where memory is refused.
+    /// Refused, it hands back the value as it was.
     ///
     /// Takes memory for a bitmap where the number is kept, and none elsewhere.
     ///
@@ -231,7 +231,9 @@ impl<const N: usize> BitMap<N, Clean> {
         self.commits.clear();
     }
 
-    /// The number of entries of all kept records together. A record has one for each chunk that its commit touched, or fewer, and at most one more. No memory.
+    /// The number of entries of all kept records together, each with the old bytes of one chunk at most. No memory.
+    ///
+    /// A record has an entry for each chunk that its commit touched, or fewer, and at most one more.
     pub fn reverse_entries(&self) -> u128
         ensures { result ≡ sum_by (λ kept. kept.1) (costs_of self.now) }
     {

@@ -42,7 +42,7 @@ impl<const N: usize> BitMap<N, Dirty<N>> {
         self.state.len()
     }
 
-    /// Whether the length with the pending edits is zero. No memory.
+    /// Whether the length with the pending edits is 0. One with pruned bits is not empty. No memory.
     pub fn is_empty(&self) -> bool
         ensures { result ≡ (bit_len N (pending_of N self.now) == 0) }
     {
@@ -133,7 +133,7 @@ impl<const N: usize> BitMap<N, Dirty<N>> {
         self.state.prune(&self.current, chunk_index::<N>(bit))
     }
 
-    /// Drops the last bit and answers it. There is a retained one with the pending edits. No memory.
+    /// Drops the last bit and answers it. Some bit is retained with the pending edits. No memory.
     pub fn pop(&mut self) -> bool
         requires { 0 < length (pending_of N self.old).bits }
         ensures value { result ≡ last_bit (pending_of N self.old) }
@@ -160,12 +160,13 @@ impl<const N: usize> BitMap<N, Dirty<N>> {
         }
     }
 
-    /// Makes the pending edits current, and keeps the bitmap so made under a number.
+    /// Makes the pending edits current, and keeps the bitmap so made under a number. The other commits stay as they are.
     ///
     /// It errs with `ReservedCommitNumber` where that is `u64::MAX`, else with `NonMonotonicCommit` where it is not above the number
-    /// last committed, else with `Memory` where memory is refused, and hands back the value as it was.
+    /// last committed or gone back to, else with `Memory` where memory is refused. Refused, it hands back the value as it was.
     ///
-    /// Takes memory for the record of the commit and for the chunks by which the bitmap is longer.
+    /// Takes memory for the record of the commit, for the chunks by which the bitmap is longer, and for the place of the commit among the others.
+    /// The record has an entry for each chunk that the edits name, or fewer, and at most one more, where they have popped down to whole chunks.
     pub fn commit(mut self, number: u64) -> Result<CleanBitMap<N>, (DirtyBitMap<N>, Error)>
         ensures accepted { OnOk result (refusal_of self.entry.last number ≡ None) }
         ensures refused { IfErr result (λ e. e.1 ≡ unwrap_or (refusal_of self.entry.last number) (Memory alloc_error)) }
@@ -268,7 +269,7 @@ impl<const N: usize> BitMap<N, Dirty<N>> {
         Ok(Lent::new(self))
     }
 
-    /// Prunes the chunks before the one of an absolute position, which is at most the length.
+    /// Prunes the chunks before the one of an absolute position, which is at most the length with the pending edits. It drops nothing where they are pruned already.
     ///
     /// Takes memory for their old bytes, and errs where that is refused; none where it drops no chunk. Refused, the bitmap is as it was.
     pub fn prune_to_bit(&mut self, bit: u64) -> Result<Edit<'_, N>, AllocError>

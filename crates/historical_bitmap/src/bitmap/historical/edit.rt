@@ -28,6 +28,8 @@ impl<'a, T> Lent<'a, T> {
 }
 
 /// What an edit of a dirty bitmap answers: the bitmap, for the next edit. Each of its calls is that of the bitmap.
+///
+/// Where one is refused, the edits before it stand. The bitmap itself is reached by `on`.
 pub type Edit<'a, const N: usize> = Lent<'a, BitMap<N, Dirty<N>>>;
 
 impl<'a, const N: usize> Edit<'a, N> {
@@ -36,7 +38,7 @@ impl<'a, const N: usize> Edit<'a, N> {
     ghost use Rattle.historical_bitmap.specs.contracts.bitmap.historical.BitMap.{the_row};
     ghost use Rattle.historical_bitmap.specs.contracts.bitmap.historical.pending.Dirty as dirty_type;
 
-    /// As `set_bit` of the bitmap.
+    /// As `set_bit` of the bitmap: on the same condition, for the same memory. Refused, the bitmap is as it was before this call.
     pub fn set_bit(self, bit: u64, value: bool) -> Result<Edit<'a, N>, AllocError>
         requires { HasBit N (pending_of N self.on.now) bit }
         ensures* refused { sem 𝓛 (RestsIfErr (the_row (param 0 (number N)) (dirty_type.the_row (param 0 (number N))) ⟦<Dirty<N> as State>⟧) self.entry.on (λ e. e.on.ghost_name) result (λ left. left ≡ self.entry.on.now)) }
@@ -49,7 +51,7 @@ impl<'a, const N: usize> Edit<'a, N> {
         on.set_bit(bit, value)
     }
 
-    /// As `push` of the bitmap.
+    /// As `push` of the bitmap: on the same condition, for the same memory. Refused, the bitmap is as it was before this call.
     pub fn push(self, value: bool) -> Result<Edit<'a, N>, AllocError>
         requires { bit_len N (pending_of N self.on.now) + 1 < 2 ^ 64 }
         ensures* refused { sem 𝓛 (RestsIfErr (the_row (param 0 (number N)) (dirty_type.the_row (param 0 (number N))) ⟦<Dirty<N> as State>⟧) self.entry.on (λ e. e.on.ghost_name) result (λ left. left ≡ self.entry.on.now)) }
@@ -62,7 +64,7 @@ impl<'a, const N: usize> Edit<'a, N> {
         on.push(value)
     }
 
-    /// As `push_byte` of the bitmap.
+    /// As `push_byte` of the bitmap: on the same condition, for the same memory. Refused, the bitmap is as it was before this call.
     pub fn push_byte(self, byte: u8) -> Result<Edit<'a, N>, AllocError>
         requires { bit_len N (pending_of N self.on.now) + 8 < 2 ^ 64 }
         ensures* refused { sem 𝓛 (RestsIfErr (the_row (param 0 (number N)) (dirty_type.the_row (param 0 (number N))) ⟦<Dirty<N> as State>⟧) self.entry.on (λ e. e.on.ghost_name) result (λ left. left ≡ self.entry.on.now)) }
@@ -75,7 +77,7 @@ impl<'a, const N: usize> Edit<'a, N> {
         on.push_byte(byte)
     }
 
-    /// As `push_chunk` of the bitmap.
+    /// As `push_chunk` of the bitmap: on the same condition, for the same memory. Refused, the bitmap is as it was before this call.
     pub fn push_chunk(self, chunk: &[u8; N]) -> Result<Edit<'a, N>, AllocError>
         requires { bit_len N (pending_of N self.on.now) + 8 * N < 2 ^ 64 }
         ensures* refused { sem 𝓛 (RestsIfErr (the_row (param 0 (number N)) (dirty_type.the_row (param 0 (number N))) ⟦<Dirty<N> as State>⟧) self.entry.on (λ e. e.on.ghost_name) result (λ left. left ≡ self.entry.on.now)) }
@@ -87,7 +89,7 @@ impl<'a, const N: usize> Edit<'a, N> {
         on.push_chunk(chunk)
     }
 
-    /// As `prune_to_bit` of the bitmap.
+    /// As `prune_to_bit` of the bitmap: on the same condition, for the same memory. Refused, the bitmap is as it was before this call.
     pub fn prune_to_bit(self, bit: u64) -> Result<Edit<'a, N>, AllocError>
         requires { bit ≤ bit_len N (pending_of N self.on.now) }
         ensures* refused { sem 𝓛 (RestsIfErr (the_row (param 0 (number N)) (dirty_type.the_row (param 0 (number N))) ⟦<Dirty<N> as State>⟧) self.entry.on (λ e. e.on.ghost_name) result (λ left. left ≡ self.entry.on.now)) }

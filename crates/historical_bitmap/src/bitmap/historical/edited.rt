@@ -46,6 +46,7 @@ pub(crate) fn known<const N: usize>(chunk: &[u8; N])
     fit(chunk);
 }
 
+// What the type of a byte says of each: it is below 256.
 fn fit(bytes: &[u8])
     ensures { (k : ℕ) → slice_index bytes.now k < 256 }
 {}
@@ -74,18 +75,18 @@ fn cut<const N: usize>(bytes: &mut [u8; N], from: u64)
     known(bytes);
 }
 
-// Chunk i of the current bitmap, with the bits from `len` on cleared.
-pub(crate) fn first_chunk<const N: usize>(current: &Prunable<N>, len: u64, i: usize) -> [u8; N]
-    requires from { current.now.pruned ≤ i }
-    requires fits { 8 * N * i < 2 ^ 64 }
-    ensures value { result ≡ chunk N (truncated N current.now len) i }
+// The chunk of the current bitmap at an index, with the bits from `len` on cleared.
+pub(crate) fn first_chunk<const N: usize>(current: &Prunable<N>, len: u64, index: usize) -> [u8; N]
+    requires from { current.now.pruned ≤ index }
+    requires fits { 8 * N * index < 2 ^ 64 }
+    ensures value { result ≡ chunk N (truncated N current.now len) index }
     ensures known { IsChunk N result }
 {
     let total = current.len();
-    let start = chunk_width::<N>() * i as u64;
+    let start = chunk_width::<N>() * index as u64;
     let mut bytes = [0; N];
     if start < total {
-        bytes = *current.get_chunk(i);
+        bytes = *current.get_chunk(index);
     }
     cut(&mut bytes, len.saturating_sub(start));
     bytes

@@ -4,19 +4,19 @@ use bitmap_core::bitmap::prunable;
 use std::alloc::AllocError;
 use thiserror::Error as ErrorDerive;
 
-/// Why a historical bitmap was not made or not committed.
+/// Why a historical bitmap was not made, which is `PrunedChunksOverflow`, or not committed, which is any other.
 #[derive(Clone, Copy, Debug, PartialEq, Eq, ErrorDerive)]
 pub enum Error {
-    /// The number is not above the one last committed.
+    /// The number is not above the last one.
     #[error("commit number ({attempted}) is not above the previous one ({previous})")]
     NonMonotonicCommit {
-        /// The number last committed.
+        /// The number last committed or gone back to, whether it is still kept or not.
         previous: u64,
         /// The number that was refused.
         attempted: u64,
     },
 
-    /// `u64::MAX` is no commit number.
+    /// The number is `u64::MAX`, which is no commit's number.
     #[error("the commit number u64::MAX is reserved")]
     ReservedCommitNumber,
 
@@ -66,9 +66,9 @@ impl From<prunable::Error> for Error {
 /// Why a batch was not applied.
 #[derive(Debug, Drop)]
 pub enum ApplyError<E> {
-    /// What its closure answered.
+    /// Its closure answered an `Err`, of this.
     Batch(E),
 
-    /// Its commit was refused.
+    /// Its commit was refused, for this.
     Commit(Error),
 }

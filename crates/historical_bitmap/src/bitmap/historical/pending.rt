@@ -45,43 +45,43 @@ impl<const N: usize> Model for Dirty<N> {
     ghost invariant = { λ d. IsWidth N };
 }
 
-// The bytes of chunk i with the edits.
+// The bytes of a chunk with the edits.
 fn chunk_with<const N: usize>(
     edited: &EditedChunks<N>,
     current: &Prunable<N>,
     len: u64,
-    i: usize,
+    index: usize,
 ) -> [u8; N]
-    requires from { current.now.pruned ≤ i }
-    requires fits { 8 * N * i < 2 ^ 64 }
-    ensures value { result ≡ unwrap_or (lookup (nat_eq i) edited.now) (chunk N (truncated N current.now len) i) }
+    requires from { current.now.pruned ≤ index }
+    requires fits { 8 * N * index < 2 ^ 64 }
+    ensures value { result ≡ unwrap_or (lookup (nat_eq index) edited.now) (chunk N (truncated N current.now len) index) }
     ensures known { IsChunk N result }
 {
-    match edited.get(i) {
+    match edited.get(index) {
         Some(bytes) => {
             known(bytes);
             *bytes
         }
-        None => first_chunk(current, len, i),
+        None => first_chunk(current, len, index),
     }
 }
 
-// The bytes that a prune captures of chunk i.
+// The bytes that a prune captures of a chunk.
 fn chunk_before<const N: usize>(
     edited: &EditedChunks<N>,
     current: &Prunable<N>,
     len: u64,
-    i: usize,
+    index: usize,
 ) -> [u8; N]
-    requires from { current.now.pruned ≤ i }
-    requires fits { 8 * N * i < 2 ^ 64 }
-    ensures { result ≡ old_chunk N current.now (record { len = len; pruned = 0; edited = edited.now; captured = [] }) i }
+    requires from { current.now.pruned ≤ index }
+    requires fits { 8 * N * index < 2 ^ 64 }
+    ensures { result ≡ old_chunk N current.now (record { len = len; pruned = 0; edited = edited.now; captured = [] }) index }
 {
     let total = current.len();
-    if chunk_width::<N>() * (i as u64) < total {
-        *current.get_chunk(i)
+    if chunk_width::<N>() * (index as u64) < total {
+        *current.get_chunk(index)
     } else {
-        chunk_with(edited, current, len, i)
+        chunk_with(edited, current, len, index)
     }
 }
 
@@ -101,8 +101,8 @@ fn capture<const N: usize>(
     ensures { captured.new.items ≡ captured.old.items ++ map (old_chunk N current.now (record { len = len; pruned = 0; edited = edited.now; captured = [] })) (from_to from to) }
 {
     let _ = current.len();
-    for i in from..to {
-        captured.push_reserved(chunk_before(edited, current, len, i));
+    for index in from..to {
+        captured.push_reserved(chunk_before(edited, current, len, index));
     }
 }
 
@@ -141,43 +141,43 @@ impl<const N: usize> Dirty<N> {
         self.alloc
     }
 
-    // The bytes of chunk i with the edits.
-    pub(crate) fn chunk(&self, current: &Prunable<N>, i: usize) -> [u8; N]
-        requires from { current.now.pruned ≤ i }
-        requires fits { 8 * N * i < 2 ^ 64 }
-        ensures value { result ≡ pending_chunk N current.now self.now i }
+    // The bytes of a chunk with the edits.
+    pub(crate) fn chunk(&self, current: &Prunable<N>, index: usize) -> [u8; N]
+        requires from { current.now.pruned ≤ index }
+        requires fits { 8 * N * index < 2 ^ 64 }
+        ensures value { result ≡ pending_chunk N current.now self.now index }
         ensures known { IsChunk N result }
     {
-        chunk_with(&self.edited, current, self.len, i)
+        chunk_with(&self.edited, current, self.len, index)
     }
 
     // The bit at a position that the edits leave retained.
-    pub(crate) fn get_bit(&self, current: &Prunable<N>, k: u64) -> bool
+    pub(crate) fn get_bit(&self, current: &Prunable<N>, bit: u64) -> bool
         requires layer { LayerFits N current.now self.now }
-        requires retained { HasBit N (pending_bits N current.now self.now) k }
-        ensures { result ≡ bit_at N (pending_bits N current.now self.now) k }
+        requires retained { HasBit N (pending_bits N current.now self.now) bit }
+        ensures { result ≡ bit_at N (pending_bits N current.now self.now) bit }
     {
-        match self.edited.get(chunk_index::<N>(k)) {
-            Some(bytes) => get_bit(bytes, k),
-            None => current.get_bit(k),
+        match self.edited.get(chunk_index::<N>(bit)) {
+            Some(bytes) => get_bit(bytes, bit),
+            None => current.get_bit(bit),
         }
     }
 
-    // Writes bit k in its chunk. Where that is edited it takes no memory, and succeeds.
+    // Writes a bit in its chunk. Where that is edited it takes no memory, and succeeds.
     pub(crate) fn write(
         &mut self,
         current: &Prunable<N>,
-        k: u64,
+        bit: u64,
         value: bool,
     ) -> Result<(), AllocError>
-        requires low { pruned_bits N current.now ≤ k }
-        ensures ok { OnOk result (Writes N current.now self.old k value self.old.len self.new) }
+        requires low { pruned_bits N current.now ≤ bit }
+        ensures ok { OnOk result (Writes N current.now self.old bit value self.old.len self.new) }
         ensures err { OnErr result (self.new ≡ self.old) }
-        ensures edited { IsSome (edited_chunk self.old (k / (8 * N))) → IsOk result }
+        ensures edited { IsSome (edited_chunk self.old (bit / (8 * N))) → IsOk result }
     {
         let len = self.len;
-        let i = chunk_index::<N>(k);
-        self.edited.write_bit(current, len, i, k, value)?;
+        let index = chunk_index::<N>(bit);
+        self.edited.write_bit(current, len, index, bit, value)?;
         Ok(())
     }
 
@@ -203,39 +203,39 @@ impl<const N: usize> Dirty<N> {
         ensures bit { result ≡ option_map (λ bytes. chunk_bit N bytes (self.old.len - 1)) (edited_chunk self.old ((self.old.len - 1) / (8 * N))) }
     {
         let last = self.len - 1;
-        let i = chunk_index::<N>(last);
+        let index = chunk_index::<N>(last);
         self.len = last;
         if last % chunk_width::<N>() == 0 {
-            return match self.edited.remove(i) {
+            return match self.edited.remove(index) {
                 Some(bytes) => Some(get_bit(&bytes, last)),
                 None => None,
             };
         }
-        self.edited.replace_bit(i, last, false)
+        self.edited.replace_bit(index, last, false)
     }
 
-    // Prunes the chunks before chunk q, and keeps their old bytes: of all of them or, refused, of none.
-    pub(crate) fn prune(&mut self, current: &Prunable<N>, q: usize) -> Result<(), AllocError>
+    // Prunes the chunks before chunk `end`, and keeps their old bytes: of all of them or, refused, of none.
+    pub(crate) fn prune(&mut self, current: &Prunable<N>, end: usize) -> Result<(), AllocError>
         requires from { current.now.pruned ≤ self.old.pruned }
-        requires fits { 8 * N * q < 2 ^ 64 }
-        ensures ok { OnOk result (Prunes N current.now self.old q self.new) }
+        requires fits { 8 * N * end < 2 ^ 64 }
+        ensures ok { OnOk result (Prunes N current.now self.old end self.new) }
         ensures err { OnErr result (self.new ≡ self.old) }
-        ensures nothing { q ≤ self.old.pruned → IsOk result }
+        ensures nothing { end ≤ self.old.pruned → IsOk result }
     {
         let first = self.pruned;
-        if q <= first {
+        if end <= first {
             return Ok(());
         }
-        self.captured.reserve(q - first)?;
+        self.captured.reserve(end - first)?;
         capture(
             &mut self.captured,
             &self.edited,
             current,
             self.len,
             first,
-            q,
+            end,
         );
-        self.pruned = q;
+        self.pruned = end;
         Ok(())
     }
 
@@ -338,7 +338,7 @@ impl<const N: usize> Dirty<N> {
             let at = from.max(chunk_index::<N>(self.len()));
             if at <= chunk_index::<N>(total - 1) {
                 return match edited {
-                    Some(i) if i < at => Some(i),
+                    Some(index) if index < at => Some(index),
                     _ => Some(at),
                 };
             }
@@ -347,20 +347,20 @@ impl<const N: usize> Dirty<N> {
     }
 
     // What a commit does to a chunk that the edits name, with its old bytes.
-    pub(crate) fn diff(&self, current: &Prunable<N>, i: usize) -> ChunkDiff<N>
-        requires low { current.now.pruned ≤ i }
+    pub(crate) fn diff(&self, current: &Prunable<N>, index: usize) -> ChunkDiff<N>
+        requires low { current.now.pruned ≤ index }
         requires count { length self.now.captured ≡ self.now.pruned - current.now.pruned }
-        requires fits { 8 * N * i < 2 ^ 64 }
-        ensures { diff_value result ≡ diff_of N current.now self.now i }
+        requires fits { 8 * N * index < 2 ^ 64 }
+        ensures { diff_value result ≡ diff_of N current.now self.now index }
     {
-        if i < self.pruned {
-            return ChunkDiff::Pruned(self.captured[i - current.pruned_chunks()]);
+        if index < self.pruned {
+            return ChunkDiff::Pruned(self.captured[index - current.pruned_chunks()]);
         }
-        let start = chunk_width::<N>() * i as u64;
+        let start = chunk_width::<N>() * index as u64;
         if start >= current.len() {
             return ChunkDiff::Added;
         }
-        let old = *current.get_chunk(i);
+        let old = *current.get_chunk(index);
         if start < self.len {
             ChunkDiff::Modified(old)
         } else {
@@ -384,9 +384,9 @@ impl<const N: usize> Dirty<N> {
         let total = current.len();
         let mut from = current.pruned_chunks();
         let mut record = CommitDiff::new(alloc, total, from);
-        while let Some(i) = self.next_marked(current, from) {
-            record.push(i, self.diff(current, i))?;
-            from = i + 1;
+        while let Some(index) = self.next_marked(current, from) {
+            record.push(index, self.diff(current, index))?;
+            from = index + 1;
         }
         Ok(record)
     }

@@ -25,7 +25,7 @@ pub(crate) enum ChunkDiff<const N: usize> {
     Pruned([u8; N]),
 }
 
-// The length and the number of pruned chunks before a commit, and what it did to chunks, strictly ascending by index.
+/// The length in bits and the number of pruned chunks before a commit, and what it did to chunks, strictly ascending by index.
 #[derive(Debug, Drop)]
 pub struct CommitDiff<const N: usize> {
     len: u64,

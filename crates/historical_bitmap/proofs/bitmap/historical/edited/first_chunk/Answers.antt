@@ -11,10 +11,10 @@ returns-clause-value g c =
     let n = g.row.N in
     let b = c.args.current.now in
     let pos = c.len-total.ensures.width.positive in
-    let start : c.chunk_width.result * c.args.i ≡ 8 * g.row.N * c.args.i = ap (λ (w : ℕ). w * c.args.i) c.chunk_width.ensures in
-    let past : c.len-total.result ≤ c.chunk_width.result * c.args.i → bit_len g.row.N c.args.current.now ≤ 8 * g.row.N * c.args.i = λ h. omega (arith, h, start, c.len-total.ensures.value) in
-    let same : (k : ℕ) → k / (8 * g.row.N) ≡ c.args.i → chunk_bit g.row.N c.if-start-total.bytes k ≡ bit_at g.row.N c.args.current.now k = elim c.if-start-total.branch [
+    let start : c.chunk_width.result * c.args.index ≡ 8 * g.row.N * c.args.index = ap (λ (w : ℕ). w * c.args.index) c.chunk_width.ensures in
+    let past : c.len-total.result ≤ c.chunk_width.result * c.args.index → bit_len g.row.N c.args.current.now ≤ 8 * g.row.N * c.args.index = λ h. omega (arith, h, start, c.len-total.ensures.value) in
+    let same : (k : ℕ) → k / (8 * g.row.N) ≡ c.args.index → chunk_bit g.row.N c.if-start-total.bytes k ≡ bit_at g.row.N c.args.current.now k = elim c.if-start-total.branch [
       | then-start-total w ↦ λ k e. rw (w.bytes-is, w.get_chunk.ensures, sym e) (bit_in_chunk n b k pos)
-      | else-start-total w ↦ λ k e. rw w.bytes-is (zeros_past n b c.args.i k pos (past w.if-start-total.false) e)
+      | else-start-total w ↦ λ k e. rw w.bytes-is (zeros_past n b c.args.index k pos (past w.if-start-total.false) e)
     ] in
-    cut_is n b c.args.len c.args.i c.if-start-total.bytes c.cut.new.bytes pos c.requires.from c.cut.ensures.known (rw (c.saturating_sub.ensures, c.chunk_width.ensures) at c.cut.ensures.bits) same
+    cut_is n b c.args.len c.args.index c.if-start-total.bytes c.cut.new.bytes pos c.requires.from c.cut.ensures.known (rw (c.saturating_sub.ensures, c.chunk_width.ensures) at c.cut.ensures.bits) same

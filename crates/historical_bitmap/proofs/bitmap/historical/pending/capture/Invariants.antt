@@ -4,9 +4,9 @@ use Rattle.historical_bitmap.specs.Edits.{from_to}
 use Rattle.historical_bitmap.specs.Pending.{old_chunk}
 use Rattle.historical_bitmap.proofs.bitmap.historical.pending.capture.Given as goal
 
-abbrev pub invariant-loop-i : goal.invariant-loop-i
-invariant-loop-i g l = record {
-  items : l.captured.items ≡ l.fn.captured.items ++ map (old_chunk g.row.N l.fn.current (record { len = l.fn.len; pruned = 0; edited = l.fn.edited; captured = [] })) (from_to l.fn.from l.i);
-  len : vec_len l.captured ≡ vec_len l.fn.captured + (l.i - l.fn.from);
+abbrev pub invariant-loop-index : goal.invariant-loop-index
+invariant-loop-index g l = record {
+  items : l.captured.items ≡ l.fn.captured.items ++ map (old_chunk g.row.N l.fn.current (record { len = l.fn.len; pruned = 0; edited = l.fn.edited; captured = [] })) (from_to l.fn.from l.index);
+  len : vec_len l.captured ≡ vec_len l.fn.captured + (l.index - l.fn.from);
   capacity : vec_capacity l.captured ≡ vec_capacity l.fn.captured;
 }

@@ -22,13 +22,13 @@ returns-else-at-chunk_index g c =
 pub returns-in-Some : goal.returns-in-Some
 returns-in-Some g c =
     let at : c.max-at.result ≡ max c.args.from (c.args.self.now.len / (8 * g.row.N)) = c.max-at.ensures ∙ rw (c.chunk_index.ensures, c.len-then-len-total.ensures.value) refl in
-    next_edited_first g.row.N c.args.current.now c.args.self.now c.len-total.ensures.width.positive c.args.from (omega (arith, c.if-from-pruned_chunks.false, c.pruned_chunks.ensures.value)) c.in-Some.i c.in-Some.ensures (omega (arith, at, c.if-i-at.true))
+    next_edited_first g.row.N c.args.current.now c.args.self.now c.len-total.ensures.width.positive c.args.from (omega (arith, c.if-from-pruned_chunks.false, c.pruned_chunks.ensures.value)) c.in-Some.index c.in-Some.ensures (omega (arith, at, c.if-index-at.true))
 
 pub returns-in_default : goal.returns-in_default
 returns-in_default g c =
     let at : c.max-at.result ≡ max c.args.from (c.args.self.now.len / (8 * g.row.N)) = c.max-at.ensures ∙ rw (c.chunk_index.ensures, c.len-then-len-total.ensures.value) refl in
     let last : c.chunk_index-then-len-total.result ≡ (bit_len g.row.N c.args.current.now - 1) / (8 * g.row.N) = c.chunk_index-then-len-total.ensures ∙ ap (λ (x : ℕ). (x - 1) / (8 * g.row.N)) c.len-total.ensures.value in
-    rw at (next_cut g.row.N c.args.current.now c.args.self.now c.len-total.ensures.width.positive c.args.from (omega (arith, c.if-from-pruned_chunks.false, c.pruned_chunks.ensures.value)) (omega (arith, c.if-len-total.true, c.len.ensures.value, c.len-total.ensures.value)) (omega (arith, at, last, c.if-at-chunk_index.true)) (λ j f s. c.in-Some.ensures.2 j f (omega (arith, s, at, c.if-i-at.false))))
+    rw at (next_cut g.row.N c.args.current.now c.args.self.now c.len-total.ensures.width.positive c.args.from (omega (arith, c.if-from-pruned_chunks.false, c.pruned_chunks.ensures.value)) (omega (arith, c.if-len-total.true, c.len.ensures.value, c.len-total.ensures.value)) (omega (arith, at, last, c.if-at-chunk_index.true)) (λ j f s. c.in-Some.ensures.2 j f (omega (arith, s, at, c.if-index-at.false))))
 
 pub returns-in_default-2 : goal.returns-in_default-2
 returns-in_default-2 g c =

@@ -4,8 +4,8 @@ use Rattle.historical_bitmap.proofs.PendingMarks.{marked_below}
 use Rattle.historical_bitmap.proofs.PendingRecords.{builds_none, builds_more, builds_all, layer_leads_back, layer_can_undo, layer_bound}
 use Rattle.historical_bitmap.proofs.bitmap.historical.pending.Dirty.record.Goals as goal
 
-pub loop-i-init : goal.loop-i-init
-loop-i-init g c = rw (c.new-record.ensures, c.pruned_chunks-from.ensures) (record {
+pub loop-index-init : goal.loop-index-init
+loop-index-init g c = rw (c.new-record.ensures, c.pruned_chunks-from.ensures) (record {
   len = c.len-total.ensures.value;
   pruned = refl;
   low = omega arith;
@@ -14,36 +14,36 @@ loop-i-init g c = rw (c.new-record.ensures, c.pruned_chunks-from.ensures) (recor
 
 pub diff-requires : goal.diff-requires
 diff-requires g c =
-    let h = marked_below g.row.N c.args.current.now c.args.self.now c.in-Some.i c.len.ensures.width.positive c.requires.layer c.in-Some.ensures.1 in
-    let low : c.args.current.now.pruned ≤ c.in-Some.i = omega (arith, c.in-Some.ensures.0, c.loop-i.invariant.low) in
-    let fits : 8 * g.row.N * c.in-Some.i < 2 ^ 64 = omega (arith, h, c.len-total.ensures.bound, c.len.ensures.bound) in
+    let h = marked_below g.row.N c.args.current.now c.args.self.now c.in-Some.index c.len.ensures.width.positive c.requires.layer c.in-Some.ensures.1 in
+    let low : c.args.current.now.pruned ≤ c.in-Some.index = omega (arith, c.in-Some.ensures.0, c.loop-index.invariant.low) in
+    let fits : 8 * g.row.N * c.in-Some.index < 2 ^ 64 = omega (arith, h, c.len-total.ensures.bound, c.len.ensures.bound) in
     (omega arith, (omega arith, (omega (arith, c.len.ensures.width.fits), (low, (c.requires.layer.count, fits)))))
 
 pub overflow_add-from : goal.overflow_add-from
 overflow_add-from g c =
-    let h = marked_below g.row.N c.args.current.now c.args.self.now c.in-Some.i c.len.ensures.width.positive c.requires.layer c.in-Some.ensures.1 in
-    let less = mul-le 8 c.in-Some.i (8 * g.row.N) c.in-Some.i (omega (arith, c.len.ensures.width.positive)) (omega arith) in
+    let h = marked_below g.row.N c.args.current.now c.args.self.now c.in-Some.index c.len.ensures.width.positive c.requires.layer c.in-Some.ensures.1 in
+    let less = mul-le 8 c.in-Some.index (8 * g.row.N) c.in-Some.index (omega (arith, c.len.ensures.width.positive)) (omega arith) in
     omega (arith, h, less, c.len-total.ensures.bound, c.len.ensures.bound)
 
-pub loop-i-preserved : goal.loop-i-preserved
-loop-i-preserved g c = rw c.in_ok-push.ensures.ok (record {
-  len = c.loop-i.invariant.len;
-  pruned = c.loop-i.invariant.pruned;
-  low = omega (arith, c.in-Some.ensures.0, c.loop-i.invariant.low);
-  builds = builds_more g.row.N c.args.current.now c.args.self.now c.loop-i.from c.in-Some.i c.loop-i.record.entries _ c.loop-i.invariant.builds c.in-Some.ensures.0 c.in-Some.ensures.1 c.in-Some.ensures.2 (ap (λ d. c.loop-i.record.entries ++ (c.in-Some.i, d) ∷ []) c.diff.ensures);
+pub loop-index-preserved : goal.loop-index-preserved
+loop-index-preserved g c = rw c.in_ok-push.ensures.ok (record {
+  len = c.loop-index.invariant.len;
+  pruned = c.loop-index.invariant.pruned;
+  low = omega (arith, c.in-Some.ensures.0, c.loop-index.invariant.low);
+  builds = builds_more g.row.N c.args.current.now c.args.self.now c.loop-index.from c.in-Some.index c.loop-index.record.entries _ c.loop-index.invariant.builds c.in-Some.ensures.0 c.in-Some.ensures.1 c.in-Some.ensures.2 (ap (λ d. c.loop-index.record.entries ++ (c.in-Some.index, d) ∷ []) c.diff.ensures);
 })
 
 pub returns-clause-leads_back : goal.returns-clause-leads_back
 returns-clause-leads_back g c =
-    let whole = builds_all g.row.N c.args.current.now c.args.self.now c.loop-i.from c.loop-i.record c.loop-i.invariant.len c.loop-i.invariant.pruned c.loop-i.invariant.builds c.in_default.ensures in
-    layer_leads_back g.row.N c.args.current.now c.args.self.now c.loop-i.record c.len.ensures.width.positive c.requires.layer whole
+    let whole = builds_all g.row.N c.args.current.now c.args.self.now c.loop-index.from c.loop-index.record c.loop-index.invariant.len c.loop-index.invariant.pruned c.loop-index.invariant.builds c.in_default.ensures in
+    layer_leads_back g.row.N c.args.current.now c.args.self.now c.loop-index.record c.len.ensures.width.positive c.requires.layer whole
 
 pub returns-clause-can_undo : goal.returns-clause-can_undo
 returns-clause-can_undo g c =
-    let whole = builds_all g.row.N c.args.current.now c.args.self.now c.loop-i.from c.loop-i.record c.loop-i.invariant.len c.loop-i.invariant.pruned c.loop-i.invariant.builds c.in_default.ensures in
-    layer_can_undo g.row.N c.args.current.now c.args.self.now c.loop-i.record c.len.ensures.width.positive c.requires.layer whole
+    let whole = builds_all g.row.N c.args.current.now c.args.self.now c.loop-index.from c.loop-index.record c.loop-index.invariant.len c.loop-index.invariant.pruned c.loop-index.invariant.builds c.in_default.ensures in
+    layer_can_undo g.row.N c.args.current.now c.args.self.now c.loop-index.record c.len.ensures.width.positive c.requires.layer whole
 
 pub returns-clause-bound : goal.returns-clause-bound
 returns-clause-bound g c =
-    let whole = builds_all g.row.N c.args.current.now c.args.self.now c.loop-i.from c.loop-i.record c.loop-i.invariant.len c.loop-i.invariant.pruned c.loop-i.invariant.builds c.in_default.ensures in
-    layer_bound g.row.N c.args.current.now c.args.self.now c.loop-i.record whole
+    let whole = builds_all g.row.N c.args.current.now c.args.self.now c.loop-index.from c.loop-index.record c.loop-index.invariant.len c.loop-index.invariant.pruned c.loop-index.invariant.builds c.in_default.ensures in
+    layer_bound g.row.N c.args.current.now c.args.self.now c.loop-index.record whole
