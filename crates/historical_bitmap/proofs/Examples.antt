@@ -6,3 +6,5 @@ pub mod Histories
 pub mod Layers
 pub mod MixedBatch
 pub mod Views
+pub mod Applied
+pub mod HeldEntries

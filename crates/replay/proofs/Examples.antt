@@ -3,3 +3,4 @@ pub mod Refusals
 pub mod Replies
 pub mod Steps
 pub mod Sessions
+pub mod Laws

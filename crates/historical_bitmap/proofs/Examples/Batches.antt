@@ -1,9 +1,11 @@
 -- Edits of a batch. Each chunk has one byte, where no other width is named.
-use Rattle.std.specs.Prelude.{◌≡◌, true, false, List, [], ◌∷◌, ◌++◌, replicate, nat_eq}
+use Rattle.std.specs.Prelude.{◌≡◌, ◌^◌, ◌-◌, true, false, List, [], ◌∷◌, ◌++◌, replicate, nat_eq}
 use Rattle.std.specs.Set.{distinct_count}
 use Rattle.std.proofs.Common.{refl, arith}
+use Rattle.std.proofs.lemmas.Bool.{cases_eq, false≢true, ne_eqb}
+use mathlib.Core.Logic.{inl, inr}
 use Rattle.bitmap_core.specs.PrunedBits.{PrunedBits}
-use Rattle.historical_bitmap.specs.Edits.{Edit, pushes, after, after_all, IsAccepted, AllAccepted, from_to, touches, touched}
+use Rattle.historical_bitmap.specs.Edits.{Edit, pushes, after, after_all, IsAccepted, AllAccepted, from_to, touches, touched, IsWithin}
 use Rattle.historical_bitmap.specs.Edits.Edit.{Push, Pop, Set, Prune}
 
 -- eight true bits, then four, then four false ones
@@ -37,6 +39,10 @@ push_touches_open_chunk = refl
 
 push_touches_new_chunk : touches 1 sixteen (Push true) ≡ 2 ∷ []
 push_touches_new_chunk = refl
+
+-- the sixteenth bit still stands in the second, 15 / 8
+push_touches_filled_chunk : touches 1 (record { pruned = 1; bits = replicate 7 true }) (Push true) ≡ 1 ∷ []
+push_touches_filled_chunk = refl
 
 -- of the new length for a pop, 15 / 8
 pop_touches : touches 1 sixteen Pop ≡ 1 ∷ []
@@ -76,14 +82,62 @@ batch_touches = refl
 batch_touches_two : distinct_count nat_eq (touched 1 sixteen batch) ≡ 2
 batch_touches_two = refl
 
-pop_is_accepted : IsAccepted 1 behind_one Pop
+-- the chunks that a pop of the tenth position and a prune past a pruned front touch, 10 / 8 and from 1 on
+pop_behind_one_touches : touches 1 behind_one Pop ≡ 1 ∷ []
+pop_behind_one_touches = refl
+
+prune_behind_one_touches : touches 1 (record { pruned = 1; bits = replicate 16 true }) (Prune 24) ≡ 1 ∷ 2 ∷ []
+prune_behind_one_touches = refl
+
+-- two bits below the greatest length a push fits, and at the greatest length it does not: that of 7 bits behind the most chunks
+push_is_accepted : IsAccepted 1 (record { pruned = 2 ^ 61 - 1; bits = replicate 6 true }) (Push true)
+push_is_accepted = omega arith
+
+push_past_64_is_refused : IsAccepted 1 (record { pruned = 2 ^ 61 - 1; bits = replicate 7 true }) (Push true) → ⊥
+push_past_64_is_refused accepted = omega (arith, accepted)
+
+-- one retained bit is enough for a pop, and pruned ones alone are not
+pop_is_accepted : IsAccepted 1 (record { pruned = 1; bits = true ∷ [] }) Pop
 pop_is_accepted = omega arith
+
+pop_of_nothing_is_refused : IsAccepted 1 (record { pruned = 1; bits = [] }) Pop → ⊥
+pop_of_nothing_is_refused accepted = omega (arith, accepted)
+
+-- of the positions 7 to 11 those from 8 to 10 are retained
+set_of_the_first_is_accepted : IsAccepted 1 behind_one (Set 8 false)
+set_of_the_first_is_accepted = (omega arith, omega arith)
+
+set_of_the_last_is_accepted : IsAccepted 1 behind_one (Set 10 false)
+set_of_the_last_is_accepted = (omega arith, omega arith)
+
+set_of_a_pruned_one_is_refused : IsAccepted 1 behind_one (Set 7 false) → ⊥
+set_of_a_pruned_one_is_refused accepted = omega (arith, accepted.0)
+
+set_at_the_length_is_refused : IsAccepted 1 behind_one (Set 11 false) → ⊥
+set_at_the_length_is_refused accepted = omega (arith, accepted.1)
 
 prune_to_the_length_is_accepted : IsAccepted 1 behind_one (Prune 11)
 prune_to_the_length_is_accepted = omega arith
 
+prune_past_the_length_is_refused : IsAccepted 1 behind_one (Prune 12) → ⊥
+prune_past_the_length_is_refused accepted = omega (arith, accepted)
+
 batch_is_accepted : AllAccepted 1 sixteen batch
 batch_is_accepted = ((omega arith, omega arith), (omega arith, (omega arith, tt)))
+
+-- each edit is asked of what those before it left: three bits allow three pops
+four_pops_are_refused : AllAccepted 1 behind_one (Pop ∷ Pop ∷ Pop ∷ Pop ∷ []) → ⊥
+four_pops_are_refused (first, (second, (third, (fourth, rest)))) = omega (arith, fourth)
+
+-- each of two numbers, one of them twice, is in the other list, and 2 is not in the first
+within : IsWithin (1 ∷ 3 ∷ 1 ∷ []) (3 ∷ 2 ∷ 1 ∷ [])
+within q h = elim (cases_eq q 1) [
+  | inl a ↦ rw a refl
+  | inr b ↦ elim (cases_eq q 3) [ inl a ↦ rw a refl | inr d ↦ let e = rw (ne_eqb q 1 b, ne_eqb q 3 d) at h in cc ]
+]
+
+not_within : IsWithin (3 ∷ 2 ∷ 1 ∷ []) (1 ∷ 3 ∷ 1 ∷ []) → ⊥
+not_within is_within = false≢true (is_within 2 refl)
 
 -- a run of pushes appends its bits in order
 pushes_leave : after_all 1 behind_one (pushes (true ∷ false ∷ [])) ≡ record { pruned = 1; bits = true ∷ false ∷ true ∷ true ∷ false ∷ [] }

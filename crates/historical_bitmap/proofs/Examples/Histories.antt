@@ -1,10 +1,13 @@
 -- Three commits of chunks of one byte: the byte FF; then a byte 0F behind it and the first chunk pruned; then eight pops.
-use Rattle.std.specs.Prelude.{◌≡◌, true, false, Bool, ℕ, List, [], ◌∷◌, ◌++◌, Some, None, replicate}
-use Rattle.std.proofs.Common.{refl}
+use Rattle.std.specs.Prelude.{◌≡◌, ◌^◌, ◌-◌, true, false, Bool, ℕ, List, [], ◌∷◌, ◌++◌, Some, None, replicate}
+use Rattle.std.specs.List.Sorted.{IsStrictlySortedBy}
+use Rattle.std.proofs.Common.{refl, arith}
+use Rattle.std.proofs.lemmas.Bool.{cases_eq}
+use mathlib.Core.Logic.{inl, inr}
 use Rattle.bitmap_core.specs.PrunedBits.{PrunedBits}
 use Rattle.historical_bitmap.specs.Record.{Reverse}
 use Rattle.historical_bitmap.specs.Record.ChunkDiff.{Removed, Added, Pruned}
-use Rattle.historical_bitmap.specs.History.{kept_under, latest, earliest, from_number, up_to_number, past_number, undone, snapshots, costs}
+use Rattle.historical_bitmap.specs.History.{kept_under, latest, earliest, from_number, up_to_number, past_number, undone, snapshots, costs, left_by, IsLeftBy, first_kept, RiseInNumber, EntriesRise, AreUpTo}
 
 -- what stands at the end: one chunk pruned, no bit
 abbrev pub current : PrunedBits
@@ -48,6 +51,9 @@ kept_second = refl
 not_kept : kept_under history 4 ≡ None
 not_kept = refl
 
+not_kept_below : kept_under history 0 ≡ None
+not_kept_below = refl
+
 last_number : latest commits ≡ Some 3
 last_number = refl
 
@@ -80,3 +86,67 @@ dropped = refl
 -- gone back to the second commit, the states up to it stay
 gone_back : snapshots 1 (up_to_number 2 commits) (undone 1 (past_number 2 commits) current) ≡ (1, first) ∷ (2, second) ∷ []
 gone_back = refl
+
+-- what the second commit left, and the first: the length and the number of pruned chunks
+left_by_second : left_by 1 2 commits current ≡ second
+left_by_second = refl
+
+left_by_first : IsLeftBy 1 1 commits current 8 0
+left_by_first = record { width = record { positive = omega arith; fits = omega arith }; len_is = refl; pruned_is = refl; within = omega arith }
+
+left_by_number_two : IsLeftBy 1 2 commits current 16 1
+left_by_number_two = record { width = record { positive = omega arith; fits = omega arith }; len_is = refl; pruned_is = refl; within = omega arith }
+
+-- the first record to keep a byte of chunk 0 is the second, and of chunk 1 the third; none keeps one of chunk 2
+first_byte : first_kept commits 0 ≡ Some (255 ∷ [])
+first_byte = refl
+
+second_byte : first_kept commits 1 ≡ Some (15 ∷ [])
+second_byte = refl
+
+no_third_byte : first_kept commits 2 ≡ None
+no_third_byte = refl
+
+-- of two that keep one, the first
+first_of_two : first_kept ((1, record { len = 8; pruned = 0; entries = (0, Removed (7 ∷ [])) ∷ [] }) ∷ (2, record { len = 8; pruned = 0; entries = (0, Removed (9 ∷ [])) ∷ [] }) ∷ []) 0 ≡ Some (7 ∷ [])
+first_of_two = refl
+
+-- numbers rise where each is above the one before it
+numbers_rise : RiseInNumber numbered
+unfolding IsStrictlySortedBy
+numbers_rise = ((refl, (refl, tt)), ((refl, tt), (tt, tt)))
+
+twice_is_no_rise : RiseInNumber ((4, true) ∷ (4, false) ∷ []) → ⊥
+unfolding IsStrictlySortedBy
+twice_is_no_rise rise = absurd cc
+
+-- the entries of a record rise by chunk
+entries_rise : EntriesRise commits
+unfolding IsStrictlySortedBy
+entries_rise = λ k d h. elim (cases_eq k 0) [
+  | inl a ↦ rw a (tt, tt)
+  | inr b ↦ elim (cases_eq k 1) [ inl a ↦ rw a ((refl, tt), (tt, tt)) | inr c ↦ let e : k ≡ 2 = omega (arith, h, b, c) in rw e (tt, tt) ]
+]
+
+falling_entries_do_not : EntriesRise ((1, record { len = 8; pruned = 0; entries = (1, Added) ∷ (0, Removed (7 ∷ [])) ∷ [] }) ∷ []) → ⊥
+unfolding IsStrictlySortedBy
+falling_entries_do_not rise = let first = (rise 0 (1, record { len = 0; pruned = 0; entries = [] }) (omega arith)).0.0 in absurd cc
+
+-- the last number is at least each, and below the reserved one
+up_to_last : AreUpTo (2 ∷ 4 ∷ []) (Some 4)
+up_to_last = (omega arith, λ k d h. elim (cases_eq k 0) [ inl a ↦ rw a omega arith | inr b ↦ let e : k ≡ 1 = omega (arith, h, b) in rw e omega arith ])
+
+up_to_greatest : AreUpTo [] (Some (2 ^ 64 - 2))
+up_to_greatest = (omega arith, λ k d h. absurd (omega (arith, h)))
+
+not_up_to_reserved : AreUpTo [] (Some (2 ^ 64 - 1)) → ⊥
+not_up_to_reserved are = omega (arith, are.0)
+
+not_up_to_less : AreUpTo (2 ∷ 4 ∷ []) (Some 3) → ⊥
+not_up_to_less are = omega (arith, are.1 1 0 (omega arith))
+
+no_numbers : AreUpTo [] None
+no_numbers = refl
+
+numbers_want_a_last : AreUpTo (2 ∷ []) None → ⊥
+numbers_want_a_last are = absurd cc

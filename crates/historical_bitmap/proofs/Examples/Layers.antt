@@ -1,15 +1,18 @@
 -- Pending edits. Each chunk has one byte.
-use Rattle.std.specs.Prelude.{◌≡◌, true, false, [], ◌∷◌, ◌++◌, Some, None, nat_eq, replicate}
-use Rattle.std.proofs.Common.{refl}
-use Rattle.std.proofs.lemmas.Bool.{cases_Bool}
+use Rattle.std.specs.Prelude.{◌≡◌, ℕ, ◌/◌, ◌%◌, slice_index_or, ◌==◌, Bool, true, false, not, List, [], ◌∷◌, ◌++◌, Some, None, MatchOption, is_some, nat_eq, replicate, ◌+◌, ◌-◌, ◌*◌, ◌≤◌, ◌⊎◌, nat_lt, if◌then◌else◌}
+use Rattle.std.specs.Int.{bit_at}
+use Rattle.std.proofs.Common.{refl, ap, arith, get_or, subst, sym}
+use Rattle.std.proofs.lemmas.Bool.{cases_Bool, cases_eq, false≢true, ne_eqb}
 use mathlib.Core.Logic.{inl, inr}
+use Rattle.bitmap_core.specs.Chunk.{chunk_bit}
 use Rattle.bitmap_core.specs.PrunedBits.{PrunedBits}
+use Rattle.bitmap_core.proofs.Examples.EachPlace.{same_places, is_other}
 use Rattle.historical_bitmap.specs.Edits.{after_all, pushes}
-use Rattle.historical_bitmap.specs.Edits.Edit.{Pop, Set, Prune}
+use Rattle.historical_bitmap.specs.Edits.Edit.{Push, Pop, Set, Prune}
 use Rattle.historical_bitmap.specs.Record.{Reverse, before}
 use Rattle.historical_bitmap.specs.Record.ChunkDiff.{Modified, Removed, Added, Pruned}
 use Rattle.historical_bitmap.specs.Undo.{undone_in_steps}
-use Rattle.historical_bitmap.specs.Pending.{Layer, unedited, edited_chunk, layer_bit, pending_bits, pending_chunk, old_chunk, layer_marks, diff_of, edits_of, Follows, applied_in_steps}
+use Rattle.historical_bitmap.specs.Pending.{Layer, unedited, edited_chunk, layer_bit, pending_bits, pending_chunk, old_chunk, layer_marks, diff_of, edits_of, Follows, Puts, run_bits, IsNextMember, IsEdited, LayerFits, IsWritten, IsSetIn, SetsIn, PutsTwo, IsByteSetIn, HasAppended, Appends, applied_in_steps}
 
 -- twenty true bits: the bytes FF, FF and 0F
 abbrev pub base : PrunedBits
@@ -157,3 +160,263 @@ pop_of_unedited = record {
   clears = inr refl;
   edited = λ q. elim (cases_Bool (nat_eq q 1)) [ inl e ↦ rw e refl | inr e ↦ rw e refl ];
 }
+
+-- a batch on a bitmap with a pruned front begins with it, and counts its chunks from there: of three chunks pruned and two left, a prune drops one
+abbrev behind_three : PrunedBits
+behind_three = record { pruned = 3; bits = replicate 16 true }
+
+starts_behind_three : pending_bits 1 behind_three (unedited 1 behind_three) ≡ behind_three
+starts_behind_three = refl
+
+abbrev pruned_behind_three : Layer
+pruned_behind_three = record { len = 40; pruned = 4; edited = []; captured = (255 ∷ []) ∷ [] }
+
+pruned_behind_three_marks : layer_marks 1 behind_three pruned_behind_three ≡ 3 ∷ []
+pruned_behind_three_marks = refl
+
+pruned_behind_three_entry : diff_of 1 behind_three pruned_behind_three 3 ≡ Pruned (255 ∷ [])
+pruned_behind_three_entry = refl
+
+prune_behind_three : Follows 1 behind_three (unedited 1 behind_three) (Prune 33) pruned_behind_three
+prune_behind_three = record { len = refl; pruned = refl; edited = refl; captured = refl }
+
+-- a second prune adds its chunk behind the first, and one to a position that is pruned already changes nothing
+prune_once_more : Follows 1 four (record { len = 16; pruned = 1; edited = (0, 255 ∷ []) ∷ (1, 254 ∷ []) ∷ []; captured = (15 ∷ []) ∷ [] }) (Prune 16) (record { len = 16; pruned = 2; edited = (0, 255 ∷ []) ∷ (1, 254 ∷ []) ∷ []; captured = (15 ∷ []) ∷ (254 ∷ []) ∷ [] })
+prune_once_more = record { len = refl; pruned = refl; edited = refl; captured = refl }
+
+prune_to_front : Follows 1 behind_three pruned_behind_three (Prune 8) pruned_behind_three
+prune_to_front = record { len = refl; pruned = refl; edited = refl; captured = refl }
+
+-- chunks that begin where the bitmap ends: after eight true bits chunk 1 is made, with the byte that the batch made, and cut down to eight it is cut off
+abbrev eight : PrunedBits
+eight = record { pruned = 0; bits = replicate 8 true }
+
+captures_at_the_end : old_chunk 1 eight (record { len = 16; pruned = 0; edited = (1, 254 ∷ []) ∷ []; captured = [] }) 1 ≡ 254 ∷ []
+captures_at_the_end = refl
+
+made_at_the_end : diff_of 1 eight (record { len = 16; pruned = 0; edited = (1, 254 ∷ []) ∷ []; captured = [] }) 1 ≡ Added
+made_at_the_end = refl
+
+cut_off_at_the_end : diff_of 1 base (record { len = 8; pruned = 0; edited = []; captured = [] }) 1 ≡ Removed (255 ∷ [])
+cut_off_at_the_end = refl
+
+-- ---- a bit written, and a bit that goes
+-- the entries with chunk 1 put in place of none
+put_first : Puts {X = List ℕ} [] ((1, 31 ∷ []) ∷ []) 1 (Some (31 ∷ []))
+put_first q = elim (cases_Bool (nat_eq q 1)) [ inl e ↦ rw e refl | inr e ↦ rw e refl ]
+
+others_stay : Puts {X = List ℕ} ((1, 31 ∷ []) ∷ []) [] 0 None → ⊥
+others_stay puts = absurd (false≢true (ap is_some (puts 1)))
+
+-- a true bit pushed at position 12 makes 1F of 0F
+push_of_unedited : Follows 1 twelve (unedited 1 twelve) (Push true) (record { len = 13; pruned = 0; edited = (1, 31 ∷ []) ∷ []; captured = [] })
+push_of_unedited = record {
+  len = refl;
+  pruned = refl;
+  captured = refl;
+  bytes = 31 ∷ [];
+  written = record { size = refl; bits = record { here = refl; others = λ j d. same_places 1 (λ k. not (k == 4)) (15 ∷ []) (31 ∷ []) j (omega arith) refl (is_other (j % 8) 4 d) } };
+  edited = put_first;
+}
+
+-- after a pop of four bits, one pushed stands over a bit that goes: 01 of 0F, and not the bits above it
+push_over_popped : Follows 1 twelve (record { len = 8; pruned = 0; edited = []; captured = [] }) (Push true) (record { len = 9; pruned = 0; edited = (1, 1 ∷ []) ∷ []; captured = [] })
+push_over_popped = record {
+  len = refl;
+  pruned = refl;
+  captured = refl;
+  bytes = 1 ∷ [];
+  written = record { size = refl; bits = record { here = refl; others = λ j d. same_places 1 (λ k. not (k == 0)) (0 ∷ []) (1 ∷ []) j (omega arith) refl (is_other (j % 8) 0 d) } };
+  edited = λ q. elim (cases_Bool (nat_eq q 1)) [ inl e ↦ rw e refl | inr e ↦ rw e refl ];
+}
+
+-- bit 9 cleared makes 0D of 0F, and the length stays
+set_of_unedited : Follows 1 twelve (unedited 1 twelve) (Set 9 false) (record { len = 12; pruned = 0; edited = (1, 13 ∷ []) ∷ []; captured = [] })
+set_of_unedited = record {
+  len = refl;
+  pruned = refl;
+  captured = refl;
+  bytes = 13 ∷ [];
+  written = record { size = refl; bits = record { here = refl; others = λ j d. same_places 1 (λ k. not (k == 1)) (15 ∷ []) (13 ∷ []) j (omega arith) refl (is_other (j % 8) 1 d) } };
+  edited = λ q. elim (cases_Bool (nat_eq q 1)) [ inl e ↦ rw e refl | inr e ↦ rw e refl ];
+}
+
+-- a pop of an edited chunk clears its last bit, and one of its only bit leaves it unedited
+pop_of_edited : Follows 1 twelve (record { len = 13; pruned = 0; edited = (1, 31 ∷ []) ∷ []; captured = [] }) Pop (record { len = 12; pruned = 0; edited = (1, 15 ∷ []) ∷ []; captured = [] })
+pop_of_edited = record {
+  len = refl;
+  pruned = refl;
+  captured = refl;
+  left = Some (15 ∷ []);
+  clears = (omega arith, record { size = refl; bits = record { here = refl; others = λ j d. same_places 1 (λ k. not (k == 4)) (31 ∷ []) (15 ∷ []) j (omega arith) refl (is_other (j % 8) 4 d) } });
+  edited = λ q. elim (cases_Bool (nat_eq q 1)) [ inl e ↦ rw e refl | inr e ↦ rw e refl ];
+}
+
+pop_of_a_whole_chunk : Follows 1 base (record { len = 16; pruned = 0; edited = (1, 255 ∷ []) ∷ []; captured = [] }) Pop (record { len = 15; pruned = 0; edited = (1, 127 ∷ []) ∷ []; captured = [] })
+pop_of_a_whole_chunk = record {
+  len = refl;
+  pruned = refl;
+  captured = refl;
+  left = Some (127 ∷ []);
+  clears = (omega arith, record { size = refl; bits = record { here = refl; others = λ j d. same_places 1 (λ k. not (k == 7)) (255 ∷ []) (127 ∷ []) j (omega arith) refl (is_other (j % 8) 7 d) } });
+  edited = λ q. elim (cases_Bool (nat_eq q 1)) [ inl e ↦ rw e refl | inr e ↦ rw e refl ];
+}
+
+pop_of_the_only_bit : Follows 1 twelve (record { len = 9; pruned = 0; edited = (1, 1 ∷ []) ∷ []; captured = [] }) Pop (record { len = 8; pruned = 0; edited = []; captured = [] })
+pop_of_the_only_bit = record {
+  len = refl;
+  pruned = refl;
+  captured = refl;
+  left = None;
+  clears = inl refl;
+  edited = λ q. elim (cases_Bool (nat_eq q 1)) [ inl e ↦ rw e refl | inr e ↦ rw e refl ];
+}
+
+-- the bits of a run of bytes, the lowest first
+run : run_bits (5 ∷ 128 ∷ []) ≡ true ∷ false ∷ true ∷ replicate 12 false ++ true ∷ []
+run = refl
+
+-- of 5 and 3 the first from 2 on is 3, also from 3 on, and from 6 on there is none
+next_is_three : IsNextMember (5 ∷ 3 ∷ []) 2 (Some 3)
+next_is_three = (omega arith, refl, λ j low high. let two : j ≡ 2 = omega (arith, low, high) in rw two refl)
+
+next_is_itself : IsNextMember (5 ∷ 3 ∷ []) 3 (Some 3)
+next_is_itself = (omega arith, refl, λ j low high. absurd (omega (arith, low, high)))
+
+five_is_not_next : IsNextMember (5 ∷ 3 ∷ []) 2 (Some 5) → ⊥
+five_is_not_next next = absurd (false≢true (sym (next.2 3 (omega arith) (omega arith))))
+
+none_is_next : IsNextMember (5 ∷ 3 ∷ []) 6 None
+none_is_next j low = rw (ne_eqb j 5 (λ e. omega (arith, low, e)), ne_eqb j 3 (λ e. omega (arith, low, e))) refl
+
+-- what holds of pending edits: an edited chunk may be pruned, and each captured one has the current byte
+set_and_pruned_fits : LayerFits 1 twelve set_and_pruned
+set_and_pruned_fits = record {
+  front = omega arith;
+  rises = omega arith;
+  covered = λ k low high none. omega (arith, high);
+  edited = edited;
+  count = refl;
+  captured = λ i low high. let first : i ≡ 0 = omega (arith, high) in rw first (record { size = refl; old = λ within. refl });
+}
+  where
+    edited : (i : ℕ) → MatchOption (edited_chunk set_and_pruned i) (Unit {0}) (IsEdited 1 twelve set_and_pruned i)
+    edited i = elim (cases_eq i 0) [
+      | inl a ↦ rw a (record { low = omega arith; high = omega arith; size = refl; clear = λ k e past. absurd (omega (arith, e, past)) })
+      | inr b ↦ rw (ne_eqb i 0 b) tt
+    ]
+
+-- behind a pruned front the captured chunks are counted from there
+pruned_behind_three_fits : LayerFits 1 behind_three pruned_behind_three
+pruned_behind_three_fits = record {
+  front = omega arith;
+  rises = omega arith;
+  covered = λ k low high none. omega (arith, high);
+  edited = λ i. tt;
+  count = refl;
+  captured = λ i low high. let fourth : i ≡ 3 = omega (arith, low, high) in rw fourth (record { size = refl; old = λ within. refl });
+}
+
+-- another captured byte does not fit, nor a length past the current one without an edited chunk
+captured_otherwise : LayerFits 1 twelve (record { len = 12; pruned = 1; edited = []; captured = (254 ∷ []) ∷ [] }) → ⊥
+captured_otherwise fits = omega (arith, ap (λ bytes. get_or bytes 0 0) ((fits.captured 0 (omega arith) (omega arith)).old (omega arith)))
+
+longer_unedited : LayerFits 1 twelve (record { len = 13; pruned = 0; edited = []; captured = [] }) → ⊥
+longer_unedited fits = omega (arith, fits.covered 12 (omega arith) (omega arith) refl)
+
+front_past_the_length : LayerFits 1 twelve (record { len = 12; pruned = 2; edited = []; captured = (255 ∷ []) ∷ (15 ∷ []) ∷ [] }) → ⊥
+front_past_the_length fits = omega (arith, fits.front)
+
+captures_too_few : LayerFits 1 twelve (record { len = 12; pruned = 1; edited = []; captured = [] }) → ⊥
+captures_too_few fits = omega (arith, fits.count)
+
+-- ---- entries that change under one key or two
+-- bit 9 set in the chunk under 1, which begins as zeros where it has no entry
+set_in : IsSetIn 1 [] ((1, 2 ∷ []) ∷ []) 1 (0 ∷ []) 9 true
+set_in = record { bytes = 2 ∷ []; written = second_bit; edited = under_one }
+  where
+    second_bit : IsWritten 1 (0 ∷ []) 9 true (2 ∷ [])
+    second_bit = record { size = refl; bits = record { here = refl; others = λ j d. same_places 1 (λ k. not (k == 1)) (0 ∷ []) (2 ∷ []) j (omega arith) refl (is_other (j % 8) 1 d) } }
+
+    under_one : Puts {X = List ℕ} [] ((1, 2 ∷ []) ∷ []) 1 (Some (2 ∷ []))
+    under_one q = elim (cases_Bool (nat_eq q 1)) [ inl e ↦ rw e refl | inr e ↦ rw e refl ]
+
+-- of an entry that is there its own bytes are written in, and not the first ones
+sets_in : SetsIn 1 (0 ∷ []) ((1, 4 ∷ []) ∷ []) ((1, 6 ∷ []) ∷ []) 1 9 true (6 ∷ [])
+sets_in = record {
+  written = record { size = refl; bits = record { here = refl; others = λ j d. same_places 1 (λ k. not (k == 1)) (4 ∷ []) (6 ∷ []) j (omega arith) refl (is_other (j % 8) 1 d) } };
+  edited = λ q. elim (cases_Bool (nat_eq q 1)) [ inl e ↦ rw e refl | inr e ↦ rw e refl ];
+}
+
+-- of the two in order, and another key's entry stays
+two_put : PutsTwo {X = Bool} ((7, true) ∷ []) ((1, true) ∷ (2, false) ∷ (7, true) ∷ []) 1 true false
+two_put q = elim (cases_Bool (nat_eq q 1)) [
+  | inl e ↦ rw e refl
+  | inr e ↦ elim (cases_Bool (nat_eq q 2)) [ inl f ↦ rw (e, f) refl | inr f ↦ rw (e, f) refl ]
+]
+
+-- the second byte of the chunk under 0 replaced by 9, with bit 12 of it
+byte_set : IsByteSetIn 2 ((0, 5 ∷ 4 ∷ []) ∷ []) ((0, 5 ∷ 9 ∷ []) ∷ []) 0 12 9
+byte_set = record {
+  chunk = 5 ∷ 4 ∷ [];
+  found = refl;
+  bytes = 5 ∷ 9 ∷ [];
+  size = refl;
+  written = record {
+    here = λ j e. here j (omega arith);
+    others = λ j d. same_places 2 (λ k. not (k / 8 == 1)) (5 ∷ 4 ∷ []) (5 ∷ 9 ∷ []) j (omega arith) refl (is_other (j % 16 / 8) 1 (λ e. d (omega arith)));
+  };
+  edited = λ q. elim (cases_Bool (nat_eq q 0)) [ inl e ↦ rw e refl | inr e ↦ rw e refl ];
+}
+  where
+    here : (j : ℕ) → j / 8 % 2 ≡ 1 → chunk_bit 2 (5 ∷ 9 ∷ []) j ≡ (bit_at 9 (j % 8) == 1)
+    here j e = ap (λ b. bit_at (slice_index_or (5 ∷ 9 ∷ []) b 0) (j % 8) == 1) e
+
+-- ---- values appended at once
+-- a statement of the positions 8 to 15 holds of each position of chunk 1
+octet : (P : ℕ → Type 0) → P 8 → P 9 → P 10 → P 11 → P 12 → P 13 → P 14 → P 15 → (k : ℕ) → k / 8 ≡ 1 → P k
+octet P a b c d e f g h k at = elim (cases_eq k 8) [
+  | inl x ↦ subst P (sym x) a
+  | inr no8 ↦ elim (cases_eq k 9) [
+    | inl x ↦ subst P (sym x) b
+    | inr no9 ↦ elim (cases_eq k 10) [
+      | inl x ↦ subst P (sym x) c
+      | inr no10 ↦ elim (cases_eq k 11) [
+        | inl x ↦ subst P (sym x) d
+        | inr no11 ↦ elim (cases_eq k 12) [
+          | inl x ↦ subst P (sym x) e
+          | inr no12 ↦ elim (cases_eq k 13) [
+            | inl x ↦ subst P (sym x) f
+            | inr no13 ↦ elim (cases_eq k 14) [
+              | inl x ↦ subst P (sym x) g
+              | inr no14 ↦ let last : k ≡ 15 = omega (arith, at, no8, no9, no10, no11, no12, no13, no14) in subst P (sym last) h
+            ]
+          ]
+        ]
+      ]
+    ]
+  ]
+]
+
+-- the bits 1, 0, 1 behind the twelve: 0F and bits 12 and 14 make 5F, and chunk 0 stays unedited
+abbrev appended_to_twelve : Layer
+appended_to_twelve = record { len = 15; pruned = 0; edited = (1, 95 ∷ []) ∷ []; captured = [] }
+
+three_appended : HasAppended 1 twelve (unedited 1 twelve) (true ∷ false ∷ true ∷ []) 1 (95 ∷ [])
+three_appended = record {
+  size = refl;
+  bits = octet (λ k. chunk_bit 1 (95 ∷ []) k ≡ (if nat_lt k 12 then chunk_bit 1 (15 ∷ []) k else slice_index_or (true ∷ false ∷ true ∷ []) (k - 12) false)) refl refl refl refl refl refl refl refl;
+}
+
+appends_three : Appends 1 twelve (unedited 1 twelve) (true ∷ false ∷ true ∷ []) appended_to_twelve
+appends_three = record {
+  len = refl;
+  pruned = refl;
+  captured = refl;
+  taken = λ i low high. let second : i ≡ 1 = omega (arith, low, high) in rw second three_appended;
+  others = λ i away. rw (ne_eqb i 1 (apart i away)) refl;
+}
+  where
+    apart : (i : ℕ) → (8 * i + 8 ≤ 12) ⊎ (15 ≤ 8 * i) → i ≡ 1 → ⊥
+    apart i (inl low) e = omega (arith, low, e)
+    apart i (inr high) e = omega (arith, high, e)

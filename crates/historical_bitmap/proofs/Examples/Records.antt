@@ -1,5 +1,5 @@
 -- Whether a record leads back, and whether it can be undone in steps. Each chunk has one byte.
-use Rattle.std.specs.Prelude.{◌≡◌, ℕ, ◌/◌, ◌<◌, ◌≤◌, None, false, [], ◌∷◌, MatchOption, is_some}
+use Rattle.std.specs.Prelude.{◌≡◌, ℕ, ◌/◌, ◌<◌, ◌≤◌, None, Some, true, false, List, [], ◌∷◌, MatchOption, is_some, replicate}
 use Rattle.std.specs.List.Sorted.{IsStrictlySortedBy}
 use Rattle.std.specs.Ordering.{nat_cmp}
 use Rattle.std.proofs.Common.{refl, ap, arith, get_or, subst, sym}
@@ -7,12 +7,13 @@ use mathlib.Core.Bool.{false≢true}
 use Rattle.std.proofs.lemmas.Bool.{cases_eq, ne_eqb}
 use mathlib.Core.Logic.{inl, inr, ◌⊎◌}
 use Rattle.bitmap_core.specs.Chunk.{chunk_bit}
-use Rattle.bitmap_core.specs.PrunedBits.{HasChunk, chunk}
-use Rattle.historical_bitmap.specs.Record.{kept, IsUnchanged, LeadsBack}
+use Rattle.bitmap_core.specs.PrunedBits.{PrunedBits, HasChunk, chunk}
+use Rattle.historical_bitmap.specs.Record.{Reverse, kept, IsUnchanged, LeadsBack}
 use Rattle.historical_bitmap.specs.Record.ChunkDiff.{Modified, Removed, Added, Pruned}
+use Rattle.historical_bitmap.specs.History.{AllCanUndo, AreKept}
 use Rattle.historical_bitmap.specs.Undo.{CanUndo, IsOldChunk, kept_between}
 use Rattle.historical_bitmap.specs.Pending.{CanApply, IsEdited, ReversesLayer, edited_chunk, layer_of, pending_bits}
-use Rattle.historical_bitmap.proofs.Examples.Undos.{twelve, shorter, from_shorter, behind_one}
+use Rattle.historical_bitmap.proofs.Examples.Undos.{twelve, shorter, from_shorter, behind_one, from_behind_one}
 use Rattle.historical_bitmap.proofs.Examples.Layers.{base, rewritten, back}
 
 -- the indices of the records below rise
@@ -77,9 +78,109 @@ forgotten_cannot can = absurd (false≢true (can.pruned 0 (omega arith) (omega a
 past_the_end_cannot : CanUndo 1 (record { len = 12; pruned = 0; entries = (2, Removed (1 ∷ [])) ∷ [] }) shorter → ⊥
 past_the_end_cannot can = omega (arith, (can.others 2 (omega arith)).high)
 
+-- nor one whose byte for the first retained chunk has bits past the end
+bits_past_the_end_cannot : CanUndo 1 (record { len = 3; pruned = 0; entries = (0, Modified (255 ∷ [])) ∷ [] }) shorter → ⊥
+bits_past_the_end_cannot can = absurd (false≢true (sym ((can.others 0 (omega arith)).clear 3 refl (omega arith))))
+
 -- nor one that keeps nothing of what was cut off
 cut_off_cannot : CanUndo 1 (record { len = 12; pruned = 0; entries = [] }) shorter → ⊥
 cut_off_cannot can = omega (arith, (can.unkept 11 (omega arith) (omega arith) refl).1)
+
+-- a pruned chunk whose byte is kept comes back, and of the chunk behind it the bits stand
+behind_one_can : CanUndo 1 from_behind_one behind_one
+unfolding IsStrictlySortedBy
+behind_one_can = record {
+  rises = omega arith;
+  fits = omega arith;
+  pruned = λ i low high. let first : i ≡ 0 = omega (arith, high) in rw first refl;
+  others = λ i low. rw (ne_eqb i 0 (λ e. omega (arith, low, e))) tt;
+  unkept = λ k low high none. elim (cases_eq (k / 8) 0) [ inl a ↦ let e = rw a at none in cc | inr b ↦ (omega (arith, b), omega (arith, high)) ];
+  sorted = (tt, tt);
+}
+
+-- a pruned chunk past the old length, which the commit made itself, does no harm
+appended_and_pruned_can : CanUndo 1 (record { len = 4; pruned = 0; entries = (0, Pruned (15 ∷ [])) ∷ (1, Pruned (255 ∷ [])) ∷ [] }) (record { pruned = 2; bits = [] })
+appended_and_pruned_can = record {
+  rises = omega arith;
+  fits = omega arith;
+  pruned = λ i low high. elim (cases_eq i 0) [ inl a ↦ rw a refl | inr b ↦ let second : i ≡ 1 = omega (arith, high, b) in rw second refl ];
+  others = λ i low. rw (ne_eqb i 0 (λ e. omega (arith, low, e)), ne_eqb i 1 (λ e. omega (arith, low, e))) tt;
+  unkept = λ k low high none. let first : k / 8 ≡ 0 = omega (arith, high) in let e = rw first at none in cc;
+  sorted = first_two;
+}
+
+-- bytes may not be put in place of a chunk that begins at the length, nor with a bit at the length
+at_the_length_is_no_chunk : IsOldChunk 1 8 1 (0 ∷ []) → ⊥
+at_the_length_is_no_chunk old = omega (arith, old.high)
+
+bit_at_the_length_is_set : IsOldChunk 1 12 1 (31 ∷ []) → ⊥
+bit_at_the_length_is_set old = absurd (false≢true (sym (old.clear 12 refl (omega arith))))
+
+-- of two records each is asked of what its commit left: the first, of eight bits with eight more pushed, keeps nothing of chunk 0, which the second cuts
+abbrev pushed_and_cut : List (ℕ × Reverse)
+pushed_and_cut =
+    (1, record { len = 8; pruned = 0; entries = (1, Added) ∷ [] })
+    ∷ (2, record { len = 16; pruned = 0; entries = (0, Modified (255 ∷ [])) ∷ (1, Removed (255 ∷ [])) ∷ [] })
+    ∷ []
+
+abbrev four_left : PrunedBits
+four_left = record { pruned = 0; bits = replicate 4 true }
+
+both_can : AllCanUndo 1 pushed_and_cut four_left
+unfolding IsStrictlySortedBy
+both_can = (pushed, (cut, tt))
+  where
+    pushed : CanUndo 1 (record { len = 8; pruned = 0; entries = (1, Added) ∷ [] }) (record { pruned = 0; bits = replicate 16 true })
+    pushed = record {
+      rises = omega arith;
+      fits = omega arith;
+      pruned = λ i low high. absurd (omega (arith, low, high));
+      others = λ i low. elim (cases_eq i 1) [ inl a ↦ rw a tt | inr b ↦ rw (ne_eqb i 1 b) tt ];
+      unkept = λ k low high none. (omega arith, omega (arith, high));
+      sorted = (tt, tt);
+    }
+
+    other : (i : ℕ) → MatchOption (kept (record { len = 16; pruned = 0; entries = (0, Modified (255 ∷ [])) ∷ (1, Removed (255 ∷ [])) ∷ [] }) i) (Unit {0}) (IsOldChunk 1 16 i)
+    other i = elim (cases_eq i 0) [
+      | inl a ↦ rw a (record { high = omega arith; clear = λ k e past. absurd (omega (arith, e, past)) })
+      | inr b ↦ elim (cases_eq i 1) [
+        | inl a ↦ rw a (record { high = omega arith; clear = λ k e past. absurd (omega (arith, e, past)) })
+        | inr d ↦ rw (ne_eqb i 0 b, ne_eqb i 1 d) tt
+      ]
+    ]
+
+    cut : CanUndo 1 (record { len = 16; pruned = 0; entries = (0, Modified (255 ∷ [])) ∷ (1, Removed (255 ∷ [])) ∷ [] }) four_left
+    cut = record {
+      rises = omega arith;
+      fits = omega arith;
+      pruned = λ i low high. absurd (omega (arith, low, high));
+      others = λ i low. other i;
+      unkept = λ k low high none. elim (cases_eq (k / 8) 0) [
+        | inl a ↦ let e = rw a at none in cc
+        | inr b ↦ let second : k / 8 ≡ 1 = omega (arith, high, b) in let e = rw second at none in cc
+      ];
+      sorted = first_two;
+    }
+
+-- from what stands after the second the first could not be undone
+first_of_four_cannot : AllCanUndo 1 ((1, record { len = 8; pruned = 0; entries = (1, Added) ∷ [] }) ∷ []) four_left → ⊥
+first_of_four_cannot can = omega (arith, (can.0.unkept 7 (omega arith) (omega arith) refl).1)
+
+-- nor is a second record that cannot be undone passed over
+second_of_two_cannot : AllCanUndo 1 ((1, record { len = 0; pruned = 0; entries = (0, Added) ∷ [] }) ∷ (2, record { len = 12; pruned = 0; entries = [] }) ∷ []) shorter → ⊥
+second_of_two_cannot can = omega (arith, (can.1.0.unkept 11 (omega arith) (omega arith) refl).1)
+
+-- kept commits have numbers that rise, up to the last one
+numbers_must_rise : AreKept 1 four_left ((2, record { len = 4; pruned = 0; entries = [] }) ∷ (2, record { len = 4; pruned = 0; entries = [] }) ∷ []) (Some 2) → ⊥
+unfolding IsStrictlySortedBy
+numbers_must_rise kept = let first = kept.rise.0.0 in absurd cc
+
+number_past_the_last : AreKept 1 four_left ((2, record { len = 4; pruned = 0; entries = [] }) ∷ []) (Some 1) → ⊥
+number_past_the_last kept = omega (arith, kept.numbers.1 0 0 (omega arith))
+
+none_are_kept : AreKept 1 four_left [] None
+unfolding IsStrictlySortedBy
+none_are_kept = record { undo = tt; rise = tt; numbers = refl }
 
 -- the bytes of chunks 1 and 2, in order; what was made keeps none
 between : kept_between 1 3 ((0, Modified (9 ∷ [])) ∷ (1, Pruned (7 ∷ [])) ∷ (2, Pruned (5 ∷ [])) ∷ (3, Added) ∷ []) ≡ (7 ∷ []) ∷ (5 ∷ []) ∷ []
@@ -107,6 +208,34 @@ wrong_byte_does_not back = omega (arith, ap (λ bytes. get_or bytes 0 0) (back.c
 cut_must_be_kept : LeadsBack 1 (record { len = 12; pruned = 0; entries = (1, Removed (15 ∷ [])) ∷ [] }) twelve shorter → ⊥
 cut_must_be_kept back = omega (arith, (back.chunks 0 (omega arith, omega arith) 5 refl (omega arith, omega arith)).0.1)
 
+-- a chunk of one bit is unchanged where another bit is pushed behind it, and then its record keeps nothing of it
+abbrev one_bit : PrunedBits
+one_bit = record { pruned = 0; bits = true ∷ [] }
+
+grown_unchanged : IsUnchanged 1 one_bit (record { pruned = 0; bits = true ∷ false ∷ [] }) 0
+grown_unchanged k e h = let first : k ≡ 0 = omega (arith, h.1) in ((omega arith, omega (arith, h.1)), rw first refl)
+
+grown_leads_back : LeadsBack 1 (record { len = 1; pruned = 0; entries = [] }) one_bit (record { pruned = 0; bits = true ∷ false ∷ [] })
+grown_leads_back = record { len = refl; pruned = refl; chunks = λ i h. let first : i ≡ 0 = omega (arith, h.1) in rw first grown_unchanged }
+
+-- behind a pruned chunk, whose byte the record keeps, the next is unchanged
+pruned_leads_back : LeadsBack 1 (record { len = 9; pruned = 0; entries = (0, Pruned (255 ∷ [])) ∷ [] }) (record { pruned = 0; bits = replicate 9 true }) (record { pruned = 1; bits = true ∷ [] })
+pruned_leads_back = record {
+  len = refl;
+  pruned = refl;
+  chunks = λ i h. elim (cases_eq i 0) [ inl a ↦ rw a refl | inr b ↦ let second : i ≡ 1 = omega (arith, b, h.1) in rw second next ];
+}
+  where
+    next : IsUnchanged 1 (record { pruned = 0; bits = replicate 9 true }) (record { pruned = 1; bits = true ∷ [] }) 1
+    next k e h = let eighth : k ≡ 8 = omega (arith, e, h.1) in ((omega (arith, e), omega (arith, eighth)), rw eighth refl)
+
+-- it is changed where its bit is cleared, while the next chunk is not
+cleared_is_changed : IsUnchanged 1 one_bit (record { pruned = 0; bits = false ∷ [] }) 0 → ⊥
+cleared_is_changed unchanged = absurd (false≢true (unchanged 0 refl (omega arith, omega arith)).1)
+
+next_is_unchanged : IsUnchanged 1 one_bit (record { pruned = 0; bits = false ∷ [] }) 1
+next_is_unchanged k e h = absurd (omega (arith, e, h.1))
+
 -- ---- a record of pending edits: each chunk that they name, with what became of it
 rewritten_is_reversed : ReversesLayer 1 base rewritten back
 rewritten_is_reversed = record {
@@ -133,6 +262,17 @@ rewritten_alone = refl
 -- an edited chunk past the pending length cannot be
 past_the_length_cannot : CanApply 1 base (layer_of 14 1 ((2, 0 ∷ []) ∷ [])) → ⊥
 past_the_length_cannot can = omega (arith, (can.edited 2).high)
+
+-- nor one that is at the length, nor one of two bytes
+at_the_length_cannot : IsEdited 1 base (layer_of 16 0 []) 2 (0 ∷ []) → ⊥
+at_the_length_cannot edited = omega (arith, edited.high)
+
+two_bytes_cannot : IsEdited 1 base (layer_of 16 0 []) 1 (0 ∷ 0 ∷ []) → ⊥
+two_bytes_cannot edited = omega (arith, edited.size)
+
+-- nor can more be pruned than is left
+front_past_the_length_cannot : CanApply 1 base (layer_of 3 1 []) → ⊥
+front_past_the_length_cannot can = omega (arith, can.front)
 
 -- nor can any edit where the bitmap is too short
 too_short_cannot : CanApply 1 base (layer_of 21 0 []) → ⊥

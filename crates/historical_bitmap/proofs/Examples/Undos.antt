@@ -61,7 +61,7 @@ forgetful = refl
 abbrev pub behind_one : PrunedBits
 behind_one = record { pruned = 1; bits = replicate 4 true }
 
-abbrev from_behind_one : Reverse
+abbrev pub from_behind_one : Reverse
 from_behind_one = record { len = 12; pruned = 0; entries = (0, Pruned (255 ∷ [])) ∷ [] }
 
 pruned_restored : before 1 from_behind_one behind_one ≡ twelve
@@ -90,3 +90,7 @@ filled = refl
 -- the byte 05 put in the place of chunk 1; what was made keeps nothing to put
 put_in_place : put_back 1 twelve ((0, Added) ∷ (1, Modified (5 ∷ [])) ∷ []) ≡ record { pruned = 0; bits = replicate 8 true ++ true ∷ false ∷ true ∷ false ∷ [] }
 put_in_place = refl
+
+-- a chunk that has two entries ends with the bytes of the last
+last_in_place : put_back 1 twelve ((1, Modified (5 ∷ [])) ∷ (1, Modified (3 ∷ [])) ∷ []) ≡ record { pruned = 0; bits = replicate 8 true ++ true ∷ true ∷ false ∷ false ∷ [] }
+last_in_place = refl

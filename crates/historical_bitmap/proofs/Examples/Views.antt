@@ -1,10 +1,13 @@
 -- What contracts see. Each chunk has one byte.
-use Rattle.std.specs.Prelude.{◌≡◌, ◌^◌, ◌-◌, true, false, ℕ, [], ◌∷◌, ◌++◌, Some, None, ⊤, replicate}
-use Rattle.std.proofs.Common.{refl}
+use Rattle.std.specs.Prelude.{◌≡◌, ◌^◌, ◌-◌, ◌/◌, length, unwrap_or, true, false, ℕ, [], ◌∷◌, ◌++◌, Some, None, ⊤, replicate, nat_eq}
+use Rattle.std.specs.Set.{is_member}
+use Rattle.std.proofs.Common.{refl, ap, arith}
+use Rattle.std.proofs.lemmas.Bool.{cases_eq, false≢true, ne_eqb}
+use mathlib.Core.Logic.{inl, inr}
 use Rattle.historical_bitmap.specs.declared.bitmap.historical.error.Error.TheVariants.{NonMonotonicCommit, ReservedCommitNumber}
-use Rattle.historical_bitmap.specs.Edits.Edit.{Pop}
+use Rattle.historical_bitmap.specs.Edits.Edit.{Pop, Set}
 use Rattle.historical_bitmap.specs.Pending.{Layer}
-use Rattle.historical_bitmap.specs.View.{View, history_of, costs_of, pending_of, marks_of, IsEditOf, IsRunOf, refusal_of, popped_to_chunks, most_cost}
+use Rattle.historical_bitmap.specs.View.{View, history_of, costs_of, pending_of, marks_of, IsEditedAt, HoldsToo, IsEditOf, IsRunOf, IsBatchOn, refusal_of, popped_to_chunks, most_cost}
 use Rattle.historical_bitmap.proofs.Examples.Histories.{current, commits}
 
 -- a clean bitmap with three commits, the last of them 3
@@ -66,5 +69,78 @@ pushed_to_chunks = refl
 popped_once : IsEditOf 1 (popped_to 12) Pop (popped_to 11)
 popped_once = record { current = refl; commits = refl; last = refl; pending = refl; marks = λ q h. h }
 
+-- a pop of a whole chunk of pending bits touches that chunk, not the last one of the current bitmap
+popped_once_more : IsEditOf 1 (popped_to 8) Pop (popped_to 7)
+popped_once_more = record { current = refl; commits = refl; last = refl; pending = refl; marks = λ q h. marked q h }
+  where
+    marked : (q : ℕ) → is_member nat_eq (marks_of 1 (popped_to 7)) q ≡ true → is_member nat_eq (1 ∷ 1 ∷ 1 ∷ 1 ∷ 0 ∷ []) q ≡ true
+    marked q h = elim (cases_eq q 0) [
+      | inl a ↦ rw a refl
+      | inr b ↦ elim (cases_eq q 1) [ inl a ↦ rw a refl | inr d ↦ let e = rw (ne_eqb q 0 b, ne_eqb q 1 d) at h in cc ]
+    ]
+
 popped_twice : IsRunOf 1 (popped_to 12) (Pop ∷ Pop ∷ []) (popped_to 10)
 popped_twice = record { current = refl; commits = refl; last = refl; pending = refl; marks = λ q h. h }
+
+-- ---- a batch that has cleared bit 0 of the twelve: the first chunk is held whole, and the second is not
+abbrev cleared : View Layer
+cleared = record { current = record { pruned = 0; bits = replicate 12 true }; commits = []; last = None; state = record { len = 12; pruned = 0; edited = (0, 254 ∷ []) ∷ []; captured = [] } }
+
+holds_the_first : IsEditedAt 1 cleared 7
+holds_the_first = refl
+
+holds_no_other : IsEditedAt 1 cleared 8 → ⊥
+holds_no_other holds = false≢true holds
+
+-- of two bytes position 8 is in the first chunk
+holds_wide : IsEditedAt 2 cleared 8
+holds_wide = refl
+
+-- with bit 11 cleared as well both are held, the second with the byte 07
+abbrev cleared_twice : View Layer
+cleared_twice = record { current = record { pruned = 0; bits = replicate 12 true }; commits = []; last = None; state = record { len = 12; pruned = 0; edited = (0, 254 ∷ []) ∷ (1, 7 ∷ []) ∷ []; captured = [] } }
+
+holds_more : HoldsToo 1 cleared 11 cleared_twice
+holds_more = (refl, more)
+  where
+    more : (other : ℕ) → IsEditedAt 1 cleared other → IsEditedAt 1 cleared_twice other
+    more other h = elim (cases_eq (other / 8) 0) [ inl a ↦ rw a refl | inr b ↦ let e = rw (ne_eqb (other / 8) 0 b) at h in cc ]
+
+holds_the_position_too : HoldsToo 1 cleared 11 cleared → ⊥
+holds_the_position_too holds = false≢true holds.0
+
+holds_the_old_ones_too : HoldsToo 1 cleared_twice 0 cleared → ⊥
+holds_the_old_ones_too holds = false≢true (holds.1 8 refl)
+
+-- the second is the first after an edit of bit 11; the first chunk, marked before, stays so
+cleared_once_more : IsEditOf 1 cleared (Set 11 false) cleared_twice
+cleared_once_more = record { current = refl; commits = refl; last = refl; pending = refl; marks = λ q h. h }
+
+-- after bit 11 alone the first chunk would not be marked
+cleared_once : IsEditOf 1 (popped_to 12) (Set 11 false) cleared_twice → ⊥
+cleared_once edit = false≢true (edit.marks 0 refl)
+
+cleared_again : IsRunOf 1 cleared (Set 11 false ∷ Set 11 false ∷ []) cleared_twice
+cleared_again = record { current = refl; commits = refl; last = refl; pending = refl; marks = λ q h. marked q h }
+  where
+    marked : (q : ℕ) → is_member nat_eq (0 ∷ 1 ∷ []) q ≡ true → is_member nat_eq (0 ∷ 1 ∷ 1 ∷ []) q ≡ true
+    marked q h = elim (cases_eq q 0) [
+      | inl a ↦ rw a refl
+      | inr b ↦ elim (cases_eq q 1) [ inl a ↦ rw a refl | inr d ↦ let e = rw (ne_eqb q 0 b, ne_eqb q 1 d) at h in cc ]
+    ]
+
+-- a batch stands on the bitmap with its current bitmap, commits and last number, and on no other
+abbrev batch_on : View Layer
+batch_on = record { current = current; commits = commits; last = Some 3; state = record { len = 8; pruned = 1; edited = []; captured = [] } }
+
+on_its_own : IsBatchOn clean batch_on
+on_its_own = record { current = refl; commits = refl; last = refl }
+
+not_on_another_number : IsBatchOn (record { current = current; commits = commits; last = Some 4; state = tt }) batch_on → ⊥
+not_on_another_number on = omega (arith, ap (λ last. unwrap_or last 0) on.last)
+
+not_on_other_commits : IsBatchOn (record { current = current; commits = []; last = Some 3; state = tt }) batch_on → ⊥
+not_on_other_commits on = omega (arith, ap length on.commits)
+
+not_on_another_bitmap : IsBatchOn (record { current = record { pruned = 2; bits = [] }; commits = commits; last = Some 3; state = tt }) batch_on → ⊥
+not_on_another_bitmap on = omega (arith, ap (λ bitmap. bitmap.pruned) on.current)

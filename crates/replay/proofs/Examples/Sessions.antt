@@ -1,11 +1,13 @@
 -- Sessions as machines, and what replies say.
-use Rattle.std.specs.Prelude.{◌≡◌, ℕ, true, [], ◌∷◌, Some, None}
+use Rattle.std.specs.Prelude.{◌≡◌, ℕ, true, [], ◌∷◌, Some, None, alloc_error}
 use Rattle.std.specs.Global.{Vec}
 use Rattle.std.proofs.Common.{refl, inl, inr, arith}
 use Rattle.bitmap_core.specs.PrunedBits.{PrunedBits}
 use Rattle.bitmap_core.specs.declared.bitmap.codec.error.CodecError.TheVariants as errors
 use Rattle.bitmap_core.specs.Reading.Fault.{EndOfBuffer, InvalidLength}
 use Rattle.historical_bitmap.specs.Record.{Reverse}
+use Rattle.historical_bitmap.specs.declared.bitmap.historical.error.Error.TheVariants as commit_errors
+use Rattle.historical_bitmap.specs.declared.bitmap.historical.error.RewindError.TheVariants as rewind_errors
 use Rattle.historical_bitmap.specs.Record.ChunkDiff.{Added}
 use Rattle.replay.specs.declared.session.State.TheVariants as state
 use Rattle.replay.specs.declared.reply.Refusal.TheVariants as refusal
@@ -13,7 +15,7 @@ use Rattle.replay.specs.declared.reply.Reply.TheVariants as reply
 use Rattle.replay.specs.Answers.{Answer}
 use Rattle.replay.specs.Answers.Answer.{Done, Bit, Number, Positions, Bytes, Snapshot, Read, Refused, Wide, Maybe}
 use Rattle.replay.specs.Answers.Refusal.{WrongMode, OutOfBounds, Pruned, TooLong, NoRetainedBit, ReservedCommitNumber, NonMonotonicCommit, PrunedChunksOverflow, Codec, NoMemory, NoSuchCommit}
-use Rattle.replay.specs.Seen.{reason, seen, said}
+use Rattle.replay.specs.Seen.{reason, reason_of, reason_of_rewind, seen, said}
 use Rattle.replay.specs.Width.{IsOfferedWidth}
 
 -- a set bit, nothing pruned
@@ -67,6 +69,16 @@ reason_of_a_length = refl
 
 reason_without_a_fault : reason (refusal.Codec errors.OutOfMemory) ≡ Codec None
 reason_without_a_fault = refl
+
+-- the errors of a commit and of going back, one by one
+reasons_of_a_commit : (reason_of (commit_errors.NonMonotonicCommit 5 3) ≡ NonMonotonicCommit 5 3)
+    × (reason_of commit_errors.ReservedCommitNumber ≡ ReservedCommitNumber)
+    × (reason_of commit_errors.PrunedChunksOverflow ≡ PrunedChunksOverflow)
+    × (reason_of (commit_errors.Memory alloc_error) ≡ NoMemory)
+reasons_of_a_commit = (refl, refl, refl, refl)
+
+reasons_of_going_back : (reason_of_rewind rewind_errors.NoSuchCommit ≡ NoSuchCommit) × (reason_of_rewind (rewind_errors.Memory alloc_error) ≡ NoMemory)
+reasons_of_going_back = (refl, refl)
 
 -- replies
 said_done : said {N = 1} reply.Done ≡ Done
