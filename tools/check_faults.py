@@ -36,6 +36,7 @@ def refusals(script, folder):
     yield "three words", ["4", script, script], USAGE, 2
     for width in ("0", "2", "5", "04", "+4", "4 ", "", "33", "18446744073709551616"):
         yield f"the width {width!r}", [width, script], USAGE, 2
+    yield "a wrong width and a script that is not there", ["2", f"{folder}/none.script"], USAGE, 2
     yield "a word that is not UTF-8", [b"4", b"\xff.script"], USAGE, 2
     yield "a script that is not there", ["4", f"{folder}/none.script"], UNREAD, 3
     yield "a folder", ["4", folder], UNREAD, 3
@@ -43,13 +44,14 @@ def refusals(script, folder):
 
 def broken_texts():
     """Scripts that are none: a name, the bytes, and the line that is told."""
-    for line in ("begin ", " begin", "Begin", "push", "push 2", "push  1", "push 01", "push 1 ", "push-byte 0", "push-byte 0g", "push-chunk -",
+    for line in ("begin ", " begin", "Begin", "push", "push 2", "push  1", "push 01", "push 1 ", "push-byte 0", "push-byte 0g", "push-byte 0:", "push-chunk -",
                  "push-chunk 000000", "set 1", "get +1", "get 18446744073709551616", "len 0", "decode", "decode 0 any", "decode - all", "decode - exact",
-                 "decode - exact:", "decode - between:1", "decode - between:1:2:3", "decode -- any", "rewind", "at -1"):
+                 "decode - exact:", "decode - between:1", "decode - between:1:2:3", "decode -- any", "rewind", "at -1", " # len", "len # len"):
         yield f"the line {line!r}", f"len\n{line}\nlen\n".encode(), 2
     for byte in (0, 9, 11, 13, 32, 127, 128, 255):
         yield f"a byte {byte} before a line's end", b"len\n\nlen" + bytes([byte]) + b"\n", 3
         yield f"a byte {byte} alone", bytes([byte]) + b"\nlen\n", 1
+    yield "two lines that are no commands", b"len\n\nopen\nclose\n", 3
     yield "a line of a megabyte", b"len\n" + b"a" * (1 << 20) + b"\n", 2
     yield "a number of a megabyte", b"get " + b"9" * (1 << 20) + b"\n", 1
     yield "bytes to decode of a megabyte, one digit more", b"decode " + b"0" * ((1 << 20) + 1) + b" any\n", 1
@@ -63,7 +65,8 @@ def long_texts():
     yield "a comment of a megabyte and of any bytes", b"#" + bytes(b for b in range(256) if b != 10) * 4096 + b"\nlen\n", [b"number 0"]
     yield "a million lines", b"len\n" * 1000000, [b"number 0"] * 1000000
     yield "a million empty lines", b"\n" * 1000000 + b"len", [b"number 0"]
-    yield "a million bits", b"begin\n" + b"push-byte ff\n" * 125000 + b"len\n", [b"done"] * 125001 + [b"number 1000000"]
+    yield "a million bits", b"begin\n" + b"push-byte ff\n" * 125000 + b"len\ncommit 1\nencode\n", [
+        *[b"done"] * 125001, b"number 1000000", b"done", b"bytes " + b"0" * 16 + b"00000000000f4240" + b"f" * 250000]
     yield "bytes to decode of a megabyte", b"decode " + b"0" * (1 << 20) + b" any\n", [b"read 0 - %d" % ((1 << 19) - 16)]
 
 

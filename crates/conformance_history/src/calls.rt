@@ -4,7 +4,9 @@ use crate::asked::{
     commit, current_bit, current_chunk, pending_bit, pending_chunk, pending_shows, push, push_byte,
     set_bit, shows,
 };
-use historical_bitmap::bitmap::historical::{BitMap, Clean, CleanBitMap, Dirty, Error, State};
+use historical_bitmap::bitmap::historical::{
+    BitMap, Clean, CleanBitMap, Dirty, Error, RewindError, State,
+};
 use std::alloc::{AllocError, Global};
 use std::process::Abort;
 use std::test::Fail;
@@ -102,5 +104,40 @@ fn both_states_copied(rt: HostRuntime) -> Result<(), Fail> {
         map.get_at_commit(6)?
             .is_some_and(|old| shows(&rt, &old, 0, b"10110010"))
     );
+    Ok(())
+}
+
+#[test]
+fn refusals_in_words(rt: HostRuntime) -> Result<(), Fail> {
+    let not_above = Error::NonMonotonicCommit {
+        previous: 9,
+        attempted: 3,
+    };
+    for (why, words) in [
+        (
+            not_above,
+            "commit number (3) is not above the previous one (9)",
+        ),
+        (
+            Error::ReservedCommitNumber,
+            "the commit number u64::MAX is reserved",
+        ),
+        (
+            Error::PrunedChunksOverflow,
+            "pruned_chunks * CHUNK_SIZE_BITS overflows u64",
+        ),
+        (Error::Memory(AllocError), "out of memory"),
+    ] {
+        assert_eq!(rt; format!(in rt.alloc(); "{why}")?.as_str(), words);
+    }
+    for (why, words) in [
+        (
+            RewindError::NoSuchCommit,
+            "no commit is kept under that number",
+        ),
+        (RewindError::Memory(AllocError), "out of memory"),
+    ] {
+        assert_eq!(rt; format!(in rt.alloc(); "{why}")?.as_str(), words);
+    }
     Ok(())
 }

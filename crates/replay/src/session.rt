@@ -4,7 +4,7 @@ mod clean;
 mod dirty;
 mod shown;
 
-ghost use Rattle.std.specs.Prelude.{◌≡◌, ◌+◌, ◌<◌, ◌≤◌, List, [], ◌∷◌, ◌++◌, map, OnErr, OnOk, vec_len, vec_capacity};
+ghost use Rattle.std.specs.Prelude.{◌≡◌, ◌+◌, ◌<◌, ◌≤◌, List, [], ◌∷◌, ◌++◌, length, map, IsOk, OnErr, OnOk, vec_len, vec_capacity};
 ghost use Rattle.bitmap_core.specs.Chunk.{IsWidth};
 ghost use Rattle.replay.specs.Machine.{Agrees, StepTo, RunsOn, first_machine};
 ghost use Rattle.replay.specs.Seen.{seen, said};
@@ -101,7 +101,8 @@ impl<const N: usize> Session<N> {
     /// memory. Nothing is asked but that the width may be used, which holds of every session.
     ///
     /// Room for the replies is taken first, from the allocator of `replies`: refused there it errs, no command has run, and the
-    /// session and the replies are as they were. A command that finds no memory later is answered by `NoMemory`.
+    /// session and the replies are as they were. Where there is room for all of them already it never errs. A command that finds no
+    /// memory later is answered by `NoMemory`.
     pub fn run(
         &mut self,
         commands: &[Command<N>],
@@ -110,6 +111,7 @@ impl<const N: usize> Session<N> {
         ensures run { OnOk result ((new : List (Reply N)) × (replies.new.items ≡ replies.old.items ++ new)
             × RunsOn N self.old commands.now (map said new) self.new) }
         ensures refused { OnErr result ((self.new ≡ self.old) × (replies.new.items ≡ replies.old.items)) }
+        ensures roomy { vec_len replies.old + length commands.now ≤ vec_capacity replies.old → IsOk result }
     {
         replies.reserve(commands.len())?;
         for command in commands {

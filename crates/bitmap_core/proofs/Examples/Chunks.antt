@@ -120,7 +120,7 @@ two_bytes_written : IsByteWritten 2 (1 ∷ 2 ∷ []) (0 ∷ 7 ∷ []) 12 7 → �
 two_bytes_written w = false≢true (w.others 0 (λ e. omega (arith, e)))
 
 -- 171 is 1010 1011 in binary: from place 4 of a chunk of two bytes on, its low half stands above what is kept of the first byte, its high half below what is kept of the second
-byte_joined : IsByteJoined 2 (1 ∷ 192 ∷ []) (177 ∷ 202 ∷ []) 20 171
+pub byte_joined : IsByteJoined 2 (1 ∷ 192 ∷ []) (177 ∷ 202 ∷ []) 20 171
 byte_joined = record { here = here; others = others }
   where
     here : (j : ℕ) → 4 ≤ j % 16 → j % 16 < 12 → chunk_bit 2 (177 ∷ 202 ∷ []) j ≡ (bit_at 171 (j % 16 - 4) == 1)

@@ -1,11 +1,11 @@
 -- Pending edits. Each chunk has one byte.
 use Rattle.std.specs.Prelude.{◌≡◌, ℕ, ◌/◌, ◌%◌, slice_index_or, ◌==◌, Bool, true, false, not, List, [], ◌∷◌, ◌++◌, Some, None, MatchOption, is_some, nat_eq, replicate, ◌+◌, ◌-◌, ◌*◌, ◌≤◌, ◌⊎◌, nat_lt, if◌then◌else◌}
-use Rattle.std.specs.Int.{bit_at}
 use Rattle.std.proofs.Common.{refl, ap, arith, get_or, subst, sym}
 use Rattle.std.proofs.lemmas.Bool.{cases_Bool, cases_eq, false≢true, ne_eqb}
 use mathlib.Core.Logic.{inl, inr}
 use Rattle.bitmap_core.specs.Chunk.{chunk_bit}
 use Rattle.bitmap_core.specs.PrunedBits.{PrunedBits}
+use Rattle.bitmap_core.proofs.Examples.Chunks.{byte_joined}
 use Rattle.bitmap_core.proofs.Examples.EachPlace.{same_places, is_other}
 use Rattle.historical_bitmap.specs.Edits.{after_all, pushes}
 use Rattle.historical_bitmap.specs.Edits.Edit.{Push, Pop, Set, Prune}
@@ -355,22 +355,16 @@ two_put q = elim (cases_Bool (nat_eq q 1)) [
   | inr e ↦ elim (cases_Bool (nat_eq q 2)) [ inl f ↦ rw (e, f) refl | inr f ↦ rw (e, f) refl ]
 ]
 
--- the second byte of the chunk under 0 replaced by 9, with bit 12 of it
-byte_set : IsByteSetIn 2 ((0, 5 ∷ 4 ∷ []) ∷ []) ((0, 5 ∷ 9 ∷ []) ∷ []) 0 12 9
+-- 171 joined to the chunk under 1 from its place 4 on, which is position 20
+byte_set : IsByteSetIn 2 ((1, 1 ∷ 192 ∷ []) ∷ []) ((1, 177 ∷ 202 ∷ []) ∷ []) 1 20 171
 byte_set = record {
-  chunk = 5 ∷ 4 ∷ [];
+  chunk = 1 ∷ 192 ∷ [];
   found = refl;
-  bytes = 5 ∷ 9 ∷ [];
+  bytes = 177 ∷ 202 ∷ [];
   size = refl;
-  written = record {
-    here = λ j e. here j (omega arith);
-    others = λ j d. same_places 2 (λ k. not (k / 8 == 1)) (5 ∷ 4 ∷ []) (5 ∷ 9 ∷ []) j (omega arith) refl (is_other (j % 16 / 8) 1 (λ e. d (omega arith)));
-  };
-  edited = λ q. elim (cases_Bool (nat_eq q 0)) [ inl e ↦ rw e refl | inr e ↦ rw e refl ];
+  written = byte_joined;
+  edited = λ q. elim (cases_Bool (nat_eq q 1)) [ inl e ↦ rw e refl | inr e ↦ rw e refl ];
 }
-  where
-    here : (j : ℕ) → j / 8 % 2 ≡ 1 → chunk_bit 2 (5 ∷ 9 ∷ []) j ≡ (bit_at 9 (j % 8) == 1)
-    here j e = ap (λ b. bit_at (slice_index_or (5 ∷ 9 ∷ []) b 0) (j % 8) == 1) e
 
 -- ---- values appended at once
 -- a statement of the positions 8 to 15 holds of each position of chunk 1

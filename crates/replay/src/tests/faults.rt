@@ -39,7 +39,7 @@ fn check_fault(
 
 #[test]
 fn a_line_that_is_no_command_stops_all(rt: HostRuntime) -> Result<(), Fail> {
-    let lines: [&[u8]; 40] = [
+    let lines: [&[u8]; 43] = [
         b"push 2",
         b"push",
         b"push  1",
@@ -72,6 +72,7 @@ fn a_line_that_is_no_command_stops_all(rt: HostRuntime) -> Result<(), Fail> {
         b"push-byte -",
         b"push-byte 0102",
         b"push-byte 0g",
+        b"push-byte 0:",
         b"push-chunk -",
         b"push-chunk 010203",
         b"push-chunk 0102030405",
@@ -80,6 +81,8 @@ fn a_line_that_is_no_command_stops_all(rt: HostRuntime) -> Result<(), Fail> {
         b"ones-at 1 2",
         b"entries 1",
         b"exists",
+        b" # no edit",
+        b"push 1 # an edit",
     ];
     for line in lines {
         let mut script = b"begin\npush 1\n".to_vec(rt.alloc())?;
@@ -91,8 +94,8 @@ fn a_line_that_is_no_command_stops_all(rt: HostRuntime) -> Result<(), Fail> {
 }
 
 #[test]
-fn skipped_lines_are_counted(rt: HostRuntime) -> Result<(), Fail> {
-    let script = b"# a batch\n\nbegin\nopen\n".as_slice();
+fn the_first_bad_line_is_told_and_skipped_ones_count(rt: HostRuntime) -> Result<(), Fail> {
+    let script = b"# a batch\n\nbegin\nopen\nclose\n".as_slice();
     check_fault(
         &rt,
         rt.alloc(),
