@@ -296,6 +296,13 @@ fn sizes_of_byte_forms(rt: HostRuntime) {
     assert_eq!(rt; BitMap::<3>::max_encode_size(24), 11);
     assert_eq!(rt; BitMap::<3>::max_encode_size(25), 14);
     assert_eq!(rt; BitMap::<1>::max_encode_size(u64::MAX), 2305843009213693960);
+    assert_eq!(rt; BitMap::<3>::max_encode_size(u64::MAX), 2305843009213693961);
+    assert_eq!(rt; BitMap::<7>::max_encode_size(u64::MAX), 2305843009213693965);
+    assert_eq!(rt; BitMap::<9>::max_encode_size(u64::MAX), 2305843009213693967);
+    assert_eq!(rt;
+        BitMap::<64>::max_encode_size(u64::MAX),
+        2305843009213693960
+    );
 }
 
 #[test]

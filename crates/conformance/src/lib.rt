@@ -12,6 +12,8 @@ mod codec;
 #[cfg(test)]
 mod dense;
 #[cfg(test)]
+mod ends;
+#[cfg(test)]
 mod plain;
 #[cfg(test)]
 mod pruned;

@@ -271,6 +271,8 @@ fn check_width<const N: usize>(rt: &impl Abort, alloc: Global) -> Result<(), All
             for start in ends {
                 check_ranges::<N>(rt, alloc, sparse.as_slice(), start, end)?;
             }
+            check_ranges::<N>(rt, alloc, sparse.as_slice(), end, u64::MAX)?;
+            check_ranges::<N>(rt, alloc, sparse.as_slice(), u64::MAX, end)?;
         }
     }
     Ok(())

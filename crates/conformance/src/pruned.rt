@@ -140,37 +140,8 @@ fn chunks_pruned_from_the_start(rt: HostRuntime) -> Result<(), Fail> {
     Ok(())
 }
 
-// The most chunks that can be pruned, and the bits that have room behind them.
-fn check_end<const N: usize>(
-    rt: &impl Abort,
-    alloc: Global,
-    most: usize,
-    room: u64,
-) -> Result<(), AllocError>
-    requires positive { 0 < N }
-    requires fits { 8 * N < 2 ^ 64 }
-{
-    assert!(rt; most < usize::MAX);
-    assert!(rt; Prunable::<N>::new_with_pruned_chunks(alloc, most + 1).is_err());
-    let made = Prunable::<N>::new_with_pruned_chunks(alloc, most);
-    assert!(rt; made.is_ok(), "chunks of {N}");
-    if let Ok(mut map) = made {
-        for i in 0..room {
-            push(rt, &mut map, i % 3 == 0)?;
-        }
-        assert_eq!(rt; map.len(), u64::MAX, "chunks of {N}");
-        let (last, used) = last_chunk(rt, &map);
-        assert!(rt; used == room && last[0] & 0x7f == 0x49, "chunks of {N}");
-    }
-    Ok(())
-}
-
 #[test]
 fn ends_of_the_positions(rt: HostRuntime) -> Result<(), Fail> {
-    check_end::<1>(&rt, rt.alloc(), 2305843009213693951, 7)?;
-    check_end::<7>(&rt, rt.alloc(), 329406144173384850, 15)?;
-    check_end::<8>(&rt, rt.alloc(), 288230376151711743, 63)?;
-    check_end::<9>(&rt, rt.alloc(), 256204778801521550, 15)?;
     let mut map = Prunable::<8>::new_with_pruned_chunks(rt.alloc(), 288230376151711743)?;
     assert_eq!(rt; map.pruned_bits(), 18446744073709551552);
     map.extend_to(u64::MAX)?;

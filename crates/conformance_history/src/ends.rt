@@ -3,8 +3,8 @@
 ghost use Rattle.bitmap_core.specs.Chunk.{IsWidth};
 
 use crate::asked::{
-    commit, go_back, pending_bit, pending_chunk, pop, prune_to_bit, push, push_byte, read_bit,
-    refuse, set_bit,
+    commit, current_bit, current_chunk, go_back, pending_bit, pending_chunk, pop, prune_to_bit,
+    push, push_byte, read_bit, refuse, set_bit,
 };
 use historical_bitmap::bitmap::Readable;
 use historical_bitmap::bitmap::historical::{CleanBitMap, DirtyBitMap, Error};
@@ -98,6 +98,11 @@ fn check_commits<const N: usize>(
     };
     let map = refuse(rt, map, LAST, why).abort();
     assert!(rt; map.at(LAST).is_some_and(|old| old.len() == first));
+    let then = map.at(7);
+    assert!(rt; then.is_some());
+    if let Some(then) = then {
+        check(rt, &then, first);
+    }
     let old = map.get_at_commit(7)?;
     assert!(rt; old.is_some());
     if let Some(old) = old {
@@ -105,6 +110,9 @@ fn check_commits<const N: usize>(
     }
     let map = go_back(rt, map, 7)?;
     check(rt, map.current(), first);
+    let is_last_set = read_bit(rt, map.current(), LAST);
+    assert!(rt; current_bit(rt, &map, first) && current_bit(rt, &map, LAST) == is_last_set);
+    assert!(rt; current_chunk(rt, &map, LAST) == current_chunk(rt, &map, first));
     Ok(())
 }
 

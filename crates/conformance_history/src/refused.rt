@@ -7,8 +7,8 @@ mod applied;
 mod no_memory;
 
 use crate::asked::{
-    commit, get_bit, keeps, pending_shows, pop, pop_run, prune_to_bit, push, push_byte, push_chunk,
-    push_run, refuse, set_bit, shows, shows_runs,
+    commit, front, get_bit, keeps, pending_shows, pop, pop_run, prune_to_bit, push, push_byte,
+    push_chunk, push_run, refuse, set_bit, shows, shows_runs, was,
 };
 use historical_bitmap::bitmap::Prunable;
 use historical_bitmap::bitmap::historical::{CleanBitMap, DirtyBitMap, Error, RewindError};
@@ -274,6 +274,7 @@ fn check_committed(rt: &impl Abort, map: &CleanBitMap<4>) {
     assert!(rt; map.commits().eq([1, 2].iter().copied()));
     assert!(rt; shows(rt, map.current(), 0, b"001"));
     assert!(rt; map.reverse_entries() <= 2);
+    assert!(rt; map.get_at_commit(3).is_ok_and(|old| old.is_none()));
     if let Ok(old) = map.get_at_commit(1) {
         assert!(rt; old.is_some_and(|old| shows(rt, &old, 0, b"10")));
     }
@@ -313,6 +314,115 @@ fn batch_committed(rt: HostRuntime) {
                 }
             }
         }
+    }
+}
+
+// A batch on `committed` that removes the last chunk, sets a bit of the one before it, and prunes that one.
+fn removed_set_and_pruned(
+    rt: &impl Abort,
+    alloc: Global,
+) -> Option<(DirtyBitMap<1>, CleanBitMap<1>)> {
+    let (mut map, before) = begun(rt, alloc)?;
+    pop_run(rt, &mut map, 3, false);
+    pop_run(rt, &mut map, 4, true);
+    set_bit(rt, &mut map, 8, true).ok()?;
+    prune_to_bit(rt, &mut map, 16).ok()?;
+    Some((map, before))
+}
+
+// Whether a number is kept with such a bitmap, as far as there is memory to read it.
+fn was_found(
+    rt: &impl Abort,
+    map: &CleanBitMap<1>,
+    number: u64,
+    pruned_chunks: usize,
+    digits: &[u8],
+) -> bool {
+    was(rt, map, number, pruned_chunks, digits).unwrap_or(true)
+}
+
+// What a bitmap answers with that batch committed under 3.
+fn check_removed(rt: &impl Abort, map: &CleanBitMap<1>) {
+    assert!(rt; keeps(map, &[1, 2, 3]) && shows(rt, map.current(), 2, b""));
+    assert!(rt; was_found(rt, map, 1, 0, b"1011001001110101"));
+    assert!(rt; was_found(rt, map, 2, 1, b"0111010111110000"));
+    assert!(rt; was_found(rt, map, 3, 2, b""));
+    assert!(rt; keeps(map, &[1, 2, 3]) && shows(rt, map.current(), 2, b""));
+}
+
+// What is left of it where its commit is refused: the batch, which is given up.
+fn check_not_removed(rt: &impl Abort, map: DirtyBitMap<1>, before: &CleanBitMap<1>) {
+    assert!(rt; pending_shows(rt, &map, 2, b""));
+    use_further(rt, map, before);
+}
+
+#[test]
+fn chunks_removed_and_pruned_committed(rt: HostRuntime) {
+    let Some((map, before)) = removed_set_and_pruned(&rt, rt.alloc()) else {
+        return;
+    };
+    match map.commit(3) {
+        Ok(map) => check_removed(&rt, &map),
+        Err((map, why)) => {
+            assert!(rt; why == Error::Memory(AllocError));
+            assert!(rt; pending_shows(&rt, &map, 2, b""));
+            match map.commit(3) {
+                Ok(map) => check_removed(&rt, &map),
+                Err((map, why)) => {
+                    assert!(rt; why == Error::Memory(AllocError));
+                    check_not_removed(&rt, map, &before);
+                }
+            }
+        }
+    }
+}
+
+// What is pending in `begun` after each of the edits below.
+const FURTHER: [(usize, &[u8]); 5] = [
+    (1, b"111101011111000"),
+    (1, b"0111010111110001"),
+    (1, b"01110101111100010110010"),
+    (1, b"01110101111100010110010"),
+    (2, b"1111000"),
+];
+
+// Makes one of five edits in a chain, behind an edit that drops nothing and takes no memory.
+fn edit_further(rt: &impl Abort, map: &mut DirtyBitMap<1>, which: usize) -> Result<(), AllocError> {
+    assert!(rt; front(rt, map) <= 8 && 16 <= map.len() && map.len() < 1000);
+    let edit = map.prune_to_bit(0)?;
+    let _ = match which {
+        0 => edit.set_bit(8, true)?,
+        1 => edit.push(true)?,
+        2 => edit.push_byte(0x4d)?,
+        3 => edit.push_chunk(&[0x4d])?,
+        _ => edit.prune_to_bit(16)?,
+    };
+    Ok(())
+}
+
+fn check_further(rt: &impl Abort, alloc: Global, which: usize) {
+    let Some((mut map, before)) = begun(rt, alloc) else {
+        return;
+    };
+    let refused = edit_further(rt, &mut map, which).is_err()
+        && {
+            assert!(rt; pending_shows(rt, &map, 1, PENDING));
+            edit_further(rt, &mut map, which).is_err()
+        };
+    assert!(rt; which < 5);
+    let (pruned_chunks, digits) = if refused {
+        (1, PENDING)
+    } else {
+        FURTHER[which]
+    };
+    assert!(rt; pending_shows(rt, &map, pruned_chunks, digits));
+    use_further(rt, map, &before);
+}
+
+#[test]
+fn edits_in_a_chain(rt: HostRuntime) {
+    for which in 0..5 {
+        check_further(&rt, rt.alloc(), which);
     }
 }
 

@@ -3,8 +3,8 @@
 mod going_back;
 
 use crate::asked::{
-    commit, keeps, pending_chunk, pending_shows, pop, pop_run, prune_to_bit, push, push_byte,
-    push_chunk, push_run, refuse, set_bit, shows, shows_runs, was, was_runs,
+    commit, go_back, keeps, pending_chunk, pending_shows, pop, pop_run, prune_to_bit, push,
+    push_byte, push_chunk, push_run, refuse, set_bit, shows, shows_runs, stay, was, was_runs,
 };
 use historical_bitmap::bitmap::codec::Write;
 use historical_bitmap::bitmap::historical::{CleanBitMap, DirtyBitMap, Error};
@@ -298,5 +298,15 @@ fn greatest_number(rt: HostRuntime) -> Result<(), Fail> {
     let map = refuse(&rt, map, 0, not_above(18446744073709551614, 0)).abort();
     assert!(rt; map.commit_exists(u64::MAX - 1) && !map.commit_exists(u64::MAX));
     assert!(rt; map.get_at_commit(u64::MAX)?.is_none());
+    assert!(rt; map.at(u64::MAX - 1).is_some() && map.at(u64::MAX).is_none());
+    let mut map = go_back(&rt, stay(&rt, map, u64::MAX), u64::MAX - 1)?;
+    assert_eq!(rt;
+        (
+            map.prune_commits_before(0),
+            map.prune_commits_before(u64::MAX - 1)
+        ),
+        (0, 0)
+    );
+    assert!(rt; map.prune_commits_before(u64::MAX) == 1 && keeps(&map, &[]));
     Ok(())
 }

@@ -5,6 +5,8 @@ mod command;
 mod laws;
 mod print;
 mod program;
+#[cfg(test)]
+mod refused;
 mod reply;
 mod script;
 mod session;

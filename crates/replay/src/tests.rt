@@ -2,6 +2,7 @@
 
 mod batches;
 mod commits;
+mod ends;
 mod faults;
 mod long;
 

@@ -6,7 +6,7 @@ use crate::asked::{
 };
 use crate::refused::{PENDING, begun, committed};
 use historical_bitmap::bitmap::Readable;
-use historical_bitmap::bitmap::historical::{CleanBitMap, DirtyBitMap, Error};
+use historical_bitmap::bitmap::historical::{ApplyError, CleanBitMap, DirtyBitMap, Error};
 use std::alloc::Global;
 use std::process::Abort;
 
@@ -124,6 +124,48 @@ fn numbers_refused(rt: HostRuntime) {
     };
     let map = refuse(&rt, map, 2, why);
     assert!(rt; pending_shows(&rt, &map, 1, PENDING));
+}
+
+// Applies a batch that removes a bit and answers so, and answers what is handed back with the refusal.
+fn refuse_batch(
+    rt: &impl Abort,
+    map: CleanBitMap<1>,
+    number: u64,
+    answer: Result<(), u8>,
+) -> Option<(CleanBitMap<1>, ApplyError<u8>)> {
+    let applied = map.apply_batch(number, |batch| {
+        assert!(rt; !pop(rt, batch));
+        answer
+    });
+    assert!(rt; applied.is_err(), "{number}");
+    applied.err()
+}
+
+// Applies batches that are refused, and answers the bitmap that is handed back.
+fn refuse_batches(rt: &impl Abort, map: CleanBitMap<1>) -> Option<CleanBitMap<1>> {
+    let (map, why) = refuse_batch(rt, map, u64::MAX, Ok(()))?;
+    assert!(rt; matches!(why, ApplyError::Commit(why) if why == Error::ReservedCommitNumber));
+    let (map, why) = refuse_batch(rt, map, 2, Ok(()))?;
+    let wanted = Error::NonMonotonicCommit {
+        previous: 2,
+        attempted: 2,
+    };
+    assert!(rt; matches!(why, ApplyError::Commit(why) if why == wanted));
+    let (map, why) = refuse_batch(rt, map, 3, Err(7))?;
+    assert!(rt; matches!(why, ApplyError::Batch(7)));
+    Some(map)
+}
+
+#[test]
+fn batches_refused(rt: HostRuntime) {
+    let Some(map) = committed(&rt, rt.alloc()) else {
+        return;
+    };
+    let map = refuse_batches(&rt, map);
+    assert!(rt;
+        map.is_some_and(|map| keeps(&map, &[1, 2])
+            && shows(&rt, map.current(), 1, b"0111010111110000"))
+    );
 }
 
 #[test]

@@ -99,6 +99,11 @@ fn check_written<const N: usize>(rt: &impl Abort, alloc: Global)
 
 #[test]
 fn faults(rt: HostRuntime) {
+    let four = [0, 0, 0, 0, 0, 0, 0, 3, 0x0d, 0, 0, 0];
+    let trailing = refusal::<BitMap<4>>(rt.alloc(), &four, &RangeCfg::any());
+    assert!(rt;
+        matches!(trailing, Some(CodecError::Invalid("BitMap", why)) if why == "Invalid trailing bits in encoded data")
+    );
     check_bits::<1>(&rt, rt.alloc());
     check_bits::<3>(&rt, rt.alloc());
     check_bits::<8>(&rt, rt.alloc());
