@@ -3,7 +3,9 @@
 
 usage: check_runs.py drawn COUNT    so many drawn scripts, at each of the five widths in turn
        check_runs.py refused COUNT  the examples, and so many drawn scripts, at each of the five widths that fits. Of each
-                                    every request for memory is refused in turn: that request alone, and all from it on
+                                    every request for memory is refused in turn: that request alone, that one and the next
+                                    (a growth that is refused asks once more), and all from it on. Each command that may
+                                    say no-memory has to have said so
 
 The program is the one that the gate has built. Scripts are drawn from fixed seeds.
 """
@@ -23,6 +25,8 @@ from machine import LAST, Bitmap, Machine, State
 TOP = Path(__file__).resolve().parent.parent
 PROGRAM = TOP / "crates/replay/out/replay"
 WIDTHS = (1, 3, 4, 8, 32)
+LACKS = "refused no-memory"
+MAY_LACK = {"push", "push-byte", "push-chunk", "set", "prune", "commit", "ones", "encode", "commits", "rewind", "at", "ones-at", "encode-at", "decode"}
 
 
 def commands_of(lines):
@@ -41,7 +45,7 @@ def fault(width, lines, printed, lacks):
         return f"{len(commands)} commands, {len(printed)} lines"
     for words, line in zip(commands, printed):
         step = machine.step(state, words)
-        if lacks and step.may_lack and line == "refused no-memory":
+        if lacks and step.may_lack and line == LACKS:
             continue
         most = re.fullmatch(r"entries (\d+)", line)
         is_right = int(most[1]) <= step.reply if most and isinstance(step.reply, int) else line == step.reply
@@ -150,25 +154,27 @@ def check_drawn(room, number):
 
 
 def check_refusal(width, path, lines, environment):
-    """What is wrong with a run whose memory is refused so, and how many requests it made."""
+    """What is wrong with a run whose memory is refused so, how many requests it made, and the commands that said so."""
     status, printed, told = run(width, path, **environment)
     requests = int(told.pop().removeprefix("requests: "))
     if status == 3:
-        return (None if not printed and told == ["replay: out of memory"] else f"{told}, {len(printed)} lines printed"), requests
-    return (fault(width, lines, printed, lacks=True) if status == 0 and not told else f"status {status}: {told}"), requests
+        return (None if not printed and told == ["replay: out of memory"] else f"{told}, {len(printed)} lines printed"), requests, set()
+    lacking = {words[0] for words, line in zip(commands_of(lines), printed) if line == LACKS}
+    return (fault(width, lines, printed, lacks=True) if status == 0 and not told else f"status {status}: {told}"), requests, lacking
 
 
 def check_refused(library, width, path):
-    """The faults of all runs of a script in which memory is refused, and how many runs they are."""
-    lines, found, runs = path.read_text().split("\n"), [], 0
-    for mode in ("REFUSE_AT", "REFUSE_FROM"):
+    """The faults of all runs of a script in which memory is refused, how many runs they are, and the commands that said so."""
+    lines, found, runs, lacking = path.read_text().split("\n"), [], 0, set()
+    for mode in ("REFUSE_AT", "REFUSE_TWO", "REFUSE_FROM"):
         for at in itertools.count(1):
-            why, requests = check_refusal(width, path, lines, {"LD_PRELOAD": library, mode: str(at)})
+            why, requests, lacked = check_refusal(width, path, lines, {"LD_PRELOAD": library, mode: str(at)})
             found += [f"{path.name} at width {width}, {mode}={at}: {why}"] if why else []
+            lacking |= lacked
             runs += 1
             if requests < at:
                 break
-    return found, runs
+    return found, runs, lacking
 
 
 def try_refused(room, pool, count):
@@ -185,12 +191,13 @@ def main():
     what, count = sys.argv[1], int(sys.argv[2])
     with tempfile.TemporaryDirectory() as room, ThreadPoolExecutor(os.cpu_count()) as pool:
         if what == "drawn":
-            tried = [(found, 1) for found in pool.map(lambda number: check_drawn(room, number), range(count))]
+            tried = [(found, 1, MAY_LACK) for found in pool.map(lambda number: check_drawn(room, number), range(count))]
         else:
             tried = list(try_refused(room, pool, count))
-    faults = [line for found, _ in tried for line in found]
+    faults = [line for found, _, _ in tried for line in found]
+    faults += [f"{word} never said {LACKS}" for word in sorted(MAY_LACK.difference(*(lacking for _, _, lacking in tried)))]
     print(*faults[:20], sep="\n", end="\n" if faults else "")
-    print(f"{what}: {sum(runs for _, runs in tried)} runs, {len(faults)} with faults")
+    print(f"{what}: {sum(runs for _, runs, _ in tried)} runs, {len(faults)} with faults")
     return 1 if faults else 0
 
 

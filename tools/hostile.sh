@@ -24,7 +24,7 @@ row "---" "---"
 try tools/check_runs.py drawn 3000
 row "whole runs of drawn scripts, each line that they print against the machine of lists" "$(runs) scripts"
 try tools/check_runs.py refused 20
-row "whole runs of the examples and of 100 drawn scripts, each request for memory refused alone, and all from it on" "$(runs) runs"
+row "whole runs of the examples and of 100 drawn scripts, each request for memory refused alone, with the next one, and all from it on" "$(runs) runs"
 try tools/check_faults.py
 row "words, paths, bytes and lines that are no script, scripts of a million lines and of a megabyte a line, little memory" "$(runs) runs"
 try tools/refuse.sh --built

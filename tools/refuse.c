@@ -1,7 +1,7 @@
 /*
  * A preloaded allocator that refuses requests for memory. Requests are counted from 1.
  *
- * REFUSE_AT=K refuses the K-th request, and REFUSE_FROM=K each from the K-th on.
+ * REFUSE_AT=K refuses the K-th request, REFUSE_TWO=K that one and the next, and REFUSE_FROM=K each from the K-th on.
  * At the end the number of requests goes to standard error.
  */
 #define _GNU_SOURCE
@@ -20,9 +20,10 @@ static unsigned long number(const char *name) {
 }
 
 static int refused(void) {
-    unsigned long at = number("REFUSE_AT"), from = number("REFUSE_FROM");
+    unsigned long at = number("REFUSE_AT"), two = number("REFUSE_TWO"), from = number("REFUSE_FROM");
     requests++;
-    if (requests != at && (from == 0 || requests < from)) return 0;
+    int is_one = requests == at || (two != 0 && (requests == two || requests == two + 1));
+    if (!is_one && (from == 0 || requests < from)) return 0;
     errno = ENOMEM;
     return 1;
 }
