@@ -2,27 +2,27 @@
 
 use crate::asked::{commit, keeps, push, push_run, shows};
 use historical_bitmap::bitmap::historical::{ApplyError, CleanBitMap, DirtyBitMap, Error};
-use std::alloc::{AllocError, Global};
+use std::alloc::Global;
 use std::process::Abort;
-use std::test::Fail;
 
 // What comes of a batch whose closure may answer a number.
 type Applied = Result<CleanBitMap<4>, (CleanBitMap<4>, ApplyError<u8>)>;
 
 // The bits 10, committed under a number.
-fn committed(rt: &impl Abort, alloc: Global, number: u64) -> Result<CleanBitMap<4>, AllocError> {
+fn committed(rt: &impl Abort, alloc: Global, number: u64) -> CleanBitMap<4> {
     let mut map = CleanBitMap::<4>::new(alloc).into_dirty();
-    map.push(true)?.push(false)?;
+    push(rt, &mut map, true);
+    push(rt, &mut map, false);
     commit(rt, map, number)
 }
 
 // Three true bits committed under 9, and a batch begun that has pushed one more.
-fn other(rt: &impl Abort, alloc: Global) -> Result<DirtyBitMap<4>, AllocError> {
+fn other(rt: &impl Abort, alloc: Global) -> DirtyBitMap<4> {
     let mut map = CleanBitMap::<4>::new(alloc).into_dirty();
-    push_run(rt, &mut map, 3, true)?;
-    let mut map = commit(rt, map, 9)?.into_dirty();
-    push(rt, &mut map, false)?;
-    Ok(map)
+    push_run(rt, &mut map, 3, true);
+    let mut map = commit(rt, map, 9).into_dirty();
+    push(rt, &mut map, false);
+    map
 }
 
 // What is handed back, where the closure answered this number.
@@ -42,9 +42,9 @@ fn not_committed(rt: &impl Abort, applied: Applied, why: Error) -> Option<CleanB
 }
 
 #[test]
-fn number_that_is_committed_already(rt: HostRuntime) -> Result<(), Fail> {
-    let applied = committed(&rt, rt.alloc(), 5)?.apply_batch(5, |batch| {
-        assert!(rt; push(&rt, batch, true).is_ok());
+fn number_that_is_committed_already(rt: HostRuntime) {
+    let applied = committed(&rt, rt.alloc(), 5).apply_batch(5, |batch| {
+        push(&rt, batch, true);
         Ok(())
     });
     let why = Error::NonMonotonicCommit {
@@ -53,26 +53,24 @@ fn number_that_is_committed_already(rt: HostRuntime) -> Result<(), Fail> {
     };
     let map = not_committed(&rt, applied, why);
     assert!(rt; map.is_some_and(|map| keeps(&map, &[5]) && shows(&rt, map.current(), 0, b"10")));
-    Ok(())
 }
 
 #[test]
-fn closure_that_refuses(rt: HostRuntime) -> Result<(), Fail> {
-    let applied = committed(&rt, rt.alloc(), 5)?.apply_batch(5, |batch| {
-        assert!(rt; push(&rt, batch, true).is_ok());
+fn closure_that_refuses(rt: HostRuntime) {
+    let applied = committed(&rt, rt.alloc(), 5).apply_batch(5, |batch| {
+        push(&rt, batch, true);
         Err(7)
     });
     let map = given_up(&rt, applied, 7);
     assert!(rt; map.is_some_and(|map| keeps(&map, &[5]) && shows(&rt, map.current(), 0, b"10")));
-    Ok(())
 }
 
 #[test]
-fn empty_bitmap_put_in_place(rt: HostRuntime) -> Result<(), Fail> {
+fn empty_bitmap_put_in_place(rt: HostRuntime) {
     let alloc = rt.alloc();
-    let applied: Applied = committed(&rt, alloc, 5)?.apply_batch(5, |batch| {
+    let applied: Applied = committed(&rt, alloc, 5).apply_batch(5, |batch| {
         *batch = CleanBitMap::new(alloc).into_dirty();
-        assert!(rt; push(&rt, batch, true).is_ok());
+        push(&rt, batch, true);
         Ok(())
     });
     let map = applied.ok();
@@ -81,13 +79,12 @@ fn empty_bitmap_put_in_place(rt: HostRuntime) -> Result<(), Fail> {
             && keeps(&map, &[5])
             && shows(&rt, map.current(), 0, b"1"))
     );
-    Ok(())
 }
 
 #[test]
-fn other_bitmap_put_in_place(rt: HostRuntime) -> Result<(), Fail> {
-    let other = other(&rt, rt.alloc())?;
-    let applied = committed(&rt, rt.alloc(), 1)?.apply_batch(5, |batch| {
+fn other_bitmap_put_in_place(rt: HostRuntime) {
+    let other = other(&rt, rt.alloc());
+    let applied = committed(&rt, rt.alloc(), 1).apply_batch(5, |batch| {
         *batch = other;
         Ok(())
     });
@@ -97,17 +94,15 @@ fn other_bitmap_put_in_place(rt: HostRuntime) -> Result<(), Fail> {
     };
     let map = not_committed(&rt, applied, why);
     assert!(rt; map.is_some_and(|map| keeps(&map, &[9]) && shows(&rt, map.current(), 0, b"111")));
-    Ok(())
 }
 
 #[test]
-fn other_bitmap_put_in_place_and_refused(rt: HostRuntime) -> Result<(), Fail> {
-    let other = other(&rt, rt.alloc())?;
-    let applied = committed(&rt, rt.alloc(), 1)?.apply_batch(5, |batch| {
+fn other_bitmap_put_in_place_and_refused(rt: HostRuntime) {
+    let other = other(&rt, rt.alloc());
+    let applied = committed(&rt, rt.alloc(), 1).apply_batch(5, |batch| {
         *batch = other;
         Err(7)
     });
     let map = given_up(&rt, applied, 7);
     assert!(rt; map.is_some_and(|map| keeps(&map, &[9]) && shows(&rt, map.current(), 0, b"111")));
-    Ok(())
 }

@@ -1,4 +1,6 @@
 //! The calls that ask for something, each of which tests first what is asked, and what compares bitmaps.
+//!
+//! Those that take memory stand here twice: `try_push` answers whether there was some, and `push` is for tests where there is.
 
 ghost use Rattle.std.specs.Prelude.{◌≡◌};
 ghost use Rattle.bitmap_core.specs.PrunedBits.{pruned_bits};
@@ -8,6 +10,14 @@ use historical_bitmap::bitmap::historical::{CleanBitMap, DirtyBitMap, Error, Rew
 use historical_bitmap::bitmap::{Prunable, Readable};
 use std::alloc::AllocError;
 use std::process::Abort;
+
+/// What a call answered that was not refused.
+pub fn ok<T, E: Drop>(rt: &impl Abort, answer: Result<T, E>) -> T {
+    match answer {
+        Ok(value) => value,
+        Err(_) => panic!(rt; "it is refused"),
+    }
+}
 
 /// The bit at a retained position.
 pub fn get_bit<const N: usize>(rt: &impl Abort, map: &Prunable<N>, bit: u64) -> bool {
@@ -50,7 +60,7 @@ pub fn pending_chunk<const N: usize>(rt: &impl Abort, map: &DirtyBitMap<N>, bit:
 }
 
 /// Replaces the bit at a position that is retained with the pending edits.
-pub fn set_bit<const N: usize>(
+pub fn try_set_bit<const N: usize>(
     rt: &impl Abort,
     map: &mut DirtyBitMap<N>,
     bit: u64,
@@ -61,8 +71,13 @@ pub fn set_bit<const N: usize>(
     Ok(())
 }
 
+/// The same, where memory is not refused.
+pub fn set_bit<const N: usize>(rt: &impl Abort, map: &mut DirtyBitMap<N>, bit: u64, value: bool) {
+    ok(rt, try_set_bit(rt, map, bit, value));
+}
+
 /// Appends a bit.
-pub fn push<const N: usize>(
+pub fn try_push<const N: usize>(
     rt: &impl Abort,
     map: &mut DirtyBitMap<N>,
     bit: bool,
@@ -72,8 +87,13 @@ pub fn push<const N: usize>(
     Ok(())
 }
 
+/// The same, where memory is not refused.
+pub fn push<const N: usize>(rt: &impl Abort, map: &mut DirtyBitMap<N>, bit: bool) {
+    ok(rt, try_push(rt, map, bit));
+}
+
 /// Appends the bits of a byte.
-pub fn push_byte<const N: usize>(
+pub fn try_push_byte<const N: usize>(
     rt: &impl Abort,
     map: &mut DirtyBitMap<N>,
     byte: u8,
@@ -83,8 +103,13 @@ pub fn push_byte<const N: usize>(
     Ok(())
 }
 
+/// The same, where memory is not refused.
+pub fn push_byte<const N: usize>(rt: &impl Abort, map: &mut DirtyBitMap<N>, byte: u8) {
+    ok(rt, try_push_byte(rt, map, byte));
+}
+
 /// Appends the bits of a chunk.
-pub fn push_chunk<const N: usize>(
+pub fn try_push_chunk<const N: usize>(
     rt: &impl Abort,
     map: &mut DirtyBitMap<N>,
     chunk: &[u8; N],
@@ -94,6 +119,11 @@ pub fn push_chunk<const N: usize>(
     Ok(())
 }
 
+/// The same, where memory is not refused.
+pub fn push_chunk<const N: usize>(rt: &impl Abort, map: &mut DirtyBitMap<N>, chunk: &[u8; N]) {
+    ok(rt, try_push_chunk(rt, map, chunk));
+}
+
 /// Removes the last bit, which is retained with the pending edits.
 pub fn pop<const N: usize>(rt: &impl Abort, map: &mut DirtyBitMap<N>) -> bool {
     assert!(rt; front(rt, map) < map.len());
@@ -101,7 +131,7 @@ pub fn pop<const N: usize>(rt: &impl Abort, map: &mut DirtyBitMap<N>) -> bool {
 }
 
 /// Prunes every chunk before that of a position, which is not past the pending length.
-pub fn prune_to_bit<const N: usize>(
+pub fn try_prune_to_bit<const N: usize>(
     rt: &impl Abort,
     map: &mut DirtyBitMap<N>,
     bit: u64,
@@ -111,17 +141,27 @@ pub fn prune_to_bit<const N: usize>(
     Ok(())
 }
 
+/// The same, where memory is not refused.
+pub fn prune_to_bit<const N: usize>(rt: &impl Abort, map: &mut DirtyBitMap<N>, bit: u64) {
+    ok(rt, try_prune_to_bit(rt, map, bit));
+}
+
 /// Appends so many equal bits.
-pub fn push_run<const N: usize>(
+pub fn try_push_run<const N: usize>(
     rt: &impl Abort,
     map: &mut DirtyBitMap<N>,
     count: u64,
     bit: bool,
 ) -> Result<(), AllocError> {
     for _ in 0..count {
-        push(rt, map, bit)?;
+        try_push(rt, map, bit)?;
     }
     Ok(())
+}
+
+/// The same, where memory is not refused.
+pub fn push_run<const N: usize>(rt: &impl Abort, map: &mut DirtyBitMap<N>, count: u64, bit: bool) {
+    ok(rt, try_push_run(rt, map, count, bit));
 }
 
 /// Removes so many bits, which all are as given.
@@ -132,7 +172,7 @@ pub fn pop_run<const N: usize>(rt: &impl Abort, map: &mut DirtyBitMap<N>, count:
 }
 
 /// Commits under a number that may be used.
-pub fn commit<const N: usize>(
+pub fn try_commit<const N: usize>(
     rt: &impl Abort,
     map: DirtyBitMap<N>,
     number: u64,
@@ -144,6 +184,11 @@ pub fn commit<const N: usize>(
             Err(AllocError)
         }
     }
+}
+
+/// The same, where memory is not refused.
+pub fn commit<const N: usize>(rt: &impl Abort, map: DirtyBitMap<N>, number: u64) -> CleanBitMap<N> {
+    ok(rt, try_commit(rt, map, number))
 }
 
 /// Commits under a number that may not be used, and answers the bitmap that is handed back.
@@ -166,7 +211,7 @@ pub fn refuse<const N: usize>(
 }
 
 /// Goes back to a number that is kept.
-pub fn go_back<const N: usize>(
+pub fn try_go_back<const N: usize>(
     rt: &impl Abort,
     map: CleanBitMap<N>,
     number: u64,
@@ -178,6 +223,15 @@ pub fn go_back<const N: usize>(
             Err(AllocError)
         }
     }
+}
+
+/// The same, where memory is not refused.
+pub fn go_back<const N: usize>(
+    rt: &impl Abort,
+    map: CleanBitMap<N>,
+    number: u64,
+) -> CleanBitMap<N> {
+    ok(rt, try_go_back(rt, map, number))
 }
 
 /// Asks to go back to a number that is not kept, and answers the bitmap that is handed back.
@@ -263,7 +317,7 @@ pub fn shows_runs<const N: usize>(
 }
 
 /// Whether a number is kept, with so many pruned chunks and the bits that digits stand for.
-pub fn was<const N: usize>(
+pub fn try_was<const N: usize>(
     rt: &impl Abort,
     map: &CleanBitMap<N>,
     number: u64,
@@ -276,8 +330,19 @@ pub fn was<const N: usize>(
     }
 }
 
+/// The same, where memory is not refused.
+pub fn was<const N: usize>(
+    rt: &impl Abort,
+    map: &CleanBitMap<N>,
+    number: u64,
+    pruned_chunks: usize,
+    digits: &[u8],
+) -> bool {
+    ok(rt, try_was(rt, map, number, pruned_chunks, digits))
+}
+
 /// Whether a number is kept, with so many pruned chunks and such runs of equal bits.
-pub fn was_runs<const N: usize>(
+pub fn try_was_runs<const N: usize>(
     rt: &impl Abort,
     map: &CleanBitMap<N>,
     number: u64,
@@ -288,6 +353,17 @@ pub fn was_runs<const N: usize>(
         Some(old) => Ok(shows_runs(rt, &old, pruned_chunks, runs)),
         None => Ok(false),
     }
+}
+
+/// The same, where memory is not refused.
+pub fn was_runs<const N: usize>(
+    rt: &impl Abort,
+    map: &CleanBitMap<N>,
+    number: u64,
+    pruned_chunks: usize,
+    runs: &[(u64, bool)],
+) -> bool {
+    ok(rt, try_was_runs(rt, map, number, pruned_chunks, runs))
 }
 
 /// The bit at a retained position of any bitmap.

@@ -1,15 +1,14 @@
 //! Each public call once with ample memory, and both states behind their trait.
 
 use crate::asked::{
-    commit, current_bit, current_chunk, pending_bit, pending_chunk, pending_shows, push, push_byte,
-    set_bit, shows,
+    commit, current_bit, current_chunk, keeps, ok, pending_bit, pending_chunk, pending_shows, push,
+    push_byte, set_bit, shows, was,
 };
 use historical_bitmap::bitmap::historical::{
-    BitMap, Clean, CleanBitMap, Dirty, Error, RewindError, State,
+    BitMap, Clean, CleanBitMap, Dirty, DirtyBitMap, Error, RewindError, State,
 };
 use std::alloc::{AllocError, Global};
 use std::process::Abort;
-use std::test::Fail;
 
 // A copy in either state.
 fn copy<const N: usize, S: State>(map: &BitMap<N, S>) -> Result<BitMap<N, S>, AllocError> {
@@ -38,77 +37,74 @@ fn bitmaps_made(rt: HostRuntime) {
     assert!(rt; behind(&rt, rt.alloc(), 576460752303423488) == Err(Error::PrunedChunksOverflow));
 }
 
-#[test]
-fn edits_in_a_chain(rt: HostRuntime) -> Result<(), Fail> {
-    let mut map = CleanBitMap::<3>::new(rt.alloc()).into_dirty();
+// An edit of each kind that answers the bitmap, on what the one before it answers.
+fn edit_in_a_chain(rt: &impl Abort, map: &mut DirtyBitMap<3>) -> Result<(), AllocError> {
     assert!(rt; map.is_empty() && map.pruned_chunks() == 0);
     map.push_chunk(&[0xff, 0, 0x0f])?
         .push_byte(0x35)?
         .push(true)?
         .set_bit(24, false)?
         .prune_to_bit(30)?;
+    Ok(())
+}
+
+#[test]
+fn edits_in_a_chain(rt: HostRuntime) {
+    let mut map = CleanBitMap::<3>::new(rt.alloc()).into_dirty();
+    ok(&rt, edit_in_a_chain(&rt, &mut map));
     assert!(rt; pending_shows(&rt, &map, 1, b"001011001"));
     assert!(rt; map.len() == 33 && !map.is_empty() && map.pruned_chunks() == 1);
     assert!(rt; pending_bit(&rt, &map, 32) && !pending_bit(&rt, &map, 24));
     assert_eq!(rt; pending_chunk(&rt, &map, 24), [0x34, 1, 0]);
     assert!(rt; map.pop());
-    let map = commit(&rt, map, 5)?;
+    let map = commit(&rt, map, 5);
     assert!(rt; shows(&rt, map.current(), 1, b"00101100"));
     assert!(rt; map.len() == 32 && !map.is_empty() && map.pruned_chunks() == 1);
     assert!(rt; current_bit(&rt, &map, 26) && !current_bit(&rt, &map, 31));
     assert_eq!(rt; current_chunk(&rt, &map, 31), [0x34, 0, 0]);
-    Ok(())
 }
 
 #[test]
-fn commits_listed_and_dropped(rt: HostRuntime) -> Result<(), Fail> {
+fn commits_listed_and_dropped(rt: HostRuntime) {
     let mut map = CleanBitMap::<3>::new(rt.alloc());
     for number in [3, 5, 8] {
         let mut batch = map.into_dirty();
-        push_byte(&rt, &mut batch, number as u8)?;
-        map = commit(&rt, batch, number)?;
+        push_byte(&rt, &mut batch, number as u8);
+        map = commit(&rt, batch, number);
     }
     assert!(rt; map.commit_exists(5) && !map.commit_exists(4));
     assert!(rt; map.earliest_commit() == Some(3) && map.latest_commit() == Some(8));
     let mut numbers = map.commits();
     assert!(rt; numbers.next() == Some(3) && numbers.next() == Some(5));
     assert!(rt; numbers.next() == Some(8) && numbers.next() == None && numbers.next() == None);
-    assert!(rt;
-        map.get_at_commit(5)?
-            .is_some_and(|old| shows(&rt, &old, 0, b"1100000010100000"))
-    );
+    assert!(rt; was(&rt, &map, 5, 0, b"1100000010100000"));
     assert!(rt; map.reverse_entries() <= 3);
     assert_eq!(rt; map.prune_commits_before(6), 2);
-    assert!(rt; map.commits().eq([8].iter().copied()) && map.reverse_entries() <= 1);
+    assert!(rt; keeps(&map, &[8]) && map.reverse_entries() <= 1);
     map.clear_history();
     assert!(rt; map.commits().next().is_none() && map.reverse_entries() == 0);
     assert!(rt; shows(&rt, map.current(), 0, b"110000001010000000010000"));
-    Ok(())
 }
 
 #[test]
-fn both_states_copied(rt: HostRuntime) -> Result<(), Fail> {
+fn both_states_copied(rt: HostRuntime) {
     let mut map = CleanBitMap::<3>::new(rt.alloc()).into_dirty();
-    map.push_byte(0x4d)?;
-    let mut map = commit(&rt, map, 6)?.into_dirty();
-    set_bit(&rt, &mut map, 0, false)?;
-    push(&rt, &mut map, true)?;
-    let batch = copy::<3, Dirty<3>>(&map)?;
+    push_byte(&rt, &mut map, 0x4d);
+    let mut map = commit(&rt, map, 6).into_dirty();
+    set_bit(&rt, &mut map, 0, false);
+    push(&rt, &mut map, true);
+    let batch = ok(&rt, copy::<3, Dirty<3>>(&map));
     assert!(rt; pending_shows(&rt, &batch, 0, b"001100101"));
-    let map = copy::<3, Clean>(&map.abort())?;
+    let map = ok(&rt, copy::<3, Clean>(&map.abort()));
     assert!(rt; shows(&rt, map.current(), 0, b"10110010"));
-    assert!(rt; map.commits().eq([6].iter().copied()));
-    let map = commit(&rt, batch, 7)?;
-    assert!(rt; map.commits().eq([6, 7].iter().copied()));
-    assert!(rt;
-        map.get_at_commit(6)?
-            .is_some_and(|old| shows(&rt, &old, 0, b"10110010"))
-    );
-    Ok(())
+    assert!(rt; keeps(&map, &[6]));
+    let map = commit(&rt, batch, 7);
+    assert!(rt; keeps(&map, &[6, 7]));
+    assert!(rt; was(&rt, &map, 6, 0, b"10110010"));
 }
 
 #[test]
-fn refusals_in_words(rt: HostRuntime) -> Result<(), Fail> {
+fn refusals_in_words(rt: HostRuntime) {
     let not_above = Error::NonMonotonicCommit {
         previous: 9,
         attempted: 3,
@@ -128,7 +124,7 @@ fn refusals_in_words(rt: HostRuntime) -> Result<(), Fail> {
         ),
         (Error::Memory(AllocError), "out of memory"),
     ] {
-        assert_eq!(rt; format!(in rt.alloc(); "{why}")?.as_str(), words);
+        assert_eq!(rt; ok(&rt, format!(in rt.alloc(); "{why}")).as_str(), words);
     }
     for (why, words) in [
         (
@@ -137,7 +133,6 @@ fn refusals_in_words(rt: HostRuntime) -> Result<(), Fail> {
         ),
         (RewindError::Memory(AllocError), "out of memory"),
     ] {
-        assert_eq!(rt; format!(in rt.alloc(); "{why}")?.as_str(), words);
+        assert_eq!(rt; ok(&rt, format!(in rt.alloc(); "{why}")).as_str(), words);
     }
-    Ok(())
 }

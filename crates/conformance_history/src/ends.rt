@@ -3,14 +3,13 @@
 ghost use Rattle.bitmap_core.specs.Chunk.{IsWidth};
 
 use crate::asked::{
-    commit, current_bit, current_chunk, go_back, pending_bit, pending_chunk, pop, prune_to_bit,
+    commit, current_bit, current_chunk, go_back, ok, pending_bit, pending_chunk, pop, prune_to_bit,
     push, push_byte, read_bit, refuse, set_bit,
 };
 use historical_bitmap::bitmap::Readable;
 use historical_bitmap::bitmap::historical::{CleanBitMap, DirtyBitMap, Error};
-use std::alloc::{AllocError, Global};
+use std::alloc::Global;
 use std::process::Abort;
-use std::test::Fail;
 
 // The last position that a bitmap can have.
 const LAST: u64 = u64::MAX - 1;
@@ -25,16 +24,15 @@ fn greatest<const N: usize>(rt: &impl Abort, alloc: Global, chunks: usize) -> Op
 }
 
 // Appends a bit for each position that is left, every third of them set: as many as a byte has by `push_byte`, the others one by one.
-fn fill<const N: usize>(rt: &impl Abort, map: &mut DirtyBitMap<N>) -> Result<(), AllocError> {
+fn fill<const N: usize>(rt: &impl Abort, map: &mut DirtyBitMap<N>) {
     let room = u64::MAX - map.len();
     let bytes = u64::from(room >= 8);
     if bytes == 1 {
-        push_byte(rt, map, 0x49)?;
+        push_byte(rt, map, 0x49);
     }
     for k in 8 * bytes..room {
-        push(rt, map, k % 3 == 0)?;
+        push(rt, map, k % 3 == 0);
     }
-    Ok(())
 }
 
 // Removes all retained bits.
@@ -45,21 +43,16 @@ fn empty<const N: usize>(rt: &impl Abort, map: &mut DirtyBitMap<N>, first: u64) 
 }
 
 // What it is while the edits are pending, at the first position behind the front and at the last, which are set anew.
-fn check_pending<const N: usize>(
-    rt: &impl Abort,
-    map: &mut DirtyBitMap<N>,
-    first: u64,
-) -> Result<(), AllocError> {
+fn check_pending<const N: usize>(rt: &impl Abort, map: &mut DirtyBitMap<N>, first: u64) {
     let last = pending_bit(rt, map, LAST);
-    set_bit(rt, map, LAST, !last)?;
-    set_bit(rt, map, first, false)?;
+    set_bit(rt, map, LAST, !last);
+    set_bit(rt, map, first, false);
     assert!(rt; matches!(pending_chunk(rt, map, LAST).first(), Some(byte) if byte & 0x3f == 0x08));
-    set_bit(rt, map, first, true)?;
-    set_bit(rt, map, LAST, last)?;
-    prune_to_bit(rt, map, u64::MAX)?;
-    prune_to_bit(rt, map, 0)?;
+    set_bit(rt, map, first, true);
+    set_bit(rt, map, LAST, last);
+    prune_to_bit(rt, map, u64::MAX);
+    prune_to_bit(rt, map, 0);
     assert_eq!(rt; map.len(), u64::MAX);
-    Ok(())
 }
 
 // The bits at both ends, and set positions in ranges that are whole, of one position, empty, reversed and before the front.
@@ -83,15 +76,11 @@ fn check<B: Readable<N>, const N: usize>(rt: &impl Abort, map: &B, first: u64) {
 }
 
 // Commits it, takes all bits away under the greatest number, after which there is none, and goes back.
-fn check_commits<const N: usize>(
-    rt: &impl Abort,
-    map: DirtyBitMap<N>,
-    first: u64,
-) -> Result<(), AllocError> {
-    let mut map = commit(rt, map, 7)?.into_dirty();
+fn check_commits<const N: usize>(rt: &impl Abort, map: DirtyBitMap<N>, first: u64) {
+    let mut map = commit(rt, map, 7).into_dirty();
     empty(rt, &mut map, first);
     let map = refuse(rt, map, u64::MAX, Error::ReservedCommitNumber);
-    let map = commit(rt, map, LAST)?.into_dirty();
+    let map = commit(rt, map, LAST).into_dirty();
     let why = Error::NonMonotonicCommit {
         previous: LAST,
         attempted: LAST,
@@ -103,25 +92,20 @@ fn check_commits<const N: usize>(
     if let Some(then) = then {
         check(rt, &then, first);
     }
-    let old = map.get_at_commit(7)?;
+    let old = ok(rt, map.get_at_commit(7));
     assert!(rt; old.is_some());
     if let Some(old) = old {
         check(rt, &old, first);
     }
-    let map = go_back(rt, map, 7)?;
+    let map = go_back(rt, map, 7);
     check(rt, map.current(), first);
     let is_last_set = read_bit(rt, map.current(), LAST);
     assert!(rt; current_bit(rt, &map, first) && current_bit(rt, &map, LAST) == is_last_set);
     assert!(rt; current_chunk(rt, &map, LAST) == current_chunk(rt, &map, first));
-    Ok(())
 }
 
 // The greatest front, the bits behind it, and its commits.
-fn check_ends<const N: usize>(
-    rt: &impl Abort,
-    alloc: Global,
-    chunks: usize,
-) -> Result<(), AllocError>
+fn check_ends<const N: usize>(rt: &impl Abort, alloc: Global, chunks: usize)
     requires { IsWidth N }
 {
     let made = greatest::<N>(rt, alloc, chunks);
@@ -129,20 +113,18 @@ fn check_ends<const N: usize>(
     if let Some(map) = made {
         let first = map.len();
         let mut map = map.into_dirty();
-        fill(rt, &mut map)?;
-        check_pending(rt, &mut map, first)?;
-        check_commits(rt, map, first)?;
+        fill(rt, &mut map);
+        check_pending(rt, &mut map, first);
+        check_commits(rt, map, first);
     }
-    Ok(())
 }
 
 #[test]
-fn greatest_fronts(rt: HostRuntime) -> Result<(), Fail> {
-    check_ends::<1>(&rt, rt.alloc(), 2305843009213693951)?;
-    check_ends::<3>(&rt, rt.alloc(), 768614336404564650)?;
-    check_ends::<7>(&rt, rt.alloc(), 329406144173384850)?;
-    check_ends::<9>(&rt, rt.alloc(), 256204778801521550)?;
-    check_ends::<32>(&rt, rt.alloc(), 72057594037927935)?;
-    check_ends::<64>(&rt, rt.alloc(), 36028797018963967)?;
-    Ok(())
+fn greatest_fronts(rt: HostRuntime) {
+    check_ends::<1>(&rt, rt.alloc(), 2305843009213693951);
+    check_ends::<3>(&rt, rt.alloc(), 768614336404564650);
+    check_ends::<7>(&rt, rt.alloc(), 329406144173384850);
+    check_ends::<9>(&rt, rt.alloc(), 256204778801521550);
+    check_ends::<32>(&rt, rt.alloc(), 72057594037927935);
+    check_ends::<64>(&rt, rt.alloc(), 36028797018963967);
 }

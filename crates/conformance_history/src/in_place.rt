@@ -3,25 +3,18 @@
 ghost use Rattle.bitmap_core.specs.Chunk.{IsWidth};
 
 use crate::asked::{
-    commit, front, pop, prune_to_bit, push_byte, push_chunk, push_run, reads_alike, set_bit,
+    commit, front, ok, pop, prune_to_bit, push_byte, push_chunk, push_run, reads_alike, set_bit,
 };
 use historical_bitmap::bitmap::historical::{CleanBitMap, DirtyBitMap};
 use historical_bitmap::bitmap::{Prunable, Readable};
 use std::alloc::{AllocError, Global};
 use std::process::Abort;
-use std::test::Fail;
 
 // A chunk whose bytes are all as given, pushed so many times.
-fn push_chunks<const N: usize>(
-    rt: &impl Abort,
-    map: &mut DirtyBitMap<N>,
-    count: u64,
-    byte: u8,
-) -> Result<(), AllocError> {
+fn push_chunks<const N: usize>(rt: &impl Abort, map: &mut DirtyBitMap<N>, count: u64, byte: u8) {
     for _ in 0..count {
-        push_chunk(rt, map, &[byte; N])?;
+        push_chunk(rt, map, &[byte; N]);
     }
-    Ok(())
 }
 
 // The bits of so many chunks removed.
@@ -36,41 +29,34 @@ fn pop_chunks<const N: usize>(rt: &impl Abort, map: &mut DirtyBitMap<N>, count: 
 }
 
 // The bit before the last one set, where it is retained.
-fn set_near_end<const N: usize>(
-    rt: &impl Abort,
-    map: &mut DirtyBitMap<N>,
-) -> Result<(), AllocError> {
+fn set_near_end<const N: usize>(rt: &impl Abort, map: &mut DirtyBitMap<N>) {
     if front(rt, map) < map.len() {
         let last = map.len() - 1;
-        set_bit(rt, map, last, true)?;
+        set_bit(rt, map, last, true);
     }
-    Ok(())
 }
 
 // Four commits: of three chunks and five bits; of one popped down and written anew behind a pruned one; of chunks that are
 // appended and then pruned, past the old end; and of a byte across what stands.
-fn four_commits<const N: usize>(
-    rt: &impl Abort,
-    alloc: Global,
-) -> Result<CleanBitMap<N>, AllocError>
+fn four_commits<const N: usize>(rt: &impl Abort, alloc: Global) -> CleanBitMap<N>
     requires { IsWidth N }
 {
     let mut map = CleanBitMap::<N>::new(alloc).into_dirty();
-    push_chunks(rt, &mut map, 3, 0x5d)?;
-    push_run(rt, &mut map, 5, true)?;
-    let mut map = commit(rt, map, 1)?.into_dirty();
+    push_chunks(rt, &mut map, 3, 0x5d);
+    push_run(rt, &mut map, 5, true);
+    let mut map = commit(rt, map, 1).into_dirty();
     pop_chunks(rt, &mut map, 1);
-    push_run(rt, &mut map, 9, false)?;
-    set_near_end(rt, &mut map)?;
+    push_run(rt, &mut map, 9, false);
+    set_near_end(rt, &mut map);
     let second = N as u64 * 8;
-    prune_to_bit(rt, &mut map, second)?;
-    let mut map = commit(rt, map, 4)?.into_dirty();
-    push_chunks(rt, &mut map, 3, 0xa7)?;
+    prune_to_bit(rt, &mut map, second);
+    let mut map = commit(rt, map, 4).into_dirty();
+    push_chunks(rt, &mut map, 3, 0xa7);
     let end = map.len();
-    prune_to_bit(rt, &mut map, end)?;
-    let mut map = commit(rt, map, 5)?.into_dirty();
-    push_byte(rt, &mut map, 0x3c)?;
-    set_near_end(rt, &mut map)?;
+    prune_to_bit(rt, &mut map, end);
+    let mut map = commit(rt, map, 5).into_dirty();
+    push_byte(rt, &mut map, 0x3c);
+    set_near_end(rt, &mut map);
     commit(rt, map, 9)
 }
 
@@ -134,14 +120,14 @@ fn ends<const N: usize>(alloc: Global, map: &Prunable<N>) -> Result<Vec<u64>, Al
 }
 
 // Each kept state read both ways.
-fn read_both_ways<const N: usize>(rt: &impl Abort, alloc: Global) -> Result<(), AllocError>
+fn read_both_ways<const N: usize>(rt: &impl Abort, alloc: Global)
     requires { IsWidth N }
 {
-    let map = four_commits::<N>(rt, alloc)?;
+    let map = four_commits::<N>(rt, alloc);
     for number in [1, 4, 5, 9] {
-        match (map.get_at_commit(number)?, map.at(number)) {
+        match (ok(rt, map.get_at_commit(number)), map.at(number)) {
             (Some(old), Some(then)) => {
-                let positions = ends(alloc, &old)?;
+                let positions = ok(rt, ends(alloc, &old));
                 assert!(rt; reads_alike(rt, &then, &old), "{number}");
                 assert!(rt; ranges_alike(&then, &old, positions.as_slice()), "{number}");
             }
@@ -151,53 +137,52 @@ fn read_both_ways<const N: usize>(rt: &impl Abort, alloc: Global) -> Result<(), 
     for number in [0, 2, 3, 6, 10, u64::MAX] {
         assert!(rt; map.at(number).is_none(), "{number}");
     }
-    Ok(())
 }
 
 #[test]
-fn chunks_of_1(rt: HostRuntime) -> Result<(), Fail> {
-    Ok(read_both_ways::<1>(&rt, rt.alloc())?)
+fn chunks_of_1(rt: HostRuntime) {
+    read_both_ways::<1>(&rt, rt.alloc());
 }
 
 #[test]
-fn chunks_of_3(rt: HostRuntime) -> Result<(), Fail> {
-    Ok(read_both_ways::<3>(&rt, rt.alloc())?)
+fn chunks_of_3(rt: HostRuntime) {
+    read_both_ways::<3>(&rt, rt.alloc());
 }
 
 #[test]
-fn chunks_of_4(rt: HostRuntime) -> Result<(), Fail> {
-    Ok(read_both_ways::<4>(&rt, rt.alloc())?)
+fn chunks_of_4(rt: HostRuntime) {
+    read_both_ways::<4>(&rt, rt.alloc());
 }
 
 #[test]
-fn chunks_of_9(rt: HostRuntime) -> Result<(), Fail> {
-    Ok(read_both_ways::<9>(&rt, rt.alloc())?)
+fn chunks_of_9(rt: HostRuntime) {
+    read_both_ways::<9>(&rt, rt.alloc());
 }
 
 #[test]
-fn chunks_of_32(rt: HostRuntime) -> Result<(), Fail> {
-    Ok(read_both_ways::<32>(&rt, rt.alloc())?)
+fn chunks_of_32(rt: HostRuntime) {
+    read_both_ways::<32>(&rt, rt.alloc());
 }
 
 #[test]
-fn chunks_of_64(rt: HostRuntime) -> Result<(), Fail> {
-    Ok(read_both_ways::<64>(&rt, rt.alloc())?)
+fn chunks_of_64(rt: HostRuntime) {
+    read_both_ways::<64>(&rt, rt.alloc());
 }
 
 #[test]
-fn a_state_from_before_two_more(rt: HostRuntime) -> Result<(), Fail> {
+fn a_state_from_before_two_more(rt: HostRuntime) {
     let mut map = CleanBitMap::<1>::new(rt.alloc()).into_dirty();
-    push_byte(&rt, &mut map, 0x4d)?;
-    push_byte(&rt, &mut map, 0xae)?;
-    let mut map = commit(&rt, map, 1)?.into_dirty();
-    prune_to_bit(&rt, &mut map, 8)?;
-    push_byte(&rt, &mut map, 0x0f)?;
-    let mut map = commit(&rt, map, 2)?.into_dirty();
-    set_bit(&rt, &mut map, 9, false)?;
-    let map = commit(&rt, map, 3)?;
+    push_byte(&rt, &mut map, 0x4d);
+    push_byte(&rt, &mut map, 0xae);
+    let mut map = commit(&rt, map, 1).into_dirty();
+    prune_to_bit(&rt, &mut map, 8);
+    push_byte(&rt, &mut map, 0x0f);
+    let mut map = commit(&rt, map, 2).into_dirty();
+    set_bit(&rt, &mut map, 9, false);
+    let map = commit(&rt, map, 3);
     let Some(then) = map.at(1) else {
         assert!(rt; false);
-        return Ok(());
+        return;
     };
     assert_eq!(rt; then.len(), 16);
     assert_eq!(rt; then.pruned_chunks(), 0);
@@ -206,5 +191,4 @@ fn a_state_from_before_two_more(rt: HostRuntime) -> Result<(), Fail> {
             .eq([0, 2, 3, 6, 9, 10, 11, 13, 15])
     );
     assert!(rt; then.ones_iter_range(3..10).eq([3, 6, 9]));
-    Ok(())
 }

@@ -4,7 +4,7 @@ ghost use Rattle.std.specs.Prelude.{ℕ, ◌<◌};
 ghost use Rattle.bitmap_core.specs.Chunk.{IsWidth};
 
 use crate::asked::{
-    commit, front, get_bit, pending_bit, pending_chunk, pop, prune_to_bit, push, push_byte,
+    commit, front, get_bit, ok, pending_bit, pending_chunk, pop, prune_to_bit, push, push_byte,
     push_chunk, reads_alike, set_bit,
 };
 use historical_bitmap::bitmap::historical::{CleanBitMap, DirtyBitMap};
@@ -12,7 +12,6 @@ use historical_bitmap::bitmap::{Prunable, Readable};
 use std::alloc::{AllocError, Global};
 use std::collections::BTreeSet;
 use std::process::Abort;
-use std::test::Fail;
 
 // How many batches a run has.
 const BATCHES: u64 = 120;
@@ -249,14 +248,10 @@ fn is_in_place<const N: usize>(
 }
 
 // The old states of some commits, each read back whole and in place.
-fn check_old<const N: usize>(
-    rt: &impl Abort,
-    map: &CleanBitMap<N>,
-    all: &[Kept],
-) -> Result<(), AllocError> {
+fn check_old<const N: usize>(rt: &impl Abort, map: &CleanBitMap<N>, all: &[Kept]) {
     for kept in all {
         assert!(rt; map.commit_exists(kept.number), "{}", kept.number);
-        match map.get_at_commit(kept.number)? {
+        match ok(rt, map.get_at_commit(kept.number)) {
             Some(old) => {
                 assert!(rt; is(rt, &old, &kept.whole), "{}", kept.number);
                 assert!(rt; is_in_place(rt, map, kept.number, &old), "{}", kept.number);
@@ -264,23 +259,17 @@ fn check_old<const N: usize>(
             None => assert!(rt; false, "{}", kept.number),
         }
     }
-    Ok(())
 }
 
 // What a bitmap answers where the machine stands.
-fn check<const N: usize>(
-    rt: &impl Abort,
-    map: &CleanBitMap<N>,
-    machine: &Machine,
-) -> Result<(), AllocError> {
+fn check<const N: usize>(rt: &impl Abort, map: &CleanBitMap<N>, machine: &Machine) {
     assert!(rt; is(rt, map.current(), &machine.current));
-    check_old(rt, map, machine.kept.as_slice())?;
-    let numbers = machine.numbers()?;
+    check_old(rt, map, machine.kept.as_slice());
+    let numbers = ok(rt, machine.numbers());
     assert!(rt; map.commits().eq(numbers.iter().copied()));
     assert!(rt; map.earliest_commit() == numbers.first().copied());
     assert!(rt; map.latest_commit() == numbers.last().copied());
     assert!(rt; map.reverse_entries() <= machine.cost());
-    Ok(())
 }
 
 // Appends some bits.
@@ -289,13 +278,12 @@ fn push_some<const N: usize>(
     map: &mut DirtyBitMap<N>,
     batch: &mut Batch,
     random: &mut Random,
-) -> Result<(), AllocError> {
+) {
     for _ in 0..random.below(20) {
         let bit = random.bit();
-        push(rt, map, bit)?;
-        batch.push(bit)?;
+        push(rt, map, bit);
+        ok(rt, batch.push(bit));
     }
-    Ok(())
 }
 
 // Appends a chunk.
@@ -304,12 +292,12 @@ fn push_one_chunk<const N: usize>(
     map: &mut DirtyBitMap<N>,
     batch: &mut Batch,
     random: &mut Random,
-) -> Result<(), AllocError> {
+) {
     let mut chunk = [0; N];
     for i in 0..N {
         let byte = random.below(256) as u8;
         chunk[i] = byte;
-        batch.push_byte(byte)?;
+        ok(rt, batch.push_byte(byte));
     }
     push_chunk(rt, map, &chunk)
 }
@@ -320,14 +308,13 @@ fn pop_some<const N: usize>(
     map: &mut DirtyBitMap<N>,
     batch: &mut Batch,
     random: &mut Random,
-) -> Result<(), AllocError> {
+) {
     let most = batch.width.saturating_mul(2).saturating_add(2);
     for _ in 0..random.below(most) {
         if front(rt, map) < map.len() {
-            assert!(rt; batch.pop()? == Some(pop(rt, map)));
+            assert!(rt; ok(rt, batch.pop()) == Some(pop(rt, map)));
         }
     }
-    Ok(())
 }
 
 // Replaces some bits.
@@ -336,18 +323,17 @@ fn set_some<const N: usize>(
     map: &mut DirtyBitMap<N>,
     batch: &mut Batch,
     random: &mut Random,
-) -> Result<(), AllocError> {
+) {
     let first = front(rt, map);
     let retained = map.len().saturating_sub(first);
     if retained > 0 {
         for _ in 0..random.below(4) {
             let bit = first.saturating_add(random.below(retained));
             let value = random.bit();
-            set_bit(rt, map, bit, value)?;
-            batch.set(bit, value)?;
+            set_bit(rt, map, bit, value);
+            ok(rt, batch.set(bit, value));
         }
     }
-    Ok(())
 }
 
 // Prunes to a position from one chunk before the front on.
@@ -356,13 +342,13 @@ fn prune_some<const N: usize>(
     map: &mut DirtyBitMap<N>,
     batch: &mut Batch,
     random: &mut Random,
-) -> Result<(), AllocError> {
+) {
     let width = batch.width;
     let first = front(rt, map).saturating_sub(width);
     let most = width.saturating_mul(6).saturating_add(1);
     let bit = first.saturating_add(random.below(most)).min(map.len());
-    prune_to_bit(rt, map, bit)?;
-    batch.prune(bit)
+    prune_to_bit(rt, map, bit);
+    ok(rt, batch.prune(bit));
 }
 
 // One edit of those there are.
@@ -371,22 +357,21 @@ fn edit<const N: usize>(
     map: &mut DirtyBitMap<N>,
     batch: &mut Batch,
     random: &mut Random,
-) -> Result<(), AllocError> {
+) {
     match random.below(8) {
-        0 => push_some(rt, map, batch, random)?,
+        0 => push_some(rt, map, batch, random),
         1 => {
             let byte = random.below(256) as u8;
-            push_byte(rt, map, byte)?;
-            batch.push_byte(byte)?;
+            push_byte(rt, map, byte);
+            ok(rt, batch.push_byte(byte));
         }
-        2 | 3 => push_one_chunk(rt, map, batch, random)?,
-        4 => pop_some(rt, map, batch, random)?,
-        5 | 6 => set_some(rt, map, batch, random)?,
-        _ => prune_some(rt, map, batch, random)?,
+        2 | 3 => push_one_chunk(rt, map, batch, random),
+        4 => pop_some(rt, map, batch, random),
+        5 | 6 => set_some(rt, map, batch, random),
+        _ => prune_some(rt, map, batch, random),
     }
     assert!(rt; map.len() == batch.whole.len());
     assert!(rt; map.is_empty() == (batch.whole.len() == 0));
-    Ok(())
 }
 
 // A batch of edits that is committed or given up.
@@ -397,21 +382,21 @@ fn run_batch<const N: usize>(
     machine: &mut Machine,
     random: &mut Random,
     number: u64,
-) -> Result<CleanBitMap<N>, AllocError> {
+) -> CleanBitMap<N> {
     let mut map = map.into_dirty();
-    let mut batch = machine.begin(alloc)?;
+    let mut batch = ok(rt, machine.begin(alloc));
     for _ in 0..random.below(12) {
-        edit(rt, &mut map, &mut batch, random)?;
+        edit(rt, &mut map, &mut batch, random);
     }
     assert!(rt; pending_is(rt, &map, &batch.whole), "{number}");
     match random.below(8) {
-        0 => Ok(map.abort()),
+        0 => map.abort(),
         1 => {
-            machine.commit(batch, number)?;
-            commit(rt, map.clone()?, number)
+            ok(rt, machine.commit(batch, number));
+            commit(rt, ok(rt, map.clone()), number)
         }
         _ => {
-            machine.commit(batch, number)?;
+            ok(rt, machine.commit(batch, number));
             commit(rt, map, number)
         }
     }
@@ -439,52 +424,46 @@ fn drop_some<const N: usize>(
 }
 
 // Some batches at one width.
-fn run<const N: usize>(rt: &impl Abort, alloc: Global, seed: u64) -> Result<(), AllocError>
+fn run<const N: usize>(rt: &impl Abort, alloc: Global, seed: u64)
     requires width { IsWidth N }
 {
     let mut random = Random { state: seed };
     let mut machine = Machine::new(alloc, 8 * N as u64);
     let mut map = CleanBitMap::<N>::new(alloc);
     for number in 0..BATCHES {
-        map = run_batch(rt, alloc, map, &mut machine, &mut random, number)?;
-        check(rt, &map, &machine)?;
+        map = run_batch(rt, alloc, map, &mut machine, &mut random, number);
+        check(rt, &map, &machine);
         drop_some(rt, &mut map, &mut machine, &mut random, number);
         if random.below(8) == 0 {
-            map = map.clone()?;
+            map = ok(rt, map.clone());
         }
     }
-    Ok(())
 }
 
 #[test]
-fn chunks_of_1(rt: HostRuntime) -> Result<(), Fail> {
-    run::<1>(&rt, rt.alloc(), 1)?;
-    run::<1>(&rt, rt.alloc(), 11)?;
-    Ok(())
+fn chunks_of_1(rt: HostRuntime) {
+    run::<1>(&rt, rt.alloc(), 1);
+    run::<1>(&rt, rt.alloc(), 11);
 }
 
 #[test]
-fn chunks_of_3(rt: HostRuntime) -> Result<(), Fail> {
-    run::<3>(&rt, rt.alloc(), 3)?;
-    run::<3>(&rt, rt.alloc(), 33)?;
-    Ok(())
+fn chunks_of_3(rt: HostRuntime) {
+    run::<3>(&rt, rt.alloc(), 3);
+    run::<3>(&rt, rt.alloc(), 33);
 }
 
 #[test]
-fn chunks_of_4(rt: HostRuntime) -> Result<(), Fail> {
-    run::<4>(&rt, rt.alloc(), 4)?;
-    run::<4>(&rt, rt.alloc(), 44)?;
-    Ok(())
+fn chunks_of_4(rt: HostRuntime) {
+    run::<4>(&rt, rt.alloc(), 4);
+    run::<4>(&rt, rt.alloc(), 44);
 }
 
 #[test]
-fn chunks_of_9(rt: HostRuntime) -> Result<(), Fail> {
-    run::<9>(&rt, rt.alloc(), 9)?;
-    Ok(())
+fn chunks_of_9(rt: HostRuntime) {
+    run::<9>(&rt, rt.alloc(), 9);
 }
 
 #[test]
-fn chunks_of_32(rt: HostRuntime) -> Result<(), Fail> {
-    run::<32>(&rt, rt.alloc(), 32)?;
-    Ok(())
+fn chunks_of_32(rt: HostRuntime) {
+    run::<32>(&rt, rt.alloc(), 32);
 }

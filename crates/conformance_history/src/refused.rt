@@ -7,8 +7,8 @@ mod applied;
 mod no_memory;
 
 use crate::asked::{
-    commit, front, get_bit, keeps, pending_shows, pop, pop_run, prune_to_bit, push, push_byte,
-    push_chunk, push_run, refuse, set_bit, shows, shows_runs, was,
+    front, get_bit, keeps, pending_shows, pop, pop_run, refuse, shows, shows_runs, try_commit,
+    try_prune_to_bit, try_push, try_push_byte, try_push_chunk, try_push_run, try_set_bit, try_was,
 };
 use historical_bitmap::bitmap::Prunable;
 use historical_bitmap::bitmap::historical::{CleanBitMap, DirtyBitMap, Error, RewindError};
@@ -21,12 +21,12 @@ const PENDING: &[u8] = b"011101011111000";
 // Two commits of bytes, the second of which prunes one. Unless its memory is refused.
 fn committed(rt: &impl Abort, alloc: Global) -> Option<CleanBitMap<1>> {
     let mut map = CleanBitMap::<1>::new(alloc).into_dirty();
-    push_byte(rt, &mut map, 0x4d).ok()?;
-    push_byte(rt, &mut map, 0xae).ok()?;
-    let mut map = commit(rt, map, 1).ok()?.into_dirty();
-    prune_to_bit(rt, &mut map, 8).ok()?;
-    push_byte(rt, &mut map, 0x0f).ok()?;
-    commit(rt, map, 2).ok()
+    try_push_byte(rt, &mut map, 0x4d).ok()?;
+    try_push_byte(rt, &mut map, 0xae).ok()?;
+    let mut map = try_commit(rt, map, 1).ok()?.into_dirty();
+    try_prune_to_bit(rt, &mut map, 8).ok()?;
+    try_push_byte(rt, &mut map, 0x0f).ok()?;
+    try_commit(rt, map, 2).ok()
 }
 
 // The same with a batch begun, which has popped a bit, and a copy from before the batch.
@@ -102,10 +102,10 @@ fn bit_set(rt: HostRuntime) {
     let Some((mut map, before)) = begun(&rt, rt.alloc()) else {
         return;
     };
-    let refused = set_bit(&rt, &mut map, 8, true).is_err()
+    let refused = try_set_bit(&rt, &mut map, 8, true).is_err()
         && {
             assert!(rt; pending_shows(&rt, &map, 1, PENDING));
-            set_bit(&rt, &mut map, 8, true).is_err()
+            try_set_bit(&rt, &mut map, 8, true).is_err()
         };
     let after: &[u8] = if refused { PENDING } else { b"111101011111000" };
     assert!(rt; pending_shows(&rt, &map, 1, after));
@@ -117,10 +117,10 @@ fn bit_pushed(rt: HostRuntime) {
     let Some((mut map, before)) = begun(&rt, rt.alloc()) else {
         return;
     };
-    let refused = push(&rt, &mut map, true).is_err()
+    let refused = try_push(&rt, &mut map, true).is_err()
         && {
             assert!(rt; pending_shows(&rt, &map, 1, PENDING));
-            push(&rt, &mut map, true).is_err()
+            try_push(&rt, &mut map, true).is_err()
         };
     let after: &[u8] = if refused {
         PENDING
@@ -136,10 +136,10 @@ fn byte_pushed(rt: HostRuntime) {
     let Some((mut map, before)) = begun(&rt, rt.alloc()) else {
         return;
     };
-    let refused = push_byte(&rt, &mut map, 0x4d).is_err()
+    let refused = try_push_byte(&rt, &mut map, 0x4d).is_err()
         && {
             assert!(rt; pending_shows(&rt, &map, 1, PENDING));
-            push_byte(&rt, &mut map, 0x4d).is_err()
+            try_push_byte(&rt, &mut map, 0x4d).is_err()
         };
     let after: &[u8] = if refused {
         PENDING
@@ -155,10 +155,10 @@ fn chunk_pushed(rt: HostRuntime) {
     let Some((mut map, before)) = begun(&rt, rt.alloc()) else {
         return;
     };
-    let refused = push_chunk(&rt, &mut map, &[0x4d]).is_err()
+    let refused = try_push_chunk(&rt, &mut map, &[0x4d]).is_err()
         && {
             assert!(rt; pending_shows(&rt, &map, 1, PENDING));
-            push_chunk(&rt, &mut map, &[0x4d]).is_err()
+            try_push_chunk(&rt, &mut map, &[0x4d]).is_err()
         };
     let after: &[u8] = if refused {
         PENDING
@@ -174,10 +174,10 @@ fn front_pruned(rt: HostRuntime) {
     let Some((mut map, before)) = begun(&rt, rt.alloc()) else {
         return;
     };
-    let refused = prune_to_bit(&rt, &mut map, 16).is_err()
+    let refused = try_prune_to_bit(&rt, &mut map, 16).is_err()
         && {
             assert!(rt; pending_shows(&rt, &map, 1, PENDING));
-            prune_to_bit(&rt, &mut map, 16).is_err()
+            try_prune_to_bit(&rt, &mut map, 16).is_err()
         };
     if refused {
         assert!(rt; pending_shows(&rt, &map, 1, PENDING));
@@ -190,15 +190,15 @@ fn front_pruned(rt: HostRuntime) {
 #[test]
 fn batch_committed_after_a_refused_prune(rt: HostRuntime) {
     let mut map = CleanBitMap::<4>::new(rt.alloc()).into_dirty();
-    if push_run(&rt, &mut map, 96, true).is_err() {
+    if try_push_run(&rt, &mut map, 96, true).is_err() {
         return;
     }
-    let Ok(map) = commit(&rt, map, 1) else {
+    let Ok(map) = try_commit(&rt, map, 1) else {
         return;
     };
     let mut map = map.into_dirty();
-    let refused = prune_to_bit(&rt, &mut map, 64).is_err();
-    let Ok(map) = commit(&rt, map, 2) else {
+    let refused = try_prune_to_bit(&rt, &mut map, 64).is_err();
+    let Ok(map) = try_commit(&rt, map, 2) else {
         return;
     };
     let pruned = if refused { 0 } else { 2 };
@@ -216,11 +216,11 @@ fn batch_committed_after_a_refused_prune(rt: HostRuntime) {
 fn edited(rt: &impl Abort, alloc: Global, chunks: u64) -> Option<DirtyBitMap<1>> {
     let mut map = CleanBitMap::<1>::new(alloc).into_dirty();
     for _ in 0..16 {
-        push_byte(rt, &mut map, 0xff).ok()?;
+        try_push_byte(rt, &mut map, 0xff).ok()?;
     }
-    let mut map = commit(rt, map, 1).ok()?.into_dirty();
+    let mut map = try_commit(rt, map, 1).ok()?.into_dirty();
     for chunk in 0..chunks {
-        set_bit(rt, &mut map, chunk.saturating_mul(8), true).ok()?;
+        try_set_bit(rt, &mut map, chunk.saturating_mul(8), true).ok()?;
     }
     pop_run(rt, &mut map, 4, true);
     Some(map)
@@ -231,10 +231,10 @@ fn push_across(rt: &impl Abort, alloc: Global, chunks: u64) {
     let Some(mut map) = edited(rt, alloc, chunks) else {
         return;
     };
-    let refused = push_byte(rt, &mut map, 0).is_err()
+    let refused = try_push_byte(rt, &mut map, 0).is_err()
         && {
             assert_eq!(rt; map.len(), 124);
-            push_byte(rt, &mut map, 0).is_err()
+            try_push_byte(rt, &mut map, 0).is_err()
         };
     assert_eq!(rt; map.len(), if refused { 124 } else { 132 });
     if !refused {
@@ -256,16 +256,16 @@ fn byte_pushed_across_chunks(rt: HostRuntime) {
 // The bits 10, committed under 1. Unless its memory is refused.
 fn ten(rt: &impl Abort, alloc: Global) -> Option<CleanBitMap<4>> {
     let mut map = CleanBitMap::<4>::new(alloc).into_dirty();
-    push(rt, &mut map, true).ok()?;
-    push(rt, &mut map, false).ok()?;
-    commit(rt, map, 1).ok()
+    try_push(rt, &mut map, true).ok()?;
+    try_push(rt, &mut map, false).ok()?;
+    try_commit(rt, map, 1).ok()
 }
 
 // The same with a batch that clears the first bit and appends one.
 fn cleared_and_appended(rt: &impl Abort, alloc: Global) -> Option<DirtyBitMap<4>> {
     let mut map = ten(rt, alloc)?.into_dirty();
-    set_bit(rt, &mut map, 0, false).ok()?;
-    push(rt, &mut map, true).ok()?;
+    try_set_bit(rt, &mut map, 0, false).ok()?;
+    try_push(rt, &mut map, true).ok()?;
     Some(map)
 }
 
@@ -325,8 +325,8 @@ fn removed_set_and_pruned(
     let (mut map, before) = begun(rt, alloc)?;
     pop_run(rt, &mut map, 3, false);
     pop_run(rt, &mut map, 4, true);
-    set_bit(rt, &mut map, 8, true).ok()?;
-    prune_to_bit(rt, &mut map, 16).ok()?;
+    try_set_bit(rt, &mut map, 8, true).ok()?;
+    try_prune_to_bit(rt, &mut map, 16).ok()?;
     Some((map, before))
 }
 
@@ -338,7 +338,7 @@ fn was_found(
     pruned_chunks: usize,
     digits: &[u8],
 ) -> bool {
-    was(rt, map, number, pruned_chunks, digits).unwrap_or(true)
+    try_was(rt, map, number, pruned_chunks, digits).unwrap_or(true)
 }
 
 // What a bitmap answers with that batch committed under 3.
@@ -429,7 +429,7 @@ fn edits_in_a_chain(rt: HostRuntime) {
 #[test]
 fn first_batch_committed(rt: HostRuntime) {
     let mut map = CleanBitMap::<1>::new(rt.alloc()).into_dirty();
-    if push_run(&rt, &mut map, 40, true).is_err() {
+    if try_push_run(&rt, &mut map, 40, true).is_err() {
         return;
     }
     match map.commit(7) {
@@ -522,7 +522,9 @@ fn dirty_bitmap_copied(rt: HostRuntime) {
     let Some((mut map, before)) = begun(&rt, rt.alloc()) else {
         return;
     };
-    if set_bit(&rt, &mut map, 8, true).is_err() || prune_to_bit(&rt, &mut map, 16).is_err() {
+    if try_set_bit(&rt, &mut map, 8, true).is_err()
+        || try_prune_to_bit(&rt, &mut map, 16).is_err()
+    {
         return;
     }
     if let Ok(copy) = map.clone() {

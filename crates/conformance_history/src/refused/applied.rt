@@ -1,6 +1,6 @@
 //! A batch applied by a closure, where a request of the closure or of its commit is refused.
 
-use crate::asked::{pop, push, set_bit};
+use crate::asked::{pop, try_push, try_set_bit};
 use crate::refused::{check_committed, check_ten, ten};
 use historical_bitmap::bitmap::historical::{ApplyError, CleanBitMap, Error};
 use std::alloc::AllocError;
@@ -10,8 +10,8 @@ use std::process::Abort;
 fn apply(rt: &impl Abort, map: CleanBitMap<4>) -> Result<CleanBitMap<4>, CleanBitMap<4>> {
     let mut is_edited = false;
     let applied = map.apply_batch(2, |batch| -> Result<(), AllocError> {
-        set_bit(rt, batch, 0, false)?;
-        push(rt, batch, true)?;
+        try_set_bit(rt, batch, 0, false)?;
+        try_push(rt, batch, true)?;
         is_edited = true;
         Ok(())
     });

@@ -1,8 +1,9 @@
 //! Calls that take no memory: where every request is refused they answer as they do with ample memory.
 
 use crate::asked::{
-    commit, current_bit, current_chunk, keeps, pending_bit, pending_chunk, pending_shows, pop,
-    pop_run, prune_to_bit, push, push_byte, push_run, read_bit, refuse, set_bit, shows, stay,
+    current_bit, current_chunk, keeps, pending_bit, pending_chunk, pending_shows, pop, pop_run,
+    read_bit, refuse, shows, stay, try_commit, try_prune_to_bit, try_push, try_push_byte,
+    try_push_run, try_set_bit,
 };
 use crate::refused::{PENDING, begun, committed};
 use historical_bitmap::bitmap::Readable;
@@ -13,8 +14,8 @@ use std::process::Abort;
 // A batch on one chunk of 32 true bits, unless its memory is refused.
 fn one_chunk(rt: &impl Abort, alloc: Global) -> Option<DirtyBitMap<4>> {
     let mut map = CleanBitMap::<4>::new(alloc).into_dirty();
-    push_run(rt, &mut map, 32, true).ok()?;
-    Some(commit(rt, map, 1).ok()?.into_dirty())
+    try_push_run(rt, &mut map, 32, true).ok()?;
+    Some(try_commit(rt, map, 1).ok()?.into_dirty())
 }
 
 #[test]
@@ -31,7 +32,7 @@ fn edited_chunk_popped(rt: HostRuntime) {
     let Some(mut map) = one_chunk(&rt, rt.alloc()) else {
         return;
     };
-    if set_bit(&rt, &mut map, 0, false).is_err() {
+    if try_set_bit(&rt, &mut map, 0, false).is_err() {
         return;
     }
     pop_run(&rt, &mut map, 31, true);
@@ -44,11 +45,11 @@ fn edited_chunk_set(rt: HostRuntime) {
     let Some(mut map) = one_chunk(&rt, rt.alloc()) else {
         return;
     };
-    if set_bit(&rt, &mut map, 0, false).is_err() {
+    if try_set_bit(&rt, &mut map, 0, false).is_err() {
         return;
     }
     for bit in 1..32 {
-        assert!(rt; set_bit(&rt, &mut map, bit, false).is_ok(), "{bit}");
+        assert!(rt; try_set_bit(&rt, &mut map, bit, false).is_ok(), "{bit}");
     }
     assert_eq!(rt; pending_chunk(&rt, &map, 31), [0; 4]);
 }
@@ -58,13 +59,13 @@ fn edited_chunk_filled(rt: HostRuntime) {
     let Some(mut map) = one_chunk(&rt, rt.alloc()) else {
         return;
     };
-    if set_bit(&rt, &mut map, 0, false).is_err() {
+    if try_set_bit(&rt, &mut map, 0, false).is_err() {
         return;
     }
     pop_run(&rt, &mut map, 12, true);
-    assert!(rt; push_byte(&rt, &mut map, 0x35).is_ok());
+    assert!(rt; try_push_byte(&rt, &mut map, 0x35).is_ok());
     for _ in 0..4 {
-        assert!(rt; push(&rt, &mut map, true).is_ok());
+        assert!(rt; try_push(&rt, &mut map, true).is_ok());
     }
     assert_eq!(rt; pending_chunk(&rt, &map, 0), [0xfe, 0xff, 0x5f, 0xf3]);
 }
@@ -75,7 +76,7 @@ fn front_pruned_no_further(rt: HostRuntime) {
         return;
     };
     for bit in 0..16 {
-        assert!(rt; prune_to_bit(&rt, &mut map, bit).is_ok(), "{bit}");
+        assert!(rt; try_prune_to_bit(&rt, &mut map, bit).is_ok(), "{bit}");
     }
     assert!(rt; pending_shows(&rt, &map, 1, PENDING));
 }
