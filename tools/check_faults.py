@@ -44,14 +44,17 @@ def refusals(script, folder):
 
 def broken_texts():
     """Scripts that are none: a name, the bytes, and the line that is told."""
-    for line in ("begin ", " begin", "Begin", "push", "push 2", "push  1", "push 01", "push 1 ", "push-byte 0", "push-byte 0g", "push-byte 0:", "push-chunk -",
-                 "push-chunk 000000", "set 1", "get +1", "get 18446744073709551616", "len 0", "decode", "decode 0 any", "decode - all", "decode - exact",
-                 "decode - exact:", "decode - between:1", "decode - between:1:2:3", "decode -- any", "rewind", "at -1", " # len", "len # len"):
+    for line in ("begin ", " begin", "Begin", "push", "push 2", "push  1", "push 01", "push 1 ", "push 1 1", "push-byte", "push-byte -", "push-byte 0",
+                 "push-byte 0g", "push-byte 0:", "push-byte 0102", "push-chunk -", "push-chunk 000000", "push-chunk 0000000000", "set 1", "get -1", "get +1",
+                 "get 01", "get 18446744073709551616", "len 0", "start -", "prune -1", "encode 1", "decode", "decode any", "decode  any", "decode 00",
+                 "decode 0 any", "decode 0g any", "decode 00 some", "decode 00 any any", "decode - all", "decode - any:", "decode - exact", "decode - exact:",
+                 "decode - exact:01", "decode - between:1", "decode - between:1:2:3", "decode -- any", "rewind", "at -1", "ones-at 1 2", "exists", "entries 1",
+                 " # len", "len # len"):
         yield f"the line {line!r}", f"len\n{line}\nlen\n".encode(), 2
     for byte in (0, 9, 11, 13, 32, 127, 128, 255):
         yield f"a byte {byte} before a line's end", b"len\n\nlen" + bytes([byte]) + b"\n", 3
         yield f"a byte {byte} alone", bytes([byte]) + b"\nlen\n", 1
-    yield "two lines that are no commands", b"len\n\nopen\nclose\n", 3
+    yield "two lines that are no commands", b"# open\n\nlen\nopen\nclose\n", 4
     yield "a line of a megabyte", b"len\n" + b"a" * (1 << 20) + b"\n", 2
     yield "a number of a megabyte", b"get " + b"9" * (1 << 20) + b"\n", 1
     yield "bytes to decode of a megabyte, one digit more", b"decode " + b"0" * ((1 << 20) + 1) + b" any\n", 1

@@ -33,7 +33,7 @@ awk 'NF == 3 && $3 ~ /^[0-9]+$/ { scenarios[$1]++; runs[$1] += 2 * ($3 + 1) }
 while read -r crate scenarios made; do
     row "calls that take memory, and calls that take none, in \`$crate\`, each request refused alone, and all from it on" "$scenarios scenario$([[ $scenarios == 1 ]] || echo s), $made runs"
 done <"$room/crates"
-for crate in conformance conformance_history replay; do
+for crate in conformance conformance_history conformance_session; do
     "crates/$crate/out/${crate}_tests" --list >>"$room/tests"
 done
 row "texts of bitmaps cut short, with a byte damaged, with each bit flipped, with each last byte, in tests" "$(count '^(broken::.*|codec::.*(short|damaged|last|fault|greatest|trailing|total).*): test$' "$room/tests") tests"

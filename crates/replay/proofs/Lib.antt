@@ -1,8 +1,1 @@
-pub mod Counting
-pub mod Simulates
-pub mod Runs
-pub mod Steps
-pub mod Moves
-pub mod KeptNumbers
-pub mod GoingBack
 pub mod Examples

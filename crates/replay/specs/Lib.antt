@@ -1,5 +1,1 @@
-pub mod Answers
-pub mod Laws
-pub mod Machine
-pub mod Seen
 pub mod Width

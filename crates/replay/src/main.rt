@@ -1,17 +1,9 @@
 //! Runs a script of commands on a bitmap and prints the replies.
 #![tactic(auto)]
 
-mod command;
-mod laws;
 mod print;
 mod program;
-#[cfg(test)]
-mod refused;
-mod reply;
 mod script;
-mod session;
-#[cfg(test)]
-mod tests;
 
 use std::fs::File;
 use std::process::ExitCode;

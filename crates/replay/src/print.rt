@@ -1,8 +1,8 @@
 //! The printed lines of replies.
 
-use crate::reply::{Refusal, Reply};
 use bitmap_core::bitmap::Prunable;
 use bitmap_core::bitmap::codec::CodecError;
+use bitmap_session::reply::{Refusal, Reply};
 use std::alloc::Global;
 use std::io;
 use std::io::{BufWriter, Write};

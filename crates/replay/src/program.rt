@@ -4,11 +4,11 @@ ghost use Rattle.std.specs.Prelude.{◌≡◌, length, IfSome, OnSome};
 ghost use Rattle.bitmap_core.specs.Chunk.{IsWidth};
 ghost use Rattle.replay.specs.Width.{IsOfferedWidth};
 
-use crate::command::Command;
 use crate::print::write_replies;
 use crate::script;
 use crate::script::Line;
-use crate::session::Session;
+use bitmap_session::command::Command;
+use bitmap_session::session::Session;
 use std::alloc::{AllocError, Global};
 use std::io;
 use std::io::{Read, Write};

@@ -2,8 +2,8 @@
 
 ghost use Rattle.std.specs.Prelude.{◌<◌, IfSome};
 
-use crate::command::Command;
 use bitmap_core::bitmap::codec::RangeCfg;
+use bitmap_session::command::Command;
 use std::alloc::{AllocError, Global};
 
 // The value of a decimal digit.
@@ -58,95 +58,102 @@ fn hex_bytes(word: &[u8]) -> Option<&[[u8; 2]]> {
     Some(bytes)
 }
 
-// The words of a text that are still to be read. One separator stands between two words.
-#[derive(Drop)]
-struct Words<'a> {
-    rest: Option<&'a [u8]>,
-    separator: u8,
+// A number of chunks.
+fn count(word: &[u8]) -> Option<usize> {
+    usize::try_from(decimal(word)?).ok()
 }
 
-impl<'a> Words<'a> {
-    fn new(text: &'a [u8], separator: u8) -> Self {
-        Words {
-            rest: Some(text),
-            separator,
+// `0` or `1`.
+fn bit(word: &[u8]) -> Option<bool> {
+    match word {
+        b"0" => Some(false),
+        b"1" => Some(true),
+        _ => None,
+    }
+}
+
+// One byte, of two hexadecimal digits.
+fn byte(word: &[u8]) -> Option<u8> {
+    match word {
+        [high, low] => hex_byte(&[*high, *low]),
+        _ => None,
+    }
+}
+
+// The bytes of a chunk, two hexadecimal digits each.
+fn chunk<const N: usize>(word: &[u8]) -> Option<[u8; N]> {
+    let pairs = hex_bytes(word)?;
+    if pairs.len() != N {
+        return None;
+    }
+    let mut bytes = [0; N];
+    for (index, pair) in pairs.iter().enumerate() {
+        bytes[index] = hex_byte(pair)?;
+    }
+    Some(bytes)
+}
+
+// The lengths that a word admits: its parts stand between colons.
+fn range(word: &[u8]) -> Option<RangeCfg> {
+    let mut parts = word.split(|byte| *byte == b':');
+    let name = parts.next()?;
+    match (name, parts.next(), parts.next(), parts.next()) {
+        (b"any", None, ..) => Some(RangeCfg::any()),
+        (b"exact", Some(len), None, _) => Some(RangeCfg::exact(decimal(len)?)),
+        (b"least", Some(least), None, _) => Some(RangeCfg::at_least(decimal(least)?)),
+        (b"most", Some(most), None, _) => Some(RangeCfg::at_most(decimal(most)?)),
+        (b"between", Some(least), Some(most), None) => {
+            Some(RangeCfg::between(decimal(least)?, decimal(most)?))
         }
+        _ => None,
     }
+}
 
-    fn word(&mut self) -> Option<&'a [u8]> {
-        let separator = self.separator;
-        let mut parts = self.rest?.splitn(2, |byte| *byte == separator);
-        let word = parts.next();
-        self.rest = parts.next();
-        word
-    }
+// The command of a name alone.
+fn alone<const N: usize>(name: &[u8]) -> Option<Command<N>> {
+    Some(match name {
+        b"begin" => Command::Begin,
+        b"pop" => Command::Pop,
+        b"abort" => Command::Abort,
+        b"len" => Command::Len,
+        b"pruned-chunks" => Command::PrunedChunks,
+        b"encode" => Command::Encode,
+        b"commits" => Command::Commits,
+        b"latest" => Command::Latest,
+        b"earliest" => Command::Earliest,
+        b"clear" => Command::Clear,
+        b"entries" => Command::Entries,
+        _ => return None,
+    })
+}
 
-    fn number(&mut self) -> Option<u64> {
-        decimal(self.word()?)
-    }
+// The command of a name and a word.
+fn with_one<const N: usize>(name: &[u8], word: &[u8]) -> Option<Command<N>> {
+    Some(match name {
+        b"start" => Command::Start(count(word)?),
+        b"push" => Command::Push(bit(word)?),
+        b"push-byte" => Command::PushByte(byte(word)?),
+        b"push-chunk" => Command::PushChunk(chunk(word)?),
+        b"prune" => Command::Prune(decimal(word)?),
+        b"commit" => Command::Commit(decimal(word)?),
+        b"rewind" => Command::Rewind(decimal(word)?),
+        b"get" => Command::Get(decimal(word)?),
+        b"chunk" => Command::Chunk(decimal(word)?),
+        b"at" => Command::At(decimal(word)?),
+        b"encode-at" => Command::EncodeAt(decimal(word)?),
+        b"exists" => Command::Exists(decimal(word)?),
+        b"drop-before" => Command::DropBefore(decimal(word)?),
+        _ => return None,
+    })
+}
 
-    // A number of chunks.
-    fn count(&mut self) -> Option<usize> {
-        usize::try_from(self.number()?).ok()
-    }
-
-    // `0` or `1`.
-    fn bit(&mut self) -> Option<bool> {
-        match self.word()? {
-            b"0" => Some(false),
-            b"1" => Some(true),
-            _ => None,
-        }
-    }
-
-    // Bytes, two hexadecimal digits each.
-    fn hex(&mut self) -> Option<&'a [[u8; 2]]> {
-        hex_bytes(self.word()?)
-    }
-
-    // One byte, of two hexadecimal digits.
-    fn byte(&mut self) -> Option<u8> {
-        match self.word()? {
-            [high, low] => hex_byte(&[*high, *low]),
-            _ => None,
-        }
-    }
-
-    // The bytes of a chunk, two hexadecimal digits each.
-    fn chunk<const N: usize>(&mut self) -> Option<[u8; N]> {
-        let pairs = self.hex()?;
-        if pairs.len() != N {
-            return None;
-        }
-        let mut bytes = [0; N];
-        for (index, pair) in pairs.iter().enumerate() {
-            bytes[index] = hex_byte(pair)?;
-        }
-        Some(bytes)
-    }
-
-    // The numbers that a word admits.
-    fn range(&mut self) -> Option<RangeCfg> {
-        let mut words = Words::new(self.word()?, b':');
-        let range = match words.word()? {
-            b"any" => RangeCfg::any(),
-            b"exact" => RangeCfg::exact(words.number()?),
-            b"least" => RangeCfg::at_least(words.number()?),
-            b"most" => RangeCfg::at_most(words.number()?),
-            b"between" => RangeCfg::between(words.number()?, words.number()?),
-            _ => return None,
-        };
-        words.end()?;
-        Some(range)
-    }
-
-    // No word is left.
-    fn end(&self) -> Option<()> {
-        match self.rest {
-            None => Some(()),
-            Some(_) => None,
-        }
-    }
+// The command of a name and two words, `decode` left out.
+fn with_two<const N: usize>(name: &[u8], first: &[u8], second: &[u8]) -> Option<Command<N>> {
+    Some(match name {
+        b"set" => Command::Set(decimal(first)?, bit(second)?),
+        b"ones" => Command::Ones(decimal(first)?, decimal(second)?),
+        _ => return None,
+    })
 }
 
 /// A line that names a command.
@@ -161,43 +168,21 @@ pub enum Line<'a, const N: usize> {
 impl<'a, const N: usize> Line<'a, N> {
     /// What a line names, its words separated by one space each. `None` where it names no command. No memory.
     pub fn parse(line: &'a [u8]) -> Option<Self> {
-        let mut words = Words::new(line, b' ');
-        let parsed = match words.word()? {
-            b"start" => Line::Plain(Command::Start(words.count()?)),
-            b"begin" => Line::Plain(Command::Begin),
-            b"push" => Line::Plain(Command::Push(words.bit()?)),
-            b"push-byte" => Line::Plain(Command::PushByte(words.byte()?)),
-            b"push-chunk" => Line::Plain(Command::PushChunk(words.chunk()?)),
-            b"pop" => Line::Plain(Command::Pop),
-            b"set" => Line::Plain(Command::Set(words.number()?, words.bit()?)),
-            b"prune" => Line::Plain(Command::Prune(words.number()?)),
-            b"commit" => Line::Plain(Command::Commit(words.number()?)),
-            b"abort" => Line::Plain(Command::Abort),
-            b"rewind" => Line::Plain(Command::Rewind(words.number()?)),
-            b"len" => Line::Plain(Command::Len),
-            b"pruned-chunks" => Line::Plain(Command::PrunedChunks),
-            b"get" => Line::Plain(Command::Get(words.number()?)),
-            b"chunk" => Line::Plain(Command::Chunk(words.number()?)),
-            b"ones" => Line::Plain(Command::Ones(words.number()?, words.number()?)),
-            b"encode" => Line::Plain(Command::Encode),
-            b"at" => Line::Plain(Command::At(words.number()?)),
-            b"ones-at" => {
-                let number = words.number()?;
-                Line::Plain(Command::OnesAt(number, words.number()?, words.number()?))
+        let mut words = line.split(|byte| *byte == b' ');
+        let name = words.next()?;
+        let command = match (name, words.next(), words.next(), words.next(), words.next()) {
+            (_, None, ..) => alone(name)?,
+            (_, Some(word), None, ..) => with_one(name, word)?,
+            (b"decode", Some(digits), Some(admitted), None, _) => {
+                return Some(Line::Decode(hex_bytes(digits)?, range(admitted)?));
             }
-            b"encode-at" => Line::Plain(Command::EncodeAt(words.number()?)),
-            b"decode" => Line::Decode(words.hex()?, words.range()?),
-            b"commits" => Line::Plain(Command::Commits),
-            b"exists" => Line::Plain(Command::Exists(words.number()?)),
-            b"latest" => Line::Plain(Command::Latest),
-            b"earliest" => Line::Plain(Command::Earliest),
-            b"drop-before" => Line::Plain(Command::DropBefore(words.number()?)),
-            b"clear" => Line::Plain(Command::Clear),
-            b"entries" => Line::Plain(Command::Entries),
+            (_, Some(first), Some(second), None, _) => with_two(name, first, second)?,
+            (b"ones-at", Some(number), Some(start), Some(end), None) => {
+                Command::OnesAt(decimal(number)?, decimal(start)?, decimal(end)?)
+            }
             _ => return None,
         };
-        words.end()?;
-        Some(parsed)
+        Some(Line::Plain(command))
     }
 
     /// The command. Takes memory for the bytes to decode alone, and errs where that is refused.

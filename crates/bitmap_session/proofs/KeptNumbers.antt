@@ -1,0 +1,126 @@
+-- The kept numbers rise in each machine that a run reaches.
+use Rattle.std.proofs.Common.{◌≡◌, ℕ, ◌-◌, ◌<◌, ◌≤◌, List, [], ◌∷◌, Bool, Option, Some, None, refl, sym, ap, ◌∙◌, inl, inr, arith, length}
+use Rattle.std.specs.Prelude.{nat_le, slice_get, suc}
+use Rattle.std.specs.List.{All, filter}
+use Rattle.std.specs.List.Sorted.{IsStrictlySortedBy}
+use Rattle.std.specs.Map.{keys_of}
+use Rattle.std.specs.Option.{option_map}
+use Rattle.std.specs.Ordering.{nat_cmp}
+use Rattle.std.proofs.lemmas.Bool.{cases_Bool, cases_lt, lt-leb, le-leb}
+use Rattle.std.proofs.lemmas.List.Elements.{All-head, All-weaker, All-filter, All-nil, All-cons, All-append}
+use Rattle.std.proofs.lemmas.List.Kept.{IsStrictlySortedBy-filter}
+use Rattle.std.proofs.lemmas.Map.Keys.{sorted_head, sorted_tail}
+use Rattle.bitmap_core.specs.PrunedBits.{PrunedBits}
+use Rattle.historical_bitmap.specs.History.{latest, RiseInNumber}
+use Rattle.historical_bitmap.proofs.OldStates.{below}
+use Rattle.historical_bitmap.proofs.PendingRecords.{keys_push, sorted_push}
+use Rattle.bitmap_session.specs.declared.command.Command.{Command}
+use Rattle.bitmap_session.specs.Answers.{Answer}
+use Rattle.bitmap_session.specs.Laws.{IsGreatestOf, IsReached, NumbersRise}
+use Rattle.bitmap_session.specs.Machine.{Machine, Run, State, first_machine}
+use Rattle.bitmap_session.proofs.Moves.{Moves, Stays, Starts, Keeps, GoesBack, Drops, Clears, IsAbove, moves}
+
+abbrev pub History : Type 0
+History = List (ℕ × PrunedBits)
+
+-- the numbers of what stays are those that stay
+pub keys_where : (p : ℕ → Bool) (es : History) → keys_of (filter (λ e. p e.0) es) ≡ filter p (keys_of es)
+keys_where p [] = refl
+keys_where p (e ∷ es) = elim (cases_Bool (p e.0)) [
+  | inl h ↦ rw h (ap (λ ks. e.0 ∷ ks) (keys_where p es))
+  | inr h ↦ rw h (keys_where p es)
+]
+
+none_above : (m : ℕ) (ks : List ℕ) → All (λ k. k ≤ m) (filter (λ k. nat_le k m) ks)
+none_above m [] = All-nil (λ k. k ≤ m)
+none_above m (k ∷ ks) = elim (cases_lt m k) [
+  | inl l ↦ rw (lt-leb k m l) (none_above m ks)
+  | inr l ↦ rw (le-leb k m l) (All-cons (λ j. j ≤ m) k (filter (λ j. nat_le j m) ks) l (none_above m ks))
+]
+
+-- a number above the last one is above all that are kept
+pub all_below : (last : Option ℕ) (ks : List ℕ) (number : ℕ) → IsAbove last number → IsGreatestOf last ks → All (λ k. k < number) ks
+all_below None ks number a g = rw g (All-nil (λ k. k < number))
+all_below (Some last) ks number a g = All-weaker (λ k. k ≤ last) (λ k. k < number) (λ k l. omega (arith, l, a)) ks g
+
+fewer : (last : Option ℕ) (p : ℕ → Bool) (ks : List ℕ) → IsGreatestOf last ks → IsGreatestOf last (filter p ks)
+fewer None p ks g = rw g refl
+fewer (Some last) p ks g = All-filter p (λ k. k ≤ last) ks g
+
+of_none : (last : Option ℕ) → IsGreatestOf last []
+of_none None = refl
+of_none (Some last) = All-nil (λ k. k ≤ last)
+
+sorted_none : IsStrictlySortedBy nat_cmp []
+unfolding IsStrictlySortedBy
+sorted_none = tt
+
+-- kept numbers that rise, up to the last one
+abbrev pub Rise : History → Option ℕ → Type 0
+Rise history last = RiseInNumber history × IsGreatestOf last (keys_of history)
+
+keeps_rising : {s t : State} → Moves s t → Rise s.history s.last → Rise t.history t.last
+keeps_rising (Stays e f) r = rw (e, f) r
+keeps_rising (Starts e f) r = rw (e, f) (sorted_none, refl)
+keeps_rising {s} (Keeps number bitmap a e f) r =
+    let under = all_below s.last (keys_of s.history) number a r.1 in
+    let at_most = All-weaker (λ k. k < number) (λ k. k ≤ number) (λ k l. omega (arith, l)) (keys_of s.history) under in
+    rw (e, f, keys_push s.history number bitmap) (
+      sorted_push (keys_of s.history) number r.0 under,
+      All-append (λ k. k ≤ number) (keys_of s.history) (number ∷ []) at_most (All-cons (λ k. k ≤ number) number [] (omega arith) (All-nil (λ k. k ≤ number))),
+    )
+keeps_rising {s} (GoesBack number e f) r =
+    rw (e, f, keys_where (λ k. nat_le k number) s.history) (
+      IsStrictlySortedBy-filter nat_cmp (λ k. nat_le k number) (keys_of s.history) r.0,
+      none_above number (keys_of s.history),
+    )
+keeps_rising {s} (Drops number e f) r =
+    rw (e, f, keys_where (nat_le number) s.history) (
+      IsStrictlySortedBy-filter nat_cmp (nat_le number) (keys_of s.history) r.0,
+      fewer s.last (nat_le number) (keys_of s.history) r.1,
+    )
+keeps_rising {s} (Clears e f) r = rw (e, f) (sorted_none, of_none s.last)
+
+-- to the end of a run
+runs_rising : (N : ℕ) (old new : Machine) (commands : List (Command N)) (answers : List Answer)
+    → Run N old commands answers new
+    → Rise old.state.history old.state.last
+    → Rise new.state.history new.state.last
+runs_rising N old new [] [] run r = rw run r
+runs_rising N old new (command ∷ commands) (answer ∷ answers) run r =
+    runs_rising N run.0 new commands answers run.2 (keeps_rising (moves N old command answer run.0 run.1) r)
+runs_rising N old new [] (answer ∷ answers) run r = absurd run
+runs_rising N old new (command ∷ commands) [] run r = absurd run
+
+-- from the first machine on
+pub reached_rise : (N : ℕ) (m : Machine) → IsReached N m → Rise m.state.history m.state.last
+reached_rise N m reached = runs_rising N first_machine m reached.0 reached.1.0 reached.1.1 (sorted_none, refl)
+
+-- the latest is that of what follows the first
+latest-cons : (e f : ℕ × PrunedBits) (es : History) → latest (e ∷ f ∷ es) ≡ latest (f ∷ es)
+latest-cons e f es =
+    let a : length (e ∷ f ∷ es) - 1 ≡ suc (length es) = omega arith in
+    let b : length (f ∷ es) - 1 ≡ length es = omega arith in
+    ap (λ n. option_map (λ (x : ℕ × PrunedBits). x.0) (slice_get (e ∷ f ∷ es) n)) a
+    ∙ ap (λ n. option_map (λ (x : ℕ × PrunedBits). x.0) (slice_get (f ∷ es) n)) (sym b)
+
+one_more : (first second : ℕ) (last : Option ℕ) (ks : List ℕ) → first < second → IsGreatestOf last (second ∷ ks) → IsGreatestOf last (first ∷ second ∷ ks)
+one_more first second None ks l g = cc
+one_more first second (Some last) ks l g =
+    let second_within : second ≤ last = All-head (λ k. k ≤ last) second ks g in
+    All-cons (λ k. k ≤ last) first (second ∷ ks) (omega arith) g
+
+-- where the numbers rise, the latest is the greatest
+latest_greatest : (es : History) → RiseInNumber es → IsGreatestOf (latest es) (keys_of es)
+latest_greatest [] rise = refl
+latest_greatest (e ∷ []) rise = All-cons (λ k. k ≤ e.0) e.0 [] (omega arith) (All-nil (λ k. k ≤ e.0))
+latest_greatest (e ∷ f ∷ es) rise =
+    let rest = latest_greatest (f ∷ es) (sorted_tail nat_cmp e.0 (keys_of (f ∷ es)) rise) in
+    let l = below e.0 f.0 (sorted_head nat_cmp e.0 (keys_of (f ∷ es)) rise).0 in
+    rw (latest-cons e f es) (one_more e.0 f.0 (latest (f ∷ es)) (keys_of es) l rest)
+
+-- the law of kept numbers
+pub numbers_rise : (N : ℕ) → NumbersRise N
+numbers_rise N m reached =
+    let rise = reached_rise N m reached in
+    record { rise = rise.0; greatest = latest_greatest m.state.history rise.0; last = rise.1 }

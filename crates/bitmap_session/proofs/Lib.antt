@@ -1,0 +1,8 @@
+pub mod Counting
+pub mod Simulates
+pub mod Runs
+pub mod Steps
+pub mod Moves
+pub mod KeptNumbers
+pub mod GoingBack
+pub mod Examples

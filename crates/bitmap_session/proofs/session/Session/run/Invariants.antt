@@ -1,0 +1,14 @@
+use Rattle.std.proofs.Common.{◌≡◌, ◌+◌, ◌-◌, ◌≤◌, List, ◌++◌, length, take, map}
+use Rattle.std.specs.Prelude.{vec_len, vec_capacity}
+use Rattle.bitmap_session.specs.declared.reply.Reply.{Reply}
+use Rattle.bitmap_session.specs.Machine.{RunsOn}
+use Rattle.bitmap_session.specs.Seen.{said}
+use Rattle.bitmap_session.proofs.session.Session.run.Given as goal
+
+abbrev pub invariant-loop-command : goal.invariant-loop-command
+invariant-loop-command g l = record {
+  run : (new : List (Reply g.row.N))
+      × (l.replies.items ≡ l.fn.replies.items ++ new)
+      × RunsOn g.row.N l.fn.self (take l.command-index l.commands) (map said new) l.self;
+  room : vec_len l.replies + (length l.commands - l.command-index) ≤ vec_capacity l.replies;
+}

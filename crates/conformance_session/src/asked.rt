@@ -1,0 +1,45 @@
+//! One command at a time.
+
+use bitmap_session::command::Command;
+use bitmap_session::reply::Reply;
+use bitmap_session::session::Session;
+use std::alloc::Global;
+use std::process::Abort;
+
+/// The reply to one command. The test is over where there is no memory for it.
+pub fn ask<const N: usize>(
+    rt: &impl Abort,
+    alloc: Global,
+    session: &mut Session<N>,
+    command: Command<N>,
+) -> Reply<N> {
+    let mut replies = Vec::new(alloc);
+    let asked = session.run(&[command], &mut replies);
+    assert!(rt; asked.is_ok());
+    match replies.pop() {
+        Some(reply) => reply,
+        None => rt.abort(),
+    }
+}
+
+/// Whether a command is accepted and has nothing to tell.
+pub fn does<const N: usize>(
+    rt: &impl Abort,
+    alloc: Global,
+    session: &mut Session<N>,
+    command: Command<N>,
+) -> bool {
+    matches!(ask(rt, alloc, session, command), Reply::Done)
+}
+
+/// The length that a session replies.
+pub fn len<const N: usize>(
+    rt: &impl Abort,
+    alloc: Global,
+    session: &mut Session<N>,
+) -> Option<u64> {
+    match ask(rt, alloc, session, Command::Len) {
+        Reply::Number(len) => Some(len),
+        _ => None,
+    }
+}

@@ -1,5 +1,0 @@
-use Rattle.replay.proofs.KeptNumbers.{numbers_rise}
-use Rattle.replay.proofs.laws.kept_numbers_rise.Goals as goal
-
-pub returns : goal.returns
-returns g c = numbers_rise g.row.N

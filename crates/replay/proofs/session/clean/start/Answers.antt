@@ -1,6 +1,0 @@
-use Rattle.std.proofs.Common.{refl}
-use Rattle.replay.proofs.Steps.{started}
-use Rattle.replay.proofs.session.clean.start.Goals as goal
-
-pub returns-in-Ok : goal.returns-in-Ok
-returns-in-Ok g c = rw c.in-Ok.ensures.ok (started g.row.N c.args.chunks c.args.bitmap (c.in-Ok.ensures.exact.0 refl))

@@ -1,5 +1,0 @@
-use Rattle.replay.proofs.Steps.{len_shown}
-use Rattle.replay.proofs.session.dirty.len.Goals as goal
-
-pub returns : goal.returns
-returns g c = len_shown g.row.N _ c.args.bitmap.now c.len.ensures.value

@@ -1,5 +1,0 @@
-use Rattle.replay.proofs.Steps.{pruned_chunks_shown}
-use Rattle.replay.proofs.session.dirty.pruned_chunks.Goals as goal
-
-pub returns : goal.returns
-returns g c = pruned_chunks_shown g.row.N _ c.args.bitmap.now c.pruned_chunks.ensures

@@ -1,8 +1,0 @@
-use Rattle.std.proofs.Common.{sym, ◌∙◌}
-use Rattle.replay.proofs.Steps.{push_byte_accepted, is_false}
-use Rattle.replay.proofs.session.dirty.push_byte.Goals as goal
-
-pub returns-in-Ok : goal.returns-in-Ok
-returns-in-Ok g c =
-    let room = is_false _ (sym c.if-not-has_room.false ∙ c.has_room.ensures) in
-    push_byte_accepted g.row.N c.args.bitmap.now c.try_push_byte.new.bitmap c.args.byte room c.in-Ok.ensures.ok
