@@ -1,11 +1,23 @@
 //! The calls on a bitmap with a pruned front that ask for something, each of which tests first what is asked.
+//!
+//! Those that take memory stand here twice: `try_push` answers whether there was some, and `push` is for tests where there is.
 
-ghost use Rattle.std.specs.Prelude.{◌*◌, ◌^◌, ◌<◌};
+ghost use Rattle.std.specs.Prelude.{◌≡◌, ◌*◌, ◌^◌, ◌<◌, Ok};
 
 use bitmap_core::bitmap::BitMap;
 use bitmap_core::bitmap::prunable::Prunable;
 use std::alloc::{AllocError, Global};
 use std::process::Abort;
+
+/// What a call answered that was not refused.
+pub fn ok<T, E: Drop>(rt: &impl Abort, answer: Result<T, E>) -> T
+    ensures { answer ≡ Ok result }
+{
+    match answer {
+        Ok(value) => value,
+        Err(_) => panic!(rt; "it is refused"),
+    }
+}
 
 /// The bit at a retained position.
 pub fn get_bit<const N: usize>(rt: &impl Abort, map: &Prunable<N>, bit: u64) -> bool {
@@ -74,7 +86,7 @@ pub fn set_full_chunk<const N: usize>(
 }
 
 /// Appends a bit.
-pub fn push<const N: usize>(
+pub fn try_push<const N: usize>(
     rt: &impl Abort,
     map: &mut Prunable<N>,
     bit: bool,
@@ -83,8 +95,13 @@ pub fn push<const N: usize>(
     map.push(bit)
 }
 
+/// The same, where memory is not refused.
+pub fn push<const N: usize>(rt: &impl Abort, map: &mut Prunable<N>, bit: bool) {
+    ok(rt, try_push(rt, map, bit));
+}
+
 /// Appends the bits of a byte to a bitmap of whole bytes.
-pub fn push_byte<const N: usize>(
+pub fn try_push_byte<const N: usize>(
     rt: &impl Abort,
     map: &mut Prunable<N>,
     byte: u8,
@@ -93,8 +110,13 @@ pub fn push_byte<const N: usize>(
     map.push_byte(byte)
 }
 
+/// The same, where memory is not refused.
+pub fn push_byte<const N: usize>(rt: &impl Abort, map: &mut Prunable<N>, byte: u8) {
+    ok(rt, try_push_byte(rt, map, byte));
+}
+
 /// Appends the bits of a chunk to a bitmap of whole chunks.
-pub fn push_chunk<const N: usize>(
+pub fn try_push_chunk<const N: usize>(
     rt: &impl Abort,
     map: &mut Prunable<N>,
     chunk: &[u8; N],
@@ -103,8 +125,13 @@ pub fn push_chunk<const N: usize>(
     map.push_chunk(chunk)
 }
 
+/// The same, where memory is not refused.
+pub fn push_chunk<const N: usize>(rt: &impl Abort, map: &mut Prunable<N>, chunk: &[u8; N]) {
+    ok(rt, try_push_chunk(rt, map, chunk));
+}
+
 /// Appends the bits of a dense bitmap.
-pub fn extend_from_bitmap<const N: usize, const M: usize>(
+pub fn try_extend_from_bitmap<const N: usize, const M: usize>(
     rt: &impl Abort,
     map: &mut Prunable<N>,
     other: &BitMap<M>,
@@ -113,8 +140,17 @@ pub fn extend_from_bitmap<const N: usize, const M: usize>(
     map.extend_from_bitmap(other)
 }
 
+/// The same, where memory is not refused.
+pub fn extend_from_bitmap<const N: usize, const M: usize>(
+    rt: &impl Abort,
+    map: &mut Prunable<N>,
+    other: &BitMap<M>,
+) {
+    ok(rt, try_extend_from_bitmap(rt, map, other));
+}
+
 /// Puts pruned chunks back.
-pub fn unprune<const N: usize>(
+pub fn try_unprune<const N: usize>(
     rt: &impl Abort,
     map: &mut Prunable<N>,
     chunks: &[[u8; N]],
@@ -123,32 +159,38 @@ pub fn unprune<const N: usize>(
     map.unprune(chunks)
 }
 
+/// The same, where memory is not refused.
+pub fn unprune<const N: usize>(rt: &impl Abort, map: &mut Prunable<N>, chunks: &[[u8; N]]) {
+    ok(rt, try_unprune(rt, map, chunks));
+}
+
 /// The bitmap of whole chunks.
-pub fn of_chunks<const N: usize>(
-    rt: &impl Abort,
-    alloc: Global,
-    chunks: &[[u8; N]],
-) -> Result<Prunable<N>, AllocError>
+pub fn of_chunks<const N: usize>(rt: &impl Abort, alloc: Global, chunks: &[[u8; N]]) -> Prunable<N>
     requires positive { 0 < N }
     requires fits { 8 * N < 2 ^ 64 }
 {
     let mut map = Prunable::new(alloc);
     for chunk in chunks {
-        push_chunk(rt, &mut map, chunk)?;
+        push_chunk(rt, &mut map, chunk);
     }
-    Ok(map)
+    map
 }
 
 /// Appends the bits that digits stand for.
-pub fn push_digits<const N: usize>(
+pub fn try_push_digits<const N: usize>(
     rt: &impl Abort,
     map: &mut Prunable<N>,
     digits: &[u8],
 ) -> Result<(), AllocError> {
     for digit in digits {
-        push(rt, map, *digit == b'1')?;
+        try_push(rt, map, *digit == b'1')?;
     }
     Ok(())
+}
+
+/// The same, where memory is not refused.
+pub fn push_digits<const N: usize>(rt: &impl Abort, map: &mut Prunable<N>, digits: &[u8]) {
+    ok(rt, try_push_digits(rt, map, digits));
 }
 
 /// Whether so many chunks are pruned, and the retained bits are those that digits stand for.

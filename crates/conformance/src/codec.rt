@@ -2,13 +2,12 @@
 
 ghost use Rattle.std.specs.Prelude.{◌*◌, ◌^◌, ◌<◌};
 
-use crate::asked::{of_chunks, prune_to_bit, push, push_byte, push_digits, shows, truncate};
+use crate::asked::{of_chunks, ok, prune_to_bit, push, push_byte, push_digits, shows, truncate};
 use bitmap_core::bitmap::BitMap;
 use bitmap_core::bitmap::codec::{CodecError, EncodeSize, RangeCfg, Read, Write};
 use bitmap_core::bitmap::prunable::Prunable;
-use std::alloc::{AllocError, Global};
+use std::alloc::Global;
 use std::process::Abort;
-use std::test::Fail;
 
 // Three bits, of which the first and the last are set.
 const THREE_BITS: [u8; 12] = [0, 0, 0, 0, 0, 0, 0, 3, 5, 0, 0, 0];
@@ -75,37 +74,34 @@ fn is_read(alloc: Global, from: &mut &[u8], map: &BitMap<4>) -> bool {
 }
 
 // The bytes of a bitmap with a pruned front.
-fn written<const N: usize>(alloc: Global, map: &Prunable<N>) -> Result<Vec<u8>, AllocError> {
+fn written<const N: usize>(rt: &impl Abort, alloc: Global, map: &Prunable<N>) -> Vec<u8> {
     let mut out = Vec::new(alloc);
-    map.write(&mut out)?;
-    Ok(out)
+    ok(rt, map.write(&mut out));
+    out
 }
 
 /// The text of a full chunk and one bit more, all of them set.
-pub fn one_chunk_and_a_bit<const N: usize>(alloc: Global) -> Result<Vec<u8>, AllocError>
+pub fn one_chunk_and_a_bit<const N: usize>(rt: &impl Abort, alloc: Global) -> Vec<u8>
     requires positive { 0 < N }
     requires small { N < 65 }
 {
-    let mut text = Vec::from_slice(alloc, &(8 * N as u64 + 1).to_be_bytes())?;
+    let mut text = ok(
+        rt,
+        Vec::from_slice(alloc, &(8 * N as u64 + 1).to_be_bytes()),
+    );
     let mut last = [0; N];
     last[0] = 1;
-    text.extend_from_slice(&[0xff; N])?;
-    text.extend_from_slice(&last)?;
-    Ok(text)
+    ok(rt, text.extend_from_slice(&[0xff; N]));
+    ok(rt, text.extend_from_slice(&last));
+    text
 }
 
 /// A text with one byte flipped under a mask.
-pub fn damaged(
-    rt: &impl Abort,
-    alloc: Global,
-    text: &[u8],
-    at: usize,
-    mask: u8,
-) -> Result<Vec<u8>, AllocError> {
+pub fn damaged(rt: &impl Abort, alloc: Global, text: &[u8], at: usize, mask: u8) -> Vec<u8> {
     assert!(rt; at < text.len());
-    let mut text = Vec::from_slice(alloc, text)?;
+    let mut text = ok(rt, Vec::from_slice(alloc, text));
     text[at] ^= mask;
-    Ok(text)
+    text
 }
 
 // Each front of the text of such a value is short.
@@ -119,21 +115,21 @@ fn check_fronts<V: Read + Drop>(rt: &impl Abort, alloc: Global, text: &[u8])
 }
 
 // The form of a full chunk and one bit more.
-fn check_bits<const N: usize>(rt: &impl Abort, alloc: Global) -> Result<(), AllocError>
+fn check_bits<const N: usize>(rt: &impl Abort, alloc: Global)
     requires positive { 0 < N }
     requires fits { 8 * N < 2 ^ 64 }
 {
     assert!(rt; N <= 64);
     let any = RangeCfg::any();
-    let text = one_chunk_and_a_bit::<N>(alloc)?;
+    let text = one_chunk_and_a_bit::<N>(rt, alloc);
     let mut out = Vec::new(alloc);
-    let map = BitMap::<N>::ones(alloc, 8 * N as u64 + 1)?;
+    let map = ok(rt, BitMap::<N>::ones(alloc, 8 * N as u64 + 1));
     assert_eq!(rt; map.encode_size(), 2 * N + 8);
-    map.write(&mut out)?;
+    ok(rt, map.write(&mut out));
     assert!(rt; out == text);
     assert!(rt; is_accepted::<N>(alloc, &text, &any));
     check_fronts::<BitMap<N>>(rt, alloc, &text);
-    let trailing = damaged(rt, alloc, &text, 2 * N + 7, 128)?;
+    let trailing = damaged(rt, alloc, &text, 2 * N + 7, 128);
     assert!(rt;
         is_invalid(
             refusal::<BitMap<N>>(alloc, &trailing, &any),
@@ -141,36 +137,35 @@ fn check_bits<const N: usize>(rt: &impl Abort, alloc: Global) -> Result<(), Allo
             TRAILING
         )
     );
-    Ok(())
 }
 
 // The same behind a pruned chunk.
-fn check_pruned<const N: usize>(rt: &impl Abort, alloc: Global) -> Result<(), AllocError>
+fn check_pruned<const N: usize>(rt: &impl Abort, alloc: Global)
     requires positive { 0 < N }
     requires fits { 8 * N < 2 ^ 64 }
 {
     assert!(rt; N <= 64);
-    let mut text = Vec::from_slice(alloc, &[0, 0, 0, 0, 0, 0, 0, 1])?;
-    text.extend_from_slice(&one_chunk_and_a_bit::<N>(alloc)?)?;
-    let mut map = of_chunks(rt, alloc, &[[0xff; N], [0xff; N]])?;
-    push(rt, &mut map, true)?;
+    let mut text = ok(rt, Vec::from_slice(alloc, &[0, 0, 0, 0, 0, 0, 0, 1]));
+    let bits = one_chunk_and_a_bit::<N>(rt, alloc);
+    ok(rt, text.extend_from_slice(&bits));
+    let mut map = of_chunks(rt, alloc, &[[0xff; N], [0xff; N]]);
+    push(rt, &mut map, true);
     prune_to_bit(rt, &mut map, 8 * N as u64);
     assert_eq!(rt; map.encode_size(), 2 * N + 16);
-    assert!(rt; written(alloc, &map)? == text);
+    assert!(rt; written(rt, alloc, &map) == text);
     assert!(rt; is_pruned::<N>(rt, alloc, &text, 1, &[b'1'; 513][..8 * N + 1]));
     check_fronts::<Prunable<N>>(rt, alloc, &text);
-    let trailing = damaged(rt, alloc, &text, 2 * N + 15, 128)?;
+    let trailing = damaged(rt, alloc, &text, 2 * N + 15, 128);
     let error = refusal::<Prunable<N>>(alloc, &trailing, &RangeCfg::any());
     assert!(rt; is_invalid(error, "BitMap", TRAILING));
-    Ok(())
 }
 
 // Both forms.
-fn check_forms<const N: usize>(rt: &impl Abort, alloc: Global) -> Result<(), AllocError>
+fn check_forms<const N: usize>(rt: &impl Abort, alloc: Global)
     requires positive { 0 < N }
     requires fits { 8 * N < 2 ^ 64 }
 {
-    check_bits::<N>(rt, alloc)?;
+    check_bits::<N>(rt, alloc);
     check_pruned::<N>(rt, alloc)
 }
 
@@ -187,45 +182,48 @@ fn is_invalid(error: Option<CodecError>, what: &str, why: &str) -> bool {
 }
 
 #[test]
-fn three_bits(rt: HostRuntime) -> Result<(), Fail> {
-    let map = BitMap::<4>::from_bools(rt.alloc(), &[true, false, true])?;
+fn three_bits(rt: HostRuntime) {
+    let map = ok(
+        &rt,
+        BitMap::<4>::from_bools(rt.alloc(), &[true, false, true]),
+    );
     let mut out = Vec::new(rt.alloc());
-    map.write(&mut out)?;
+    ok(&rt, map.write(&mut out));
     assert_eq!(rt; out.as_slice(), THREE_BITS.as_slice());
     assert_eq!(rt; map.encode_size(), 12);
-    map.write(&mut out)?;
+    ok(&rt, map.write(&mut out));
     assert_eq!(rt; out.len(), 24);
     let mut from = out.as_slice();
     for left in [12, 0] {
         assert!(rt; is_read(rt.alloc(), &mut from, &map));
         assert_eq!(rt; from.len(), left);
     }
-    Ok(())
 }
 
 #[test]
-fn whole_chunks_and_none(rt: HostRuntime) -> Result<(), Fail> {
+fn whole_chunks_and_none(rt: HostRuntime) {
     let mut out = Vec::new(rt.alloc());
-    BitMap::<4>::new(rt.alloc()).write(&mut out)?;
+    ok(&rt, BitMap::<4>::new(rt.alloc()).write(&mut out));
     assert_eq!(rt; out.as_slice(), [0; 8].as_slice());
     out.clear();
-    BitMap::<1>::ones(rt.alloc(), 10)?.write(&mut out)?;
+    let map = ok(&rt, BitMap::<1>::ones(rt.alloc(), 10));
+    ok(&rt, map.write(&mut out));
     assert_eq!(rt;
         out.as_slice(),
         [0, 0, 0, 0, 0, 0, 0, 10, 255, 3].as_slice()
     );
     assert_eq!(rt; BitMap::<1>::max_encode_size(10), 10);
     out.clear();
-    BitMap::<3>::ones(rt.alloc(), 24)?.write(&mut out)?;
+    let map = ok(&rt, BitMap::<3>::ones(rt.alloc(), 24));
+    ok(&rt, map.write(&mut out));
     assert_eq!(rt;
         out.as_slice(),
         [0, 0, 0, 0, 0, 0, 0, 24, 255, 255, 255].as_slice()
     );
-    Ok(())
 }
 
 #[test]
-fn faults_of_bits(rt: HostRuntime) -> Result<(), Fail> {
+fn faults_of_bits(rt: HostRuntime) {
     let alloc = rt.alloc();
     let mut bad = THREE_BITS;
     bad[8] = 13;
@@ -244,11 +242,10 @@ fn faults_of_bits(rt: HostRuntime) -> Result<(), Fail> {
         )
     );
     assert!(rt; is_short(refusal::<BitMap<4>>(alloc, &[255; 8], &any)));
-    Ok(())
 }
 
 #[test]
-fn bits_cut_short(rt: HostRuntime) -> Result<(), Fail> {
+fn bits_cut_short(rt: HostRuntime) {
     let alloc = rt.alloc();
     check_fronts::<BitMap<4>>(&rt, alloc, &THREE_BITS);
     // A length out of range is told even where chunks are missing.
@@ -256,30 +253,29 @@ fn bits_cut_short(rt: HostRuntime) -> Result<(), Fail> {
         let error = refusal::<BitMap<4>>(alloc, &THREE_BITS[..len], &RangeCfg::at_most(2));
         assert!(rt; is_length(error, 3), "{len} bytes");
     }
-    Ok(())
 }
 
 #[test]
-fn bits_with_a_damaged_byte(rt: HostRuntime) -> Result<(), Fail> {
+fn bits_with_a_damaged_byte(rt: HostRuntime) {
     let alloc = rt.alloc();
     let any = RangeCfg::any();
     // A damaged length is too long for the chunks that follow it.
     for at in 0..8 {
-        let text = damaged(&rt, alloc, &THREE_BITS, at, 255)?;
+        let text = damaged(&rt, alloc, &THREE_BITS, at, 255);
         assert!(rt;
             is_short(refusal::<BitMap<4>>(alloc, &text, &any)),
             "at {at}"
         );
     }
     for at in 8..12 {
-        let text = damaged(&rt, alloc, &THREE_BITS, at, 255)?;
+        let text = damaged(&rt, alloc, &THREE_BITS, at, 255);
         assert!(rt;
             is_invalid(refusal::<BitMap<4>>(alloc, &text, &any), "BitMap", TRAILING),
             "at {at}"
         );
     }
     // With a length of two the third bit is past it.
-    let shorter = damaged(&rt, alloc, &THREE_BITS, 7, 1)?;
+    let shorter = damaged(&rt, alloc, &THREE_BITS, 7, 1);
     assert!(rt;
         is_invalid(
             refusal::<BitMap<4>>(alloc, &shorter, &any),
@@ -287,14 +283,13 @@ fn bits_with_a_damaged_byte(rt: HostRuntime) -> Result<(), Fail> {
             TRAILING
         )
     );
-    let other_bit = damaged(&rt, alloc, &THREE_BITS, 8, 1)?;
-    let map = BitMap::<4>::from_bools(alloc, &[false, false, true])?;
+    let other_bit = damaged(&rt, alloc, &THREE_BITS, 8, 1);
+    let map = ok(&rt, BitMap::<4>::from_bools(alloc, &[false, false, true]));
     assert!(rt; is_read(alloc, &mut other_bit.as_slice(), &map));
-    Ok(())
 }
 
 #[test]
-fn each_last_byte(rt: HostRuntime) -> Result<(), Fail> {
+fn each_last_byte(rt: HostRuntime) {
     let alloc = rt.alloc();
     let any = RangeCfg::any();
     for last in 0..=255 {
@@ -311,11 +306,10 @@ fn each_last_byte(rt: HostRuntime) -> Result<(), Fail> {
             "last {last}"
         );
     }
-    Ok(())
 }
 
 #[test]
-fn greatest_numbers(rt: HostRuntime) -> Result<(), Fail> {
+fn greatest_numbers(rt: HostRuntime) {
     let alloc = rt.alloc();
     let any = RangeCfg::any();
     assert!(rt; is_short(refusal::<BitMap<1>>(alloc, &[255; 8], &any)));
@@ -326,11 +320,10 @@ fn greatest_numbers(rt: HostRuntime) -> Result<(), Fail> {
             MANY
         )
     );
-    Ok(())
 }
 
 #[test]
-fn ranges(rt: HostRuntime) -> Result<(), Fail> {
+fn ranges(rt: HostRuntime) {
     let alloc = rt.alloc();
     for range in [
         RangeCfg::exact(3),
@@ -351,26 +344,24 @@ fn ranges(rt: HostRuntime) -> Result<(), Fail> {
         assert!(rt; is_length(refusal::<BitMap<4>>(alloc, &THREE_BITS, &range), 3));
     }
     assert!(rt; RangeCfg::any().contains(u64::MAX));
-    Ok(())
 }
 
 #[test]
-fn behind_a_pruned_front(rt: HostRuntime) -> Result<(), Fail> {
+fn behind_a_pruned_front(rt: HostRuntime) {
     let mut from = BEHIND_ONE.as_slice();
     let read = Prunable::<4>::read_cfg(rt.alloc(), &mut from, &RangeCfg::exact(3));
-    let map = read.ok().ok_or("the text is read")?;
+    let map = ok(&rt, read);
     assert_eq!(rt; from.len(), 0);
     assert_eq!(rt; map.pruned_chunks(), 1);
     assert_eq!(rt; map.len(), 35);
     assert_eq!(rt; map.encode_size(), 20);
     let mut out = Vec::new(rt.alloc());
-    map.write(&mut out)?;
+    ok(&rt, map.write(&mut out));
     assert_eq!(rt; out.as_slice(), BEHIND_ONE.as_slice());
-    Ok(())
 }
 
 #[test]
-fn faults_behind_a_pruned_front(rt: HostRuntime) -> Result<(), Fail> {
+fn faults_behind_a_pruned_front(rt: HostRuntime) {
     let alloc = rt.alloc();
     let any = RangeCfg::any();
     assert!(rt; is_short(refusal::<Prunable<4>>(alloc, &BEHIND_ONE[..7], &any)));
@@ -389,19 +380,17 @@ fn faults_behind_a_pruned_front(rt: HostRuntime) -> Result<(), Fail> {
             MANY
         )
     );
-    Ok(())
 }
 
 #[test]
-fn a_byte_behind_pruned(rt: HostRuntime) -> Result<(), Fail> {
-    let mut text = Vec::from_slice(rt.alloc(), &BEHIND_ONE)?;
-    text.push(0xaa).map_err(AllocError::from)?;
+fn a_byte_behind_pruned(rt: HostRuntime) {
+    let mut text = ok(&rt, Vec::from_slice(rt.alloc(), &BEHIND_ONE));
+    ok(&rt, text.push(0xaa));
     let mut from = text.as_slice();
     let read = Prunable::<4>::read_cfg(rt.alloc(), &mut from, &RangeCfg::any());
-    let map = read.ok().ok_or("the text is read")?;
+    let map = ok(&rt, read);
     assert!(rt; shows(&rt, &map, 1, b"101"));
     assert_eq!(rt; from, [0xaa].as_slice());
-    Ok(())
 }
 
 #[test]
@@ -410,25 +399,25 @@ fn pruned_cut_short(rt: HostRuntime) {
 }
 
 #[test]
-fn pruned_with_a_damaged_byte(rt: HostRuntime) -> Result<(), Fail> {
+fn pruned_with_a_damaged_byte(rt: HostRuntime) {
     let alloc = rt.alloc();
     let any = RangeCfg::any();
-    let text = damaged(&rt, alloc, &BEHIND_ONE, 0, 255)?;
+    let text = damaged(&rt, alloc, &BEHIND_ONE, 0, 255);
     assert!(rt; is_invalid(refusal::<Prunable<4>>(alloc, &text, &any), "Prunable", MANY));
     // Elsewhere in the count damage leaves the text of another pair.
     for (at, count) in [(1, 0xff000000000001), (6, 0xff01), (7, 254)] {
-        let text = damaged(&rt, alloc, &BEHIND_ONE, at, 255)?;
+        let text = damaged(&rt, alloc, &BEHIND_ONE, at, 255);
         assert!(rt; is_pruned::<4>(&rt, alloc, &text, count, b"101"), "at {at}");
     }
     for at in 8..16 {
-        let text = damaged(&rt, alloc, &BEHIND_ONE, at, 255)?;
+        let text = damaged(&rt, alloc, &BEHIND_ONE, at, 255);
         assert!(rt;
             is_short(refusal::<Prunable<4>>(alloc, &text, &any)),
             "at {at}"
         );
     }
     for at in 16..20 {
-        let text = damaged(&rt, alloc, &BEHIND_ONE, at, 255)?;
+        let text = damaged(&rt, alloc, &BEHIND_ONE, at, 255);
         assert!(rt;
             is_invalid(
                 refusal::<Prunable<4>>(alloc, &text, &any),
@@ -438,28 +427,26 @@ fn pruned_with_a_damaged_byte(rt: HostRuntime) -> Result<(), Fail> {
             "at {at}"
         );
     }
-    let other_bit = damaged(&rt, alloc, &BEHIND_ONE, 16, 1)?;
+    let other_bit = damaged(&rt, alloc, &BEHIND_ONE, 16, 1);
     assert!(rt; is_pruned::<4>(&rt, alloc, &other_bit, 1, b"001"));
-    Ok(())
 }
 
 #[test]
-fn trailing_bit_with_nothing_pruned(rt: HostRuntime) -> Result<(), Fail> {
+fn trailing_bit_with_nothing_pruned(rt: HostRuntime) {
     let text = [0, 0, 0, 0, 0, 0, 0, 0, 0, 0, 0, 0, 0, 0, 0, 1, 2, 0, 0, 0];
     let error = refusal::<Prunable<4>>(rt.alloc(), &text, &RangeCfg::any());
     assert!(rt; is_invalid(error, "BitMap", TRAILING));
-    Ok(())
 }
 
 #[test]
-fn total_behind_a_pruned_front(rt: HostRuntime) -> Result<(), Fail> {
+fn total_behind_a_pruned_front(rt: HostRuntime) {
     let alloc = rt.alloc();
     let any = RangeCfg::any();
-    let mut text = Vec::from_slice(alloc, &MOST_PRUNED)?;
-    text.extend_from_slice(&[31, 0, 0, 0, 0])?;
+    let mut text = ok(&rt, Vec::from_slice(alloc, &MOST_PRUNED));
+    ok(&rt, text.extend_from_slice(&[31, 0, 0, 0, 0]));
     assert!(rt; is_pruned::<4>(&rt, alloc, &text, MOST_PRUNED_CHUNKS, &[b'0'; 31]));
     text.truncate(15);
-    text.extend_from_slice(&[32, 0, 0, 0, 0])?;
+    ok(&rt, text.extend_from_slice(&[32, 0, 0, 0, 0]));
     let long = "total bitmap length (pruned + unpruned) would overflow u64";
     assert!(rt; is_invalid(refusal::<Prunable<4>>(alloc, &text, &any), "Prunable", long));
     // What is wrong with the retained bits is told first.
@@ -471,7 +458,7 @@ fn total_behind_a_pruned_front(rt: HostRuntime) -> Result<(), Fail> {
     );
     assert!(rt; is_short(refusal::<Prunable<4>>(alloc, &text[..19], &any)));
     text.truncate(15);
-    text.extend_from_slice(&[33, 0, 0, 0, 0, 2, 0, 0, 0])?;
+    ok(&rt, text.extend_from_slice(&[33, 0, 0, 0, 0, 2, 0, 0, 0]));
     assert!(rt;
         is_invalid(
             refusal::<Prunable<4>>(alloc, &text, &any),
@@ -479,16 +466,15 @@ fn total_behind_a_pruned_front(rt: HostRuntime) -> Result<(), Fail> {
             TRAILING
         )
     );
-    Ok(())
 }
 
 #[test]
-fn range_of_the_retained_bits(rt: HostRuntime) -> Result<(), Fail> {
+fn range_of_the_retained_bits(rt: HostRuntime) {
     let alloc = rt.alloc();
-    let mut map = of_chunks::<4>(&rt, alloc, &[[1; 4], [2; 4], [3, 4, 5, 6]])?;
-    push_digits(&rt, &mut map, b"0110")?;
+    let mut map = of_chunks::<4>(&rt, alloc, &[[1; 4], [2; 4], [3, 4, 5, 6]]);
+    push_digits(&rt, &mut map, b"0110");
     prune_to_bit(&rt, &mut map, 64);
-    let text = written(alloc, &map)?;
+    let text = written(&rt, alloc, &map);
     assert_eq!(rt;
         text.as_slice(),
         [
@@ -498,91 +484,87 @@ fn range_of_the_retained_bits(rt: HostRuntime) -> Result<(), Fail> {
     );
     let mut from = text.as_slice();
     let read = Prunable::<4>::read_cfg(alloc, &mut from, &RangeCfg::exact(36));
-    let map = read.ok().ok_or("the text is read")?;
+    let map = ok(&rt, read);
     assert_eq!(rt; (map.len(), map.pruned_bits(), from.len()), (100, 64, 0));
     let error = refusal::<Prunable<4>>(alloc, &text, &RangeCfg::exact(100));
     assert!(rt; is_length(error, 36));
-    Ok(())
 }
 
 #[test]
-fn nothing_retained(rt: HostRuntime) -> Result<(), Fail> {
+fn nothing_retained(rt: HostRuntime) {
     let alloc = rt.alloc();
-    let mut map = of_chunks::<4>(&rt, alloc, &[[0xff; 4]; 3])?;
+    let mut map = of_chunks::<4>(&rt, alloc, &[[0xff; 4]; 3]);
     prune_to_bit(&rt, &mut map, 96);
-    let text = written(alloc, &map)?;
+    let text = written(&rt, alloc, &map);
     assert_eq!(rt;
         text.as_slice(),
         [0, 0, 0, 0, 0, 0, 0, 3, 0, 0, 0, 0, 0, 0, 0, 0].as_slice()
     );
     let mut from = text.as_slice();
     let read = Prunable::<4>::read_cfg(alloc, &mut from, &RangeCfg::exact(0));
-    let map = read.ok().ok_or("the text is read")?;
+    let map = ok(&rt, read);
     assert_eq!(rt; (map.len(), map.pruned_bits(), from.len()), (96, 96, 0));
-    Ok(())
 }
 
 #[test]
-fn pruned_bits_leave_no_trace(rt: HostRuntime) -> Result<(), Fail> {
+fn pruned_bits_leave_no_trace(rt: HostRuntime) {
     let alloc = rt.alloc();
-    let mut popped = of_chunks::<4>(&rt, alloc, &[[0xff; 4]; 3])?;
+    let mut popped = of_chunks::<4>(&rt, alloc, &[[0xff; 4]; 3]);
     truncate(&rt, &mut popped, 64);
     prune_to_bit(&rt, &mut popped, 64);
     let mut pushed = Prunable::<4>::new(alloc);
-    push_digits(&rt, &mut pushed, b"101")?;
-    pushed.extend_to(64)?;
+    push_digits(&rt, &mut pushed, b"101");
+    ok(&rt, pushed.extend_to(64));
     prune_to_bit(&rt, &mut pushed, 64);
     let want = [0, 0, 0, 0, 0, 0, 0, 2, 0, 0, 0, 0, 0, 0, 0, 0];
-    assert_eq!(rt; written(alloc, &popped)?.as_slice(), want.as_slice());
-    assert_eq!(rt; written(alloc, &pushed)?.as_slice(), want.as_slice());
-    Ok(())
+    assert_eq!(rt; written(&rt, alloc, &popped).as_slice(), want.as_slice());
+    assert_eq!(rt; written(&rt, alloc, &pushed).as_slice(), want.as_slice());
 }
 
 #[test]
-fn chunks_of_three_bytes(rt: HostRuntime) -> Result<(), Fail> {
+fn chunks_of_three_bytes(rt: HostRuntime) {
     let alloc = rt.alloc();
     let mut out = Vec::new(alloc);
-    BitMap::<3>::ones(alloc, 26)?.write(&mut out)?;
+    let map = ok(&rt, BitMap::<3>::ones(alloc, 26));
+    ok(&rt, map.write(&mut out));
     let bits = [0, 0, 0, 0, 0, 0, 0, 26, 255, 255, 255, 3, 0, 0];
     assert_eq!(rt; out.as_slice(), bits.as_slice());
     assert!(rt; is_accepted::<3>(alloc, &bits, &RangeCfg::exact(26)));
-    let mut map = of_chunks::<3>(&rt, alloc, &[[1, 2, 3], [4, 5, 6]])?;
-    push(&rt, &mut map, true)?;
+    let mut map = of_chunks::<3>(&rt, alloc, &[[1, 2, 3], [4, 5, 6]]);
+    push(&rt, &mut map, true);
     prune_to_bit(&rt, &mut map, 24);
     let pair = [
         0, 0, 0, 0, 0, 0, 0, 1, 0, 0, 0, 0, 0, 0, 0, 25, 4, 5, 6, 1, 0, 0,
     ];
-    assert_eq!(rt; written(alloc, &map)?.as_slice(), pair.as_slice());
+    assert_eq!(rt; written(&rt, alloc, &map).as_slice(), pair.as_slice());
     assert!(rt; is_pruned::<3>(&rt, alloc, &pair, 1, b"0010000010100000011000001"));
-    Ok(())
 }
 
 #[test]
-fn chunks_of_nine_bytes(rt: HostRuntime) -> Result<(), Fail> {
+fn chunks_of_nine_bytes(rt: HostRuntime) {
     let alloc = rt.alloc();
     let mut out = Vec::new(alloc);
-    BitMap::<9>::ones(alloc, 10)?.write(&mut out)?;
+    let map = ok(&rt, BitMap::<9>::ones(alloc, 10));
+    ok(&rt, map.write(&mut out));
     let bits = [0, 0, 0, 0, 0, 0, 0, 10, 255, 3, 0, 0, 0, 0, 0, 0, 0];
     assert_eq!(rt; out.as_slice(), bits.as_slice());
     assert!(rt; is_accepted::<9>(alloc, &bits, &RangeCfg::exact(10)));
-    let mut map = Prunable::<9>::new_with_pruned_chunks(alloc, 258)?;
-    push_byte(&rt, &mut map, 0x4d)?;
-    push(&rt, &mut map, true)?;
+    let mut map = ok(&rt, Prunable::<9>::new_with_pruned_chunks(alloc, 258));
+    push_byte(&rt, &mut map, 0x4d);
+    push(&rt, &mut map, true);
     let pair = [
         0, 0, 0, 0, 0, 0, 1, 2, 0, 0, 0, 0, 0, 0, 0, 9, 0x4d, 1, 0, 0, 0, 0, 0, 0, 0,
     ];
-    assert_eq!(rt; written(alloc, &map)?.as_slice(), pair.as_slice());
+    assert_eq!(rt; written(&rt, alloc, &map).as_slice(), pair.as_slice());
     assert!(rt; is_pruned::<9>(&rt, alloc, &pair, 258, b"101100101"));
-    Ok(())
 }
 
 #[test]
-fn forms_at_each_width(rt: HostRuntime) -> Result<(), Fail> {
-    check_forms::<1>(&rt, rt.alloc())?;
-    check_forms::<3>(&rt, rt.alloc())?;
-    check_forms::<7>(&rt, rt.alloc())?;
-    check_forms::<9>(&rt, rt.alloc())?;
-    check_forms::<32>(&rt, rt.alloc())?;
-    check_forms::<64>(&rt, rt.alloc())?;
-    Ok(())
+fn forms_at_each_width(rt: HostRuntime) {
+    check_forms::<1>(&rt, rt.alloc());
+    check_forms::<3>(&rt, rt.alloc());
+    check_forms::<7>(&rt, rt.alloc());
+    check_forms::<9>(&rt, rt.alloc());
+    check_forms::<32>(&rt, rt.alloc());
+    check_forms::<64>(&rt, rt.alloc());
 }

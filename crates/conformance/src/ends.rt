@@ -4,36 +4,31 @@ ghost use Rattle.std.specs.Prelude.{◌*◌, ◌^◌, ◌<◌};
 
 use crate::answers::holds;
 use crate::asked::{
-    chunk_at, extend_from_bitmap, get_bit, get_chunk, last_chunk, pop, pop_chunk, prune_to_bit,
+    chunk_at, extend_from_bitmap, get_bit, get_chunk, last_chunk, ok, pop, pop_chunk, prune_to_bit,
     push, push_byte, push_chunk, set_bit, set_full_chunk, shows, truncate, unprune,
 };
 use bitmap_core::bitmap::codec::{EncodeSize, RangeCfg, Read, Write};
 use bitmap_core::bitmap::prunable::{Error, Prunable};
 use bitmap_core::bitmap::{BitMap, Readable};
-use std::alloc::{AllocError, Global};
+use std::alloc::Global;
 use std::process::Abort;
-use std::test::Fail;
 
 // The last position that a bitmap can have.
 const LAST: u64 = u64::MAX - 1;
 
 // The greatest front of whole chunks, and zeros up to the greatest length, of which the first and the last are set.
-fn greatest<const N: usize>(
-    rt: &impl Abort,
-    alloc: Global,
-    most: usize,
-) -> Result<Prunable<N>, Fail>
+fn greatest<const N: usize>(rt: &impl Abort, alloc: Global, most: usize) -> Prunable<N>
     requires positive { 0 < N }
     requires fits { 8 * N < 2 ^ 64 }
 {
     let beyond = Prunable::<N>::new_with_pruned_chunks(alloc, most.saturating_add(1));
     assert!(rt; beyond.is_err_and(|why| why == Error::PrunedChunksOverflow));
-    let mut map = Prunable::<N>::new_with_pruned_chunks(alloc, most)?;
+    let mut map = ok(rt, Prunable::<N>::new_with_pruned_chunks(alloc, most));
     let first = map.len();
-    map.extend_to(u64::MAX)?;
+    ok(rt, map.extend_to(u64::MAX));
     set_bit(rt, &mut map, first, true);
     set_bit(rt, &mut map, LAST, true);
-    Ok(map)
+    map
 }
 
 // What any reader is asked: the bits at both ends and beside them, the only chunk, and set positions in ranges that are
@@ -87,24 +82,18 @@ fn check_places<const N: usize>(rt: &impl Abort, first: u64, most: usize, room: 
 }
 
 // The byte form, written and read again.
-fn check_form<const N: usize>(
-    rt: &impl Abort,
-    alloc: Global,
-    map: &Prunable<N>,
-    room: u64,
-) -> Result<(), AllocError>
+fn check_form<const N: usize>(rt: &impl Abort, alloc: Global, map: &Prunable<N>, room: u64)
     requires positive { 0 < N }
     requires fits { 8 * N < 2 ^ 64 }
 {
     let mut out = Vec::new(alloc);
-    map.write(&mut out)?;
+    ok(rt, map.write(&mut out));
     assert_eq!(rt; out.len(), map.encode_size());
     let mut from = out.as_slice();
     match Prunable::<N>::read_cfg(alloc, &mut from, &RangeCfg::exact(room)) {
         Ok(read) => check_reader(rt, &read, map.pruned_bits(), room),
         Err(_) => assert!(rt; false),
     }
-    Ok(())
 }
 
 // Edits at the end, each of which leaves the greatest length or no bit behind the front.
@@ -113,7 +102,7 @@ fn check_edits<const N: usize>(
     map: &mut Prunable<N>,
     others: &BitMap<3>,
     first: u64,
-) -> Result<(), AllocError> {
+) {
     for bit in [0, first, LAST, u64::MAX] {
         prune_to_bit(rt, map, bit);
         assert_eq!(rt; map.pruned_bits(), first);
@@ -121,78 +110,64 @@ fn check_edits<const N: usize>(
     truncate(rt, map, u64::MAX);
     assert!(rt; map.extend_to(0).is_ok() && map.extend_to(LAST).is_ok());
     assert!(rt; pop(rt, map) && !pop(rt, map));
-    push(rt, map, true)?;
-    push(rt, map, false)?;
+    push(rt, map, true);
+    push(rt, map, false);
     assert!(rt; map.len() == u64::MAX && !pop(rt, map) && pop(rt, map));
     truncate(rt, map, first);
     if others.len() >= 8 {
-        push_byte(rt, map, 0x81)?;
+        push_byte(rt, map, 0x81);
         assert!(rt; pop(rt, map) && !pop(rt, map));
         truncate(rt, map, first);
     }
-    extend_from_bitmap(rt, map, others)?;
+    extend_from_bitmap(rt, map, others);
     assert!(rt; map.len() == u64::MAX && map.ones_iter_from(0).eq(first..u64::MAX));
-    Ok(())
 }
 
 // The last chunk before the greatest front, which is put back, replaced, removed, appended and pruned.
-fn check_front<const N: usize>(
-    rt: &impl Abort,
-    map: &mut Prunable<N>,
-    first: u64,
-    most: usize,
-) -> Result<(), AllocError> {
+fn check_front<const N: usize>(rt: &impl Abort, map: &mut Prunable<N>, first: u64, most: usize) {
     let _ = map.len();
     assert!(rt; N <= 64 && first > 0 && most > 0);
     truncate(rt, map, first);
-    unprune(rt, map, &[[0xff; N]])?;
+    unprune(rt, map, &[[0xff; N]]);
     assert!(rt; map.pruned_chunks() == most - 1 && get_bit(rt, map, first - 1));
     set_full_chunk(rt, map, most - 1, &[0x7f; N]);
     assert!(rt; !get_bit(rt, map, first - 1));
     assert!(rt; pop_chunk(rt, map) == [0x7f; N]);
-    push_chunk(rt, map, &[0x80; N])?;
+    push_chunk(rt, map, &[0x80; N]);
     assert!(rt; map.len() == first && get_bit(rt, map, first - 1));
     prune_to_bit(rt, map, first - 1);
     assert!(rt; map.pruned_chunks() == most - 1);
     prune_to_bit(rt, map, first);
     assert!(rt; map.pruned_chunks() == most && map.ones_iter_from(0).next().is_none());
-    Ok(())
 }
 
 // All of these, where the greatest front of so many chunks leaves room for so many bits.
-fn check_ends<const N: usize>(
-    rt: &impl Abort,
-    alloc: Global,
-    most: usize,
-    room: u64,
-) -> Result<(), Fail>
+fn check_ends<const N: usize>(rt: &impl Abort, alloc: Global, most: usize, room: u64)
     requires positive { 0 < N }
     requires fits { 8 * N < 2 ^ 64 }
 {
-    let mut map = greatest::<N>(rt, alloc, most)?;
+    let mut map = greatest::<N>(rt, alloc, most);
     let first = map.pruned_bits();
     check_reader(rt, &map, first, room);
     check_chunk(rt, &map, most, room);
     check_places::<N>(rt, first, most, room);
-    check_form(rt, alloc, &map, room)?;
-    check_edits(rt, &mut map, &BitMap::<3>::ones(alloc, room)?, first)?;
-    check_front(rt, &mut map, first, most)?;
-    Ok(())
+    check_form(rt, alloc, &map, room);
+    check_edits(rt, &mut map, &ok(rt, BitMap::<3>::ones(alloc, room)), first);
+    check_front(rt, &mut map, first, most);
 }
 
 #[test]
-fn greatest_fronts(rt: HostRuntime) -> Result<(), Fail> {
-    check_ends::<1>(&rt, rt.alloc(), 2305843009213693951, 7)?;
-    check_ends::<3>(&rt, rt.alloc(), 768614336404564650, 15)?;
-    check_ends::<7>(&rt, rt.alloc(), 329406144173384850, 15)?;
-    check_ends::<9>(&rt, rt.alloc(), 256204778801521550, 15)?;
-    check_ends::<32>(&rt, rt.alloc(), 72057594037927935, 255)?;
-    check_ends::<64>(&rt, rt.alloc(), 36028797018963967, 511)?;
-    Ok(())
+fn greatest_fronts(rt: HostRuntime) {
+    check_ends::<1>(&rt, rt.alloc(), 2305843009213693951, 7);
+    check_ends::<3>(&rt, rt.alloc(), 768614336404564650, 15);
+    check_ends::<7>(&rt, rt.alloc(), 329406144173384850, 15);
+    check_ends::<9>(&rt, rt.alloc(), 256204778801521550, 15);
+    check_ends::<32>(&rt, rt.alloc(), 72057594037927935, 255);
+    check_ends::<64>(&rt, rt.alloc(), 36028797018963967, 511);
 }
 
 // Lengths that no memory has room for: they are refused, and a bitmap stays as it was.
-fn check_lengths<const N: usize>(rt: &impl Abort, alloc: Global) -> Result<(), AllocError>
+fn check_lengths<const N: usize>(rt: &impl Abort, alloc: Global)
     requires positive { 0 < N }
     requires fits { 8 * N < 2 ^ 64 }
 {
@@ -201,21 +176,19 @@ fn check_lengths<const N: usize>(rt: &impl Abort, alloc: Global) -> Result<(), A
         assert!(rt; BitMap::<N>::zeroes(alloc, len).is_err());
         assert!(rt; BitMap::<N>::ones(alloc, len).is_err());
     }
-    let mut dense = BitMap::<N>::ones(alloc, 5)?;
+    let mut dense = ok(rt, BitMap::<N>::ones(alloc, 5));
     assert!(rt; dense.extend_to(u64::MAX).is_err() && holds(&dense, &[true; 5], &[]));
     let mut pruned = Prunable::<N>::new(alloc);
-    push(rt, &mut pruned, true)?;
+    push(rt, &mut pruned, true);
     assert!(rt; pruned.extend_to(u64::MAX).is_err() && shows(rt, &pruned, 0, b"1"));
-    Ok(())
 }
 
 #[test]
-fn lengths_without_memory(rt: HostRuntime) -> Result<(), Fail> {
-    check_lengths::<1>(&rt, rt.alloc())?;
-    check_lengths::<3>(&rt, rt.alloc())?;
-    check_lengths::<7>(&rt, rt.alloc())?;
-    check_lengths::<9>(&rt, rt.alloc())?;
-    check_lengths::<32>(&rt, rt.alloc())?;
-    check_lengths::<64>(&rt, rt.alloc())?;
-    Ok(())
+fn lengths_without_memory(rt: HostRuntime) {
+    check_lengths::<1>(&rt, rt.alloc());
+    check_lengths::<3>(&rt, rt.alloc());
+    check_lengths::<7>(&rt, rt.alloc());
+    check_lengths::<9>(&rt, rt.alloc());
+    check_lengths::<32>(&rt, rt.alloc());
+    check_lengths::<64>(&rt, rt.alloc());
 }

@@ -3,16 +3,15 @@
 ghost use Rattle.std.specs.Prelude.{◌*◌, ◌^◌, ◌<◌};
 
 use crate::asked::{
-    chunk_at, extend_from_bitmap, get_bit, get_chunk, last_chunk, of_chunks, pop, pop_chunk,
+    chunk_at, extend_from_bitmap, get_bit, get_chunk, last_chunk, of_chunks, ok, pop, pop_chunk,
     prune_to_bit, push, push_byte, push_chunk, push_digits, set_bit, set_full_chunk, shows,
     truncate, unprune,
 };
 use bitmap_core::bitmap::BitMap;
 use bitmap_core::bitmap::prunable::{Error, Prunable};
 use bitmap_core::bitmap::readable::Readable;
-use std::alloc::{AllocError, Global};
+use std::alloc::Global;
 use std::process::Abort;
-use std::test::Fail;
 
 // The counts of a bitmap: of bits and pruned bits, and of chunks, pruned chunks and full chunks.
 fn counts<const N: usize>(map: &Prunable<N>) -> (u64, u64, usize, usize, usize) {
@@ -39,17 +38,17 @@ fn same<const N: usize>(rt: &impl Abort, map: &Prunable<N>, other: &Prunable<N>)
 }
 
 // Appends and edits behind a pruned chunk.
-fn check_edits<const N: usize>(rt: &impl Abort, alloc: Global) -> Result<(), AllocError>
+fn check_edits<const N: usize>(rt: &impl Abort, alloc: Global)
     requires positive { 0 < N }
     requires fits { 8 * N < 2 ^ 64 }
 {
     assert!(rt; N <= 64);
     let width = 8 * N as u64;
     assert_eq!(rt; Prunable::<N>::CHUNK_SIZE_BITS, width);
-    let mut map = of_chunks(rt, alloc, &[[0xff; N], [0; N]])?;
+    let mut map = of_chunks(rt, alloc, &[[0xff; N], [0; N]]);
     prune_to_bit(rt, &mut map, width);
-    push(rt, &mut map, true)?;
-    push(rt, &mut map, false)?;
+    push(rt, &mut map, true);
+    push(rt, &mut map, false);
     set_bit(rt, &mut map, width, true);
     set_bit(rt, &mut map, 2 * width + 1, true);
     assert!(rt; counts(&map) == (2 * width + 2, width, 3, 1, 2));
@@ -58,22 +57,21 @@ fn check_edits<const N: usize>(rt: &impl Abort, alloc: Global) -> Result<(), All
     assert!(rt; last[0] == 3 && used == 2);
     assert!(rt; get_chunk(rt, &map, 2) == last && chunk_at(rt, &map, 2 * width + 1) == last);
     assert!(rt; Prunable::<N>::get_bit_from_chunk(&last, 2 * width + 1));
-    assert!(rt; same(rt, &map.clone()?, &map));
+    assert!(rt; same(rt, &ok(rt, map.clone()), &map));
     assert!(rt; pop(rt, &mut map) && pop(rt, &mut map));
-    push_byte(rt, &mut map, 0xa5)?;
-    map.extend_to(3 * width)?;
-    map.extend_to(width)?;
+    push_byte(rt, &mut map, 0xa5);
+    ok(rt, map.extend_to(3 * width));
+    ok(rt, map.extend_to(width));
     let (last, used) = last_chunk(rt, &map);
     assert!(rt; last[0] == 0xa5 && used == width && map.is_chunk_aligned());
     set_full_chunk(rt, &mut map, 1, &[0x5a; N]);
     assert!(rt; pop_chunk(rt, &mut map) == last);
     truncate(rt, &mut map, width + 2);
     assert!(rt; shows(rt, &map, 1, b"01"));
-    Ok(())
 }
 
 // What moves the front: pruned chunks put back, and bits appended when all are pruned.
-fn check_fronts<const N: usize>(rt: &impl Abort, alloc: Global) -> Result<(), AllocError>
+fn check_fronts<const N: usize>(rt: &impl Abort, alloc: Global)
     requires positive { 0 < N }
     requires fits { 8 * N < 2 ^ 64 }
 {
@@ -81,70 +79,73 @@ fn check_fronts<const N: usize>(rt: &impl Abort, alloc: Global) -> Result<(), Al
     let width = 8 * N as u64;
     assert!(rt; Prunable::<N>::new(alloc).is_empty() && Prunable::<N>::default(alloc).is_empty());
     let chunks = [[1; N], [2; N], [3; N]];
-    let whole = of_chunks(rt, alloc, &chunks)?;
-    let mut map = whole.clone()?;
+    let whole = of_chunks(rt, alloc, &chunks);
+    let mut map = ok(rt, whole.clone());
     prune_to_bit(rt, &mut map, 3 * width);
     assert!(rt; counts(&map) == (3 * width, 3 * width, 3, 3, 3) && !map.is_empty());
-    unprune(rt, &mut map, &[])?;
+    unprune(rt, &mut map, &[]);
     assert!(rt; map.pruned_chunks() == 3);
-    unprune(rt, &mut map, &[[2; N], [3; N]])?;
+    unprune(rt, &mut map, &[[2; N], [3; N]]);
     assert!(rt; map.pruned_chunks() == 1 && get_chunk(rt, &map, 1) == [2; N]);
-    unprune(rt, &mut map, &[[1; N]])?;
+    unprune(rt, &mut map, &[[1; N]]);
     assert!(rt; same(rt, &map, &whole));
     prune_to_bit(rt, &mut map, 3 * width - 1);
     assert!(rt; map.pruned_chunks() == 2 && get_chunk(rt, &map, 2) == [3; N]);
-    extend_from_bitmap(rt, &mut map, &BitMap::<3>::ones(alloc, 11)?)?;
+    extend_from_bitmap(rt, &mut map, &ok(rt, BitMap::<3>::ones(alloc, 11)));
     prune_to_bit(rt, &mut map, 3 * width);
     assert!(rt; map.pruned_bits() == 3 * width && map.len() == 3 * width + 11);
     assert!(rt; map.ones_iter_from(0).eq(3 * width..3 * width + 11));
     assert_eq!(rt; Prunable::<N>::to_chunk_index(2 * width - 1), 1);
     assert_eq!(rt; Prunable::<N>::chunk_byte_offset(2 * width - 1), N - 1);
-    Ok(())
 }
 
 #[test]
-fn edits_at_each_width(rt: HostRuntime) -> Result<(), Fail> {
-    check_edits::<1>(&rt, rt.alloc())?;
-    check_edits::<3>(&rt, rt.alloc())?;
-    check_edits::<7>(&rt, rt.alloc())?;
-    check_edits::<8>(&rt, rt.alloc())?;
-    check_edits::<9>(&rt, rt.alloc())?;
-    check_edits::<32>(&rt, rt.alloc())?;
-    check_edits::<64>(&rt, rt.alloc())?;
-    Ok(())
+fn edits_at_each_width(rt: HostRuntime) {
+    check_edits::<1>(&rt, rt.alloc());
+    check_edits::<3>(&rt, rt.alloc());
+    check_edits::<7>(&rt, rt.alloc());
+    check_edits::<8>(&rt, rt.alloc());
+    check_edits::<9>(&rt, rt.alloc());
+    check_edits::<32>(&rt, rt.alloc());
+    check_edits::<64>(&rt, rt.alloc());
 }
 
 #[test]
-fn fronts_at_each_width(rt: HostRuntime) -> Result<(), Fail> {
-    check_fronts::<1>(&rt, rt.alloc())?;
-    check_fronts::<3>(&rt, rt.alloc())?;
-    check_fronts::<7>(&rt, rt.alloc())?;
-    check_fronts::<8>(&rt, rt.alloc())?;
-    check_fronts::<9>(&rt, rt.alloc())?;
-    check_fronts::<32>(&rt, rt.alloc())?;
-    check_fronts::<64>(&rt, rt.alloc())?;
-    Ok(())
+fn fronts_at_each_width(rt: HostRuntime) {
+    check_fronts::<1>(&rt, rt.alloc());
+    check_fronts::<3>(&rt, rt.alloc());
+    check_fronts::<7>(&rt, rt.alloc());
+    check_fronts::<8>(&rt, rt.alloc());
+    check_fronts::<9>(&rt, rt.alloc());
+    check_fronts::<32>(&rt, rt.alloc());
+    check_fronts::<64>(&rt, rt.alloc());
 }
 
 #[test]
-fn chunks_pruned_from_the_start(rt: HostRuntime) -> Result<(), Fail> {
-    let map = Prunable::<2>::new_with_pruned_chunks(rt.alloc(), 1)?;
+fn chunks_pruned_from_the_start(rt: HostRuntime) {
+    let map = ok(&rt, Prunable::<2>::new_with_pruned_chunks(rt.alloc(), 1));
     assert_eq!(rt; counts(&map), (16, 16, 1, 1, 1));
     assert!(rt; map.is_chunk_aligned() && !map.is_empty());
     let refused = Prunable::<4>::new_with_pruned_chunks(rt.alloc(), 576460752303423488);
     assert!(rt; refused.is_err_and(|why| why == Error::PrunedChunksOverflow));
     assert_eq!(rt;
-        format!(in rt.alloc(); "{}", Error::PrunedChunksOverflow)?.as_str(),
+        ok(
+            &rt,
+            format!(in rt.alloc(); "{}", Error::PrunedChunksOverflow)
+        )
+        .as_str(),
         "pruned_chunks * CHUNK_SIZE_BITS overflows u64"
     );
-    Ok(())
 }
 
 #[test]
-fn ends_of_the_positions(rt: HostRuntime) -> Result<(), Fail> {
-    let mut map = Prunable::<8>::new_with_pruned_chunks(rt.alloc(), 288230376151711743)?;
+fn ends_of_the_positions(rt: HostRuntime) {
+    let mut map = ok(
+        &rt,
+        Prunable::<8>::new_with_pruned_chunks(rt.alloc(), 288230376151711743),
+    );
     assert_eq!(rt; map.pruned_bits(), 18446744073709551552);
-    map.extend_to(u64::MAX)?;
+    ok(&rt, map.extend_to(u64::MAX));
     set_bit(&rt, &mut map, u64::MAX - 1, true);
     let first = map.pruned_bits();
     assert_eq!(rt; map.ones_iter_range(first..u64::MAX - 1).next(), None);
@@ -152,13 +153,12 @@ fn ends_of_the_positions(rt: HostRuntime) -> Result<(), Fail> {
         map.ones_iter_range(first..u64::MAX).next(),
         Some(18446744073709551614)
     );
-    Ok(())
 }
 
 #[test]
-fn three_chunks(rt: HostRuntime) -> Result<(), Fail> {
+fn three_chunks(rt: HostRuntime) {
     let chunks = [[1, 2, 3, 4], [5, 6, 7, 8], [9, 10, 11, 12]];
-    let mut map = of_chunks(&rt, rt.alloc(), &chunks)?;
+    let mut map = of_chunks(&rt, rt.alloc(), &chunks);
     assert_eq!(rt; get_chunk(&rt, &map, 0), [1, 2, 3, 4]);
     prune_to_bit(&rt, &mut map, 32);
     assert_eq!(rt; counts(&map), (96, 32, 3, 1, 3));
@@ -169,46 +169,43 @@ fn three_chunks(rt: HostRuntime) -> Result<(), Fail> {
     prune_to_bit(&rt, &mut map, 64);
     assert_eq!(rt; counts(&map), (96, 64, 3, 2, 3));
     assert_eq!(rt; chunk_at(&rt, &map, 95), [9, 10, 11, 12]);
-    push_chunk(&rt, &mut map, &[13, 14, 15, 16])?;
+    push_chunk(&rt, &mut map, &[13, 14, 15, 16]);
     assert_eq!(rt; counts(&map), (128, 64, 4, 2, 4));
     assert_eq!(rt; pop_chunk(&rt, &mut map), [13, 14, 15, 16]);
     assert_eq!(rt; pop_chunk(&rt, &mut map), [9, 10, 11, 12]);
     assert_eq!(rt; counts(&map), (64, 64, 2, 2, 2));
-    Ok(())
 }
 
 #[test]
-fn chunks_popped(rt: HostRuntime) -> Result<(), Fail> {
+fn chunks_popped(rt: HostRuntime) {
     let chunks = [
         [0x11, 0x22, 0x33, 0x44],
         [0x55, 0x66, 0x77, 0x88],
         [0x99, 0xaa, 0xbb, 0xcc],
     ];
-    let mut map = of_chunks(&rt, rt.alloc(), &chunks)?;
+    let mut map = of_chunks(&rt, rt.alloc(), &chunks);
     assert_eq!(rt; pop_chunk(&rt, &mut map), [0x99, 0xaa, 0xbb, 0xcc]);
     assert_eq!(rt; pop_chunk(&rt, &mut map), [0x55, 0x66, 0x77, 0x88]);
     assert!(rt; shows(&rt, &map, 0, b"10001000010001001100110000100010"));
     assert_eq!(rt; pop_chunk(&rt, &mut map), [0x11, 0x22, 0x33, 0x44]);
     assert!(rt; map.is_empty());
-    Ok(())
 }
 
 #[test]
-fn pruned_again(rt: HostRuntime) -> Result<(), Fail> {
-    let mut map = of_chunks(&rt, rt.alloc(), &[[1, 2, 3, 4], [5, 6, 7, 8]])?;
+fn pruned_again(rt: HostRuntime) {
+    let mut map = of_chunks(&rt, rt.alloc(), &[[1, 2, 3, 4], [5, 6, 7, 8]]);
     for (bit, want) in [(31, 0), (32, 1), (32, 1), (16, 1), (0, 1), (63, 1), (64, 2)] {
         prune_to_bit(&rt, &mut map, bit);
         assert_eq!(rt; map.pruned_chunks(), want, "pruned to {bit}");
     }
     assert_eq!(rt; counts(&map), (64, 64, 2, 2, 2));
     assert!(rt; !map.is_empty() && map.is_chunk_aligned());
-    Ok(())
 }
 
 #[test]
-fn partial_last_chunks(rt: HostRuntime) -> Result<(), Fail> {
-    let mut map = of_chunks(&rt, rt.alloc(), &[[0xff; 4], [0xaa; 4]])?;
-    push_digits(&rt, &mut map, b"101")?;
+fn partial_last_chunks(rt: HostRuntime) {
+    let mut map = of_chunks(&rt, rt.alloc(), &[[0xff; 4], [0xaa; 4]]);
+    push_digits(&rt, &mut map, b"101");
     assert_eq!(rt; last_chunk(&rt, &map), ([5, 0, 0, 0], 3));
     prune_to_bit(&rt, &mut map, 32);
     assert_eq!(rt; counts(&map), (67, 32, 3, 1, 2));
@@ -222,7 +219,6 @@ fn partial_last_chunks(rt: HostRuntime) -> Result<(), Fail> {
     assert!(rt; shows(&rt, &map, 1, b"010"));
     truncate(&rt, &mut map, 32);
     assert!(rt; shows(&rt, &map, 1, b""));
-    Ok(())
 }
 
 #[test]
@@ -269,9 +265,9 @@ fn set_three_bits(rt: &impl Abort, map: &mut Prunable<4>) {
 }
 
 #[test]
-fn chunks_replaced(rt: HostRuntime) -> Result<(), Fail> {
+fn chunks_replaced(rt: HostRuntime) {
     let mut map = Prunable::<4>::new(rt.alloc());
-    map.extend_to(35)?;
+    ok(&rt, map.extend_to(35));
     set_three_bits(&rt, &mut map);
     assert_eq!(rt; get_chunk(&rt, &map, 1), [7, 0, 0, 0]);
     assert_eq!(rt; last_chunk(&rt, &map), ([7, 0, 0, 0], 3));
@@ -279,16 +275,15 @@ fn chunks_replaced(rt: HostRuntime) -> Result<(), Fail> {
     assert!(rt; map.ones_iter_from(0).eq(0..35));
     prune_to_bit(&rt, &mut map, 34);
     assert!(rt; shows(&rt, &map, 1, b"111"));
-    map.extend_to(64)?;
+    ok(&rt, map.extend_to(64));
     set_full_chunk(&rt, &mut map, 1, &[0, 0xff, 0, 0]);
     assert!(rt; shows(&rt, &map, 1, b"00000000111111110000000000000000"));
-    Ok(())
 }
 
 #[test]
-fn bits_pushed_and_popped(rt: HostRuntime) -> Result<(), Fail> {
+fn bits_pushed_and_popped(rt: HostRuntime) {
     let mut map = Prunable::<4>::new(rt.alloc());
-    push_digits(&rt, &mut map, b"101")?;
+    push_digits(&rt, &mut map, b"101");
     assert!(rt; shows(&rt, &map, 0, b"101"));
     set_bit(&rt, &mut map, 1, true);
     assert!(rt; shows(&rt, &map, 0, b"111"));
@@ -296,7 +291,7 @@ fn bits_pushed_and_popped(rt: HostRuntime) -> Result<(), Fail> {
     assert!(rt; pop(&rt, &mut map) && !pop(&rt, &mut map) && pop(&rt, &mut map));
     assert!(rt; map.is_empty());
     for i in 0..100 {
-        push(&rt, &mut map, i % 3 == 0)?;
+        push(&rt, &mut map, i % 3 == 0);
         assert_eq!(rt; map.is_chunk_aligned(), i % 32 == 31, "at {i}");
     }
     prune_to_bit(&rt, &mut map, 40);
@@ -304,46 +299,43 @@ fn bits_pushed_and_popped(rt: HostRuntime) -> Result<(), Fail> {
         assert_eq!(rt; pop(&rt, &mut map), i % 3 == 0, "at {i}");
         assert_eq!(rt; map.len(), i);
     }
-    push_byte(&rt, &mut map, 0xff)?;
-    push_byte(&rt, &mut map, 0x01)?;
+    push_byte(&rt, &mut map, 0xff);
+    push_byte(&rt, &mut map, 0x01);
     assert!(rt; shows(&rt, &map, 1, b"1111111110000000"));
-    Ok(())
 }
 
 #[test]
-fn zeros_appended(rt: HostRuntime) -> Result<(), Fail> {
+fn zeros_appended(rt: HostRuntime) {
     let mut map = Prunable::<4>::new(rt.alloc());
-    push_digits(&rt, &mut map, b"101010101010101010101010101010")?;
+    push_digits(&rt, &mut map, b"101010101010101010101010101010");
     for (len, want) in [(5, 30), (30, 30), (65, 65)] {
-        map.extend_to(len)?;
+        ok(&rt, map.extend_to(len));
         assert_eq!(rt; map.len(), want, "extended to {len}");
     }
     assert!(rt; map.ones_iter_from(0).eq((0..30).step_by(2)));
     prune_to_bit(&rt, &mut map, 32);
-    map.extend_to(31)?;
-    map.extend_to(100)?;
+    ok(&rt, map.extend_to(31));
+    ok(&rt, map.extend_to(100));
     assert_eq!(rt; counts(&map), (100, 32, 4, 1, 3));
     assert_eq!(rt; map.ones_iter_from(0).next(), None);
-    Ok(())
 }
 
 #[test]
-fn a_bitmap_appended_or_pushed(rt: HostRuntime) -> Result<(), Fail> {
-    let mut source = BitMap::<8>::zeroes(rt.alloc(), 1000)?;
+fn a_bitmap_appended_or_pushed(rt: HostRuntime) {
+    let mut source = ok(&rt, BitMap::<8>::zeroes(rt.alloc(), 1000));
     for i in 0..1000 {
         assert!(rt; i < source.len());
         source.set(i, i % 3 == 0 || i % 7 == 0);
     }
     for floor in [128, 129, 191, 255, 256, 300] {
-        let mut map = Prunable::<16>::new_with_pruned_chunks(rt.alloc(), 1)?;
-        map.extend_to(floor)?;
-        let mut other = map.clone()?;
-        extend_from_bitmap(&rt, &mut map, &source)?;
+        let mut map = ok(&rt, Prunable::<16>::new_with_pruned_chunks(rt.alloc(), 1));
+        ok(&rt, map.extend_to(floor));
+        let mut other = ok(&rt, map.clone());
+        extend_from_bitmap(&rt, &mut map, &source);
         for bit in source.iter() {
-            push(&rt, &mut other, bit)?;
+            push(&rt, &mut other, bit);
         }
         assert_eq!(rt; map.len(), floor + 1000);
         assert!(rt; same(&rt, &map, &other), "from {floor}");
     }
-    Ok(())
 }

@@ -2,14 +2,13 @@
 
 ghost use Rattle.std.specs.Prelude.{◌≡◌, ◌*◌, ◌^◌, ◌<◌, true};
 
-use crate::asked::{extend_from_bitmap, prune_to_bit, push, set_bit};
+use crate::asked::{extend_from_bitmap, ok, prune_to_bit, push, set_bit};
 use bitmap_core::bitmap::BitMap;
 use bitmap_core::bitmap::prunable::Prunable;
 use bitmap_core::bitmap::readable::Readable;
-use std::alloc::{AllocError, Global};
+use std::alloc::Global;
 use std::cell::Cell;
 use std::process::Abort;
-use std::test::Fail;
 
 // Five set bits in one chunk, which shows set bits past the length too.
 #[derive(Drop)]
@@ -149,25 +148,25 @@ fn few_questions(rt: HostRuntime) {
 }
 
 #[test]
-fn where_words_meet_chunks(rt: HostRuntime) -> Result<(), Fail> {
-    let mut map = BitMap::<9>::zeroes(rt.alloc(), 144)?;
+fn where_words_meet_chunks(rt: HostRuntime) {
+    let mut map = ok(&rt, BitMap::<9>::zeroes(rt.alloc(), 144));
     for position in [63, 64, 71, 72] {
         assert!(rt; position < map.len());
         map.set(position, true);
     }
     assert!(rt; map.ones_iter().eq([63, 64, 71, 72].iter().copied()));
     assert!(rt; map.ones_iter_range(64..72).eq([64, 71].iter().copied()));
-    Ok(())
 }
 
 #[test]
-fn positions_behind_a_pruned_front(rt: HostRuntime) -> Result<(), Fail> {
+fn positions_behind_a_pruned_front(rt: HostRuntime) {
     let mut map = Prunable::<4>::new(rt.alloc());
-    map.extend_from_bitmap(&BitMap::<4>::ones(rt.alloc(), 64)?)?;
+    let ones = ok(&rt, BitMap::<4>::ones(rt.alloc(), 64));
+    ok(&rt, map.extend_from_bitmap(&ones));
     prune_to_bit(&rt, &mut map, 32);
     assert!(rt; map.ones_iter_from(0).eq(32..64));
     let mut sparse = Prunable::<4>::new(rt.alloc());
-    sparse.extend_to(96)?;
+    ok(&rt, sparse.extend_to(96));
     assert!(rt; sparse.pruned_bits() == 0 && sparse.len() == 96);
     for position in [40, 55, 64, 90] {
         set_bit(&rt, &mut sparse, position, true);
@@ -180,23 +179,21 @@ fn positions_behind_a_pruned_front(rt: HostRuntime) -> Result<(), Fail> {
     );
     assert!(rt; sparse.ones_iter_from(50).eq([55, 64, 90].iter().copied()));
     assert_eq!(rt; sparse.ones_iter_from(91).next(), None);
-    Ok(())
 }
 
 #[test]
-fn positions_in_the_last_chunk(rt: HostRuntime) -> Result<(), Fail> {
+fn positions_in_the_last_chunk(rt: HostRuntime) {
     let made = Prunable::<8>::new_with_pruned_chunks(rt.alloc(), 288230376151711743);
     assert!(rt; made.is_ok());
     if let Ok(mut map) = made {
         assert_eq!(rt; map.ones_iter_from(0).next(), None);
         assert_eq!(rt; map.len(), 18446744073709551552);
         for i in 0..32 {
-            push(&rt, &mut map, i == 0 || i == 31)?;
+            push(&rt, &mut map, i == 0 || i == 31);
         }
         let want = [18446744073709551552, 18446744073709551583];
         assert!(rt; map.ones_iter_from(0).eq(want.iter().copied()));
     }
-    Ok(())
 }
 
 // Whether the set positions of a range are those that reading each bit finds.
@@ -215,11 +212,7 @@ fn agrees<B: Readable<N>, const N: usize>(map: &B, start: u64, end: u64) -> bool
     expected.is_none() && ones.next().is_none()
 }
 
-fn check_ranges<const N: usize>(
-    rt: &impl Abort,
-    alloc: Global,
-    stride: usize,
-) -> Result<(), AllocError>
+fn check_ranges<const N: usize>(rt: &impl Abort, alloc: Global, stride: usize)
     requires positive { 0 < N }
     requires fits { 8 * N < 2 ^ 64 }
 {
@@ -229,10 +222,10 @@ fn check_ranges<const N: usize>(
     let mut dense = BitMap::<N>::new(alloc);
     for i in 0..len {
         assert!(rt; dense.len() < len);
-        dense.push(i * i % 11 < 4)?;
+        ok(rt, dense.push(i * i % 11 < 4));
     }
     let mut pruned = Prunable::<N>::new(alloc);
-    extend_from_bitmap(rt, &mut pruned, &dense)?;
+    extend_from_bitmap(rt, &mut pruned, &dense);
     prune_to_bit(rt, &mut pruned, width);
     for start in (0..len + 3).step_by(stride) {
         for end in (0..len + 3).step_by(stride) {
@@ -246,17 +239,15 @@ fn check_ranges<const N: usize>(
             );
         }
     }
-    Ok(())
 }
 
 #[test]
-fn each_range(rt: HostRuntime) -> Result<(), Fail> {
-    check_ranges::<1>(&rt, rt.alloc(), 1)?;
-    check_ranges::<3>(&rt, rt.alloc(), 1)?;
-    check_ranges::<7>(&rt, rt.alloc(), 1)?;
-    check_ranges::<8>(&rt, rt.alloc(), 1)?;
-    check_ranges::<9>(&rt, rt.alloc(), 1)?;
-    check_ranges::<32>(&rt, rt.alloc(), 7)?;
-    check_ranges::<64>(&rt, rt.alloc(), 13)?;
-    Ok(())
+fn each_range(rt: HostRuntime) {
+    check_ranges::<1>(&rt, rt.alloc(), 1);
+    check_ranges::<3>(&rt, rt.alloc(), 1);
+    check_ranges::<7>(&rt, rt.alloc(), 1);
+    check_ranges::<8>(&rt, rt.alloc(), 1);
+    check_ranges::<9>(&rt, rt.alloc(), 1);
+    check_ranges::<32>(&rt, rt.alloc(), 7);
+    check_ranges::<64>(&rt, rt.alloc(), 13);
 }

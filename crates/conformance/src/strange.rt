@@ -1,63 +1,61 @@
 //! Bitmaps in unusual places: appended to a copy of themselves, in a deque that has wrapped, and iterators past their end.
 
-use crate::asked::{extend_from_bitmap, of_chunks, prune_to_bit, push_chunk, shows, unprune};
+use crate::asked::{extend_from_bitmap, of_chunks, ok, prune_to_bit, push_chunk, shows, unprune};
 use bitmap_core::bitmap::codec::Write;
 use bitmap_core::bitmap::{BitMap, Readable};
-use std::test::Fail;
 
 #[test]
-fn appended_to_its_own_copy(rt: HostRuntime) -> Result<(), Fail> {
+fn appended_to_its_own_copy(rt: HostRuntime) {
     let bits = [true, false, true, true, false];
-    let mut map = BitMap::<1>::from_bools(rt.alloc(), &bits)?;
-    let copy = map.clone()?;
+    let mut map = ok(&rt, BitMap::<1>::from_bools(rt.alloc(), &bits));
+    let copy = ok(&rt, map.clone());
     assert!(rt; u64::MAX - map.len() >= copy.len());
-    map.extend_from_bitmap(&copy)?;
+    ok(&rt, map.extend_from_bitmap(&copy));
     assert!(rt; map.iter().eq(bits.iter().chain(&bits).copied()));
     assert!(rt; copy.iter().eq(bits));
-    Ok(())
 }
 
 // A copy has no room past its chunks. Three of them go at the front and three come at the end, so that the last ones stand
 // before the first in memory.
 #[test]
-fn wrapped(rt: HostRuntime) -> Result<(), Fail> {
+fn wrapped(rt: HostRuntime) {
     let chunks = [[0x11], [0x22], [0x33], [0x44]];
-    let mut map = of_chunks(&rt, rt.alloc(), &chunks)?.clone()?;
+    let mut map = ok(&rt, of_chunks(&rt, rt.alloc(), &chunks).clone());
     prune_to_bit(&rt, &mut map, 24);
-    push_chunk(&rt, &mut map, &[0x55])?;
-    push_chunk(&rt, &mut map, &[0x66])?;
-    push_chunk(&rt, &mut map, &[0x77])?;
+    push_chunk(&rt, &mut map, &[0x55]);
+    push_chunk(&rt, &mut map, &[0x66]);
+    push_chunk(&rt, &mut map, &[0x77]);
     assert!(rt; shows(&rt, &map, 3, b"00100010101010100110011011101110"));
     assert!(rt; map.ones_iter_range(30..45).eq([30, 32, 34, 36, 38, 41, 42]));
     let mut out = Vec::new(rt.alloc());
-    map.write(&mut out)?;
+    ok(&rt, map.write(&mut out));
     let bytes = [
         0, 0, 0, 0, 0, 0, 0, 3, 0, 0, 0, 0, 0, 0, 0, 32, 0x44, 0x55, 0x66, 0x77,
     ];
     assert_eq!(rt; out.as_slice(), bytes.as_slice());
-    unprune(&rt, &mut map, &[[0x22], [0x33]])?;
+    unprune(&rt, &mut map, &[[0x22], [0x33]]);
     assert!(rt; map.ones_iter_range(0..26).eq([9, 13, 16, 17, 20, 21]));
-    Ok(())
 }
 
 // The last of three chunks is left, and two come behind it.
 #[test]
-fn appended_wrapped(rt: HostRuntime) -> Result<(), Fail> {
-    let mut map = of_chunks(&rt, rt.alloc(), &[[0xff], [0xff], [0x0f]])?.clone()?;
+fn appended_wrapped(rt: HostRuntime) {
+    let mut map = ok(
+        &rt,
+        of_chunks(&rt, rt.alloc(), &[[0xff], [0xff], [0x0f]]).clone(),
+    );
     prune_to_bit(&rt, &mut map, 16);
-    extend_from_bitmap(&rt, &mut map, &BitMap::<3>::ones(rt.alloc(), 9)?)?;
+    extend_from_bitmap(&rt, &mut map, &ok(&rt, BitMap::<3>::ones(rt.alloc(), 9)));
     assert!(rt; shows(&rt, &map, 2, b"11110000111111111"));
-    Ok(())
 }
 
 #[test]
-fn iterators_past_their_end(rt: HostRuntime) -> Result<(), Fail> {
-    let map = BitMap::<1>::from_bools(rt.alloc(), &[true, false])?;
+fn iterators_past_their_end(rt: HostRuntime) {
+    let map = ok(&rt, BitMap::<1>::from_bools(rt.alloc(), &[true, false]));
     let mut bits = map.iter();
     assert_eq!(rt; (bits.next(), bits.next()), (Some(true), Some(false)));
     assert_eq!(rt; (bits.next(), bits.next()), (None, None));
     let mut positions = map.ones_iter();
     assert_eq!(rt; positions.next(), Some(0));
     assert_eq!(rt; (positions.next(), positions.next()), (None, None));
-    Ok(())
 }

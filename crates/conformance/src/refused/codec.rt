@@ -1,6 +1,6 @@
 //! Byte forms.
 
-use crate::asked::{push_digits, shows};
+use crate::asked::{shows, try_push_digits};
 use bitmap_core::bitmap::BitMap;
 use bitmap_core::bitmap::codec::{CodecError, RangeCfg, Read, Write};
 use bitmap_core::bitmap::prunable::Prunable;
@@ -49,7 +49,7 @@ fn read_pruned(rt: &impl Abort, alloc: Global, from: &mut &[u8]) -> bool {
 // Three bits behind one pruned chunk, unless their memory is refused.
 fn set_up_pruned(rt: &impl Abort, alloc: Global) -> Option<Prunable<4>> {
     let mut map = Prunable::<4>::new_with_pruned_chunks(alloc, 1).ok()?;
-    push_digits(rt, &mut map, b"101").ok()?;
+    try_push_digits(rt, &mut map, b"101").ok()?;
     Some(map)
 }
 

@@ -1,8 +1,8 @@
 //! A bitmap with a pruned front.
 
 use crate::asked::{
-    extend_from_bitmap, pop, prune_to_bit, push, push_byte, push_chunk, set_bit, shows, truncate,
-    unprune,
+    pop, prune_to_bit, set_bit, shows, truncate, try_extend_from_bitmap, try_push, try_push_byte,
+    try_push_chunk, try_unprune,
 };
 use bitmap_core::bitmap::BitMap;
 use bitmap_core::bitmap::prunable::Prunable;
@@ -21,11 +21,11 @@ const BOOLS: [bool; 16] = [
 // The bitmap before a call, unless its memory is refused. Its two chunks fill their ring, and lie across its end.
 fn set_up(rt: &impl Abort, alloc: Global) -> Option<Prunable<1>> {
     let mut roomy = Prunable::<1>::new_with_pruned_chunks(alloc, 1).ok()?;
-    push_chunk(rt, &mut roomy, &[0xff]).ok()?;
-    push_chunk(rt, &mut roomy, &[0x4d]).ok()?;
+    try_push_chunk(rt, &mut roomy, &[0xff]).ok()?;
+    try_push_chunk(rt, &mut roomy, &[0x4d]).ok()?;
     let mut map = roomy.clone().ok()?;
     prune_to_bit(rt, &mut map, 16);
-    push_chunk(rt, &mut map, &[0xae]).ok()?;
+    try_push_chunk(rt, &mut map, &[0xae]).ok()?;
     Some(map)
 }
 
@@ -34,7 +34,7 @@ fn use_further(rt: &impl Abort, map: &mut Prunable<1>) {
     truncate(rt, map, 20);
     set_bit(rt, map, 17, true);
     assert!(rt; pop(rt, map));
-    assert!(rt; push(rt, map, false).is_ok());
+    assert!(rt; try_push(rt, map, false).is_ok());
     assert!(rt; shows(rt, map, map.pruned_chunks(), b"1110"));
 }
 
@@ -56,10 +56,10 @@ fn bit_pushed(rt: HostRuntime) {
     let Some(mut map) = set_up(&rt, rt.alloc()) else {
         return;
     };
-    let refused = push(&rt, &mut map, true).is_err()
+    let refused = try_push(&rt, &mut map, true).is_err()
         && {
             assert!(rt; shows(&rt, &map, 2, DIGITS));
-            push(&rt, &mut map, true).is_err()
+            try_push(&rt, &mut map, true).is_err()
         };
     let after: &[u8] = if refused {
         DIGITS
@@ -75,10 +75,10 @@ fn byte_pushed(rt: HostRuntime) {
     let Some(mut map) = set_up(&rt, rt.alloc()) else {
         return;
     };
-    let refused = push_byte(&rt, &mut map, 0x4d).is_err()
+    let refused = try_push_byte(&rt, &mut map, 0x4d).is_err()
         && {
             assert!(rt; shows(&rt, &map, 2, DIGITS));
-            push_byte(&rt, &mut map, 0x4d).is_err()
+            try_push_byte(&rt, &mut map, 0x4d).is_err()
         };
     let after: &[u8] = if refused {
         DIGITS
@@ -94,10 +94,10 @@ fn chunk_pushed(rt: HostRuntime) {
     let Some(mut map) = set_up(&rt, rt.alloc()) else {
         return;
     };
-    let refused = push_chunk(&rt, &mut map, &[0x4d]).is_err()
+    let refused = try_push_chunk(&rt, &mut map, &[0x4d]).is_err()
         && {
             assert!(rt; shows(&rt, &map, 2, DIGITS));
-            push_chunk(&rt, &mut map, &[0x4d]).is_err()
+            try_push_chunk(&rt, &mut map, &[0x4d]).is_err()
         };
     let after: &[u8] = if refused {
         DIGITS
@@ -135,10 +135,10 @@ fn bitmap_appended(rt: HostRuntime) {
     let Ok(other) = BitMap::<3>::from_bools(rt.alloc(), &BOOLS) else {
         return;
     };
-    let refused = extend_from_bitmap(&rt, &mut map, &other).is_err()
+    let refused = try_extend_from_bitmap(&rt, &mut map, &other).is_err()
         && {
             assert!(rt; shows(&rt, &map, 2, DIGITS));
-            extend_from_bitmap(&rt, &mut map, &other).is_err()
+            try_extend_from_bitmap(&rt, &mut map, &other).is_err()
         };
     let after: &[u8] = if refused {
         DIGITS
@@ -155,10 +155,10 @@ fn chunks_put_back(rt: HostRuntime) {
         return;
     };
     let chunks = [[0x0f], [0x33]];
-    let refused = unprune(&rt, &mut map, &chunks).is_err()
+    let refused = try_unprune(&rt, &mut map, &chunks).is_err()
         && {
             assert!(rt; shows(&rt, &map, 2, DIGITS));
-            unprune(&rt, &mut map, &chunks).is_err()
+            try_unprune(&rt, &mut map, &chunks).is_err()
         };
     if !refused {
         assert!(rt; shows(&rt, &map, 0, b"11110000110011001011001001110101"));

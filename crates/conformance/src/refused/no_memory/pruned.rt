@@ -3,8 +3,8 @@
 ghost use Rattle.std.specs.Prelude.{◌*◌, ◌^◌, ◌<◌};
 
 use crate::asked::{
-    chunk_at, extend_from_bitmap, get_bit, get_chunk, last_chunk, pop, pop_chunk, prune_to_bit,
-    push, push_byte, set_bit, set_full_chunk, truncate, unprune,
+    chunk_at, get_bit, get_chunk, last_chunk, pop, pop_chunk, prune_to_bit, set_bit,
+    set_full_chunk, truncate, try_extend_from_bitmap, try_push, try_push_byte, try_unprune,
 };
 use bitmap_core::bitmap::BitMap;
 use bitmap_core::bitmap::prunable::Prunable;
@@ -64,7 +64,7 @@ fn check_reads<const N: usize>(rt: &impl Abort, map: &Prunable<N>) {
 fn check_edits<const N: usize>(rt: &impl Abort, map: &mut Prunable<N>, two: &BitMap<3>) {
     let (first, len) = (map.pruned_bits(), map.len());
     assert!(rt; 9 < len && len < 100_000);
-    assert!(rt; unprune(rt, map, &[]).is_ok());
+    assert!(rt; try_unprune(rt, map, &[]).is_ok());
     let index = map.pruned_chunks();
     let chunk = get_chunk(rt, map, index);
     set_full_chunk(rt, map, index, &[0xff; N]);
@@ -73,8 +73,8 @@ fn check_edits<const N: usize>(rt: &impl Abort, map: &mut Prunable<N>, two: &Bit
     set_bit(rt, map, len - 1, true);
     assert!(rt; pop(rt, map));
     truncate(rt, map, len - 6);
-    assert!(rt; push(rt, map, true).is_ok() && map.extend_to(len - 4).is_ok());
-    assert!(rt; extend_from_bitmap(rt, map, two).is_ok());
+    assert!(rt; try_push(rt, map, true).is_ok() && map.extend_to(len - 4).is_ok());
+    assert!(rt; try_extend_from_bitmap(rt, map, two).is_ok());
     assert!(rt; map.extend_to(len).is_ok() && map.extend_to(first).is_ok());
     set_thirds(rt, map, len - 6);
     prune_to_bit(rt, map, first);
@@ -112,7 +112,7 @@ fn check_byte<const N: usize>(rt: &impl Abort, alloc: Global)
     let len = map.len();
     assert!(rt; len > 8);
     truncate(rt, &mut map, len - 8);
-    assert!(rt; push_byte(rt, &mut map, 0x80).is_ok());
+    assert!(rt; try_push_byte(rt, &mut map, 0x80).is_ok());
     assert!(rt; map.len() == len && pop(rt, &mut map) && !pop(rt, &mut map));
 }
 
@@ -141,7 +141,7 @@ fn nothing_retained(rt: HostRuntime) {
     let Ok(mut map) = Prunable::<9>::new_with_pruned_chunks(rt.alloc(), 7) else {
         return;
     };
-    assert!(rt; unprune(&rt, &mut map, &[]).is_ok() && map.extend_to(504).is_ok());
+    assert!(rt; try_unprune(&rt, &mut map, &[]).is_ok() && map.extend_to(504).is_ok());
     prune_to_bit(&rt, &mut map, 504);
     truncate(&rt, &mut map, 504);
     assert!(rt; map.len() == 504 && map.pruned_chunks() == 7);
