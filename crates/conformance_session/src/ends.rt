@@ -1,4 +1,4 @@
-//! The ends of the positions, at widths that `replay` does not offer.
+//! The ends of the positions, at widths that `replay` offers and at others.
 
 ghost use Rattle.bitmap_core.specs.Chunk.{IsWidth};
 
