@@ -3,11 +3,11 @@
 ghost use Rattle.std.specs.Prelude.{◌*◌, ◌^◌, ◌<◌};
 
 use crate::answers::holds;
+use crate::asked::ok;
 use bitmap_core::bitmap::BitMap;
 use bitmap_core::bitmap::readable::Readable;
 use std::alloc::{AllocError, Global};
 use std::process::Abort;
-use std::test::Fail;
 
 // Bits without a pattern: a bit is set where those of a random number under the mask are zero.
 fn bits(alloc: Global, len: u64, seed: u64, mask: u64) -> Result<Vec<bool>, AllocError> {
@@ -55,45 +55,36 @@ fn difference(alloc: Global, left: &[bool], right: &[bool]) -> Result<Vec<bool>,
 }
 
 // What a bitmap of these bits answers.
-fn check_reads<const N: usize>(
-    rt: &impl Abort,
-    alloc: Global,
-    bits: &[bool],
-) -> Result<(), AllocError>
+fn check_reads<const N: usize>(rt: &impl Abort, alloc: Global, bits: &[bool])
     requires positive { 0 < N }
     requires fits { 8 * N < 2 ^ 64 }
 {
-    let map = BitMap::<N>::from_bools(alloc, bits)?;
+    let map = ok(rt, BitMap::<N>::from_bools(alloc, bits));
     assert_eq!(rt; map.len(), bits.len() as u64);
     for i in 0..bits.len() {
         assert_eq!(rt; map.get(i as u64), bits[i], "bit {i} in chunks of {N}");
         assert_eq!(rt; map.get_bit(i as u64), bits[i], "bit {i} in chunks of {N}");
     }
     assert!(rt; holds(&map, bits, &[]));
-    assert!(rt; map.to_bools()?.as_slice() == bits);
+    assert!(rt; ok(rt, map.to_bools()).as_slice() == bits);
     assert_eq!(rt; map.count_ones(), count(bits, true));
     assert_eq!(rt; map.count_zeros(), count(bits, false));
-    let positions = positions(alloc, bits, 0, map.len())?;
+    let positions = ok(rt, positions(alloc, bits, 0, map.len()));
     assert!(rt; map.ones_iter().eq(positions.iter().copied()));
-    assert!(rt; map == map.clone()?);
-    Ok(())
+    assert!(rt; map == ok(rt, map.clone()));
 }
 
 // A bitmap that is filled, changed and emptied bit by bit.
-fn check_edits<const N: usize>(
-    rt: &impl Abort,
-    alloc: Global,
-    bits: &[bool],
-) -> Result<(), AllocError>
+fn check_edits<const N: usize>(rt: &impl Abort, alloc: Global, bits: &[bool])
     requires positive { 0 < N }
     requires fits { 8 * N < 2 ^ 64 }
 {
-    let whole = BitMap::<N>::from_bools(alloc, bits)?;
+    let whole = ok(rt, BitMap::<N>::from_bools(alloc, bits));
     let mut map = BitMap::<N>::new(alloc);
-    let mut other = BitMap::<N>::zeroes(alloc, bits.len() as u64)?;
+    let mut other = ok(rt, BitMap::<N>::zeroes(alloc, bits.len() as u64));
     for i in 0..bits.len() {
         assert_eq!(rt; map.len(), i as u64);
-        map.push(bits[i])?;
+        ok(rt, map.push(bits[i]));
         assert_eq!(rt; other.len(), bits.len() as u64);
         other.set(i as u64, !bits[i]);
     }
@@ -107,32 +98,25 @@ fn check_edits<const N: usize>(
         assert_eq!(rt; map.pop(), !bits[i]);
     }
     assert!(rt; map.is_empty());
-    Ok(())
 }
 
 // The first bits kept, and zeros appended in place of the others.
-fn check_lengths<const N: usize>(
-    rt: &impl Abort,
-    alloc: Global,
-    bits: &[bool],
-    keep: usize,
-) -> Result<(), AllocError>
+fn check_lengths<const N: usize>(rt: &impl Abort, alloc: Global, bits: &[bool], keep: usize)
     requires positive { 0 < N }
     requires fits { 8 * N < 2 ^ 64 }
 {
-    let mut map = BitMap::<N>::from_bools(alloc, bits)?;
+    let mut map = ok(rt, BitMap::<N>::from_bools(alloc, bits));
     if keep <= bits.len() {
         map.truncate(keep as u64);
         assert!(rt;
             holds(&map, &bits[..keep], &[]),
             "{keep} bits in chunks of {N}"
         );
-        map.extend_to(bits.len() as u64)?;
+        ok(rt, map.extend_to(bits.len() as u64));
         assert_eq!(rt; map.len(), bits.len() as u64);
         assert!(rt; map.is_unset(keep as u64..bits.len() as u64));
         assert_eq!(rt; map.count_ones(), count(&bits[..keep], true));
     }
-    Ok(())
 }
 
 // A join in place.
@@ -159,61 +143,43 @@ fn join_in_place<const N: usize>(
 }
 
 // The operators, which make a new bitmap.
-fn check_operators<const N: usize>(
-    rt: &impl Abort,
-    alloc: Global,
-    left: &[bool],
-    right: &[bool],
-) -> Result<(), AllocError>
+fn check_operators<const N: usize>(rt: &impl Abort, alloc: Global, left: &[bool], right: &[bool])
     requires positive { 0 < N }
     requires fits { 8 * N < 2 ^ 64 }
 {
     assert_eq!(rt; left.len(), right.len());
-    let map = BitMap::<N>::from_bools(alloc, left)?;
-    let other = BitMap::<N>::from_bools(alloc, right)?;
-    let both = both(alloc, left, right)?;
-    assert!(rt; holds(&(&map & &other)?, both.as_slice(), &[]));
-    let either = either(alloc, left, right)?;
-    assert!(rt; holds(&(&map | &other)?, either.as_slice(), &[]));
-    let difference = difference(alloc, left, right)?;
-    assert!(rt; holds(&(&map ^ &other)?, difference.as_slice(), &[]));
-    Ok(())
+    let map = ok(rt, BitMap::<N>::from_bools(alloc, left));
+    let other = ok(rt, BitMap::<N>::from_bools(alloc, right));
+    let both = ok(rt, both(alloc, left, right));
+    assert!(rt; holds(&ok(rt, &map & &other), both.as_slice(), &[]));
+    let either = ok(rt, either(alloc, left, right));
+    assert!(rt; holds(&ok(rt, &map | &other), either.as_slice(), &[]));
+    let difference = ok(rt, difference(alloc, left, right));
+    assert!(rt; holds(&ok(rt, &map ^ &other), difference.as_slice(), &[]));
 }
 
 // The joins in place.
-fn check_joins<const N: usize>(
-    rt: &impl Abort,
-    alloc: Global,
-    left: &[bool],
-    right: &[bool],
-) -> Result<(), AllocError>
+fn check_joins<const N: usize>(rt: &impl Abort, alloc: Global, left: &[bool], right: &[bool])
     requires positive { 0 < N }
     requires fits { 8 * N < 2 ^ 64 }
 {
-    let mut map = BitMap::<N>::from_bools(alloc, left)?;
-    let other = BitMap::<N>::from_bools(alloc, right)?;
+    let mut map = ok(rt, BitMap::<N>::from_bools(alloc, left));
+    let other = ok(rt, BitMap::<N>::from_bools(alloc, right));
     join_in_place(rt, &mut map, &other, Join::Xor);
-    assert!(rt; holds(&map, &difference(alloc, left, right)?, &[]));
+    assert!(rt; holds(&map, &ok(rt, difference(alloc, left, right)), &[]));
     join_in_place(rt, &mut map, &other, Join::Or);
-    assert!(rt; holds(&map, &either(alloc, left, right)?, &[]));
+    assert!(rt; holds(&map, &ok(rt, either(alloc, left, right)), &[]));
     join_in_place(rt, &mut map, &other, Join::And);
     assert!(rt; map == other);
-    Ok(())
 }
 
 // The set positions of a range, and whether it has none.
-fn check_ranges<const N: usize>(
-    rt: &impl Abort,
-    alloc: Global,
-    bits: &[bool],
-    start: u64,
-    end: u64,
-) -> Result<(), AllocError>
+fn check_ranges<const N: usize>(rt: &impl Abort, alloc: Global, bits: &[bool], start: u64, end: u64)
     requires positive { 0 < N }
     requires fits { 8 * N < 2 ^ 64 }
 {
-    let map = BitMap::<N>::from_bools(alloc, bits)?;
-    let positions = positions(alloc, bits, start, end)?;
+    let map = ok(rt, BitMap::<N>::from_bools(alloc, bits));
+    let positions = ok(rt, positions(alloc, bits, start, end));
     let mut ones = map.ones_iter_range(start..end);
     for position in &positions {
         assert_eq!(rt;
@@ -231,11 +197,10 @@ fn check_ranges<const N: usize>(
             "{start}..{end} in chunks of {N}"
         );
     }
-    Ok(())
 }
 
 // All of these at one width.
-fn check_width<const N: usize>(rt: &impl Abort, alloc: Global) -> Result<(), AllocError>
+fn check_width<const N: usize>(rt: &impl Abort, alloc: Global)
     requires positive { 0 < N }
     requires fits { 8 * N < 2 ^ 64 }
 {
@@ -259,30 +224,26 @@ fn check_width<const N: usize>(rt: &impl Abort, alloc: Global) -> Result<(), All
         2 * width + 70,
     ];
     for len in ends {
-        let dense = bits(alloc, len, len, 1)?;
-        let other = bits(alloc, len, !len, 1)?;
-        let sparse = bits(alloc, len, len, 31)?;
-        check_reads::<N>(rt, alloc, dense.as_slice())?;
-        check_edits::<N>(rt, alloc, dense.as_slice())?;
-        check_operators::<N>(rt, alloc, dense.as_slice(), other.as_slice())?;
-        check_joins::<N>(rt, alloc, dense.as_slice(), other.as_slice())?;
+        let dense = ok(rt, bits(alloc, len, len, 1));
+        let other = ok(rt, bits(alloc, len, !len, 1));
+        let sparse = ok(rt, bits(alloc, len, len, 31));
+        check_reads::<N>(rt, alloc, dense.as_slice());
+        check_edits::<N>(rt, alloc, dense.as_slice());
+        check_operators::<N>(rt, alloc, dense.as_slice(), other.as_slice());
+        check_joins::<N>(rt, alloc, dense.as_slice(), other.as_slice());
         for end in ends {
-            check_lengths::<N>(rt, alloc, dense.as_slice(), end as usize)?;
+            check_lengths::<N>(rt, alloc, dense.as_slice(), end as usize);
             for start in ends {
-                check_ranges::<N>(rt, alloc, sparse.as_slice(), start, end)?;
+                check_ranges::<N>(rt, alloc, sparse.as_slice(), start, end);
             }
-            check_ranges::<N>(rt, alloc, sparse.as_slice(), end, u64::MAX)?;
-            check_ranges::<N>(rt, alloc, sparse.as_slice(), u64::MAX, end)?;
+            check_ranges::<N>(rt, alloc, sparse.as_slice(), end, u64::MAX);
+            check_ranges::<N>(rt, alloc, sparse.as_slice(), u64::MAX, end);
         }
     }
-    Ok(())
 }
 
 // Bitmaps of each length up to past a chunk, extended by others.
-fn check_extending<const N: usize, const M: usize>(
-    rt: &impl Abort,
-    alloc: Global,
-) -> Result<(), AllocError>
+fn check_extending<const N: usize, const M: usize>(rt: &impl Abort, alloc: Global)
     requires positive { 0 < N }
     requires fits { 8 * N < 2 ^ 64 }
     requires other_positive { 0 < M }
@@ -291,43 +252,40 @@ fn check_extending<const N: usize, const M: usize>(
     assert!(rt; N <= 64);
     let width = 8 * N as u64;
     for len in 0..width + 2 {
-        let first = bits(alloc, len, len, 1)?;
+        let first = ok(rt, bits(alloc, len, len, 1));
         for more in [0, 1, 7, 8, 9, width - 1, width, 3 * width + 11] {
-            let then = bits(alloc, more, !len, 1)?;
-            let mut map = BitMap::<N>::from_bools(alloc, first.as_slice())?;
-            let other = BitMap::<M>::from_bools(alloc, then.as_slice())?;
+            let then = ok(rt, bits(alloc, more, !len, 1));
+            let mut map = ok(rt, BitMap::<N>::from_bools(alloc, first.as_slice()));
+            let other = ok(rt, BitMap::<M>::from_bools(alloc, then.as_slice()));
             assert!(rt; map.len() < 1000 && other.len() < 3000);
-            map.extend_from_bitmap(&other)?;
+            ok(rt, map.extend_from_bitmap(&other));
             assert!(rt;
                 holds(&map, first.as_slice(), then.as_slice()),
                 "{len} bits in chunks of {N}, {more} more from chunks of {M}"
             );
         }
     }
-    Ok(())
 }
 
 #[test]
-fn one_bitmap(rt: HostRuntime) -> Result<(), Fail> {
-    check_width::<1>(&rt, rt.alloc())?;
-    check_width::<3>(&rt, rt.alloc())?;
-    check_width::<7>(&rt, rt.alloc())?;
-    check_width::<8>(&rt, rt.alloc())?;
-    check_width::<9>(&rt, rt.alloc())?;
-    check_width::<32>(&rt, rt.alloc())?;
-    check_width::<64>(&rt, rt.alloc())?;
-    Ok(())
+fn one_bitmap(rt: HostRuntime) {
+    check_width::<1>(&rt, rt.alloc());
+    check_width::<3>(&rt, rt.alloc());
+    check_width::<7>(&rt, rt.alloc());
+    check_width::<8>(&rt, rt.alloc());
+    check_width::<9>(&rt, rt.alloc());
+    check_width::<32>(&rt, rt.alloc());
+    check_width::<64>(&rt, rt.alloc());
 }
 
 #[test]
-fn one_bitmap_after_another(rt: HostRuntime) -> Result<(), Fail> {
-    check_extending::<1, 1>(&rt, rt.alloc())?;
-    check_extending::<1, 3>(&rt, rt.alloc())?;
-    check_extending::<3, 8>(&rt, rt.alloc())?;
-    check_extending::<8, 3>(&rt, rt.alloc())?;
-    check_extending::<8, 8>(&rt, rt.alloc())?;
-    check_extending::<9, 7>(&rt, rt.alloc())?;
-    check_extending::<7, 32>(&rt, rt.alloc())?;
-    check_extending::<32, 1>(&rt, rt.alloc())?;
-    Ok(())
+fn one_bitmap_after_another(rt: HostRuntime) {
+    check_extending::<1, 1>(&rt, rt.alloc());
+    check_extending::<1, 3>(&rt, rt.alloc());
+    check_extending::<3, 8>(&rt, rt.alloc());
+    check_extending::<8, 3>(&rt, rt.alloc());
+    check_extending::<8, 8>(&rt, rt.alloc());
+    check_extending::<9, 7>(&rt, rt.alloc());
+    check_extending::<7, 32>(&rt, rt.alloc());
+    check_extending::<32, 1>(&rt, rt.alloc());
 }

@@ -70,55 +70,73 @@ fn check_edits<const N: usize>(rt: &impl Abort, alloc: Global)
     assert!(rt; shows(rt, &map, 1, b"01"));
 }
 
-// What moves the front: pruned chunks put back, and bits appended when all are pruned.
-fn check_fronts<const N: usize>(rt: &impl Abort, alloc: Global)
+// Pruned chunks put back.
+fn check_put_back<const N: usize>(rt: &impl Abort, alloc: Global)
     requires positive { 0 < N }
     requires fits { 8 * N < 2 ^ 64 }
 {
     assert!(rt; N <= 64);
     let width = 8 * N as u64;
-    assert!(rt; Prunable::<N>::new(alloc).is_empty() && Prunable::<N>::default(alloc).is_empty());
     let chunks = [[1; N], [2; N], [3; N]];
     let whole = of_chunks(rt, alloc, &chunks);
     let mut map = ok(rt, whole.clone());
     prune_to_bit(rt, &mut map, 3 * width);
     assert!(rt; counts(&map) == (3 * width, 3 * width, 3, 3, 3) && !map.is_empty());
     unprune(rt, &mut map, &[]);
-    assert!(rt; map.pruned_chunks() == 3);
+    assert_eq!(rt; map.pruned_chunks(), 3);
     unprune(rt, &mut map, &[[2; N], [3; N]]);
     assert!(rt; map.pruned_chunks() == 1 && get_chunk(rt, &map, 1) == [2; N]);
     unprune(rt, &mut map, &[[1; N]]);
     assert!(rt; same(rt, &map, &whole));
+}
+
+// A front that is moved up to a chunk, and behind bits that were appended.
+fn check_fronts<const N: usize>(rt: &impl Abort, alloc: Global)
+    requires positive { 0 < N }
+    requires fits { 8 * N < 2 ^ 64 }
+{
+    assert!(rt; N <= 64);
+    let width = 8 * N as u64;
+    let mut map = of_chunks(rt, alloc, &[[1; N], [2; N], [3; N]]);
     prune_to_bit(rt, &mut map, 3 * width - 1);
     assert!(rt; map.pruned_chunks() == 2 && get_chunk(rt, &map, 2) == [3; N]);
     extend_from_bitmap(rt, &mut map, &ok(rt, BitMap::<3>::ones(alloc, 11)));
     prune_to_bit(rt, &mut map, 3 * width);
-    assert!(rt; map.pruned_bits() == 3 * width && map.len() == 3 * width + 11);
-    assert!(rt; map.ones_iter_from(0).eq(3 * width..3 * width + 11));
-    assert_eq!(rt; Prunable::<N>::to_chunk_index(2 * width - 1), 1);
-    assert_eq!(rt; Prunable::<N>::chunk_byte_offset(2 * width - 1), N - 1);
+    assert!(rt; shows(rt, &map, 3, b"11111111111"));
+}
+
+// The places of a position, and the bitmaps of no bits.
+fn check_places<const N: usize>(rt: &impl Abort, alloc: Global)
+    requires positive { 0 < N }
+    requires fits { 8 * N < 2 ^ 64 }
+{
+    assert!(rt; N <= 64);
+    let last = 16 * N as u64 - 1;
+    assert_eq!(rt; Prunable::<N>::to_chunk_index(last), 1);
+    assert_eq!(rt; Prunable::<N>::chunk_byte_offset(last), N - 1);
+    assert!(rt; Prunable::<N>::new(alloc).is_empty() && Prunable::<N>::default(alloc).is_empty());
+}
+
+// All of these at one width.
+fn check_calls<const N: usize>(rt: &impl Abort, alloc: Global)
+    requires positive { 0 < N }
+    requires fits { 8 * N < 2 ^ 64 }
+{
+    check_edits::<N>(rt, alloc);
+    check_put_back::<N>(rt, alloc);
+    check_fronts::<N>(rt, alloc);
+    check_places::<N>(rt, alloc)
 }
 
 #[test]
-fn edits_at_each_width(rt: HostRuntime) {
-    check_edits::<1>(&rt, rt.alloc());
-    check_edits::<3>(&rt, rt.alloc());
-    check_edits::<7>(&rt, rt.alloc());
-    check_edits::<8>(&rt, rt.alloc());
-    check_edits::<9>(&rt, rt.alloc());
-    check_edits::<32>(&rt, rt.alloc());
-    check_edits::<64>(&rt, rt.alloc());
-}
-
-#[test]
-fn fronts_at_each_width(rt: HostRuntime) {
-    check_fronts::<1>(&rt, rt.alloc());
-    check_fronts::<3>(&rt, rt.alloc());
-    check_fronts::<7>(&rt, rt.alloc());
-    check_fronts::<8>(&rt, rt.alloc());
-    check_fronts::<9>(&rt, rt.alloc());
-    check_fronts::<32>(&rt, rt.alloc());
-    check_fronts::<64>(&rt, rt.alloc());
+fn each_call_at_each_width(rt: HostRuntime) {
+    check_calls::<1>(&rt, rt.alloc());
+    check_calls::<3>(&rt, rt.alloc());
+    check_calls::<7>(&rt, rt.alloc());
+    check_calls::<8>(&rt, rt.alloc());
+    check_calls::<9>(&rt, rt.alloc());
+    check_calls::<32>(&rt, rt.alloc());
+    check_calls::<64>(&rt, rt.alloc());
 }
 
 #[test]

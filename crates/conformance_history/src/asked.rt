@@ -210,28 +210,13 @@ pub fn refuse<const N: usize>(
     }
 }
 
-/// Goes back to a number that is kept.
-pub fn try_go_back<const N: usize>(
-    rt: &impl Abort,
-    map: CleanBitMap<N>,
-    number: u64,
-) -> Result<CleanBitMap<N>, AllocError> {
-    match map.rewind_to(number) {
-        Ok(map) => Ok(map),
-        Err((_, why)) => {
-            assert!(rt; why == RewindError::Memory(AllocError), "{number}");
-            Err(AllocError)
-        }
-    }
-}
-
-/// The same, where memory is not refused.
+/// Goes back to a number that is kept, where memory is not refused.
 pub fn go_back<const N: usize>(
     rt: &impl Abort,
     map: CleanBitMap<N>,
     number: u64,
 ) -> CleanBitMap<N> {
-    ok(rt, try_go_back(rt, map, number))
+    ok(rt, map.rewind_to(number))
 }
 
 /// Asks to go back to a number that is not kept, and answers the bitmap that is handed back.
@@ -339,31 +324,6 @@ pub fn was<const N: usize>(
     digits: &[u8],
 ) -> bool {
     ok(rt, try_was(rt, map, number, pruned_chunks, digits))
-}
-
-/// Whether a number is kept, with so many pruned chunks and such runs of equal bits.
-pub fn try_was_runs<const N: usize>(
-    rt: &impl Abort,
-    map: &CleanBitMap<N>,
-    number: u64,
-    pruned_chunks: usize,
-    runs: &[(u64, bool)],
-) -> Result<bool, AllocError> {
-    match map.get_at_commit(number)? {
-        Some(old) => Ok(shows_runs(rt, &old, pruned_chunks, runs)),
-        None => Ok(false),
-    }
-}
-
-/// The same, where memory is not refused.
-pub fn was_runs<const N: usize>(
-    rt: &impl Abort,
-    map: &CleanBitMap<N>,
-    number: u64,
-    pruned_chunks: usize,
-    runs: &[(u64, bool)],
-) -> bool {
-    ok(rt, try_was_runs(rt, map, number, pruned_chunks, runs))
 }
 
 /// The bit at a retained position of any bitmap.

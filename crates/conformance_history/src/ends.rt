@@ -1,10 +1,10 @@
-//! The ends of the positions: behind the greatest pruned front as many bits as there are positions left, at six widths.
+//! The ends of the positions and of the numbers: behind the greatest pruned front as many bits as there are positions left, at six widths.
 
 ghost use Rattle.bitmap_core.specs.Chunk.{IsWidth};
 
 use crate::asked::{
-    commit, current_bit, current_chunk, go_back, ok, pending_bit, pending_chunk, pop, prune_to_bit,
-    push, push_byte, read_bit, refuse, set_bit,
+    commit, current_bit, current_chunk, go_back, keeps, ok, pending_bit, pending_chunk, pop,
+    prune_to_bit, push, push_byte, push_run, read_bit, refuse, set_bit, stay,
 };
 use historical_bitmap::bitmap::Readable;
 use historical_bitmap::bitmap::historical::{CleanBitMap, DirtyBitMap, Error};
@@ -127,4 +127,38 @@ fn greatest_fronts(rt: HostRuntime) {
     check_ends::<9>(&rt, rt.alloc(), 256204778801521550);
     check_ends::<32>(&rt, rt.alloc(), 72057594037927935);
     check_ends::<64>(&rt, rt.alloc(), 36028797018963967);
+}
+
+#[test]
+fn chunk_at_the_end_of_the_positions(rt: HostRuntime) {
+    let made = CleanBitMap::<1>::new_with_pruned_chunks(rt.alloc(), 2305843009213693951);
+    let mut map = ok(&rt, made).into_dirty();
+    push_run(&rt, &mut map, 7, true);
+    assert_eq!(rt; map.len(), u64::MAX);
+    assert_eq!(rt; pending_chunk(&rt, &map, 18446744073709551614), [0x7f]);
+}
+
+#[test]
+fn greatest_number(rt: HostRuntime) {
+    let not_above = Error::NonMonotonicCommit {
+        previous: 18446744073709551614,
+        attempted: 0,
+    };
+    let map: DirtyBitMap<4> = CleanBitMap::new(rt.alloc()).into_dirty();
+    let map = commit(&rt, map, u64::MAX - 1);
+    assert!(rt; keeps(&map, &[18446744073709551614]));
+    let map = refuse(&rt, map.into_dirty(), u64::MAX, Error::ReservedCommitNumber);
+    let map = refuse(&rt, map, 0, not_above).abort();
+    assert!(rt; map.commit_exists(u64::MAX - 1) && !map.commit_exists(u64::MAX));
+    assert!(rt; ok(&rt, map.get_at_commit(u64::MAX)).is_none());
+    assert!(rt; map.at(u64::MAX - 1).is_some() && map.at(u64::MAX).is_none());
+    let mut map = go_back(&rt, stay(&rt, map, u64::MAX), u64::MAX - 1);
+    assert_eq!(rt;
+        (
+            map.prune_commits_before(0),
+            map.prune_commits_before(u64::MAX - 1)
+        ),
+        (0, 0)
+    );
+    assert!(rt; map.prune_commits_before(u64::MAX) == 1 && keeps(&map, &[]));
 }

@@ -15,5 +15,3 @@ mod in_place;
 mod plain;
 #[cfg(test)]
 mod refused;
-#[cfg(test)]
-mod rows;
