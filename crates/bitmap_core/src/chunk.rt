@@ -23,9 +23,9 @@ ghost use Rattle.bitmap_core.specs.Chunk.{byte_of as byte_from_bits, chunk_bit, 
 
 pub(crate) mod facts;
 pub mod join;
-pub mod load;
-pub mod whole;
-pub mod words;
+pub(crate) mod load;
+pub(crate) mod whole;
+pub(crate) mod words;
 
 /// The width of a chunk in bits, `8N`. No memory.
 pub fn chunk_width<const N: usize>() -> u64
@@ -44,7 +44,7 @@ pub fn chunk_index<const N: usize>(bit: u64) -> usize
 }
 
 /// The number of chunks that `len` bits fill, the last one perhaps in part. No memory.
-pub fn chunk_count<const N: usize>(len: u64) -> usize
+pub(crate) fn chunk_count<const N: usize>(len: u64) -> usize
     requires width { IsWidth N }
     ensures { result ≡ div_ceil len (8 * N) }
 {
@@ -52,7 +52,7 @@ pub fn chunk_count<const N: usize>(len: u64) -> usize
 }
 
 /// The index of the byte in which bit `bit mod 8N` of a chunk stands. No memory.
-pub fn byte_index<const N: usize>(bit: u64) -> usize
+pub(crate) fn byte_index<const N: usize>(bit: u64) -> usize
     requires { 0 < N }
     ensures value { result ≡ bit / 8 % N }
     ensures within { result < N }
@@ -61,7 +61,7 @@ pub fn byte_index<const N: usize>(bit: u64) -> usize
 }
 
 /// The mask of a bit in its byte: `1 << (bit mod 8)`. No memory.
-pub fn bit_mask(bit: u64) -> u8
+pub(crate) fn bit_mask(bit: u64) -> u8
     ensures value { result ≡ 2 ^ (bit % 8) }
     ensures fits { result < 256 }
 {
@@ -98,7 +98,7 @@ pub fn set_bit<const N: usize>(chunk: &mut [u8; N], bit: u64, value: bool)
 }
 
 /// Writes the whole byte in which bit `bit mod 8N` of a chunk stands, and no other. No memory.
-pub fn set_byte<const N: usize>(chunk: &mut [u8; N], bit: u64, byte: u8)
+pub(crate) fn set_byte<const N: usize>(chunk: &mut [u8; N], bit: u64, byte: u8)
     requires { 0 < N }
     ensures { IsByteWritten N chunk.old chunk.new bit byte }
 {
@@ -106,7 +106,7 @@ pub fn set_byte<const N: usize>(chunk: &mut [u8; N], bit: u64, byte: u8)
 }
 
 /// Inverts bit `bit mod 8N` of a chunk, and no other. No memory.
-pub fn flip_bit<const N: usize>(chunk: &mut [u8; N], bit: u64)
+pub(crate) fn flip_bit<const N: usize>(chunk: &mut [u8; N], bit: u64)
     requires width { IsWidth N }
     ensures { IsBitWritten N chunk.old chunk.new bit (not (chunk_bit N chunk.old bit)) }
 {
@@ -128,7 +128,7 @@ pub fn clear_from<const N: usize>(chunk: &mut [u8; N], from: u64)
 }
 
 /// Whether a bit of a chunk from bit `from` on is set. From `8N` on none is. No memory.
-pub fn is_set_from<const N: usize>(chunk: &[u8; N], from: u64) -> bool
+pub(crate) fn is_set_from<const N: usize>(chunk: &[u8; N], from: u64) -> bool
     requires { 8 * N < 2 ^ 64 }
     ensures { result ≡ list_any (chunk_bit N chunk.now) (range_with_len from (8 * N - from)) }
 {
@@ -148,7 +148,7 @@ fn byte_of(bools: &[bool]) -> u8
 }
 
 /// The chunk of the first `8N` booleans, with zeros where there are fewer. No memory.
-pub fn from_bools<const N: usize>(bools: &[bool]) -> [u8; N]
+pub(crate) fn from_bools<const N: usize>(bools: &[bool]) -> [u8; N]
     requires width { IsWidth N }
     ensures { (i : ℕ) → i < 8 * N → chunk_bit N result i ≡ slice_index_or bools.now i false }
 {
@@ -162,7 +162,7 @@ pub fn from_bools<const N: usize>(bools: &[bool]) -> [u8; N]
 }
 
 /// Appends the first `count` bits of a chunk, at most `8N`, to booleans that have room for them. No memory.
-pub fn append_bools<const N: usize>(chunk: &[u8; N], count: u64, bools: &mut Vec<bool>)
+pub(crate) fn append_bools<const N: usize>(chunk: &[u8; N], count: u64, bools: &mut Vec<bool>)
     requires width { IsWidth N }
     requires within { count ≤ 8 * N }
     requires room { vec_len bools.old + count ≤ vec_capacity bools.old }

@@ -30,13 +30,9 @@ fn count(bits: &[bool], value: bool) -> u64 {
 
 // The positions of the bits that are set, from one position up to another.
 fn positions(alloc: Global, bits: &[bool], start: u64, end: u64) -> Result<Vec<u64>, AllocError> {
-    let mut positions = Vec::new(alloc);
-    for (i, bit) in bits.iter().enumerate() {
-        if *bit && start <= i as u64 && (i as u64) < end {
-            positions.push(i as u64).map_err(AllocError::from)?;
-        }
-    }
-    Ok(positions)
+    (start..end.min(bits.len() as u64))
+        .filter(|position| bits.get(*position as usize) == Some(&true))
+        .collect(alloc)
 }
 
 // The bits that are set in both.
@@ -54,17 +50,22 @@ fn difference(alloc: Global, left: &[bool], right: &[bool]) -> Result<Vec<bool>,
     left.iter().zip(right).map(|(l, r)| *l != *r).collect(alloc)
 }
 
+// Each bit of a bitmap.
+fn check_bits<const N: usize>(rt: &impl Abort, map: &BitMap<N>, bits: &[bool]) {
+    assert_eq!(rt; map.len(), bits.len() as u64);
+    for i in 0..bits.len() {
+        assert_eq!(rt; map.get(i as u64), bits[i], "bit {i} in chunks of {N}");
+        assert_eq!(rt; map.get_bit(i as u64), bits[i], "bit {i} in chunks of {N}");
+    }
+}
+
 // What a bitmap of these bits answers.
 fn check_reads<const N: usize>(rt: &impl Abort, alloc: Global, bits: &[bool])
     requires positive { 0 < N }
     requires fits { 8 * N < 2 ^ 64 }
 {
     let map = ok(rt, BitMap::<N>::from_bools(alloc, bits));
-    assert_eq!(rt; map.len(), bits.len() as u64);
-    for i in 0..bits.len() {
-        assert_eq!(rt; map.get(i as u64), bits[i], "bit {i} in chunks of {N}");
-        assert_eq!(rt; map.get_bit(i as u64), bits[i], "bit {i} in chunks of {N}");
-    }
+    check_bits(rt, &map, bits);
     assert!(rt; holds(&map, bits, &[]));
     assert!(rt; ok(rt, map.to_bools()).as_slice() == bits);
     assert_eq!(rt; map.count_ones(), count(bits, true));
@@ -74,6 +75,31 @@ fn check_reads<const N: usize>(rt: &impl Abort, alloc: Global, bits: &[bool])
     assert!(rt; map == ok(rt, map.clone()));
 }
 
+// Pushes each bit.
+fn push_each<const N: usize>(rt: &impl Abort, map: &mut BitMap<N>, bits: &[bool]) {
+    for i in 0..bits.len() {
+        assert_eq!(rt; map.len(), i as u64);
+        ok(rt, map.push(bits[i]));
+    }
+}
+
+// Sets each bit to its opposite.
+fn set_opposites<const N: usize>(rt: &impl Abort, map: &mut BitMap<N>, bits: &[bool]) {
+    for i in 0..bits.len() {
+        assert_eq!(rt; map.len(), bits.len() as u64);
+        map.set(i as u64, !bits[i]);
+    }
+}
+
+// Flips and pops each bit, from the last on.
+fn pop_each<const N: usize>(rt: &impl Abort, map: &mut BitMap<N>, bits: &[bool]) {
+    for i in (0..bits.len()).rev() {
+        assert_eq!(rt; map.len(), i as u64 + 1);
+        map.flip(i as u64);
+        assert_eq!(rt; map.pop(), !bits[i]);
+    }
+}
+
 // A bitmap that is filled, changed and emptied bit by bit.
 fn check_edits<const N: usize>(rt: &impl Abort, alloc: Global, bits: &[bool])
     requires positive { 0 < N }
@@ -81,22 +107,14 @@ fn check_edits<const N: usize>(rt: &impl Abort, alloc: Global, bits: &[bool])
 {
     let whole = ok(rt, BitMap::<N>::from_bools(alloc, bits));
     let mut map = BitMap::<N>::new(alloc);
-    let mut other = ok(rt, BitMap::<N>::zeroes(alloc, bits.len() as u64));
-    for i in 0..bits.len() {
-        assert_eq!(rt; map.len(), i as u64);
-        ok(rt, map.push(bits[i]));
-        assert_eq!(rt; other.len(), bits.len() as u64);
-        other.set(i as u64, !bits[i]);
-    }
+    push_each(rt, &mut map, bits);
     assert!(rt; map == whole, "{} bits in chunks of {N}", bits.len());
+    let mut other = ok(rt, BitMap::<N>::zeroes(alloc, bits.len() as u64));
+    set_opposites(rt, &mut other, bits);
     assert_eq!(rt; map == other, bits.is_empty());
     other.flip_all();
     assert!(rt; map == other);
-    for i in (0..bits.len()).rev() {
-        assert_eq!(rt; map.len(), i as u64 + 1);
-        map.flip(i as u64);
-        assert_eq!(rt; map.pop(), !bits[i]);
-    }
+    pop_each(rt, &mut map, bits);
     assert!(rt; map.is_empty());
 }
 

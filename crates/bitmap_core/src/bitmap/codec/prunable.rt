@@ -36,11 +36,7 @@ fn count_part<const N: usize>(text: &[u8]) -> Result<(usize, u64, &[u8]), CodecE
             "Prunable",
             "pruned_chunks would overflow when computing pruned_bits",
         ))?;
-    let pruned_chunks = usize::try_from(count).map_err(|_| CodecError::Invalid(
-        "Prunable",
-        "pruned_chunks doesn't fit in usize",
-    ))?;
-    Ok((pruned_chunks, pruned_bits, body))
+    Ok((count as usize, pruned_bits, body))
 }
 
 // The pruned chunk count of a text, the length of its retained bits, their chunks, and what follows them.
