@@ -1,4 +1,4 @@
-//! Answers that were worked out by hand, and each public call of a dense bitmap.
+//! Answers that were worked out by hand, and the calls of a dense bitmap that `plain` does not try.
 
 ghost use Rattle.std.specs.Prelude.{◌*◌, ◌^◌, ◌<◌};
 
