@@ -374,6 +374,7 @@ fn zeros_past_the_length(rt: HostRuntime) {
         assert!(rt; is_clean(&map), "flip_all, {len}");
         map.set_all(true);
         assert!(rt; is_clean(&map), "set_all, {len}");
+        assert_eq!(rt; map.count_ones(), len);
         map.truncate(len / 2);
         assert!(rt; is_clean(&map), "truncate, {len}");
     }
