@@ -2,11 +2,12 @@
 //!
 //! Those that take memory stand here twice: `try_push` answers whether there was some, and `push` is for tests where there is.
 
-ghost use Rattle.std.specs.Prelude.{◌≡◌, ◌*◌, ◌^◌, ◌<◌, Ok};
+ghost use Rattle.std.specs.Prelude.{◌≡◌, ◌*◌, ◌^◌, ◌<◌, Ok, true};
 
 use bitmap_core::bitmap::BitMap;
 use bitmap_core::bitmap::prunable::Prunable;
 use std::alloc::{AllocError, Global};
+use std::fmt::Debug;
 use std::process::Abort;
 
 /// What a call answered that was not refused.
@@ -17,6 +18,35 @@ pub fn ok<T, E: Drop>(rt: &impl Abort, answer: Result<T, E>) -> T
         Ok(value) => value,
         Err(_) => panic!(rt; "it is refused"),
     }
+}
+
+/// Ends the test where something does not hold. Here the assertion is proved once, and not at each place.
+pub fn expect(rt: &impl Abort, holds: bool)
+    ensures { holds ≡ true }
+{
+    assert!(rt; holds);
+}
+
+/// The same, and names the place.
+pub fn expect_at<P: Debug + Drop>(rt: &impl Abort, place: P, holds: bool)
+    ensures { holds ≡ true }
+{
+    assert!(rt; holds, "at {place:?}");
+}
+
+/// Ends the test where two values differ, and shows them.
+pub fn equal<T: PartialEq + Debug + Drop>(rt: &impl Abort, left: T, right: T) {
+    assert_eq!(rt; left, right);
+}
+
+/// The same, and names the place.
+pub fn equal_at<P: Debug + Drop, T: PartialEq + Debug + Drop>(
+    rt: &impl Abort,
+    place: P,
+    left: T,
+    right: T,
+) {
+    assert_eq!(rt; left, right, "at {place:?}");
 }
 
 /// The bit at a retained position.

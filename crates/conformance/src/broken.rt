@@ -2,7 +2,7 @@
 
 ghost use Rattle.std.specs.Prelude.{◌*◌, ◌^◌, ◌<◌};
 
-use crate::asked::ok;
+use crate::asked::{equal_at, expect, ok};
 use crate::codec::{damaged, one_chunk_and_a_bit};
 use bitmap_core::bitmap::codec::{CodecError, RangeCfg, Read};
 use bitmap_core::bitmap::{BitMap, Prunable};
@@ -47,14 +47,15 @@ fn with_length(width: u64, len: u64) -> Verdict {
 fn check_lengths<V: Read + Drop>(rt: &impl Abort, alloc: Global, text: &[u8], at: usize, width: u64)
     requires { V.can_read }
 {
-    assert!(rt; at <= 8 && width <= 512);
+    expect(rt, at <= 8 && width <= 512);
     for place in 0..64 {
         let flipped = damaged(rt, alloc, text, at + 7 - place / 8, 1 << (place % 8));
         let len = (width + 1) ^ (1 << place);
-        assert_eq!(rt;
+        equal_at(
+            rt,
+            (place, width),
             judged::<V>(alloc, &flipped),
             with_length(width, len),
-            "bit {place} of the length, width {width}"
         );
     }
 }
@@ -69,7 +70,7 @@ fn check_chunks<V: Read + Drop>(
 )
     requires { V.can_read }
 {
-    assert!(rt; at <= 16 && width <= 512);
+    expect(rt, at <= 16 && width <= 512);
     for place in 0..2 * width {
         let flipped = damaged(rt, alloc, text, at + place / 8, 1 << (place % 8));
         let told = if place <= width {
@@ -77,11 +78,7 @@ fn check_chunks<V: Read + Drop>(
         } else {
             Verdict::Trailing
         };
-        assert_eq!(rt;
-            judged::<V>(alloc, &flipped),
-            told,
-            "bit {place}, width {width}"
-        );
+        equal_at(rt, (place, width), judged::<V>(alloc, &flipped), told);
     }
 }
 
@@ -89,7 +86,7 @@ fn check_chunks<V: Read + Drop>(
 fn check_byte<V: Read + Drop>(rt: &impl Abort, alloc: Global, text: &[u8], at: usize, accepted: u8)
     requires { V.can_read }
 {
-    assert!(rt; at < text.len());
+    expect(rt, at < text.len());
     let old = text[at];
     for byte in 0..=255 {
         let other = damaged(rt, alloc, text, at, old ^ byte);
@@ -98,7 +95,7 @@ fn check_byte<V: Read + Drop>(rt: &impl Abort, alloc: Global, text: &[u8], at: u
         } else {
             Verdict::Trailing
         };
-        assert_eq!(rt; judged::<V>(alloc, &other), told, "byte {byte} at {at}");
+        equal_at(rt, (byte, at), judged::<V>(alloc, &other), told);
     }
 }
 
@@ -106,7 +103,7 @@ fn check_byte<V: Read + Drop>(rt: &impl Abort, alloc: Global, text: &[u8], at: u
 fn check_text<V: Read + Drop>(rt: &impl Abort, alloc: Global, text: &[u8], at: usize, bytes: usize)
     requires { V.can_read }
 {
-    assert!(rt; at <= 8 && 0 < bytes && bytes <= 64);
+    expect(rt, at <= 8 && 0 < bytes && bytes <= 64);
     check_lengths::<V>(rt, alloc, text, at, 8 * bytes as u64);
     check_chunks::<V>(rt, alloc, text, at + 8, 8 * bytes);
     check_byte::<V>(rt, alloc, text, at + 8 + bytes, 2);
@@ -120,7 +117,7 @@ fn check_counts<const N: usize>(rt: &impl Abort, alloc: Global, text: &[u8])
     requires positive { 0 < N }
     requires fits { 8 * N < 2 ^ 64 }
 {
-    assert!(rt; N <= 64);
+    expect(rt, N <= 64);
     let width = 8 * N as u64;
     for place in 0..64 {
         let flipped = damaged(rt, alloc, text, 7 - place / 8, 1 << (place % 8));
@@ -128,11 +125,7 @@ fn check_counts<const N: usize>(rt: &impl Abort, alloc: Global, text: &[u8])
             Some(pruned) if pruned < u64::MAX - width => Verdict::Accepted,
             _ => Verdict::TooManyPruned,
         };
-        assert_eq!(rt;
-            judged::<Prunable<N>>(alloc, &flipped),
-            told,
-            "bit {place} of the count in chunks of {N}"
-        );
+        equal_at(rt, (place, N), judged::<Prunable<N>>(alloc, &flipped), told);
     }
 }
 
@@ -141,7 +134,7 @@ fn check<const N: usize>(rt: &impl Abort, alloc: Global)
     requires positive { 0 < N }
     requires fits { 8 * N < 2 ^ 64 }
 {
-    assert!(rt; N <= 64);
+    expect(rt, N <= 64);
     let bits = one_chunk_and_a_bit::<N>(rt, alloc);
     check_text::<BitMap<N>>(rt, alloc, &bits, 0, N);
     let mut text = ok(rt, Vec::from_slice(alloc, &[0, 0, 0, 0, 0, 0, 0, 1]));

@@ -4,8 +4,9 @@ ghost use Rattle.std.specs.Prelude.{◌*◌, ◌^◌, ◌<◌};
 
 use crate::answers::holds;
 use crate::asked::{
-    chunk_at, extend_from_bitmap, get_bit, get_chunk, last_chunk, ok, pop, pop_chunk, prune_to_bit,
-    push, push_byte, push_chunk, set_bit, set_full_chunk, shows, truncate, unprune,
+    chunk_at, equal, equal_at, expect, extend_from_bitmap, get_bit, get_chunk, last_chunk, ok, pop,
+    pop_chunk, prune_to_bit, push, push_byte, push_chunk, set_bit, set_full_chunk, shows, truncate,
+    unprune,
 };
 use bitmap_core::bitmap::codec::{EncodeSize, RangeCfg, Read, Write};
 use bitmap_core::bitmap::prunable::{Error, Prunable};
@@ -22,7 +23,10 @@ fn greatest<const N: usize>(rt: &impl Abort, alloc: Global, most: usize) -> Prun
     requires fits { 8 * N < 2 ^ 64 }
 {
     let beyond = Prunable::<N>::new_with_pruned_chunks(alloc, most.saturating_add(1));
-    assert!(rt; beyond.is_err_and(|why| why == Error::PrunedChunksOverflow));
+    expect(
+        rt,
+        beyond.is_err_and(|why| why == Error::PrunedChunksOverflow),
+    );
     let mut map = ok(rt, Prunable::<N>::new_with_pruned_chunks(alloc, most));
     let first = map.len();
     ok(rt, map.extend_to(u64::MAX));
@@ -34,34 +38,52 @@ fn greatest<const N: usize>(rt: &impl Abort, alloc: Global, most: usize) -> Prun
 // What any reader is asked: the bits at both ends and beside them, the only chunk, and set positions in ranges that are
 // whole, of one position, empty, reversed and before the front.
 fn check_reader<B: Readable<N>, const N: usize>(rt: &impl Abort, map: &B, first: u64, room: u64) {
-    assert!(rt; map.len() == u64::MAX && map.pruned_bits() == first && first < LAST - 1);
+    expect(
+        rt,
+        map.len() == u64::MAX && map.pruned_bits() == first && first < LAST - 1,
+    );
     let next = first + 1;
-    assert!(rt; map.get_bit(first) && !map.get_bit(next));
-    assert!(rt; !map.get_bit(LAST - 1) && map.get_bit(LAST));
+    expect(rt, map.get_bit(first) && !map.get_bit(next));
+    expect(rt, !map.get_bit(LAST - 1) && map.get_bit(LAST));
     let (chunk, used) = map.last_chunk();
-    assert!(rt; used == room && map.get_chunk(map.complete_chunks()) == chunk);
-    assert!(rt; map.ones_iter_from(0).eq([first, LAST]));
-    assert!(rt; map.ones_iter_range(first..next).eq([first]));
-    assert!(rt; map.ones_iter_range(next..LAST).next().is_none());
+    expect(
+        rt,
+        used == room && map.get_chunk(map.complete_chunks()) == chunk,
+    );
+    expect(rt, map.ones_iter_from(0).eq([first, LAST]));
+    expect(rt, map.ones_iter_range(first..next).eq([first]));
+    expect(rt, map.ones_iter_range(next..LAST).next().is_none());
     let mut last = map.ones_iter_from(LAST);
-    assert!(rt; last.next() == Some(LAST) && last.next().is_none() && last.next().is_none());
-    assert!(rt; map.ones_iter_from(u64::MAX).next().is_none());
-    assert!(rt; map.ones_iter_range(u64::MAX..first).next().is_none());
-    assert!(rt; map.ones_iter_range(0..first).next().is_none());
+    expect(
+        rt,
+        last.next() == Some(LAST) && last.next().is_none() && last.next().is_none(),
+    );
+    expect(rt, map.ones_iter_from(u64::MAX).next().is_none());
+    expect(rt, map.ones_iter_range(u64::MAX..first).next().is_none());
+    expect(rt, map.ones_iter_range(0..first).next().is_none());
 }
 
 // The counts of chunks, and the only chunk by each of the calls that answer it.
 fn check_chunk<const N: usize>(rt: &impl Abort, map: &Prunable<N>, most: usize, room: u64) {
     let (first, len) = (map.pruned_bits(), map.len());
-    assert!(rt; N <= 64 && len == u64::MAX);
-    assert!(rt; map.pruned_chunks() == most && map.complete_chunks() == most);
-    assert!(rt; map.chunks_len() == most.saturating_add(1) && !map.is_chunk_aligned());
+    expect(rt, N <= 64 && len == u64::MAX);
+    expect(
+        rt,
+        map.pruned_chunks() == most && map.complete_chunks() == most,
+    );
+    expect(
+        rt,
+        map.chunks_len() == most.saturating_add(1) && !map.is_chunk_aligned(),
+    );
     let (chunk, used) = last_chunk(rt, map);
-    assert!(rt; used == room && get_chunk(rt, map, most) == chunk);
-    assert!(rt; chunk_at(rt, map, first) == chunk && chunk_at(rt, map, LAST) == chunk);
-    assert!(rt; Prunable::<N>::get_bit_from_chunk(&chunk, first));
-    assert!(rt; Prunable::<N>::get_bit_from_chunk(&chunk, LAST));
-    assert!(rt; !Prunable::<N>::get_bit_from_chunk(&chunk, u64::MAX));
+    expect(rt, used == room && get_chunk(rt, map, most) == chunk);
+    expect(
+        rt,
+        chunk_at(rt, map, first) == chunk && chunk_at(rt, map, LAST) == chunk,
+    );
+    expect(rt, Prunable::<N>::get_bit_from_chunk(&chunk, first));
+    expect(rt, Prunable::<N>::get_bit_from_chunk(&chunk, LAST));
+    expect(rt, !Prunable::<N>::get_bit_from_chunk(&chunk, u64::MAX));
 }
 
 // Where positions stand: the first behind the front, the one before it, and the greatest number.
@@ -69,15 +91,15 @@ fn check_places<const N: usize>(rt: &impl Abort, first: u64, most: usize, room: 
     requires positive { 0 < N }
     requires fits { 8 * N < 2 ^ 64 }
 {
-    assert!(rt; first > 0 && most > 0);
+    expect(rt, first > 0 && most > 0);
     for (bit, chunk, byte, mask) in [
         (first - 1, most - 1, N - 1, 128),
         (first, most, 0, 1),
         (u64::MAX, most, room as usize / 8, 128),
     ] {
-        assert_eq!(rt; Prunable::<N>::to_chunk_index(bit), chunk, "at {bit}");
-        assert_eq!(rt; Prunable::<N>::chunk_byte_offset(bit), byte, "at {bit}");
-        assert_eq!(rt; Prunable::<N>::chunk_byte_bitmask(bit), mask, "at {bit}");
+        equal_at(rt, bit, Prunable::<N>::to_chunk_index(bit), chunk);
+        equal_at(rt, bit, Prunable::<N>::chunk_byte_offset(bit), byte);
+        equal_at(rt, bit, Prunable::<N>::chunk_byte_bitmask(bit), mask);
     }
 }
 
@@ -88,11 +110,11 @@ fn check_form<const N: usize>(rt: &impl Abort, alloc: Global, map: &Prunable<N>,
 {
     let mut out = Vec::new(alloc);
     ok(rt, map.write(&mut out));
-    assert_eq!(rt; out.len(), map.encode_size());
+    equal(rt, out.len(), map.encode_size());
     let mut from = out.as_slice();
     match Prunable::<N>::read_cfg(alloc, &mut from, &RangeCfg::exact(room)) {
         Ok(read) => check_reader(rt, &read, map.pruned_bits(), room),
-        Err(_) => assert!(rt; false),
+        Err(_) => expect(rt, false),
     }
 }
 
@@ -105,40 +127,49 @@ fn check_edits<const N: usize>(
 ) {
     for bit in [0, first, LAST, u64::MAX] {
         prune_to_bit(rt, map, bit);
-        assert_eq!(rt; map.pruned_bits(), first);
+        equal(rt, map.pruned_bits(), first);
     }
     truncate(rt, map, u64::MAX);
-    assert!(rt; map.extend_to(0).is_ok() && map.extend_to(LAST).is_ok());
-    assert!(rt; pop(rt, map) && !pop(rt, map));
+    expect(rt, map.extend_to(0).is_ok() && map.extend_to(LAST).is_ok());
+    expect(rt, pop(rt, map) && !pop(rt, map));
     push(rt, map, true);
     push(rt, map, false);
-    assert!(rt; map.len() == u64::MAX && !pop(rt, map) && pop(rt, map));
+    expect(rt, map.len() == u64::MAX && !pop(rt, map) && pop(rt, map));
     truncate(rt, map, first);
     if others.len() >= 8 {
         push_byte(rt, map, 0x81);
-        assert!(rt; pop(rt, map) && !pop(rt, map));
+        expect(rt, pop(rt, map) && !pop(rt, map));
         truncate(rt, map, first);
     }
     extend_from_bitmap(rt, map, others);
-    assert!(rt; map.len() == u64::MAX && map.ones_iter_from(0).eq(first..u64::MAX));
+    expect(
+        rt,
+        map.len() == u64::MAX && map.ones_iter_from(0).eq(first..u64::MAX),
+    );
 }
 
 // The last chunk before the greatest front, which is put back, replaced, removed, appended and pruned.
 fn check_front<const N: usize>(rt: &impl Abort, map: &mut Prunable<N>, first: u64, most: usize) {
     let _ = map.len();
-    assert!(rt; N <= 64 && first > 0 && most > 0);
+    expect(rt, N <= 64 && first > 0 && most > 0);
     truncate(rt, map, first);
     unprune(rt, map, &[[0xff; N]]);
-    assert!(rt; map.pruned_chunks() == most - 1 && get_bit(rt, map, first - 1));
+    expect(
+        rt,
+        map.pruned_chunks() == most - 1 && get_bit(rt, map, first - 1),
+    );
     set_full_chunk(rt, map, most - 1, &[0x7f; N]);
-    assert!(rt; !get_bit(rt, map, first - 1));
-    assert!(rt; pop_chunk(rt, map) == [0x7f; N]);
+    expect(rt, !get_bit(rt, map, first - 1));
+    expect(rt, pop_chunk(rt, map) == [0x7f; N]);
     push_chunk(rt, map, &[0x80; N]);
-    assert!(rt; map.len() == first && get_bit(rt, map, first - 1));
+    expect(rt, map.len() == first && get_bit(rt, map, first - 1));
     prune_to_bit(rt, map, first - 1);
-    assert!(rt; map.pruned_chunks() == most - 1);
+    expect(rt, map.pruned_chunks() == most - 1);
     prune_to_bit(rt, map, first);
-    assert!(rt; map.pruned_chunks() == most && map.ones_iter_from(0).next().is_none());
+    expect(
+        rt,
+        map.pruned_chunks() == most && map.ones_iter_from(0).next().is_none(),
+    );
 }
 
 // All of these, where the greatest front of so many chunks leaves room for so many bits.
@@ -171,16 +202,22 @@ fn check_lengths<const N: usize>(rt: &impl Abort, alloc: Global)
     requires positive { 0 < N }
     requires fits { 8 * N < 2 ^ 64 }
 {
-    assert!(rt; BitMap::<N>::with_capacity(alloc, u64::MAX).is_err());
+    expect(rt, BitMap::<N>::with_capacity(alloc, u64::MAX).is_err());
     for len in [LAST, u64::MAX] {
-        assert!(rt; BitMap::<N>::zeroes(alloc, len).is_err());
-        assert!(rt; BitMap::<N>::ones(alloc, len).is_err());
+        expect(rt, BitMap::<N>::zeroes(alloc, len).is_err());
+        expect(rt, BitMap::<N>::ones(alloc, len).is_err());
     }
     let mut dense = ok(rt, BitMap::<N>::ones(alloc, 5));
-    assert!(rt; dense.extend_to(u64::MAX).is_err() && holds(&dense, &[true; 5], &[]));
+    expect(
+        rt,
+        dense.extend_to(u64::MAX).is_err() && holds(&dense, &[true; 5], &[]),
+    );
     let mut pruned = Prunable::<N>::new(alloc);
     push(rt, &mut pruned, true);
-    assert!(rt; pruned.extend_to(u64::MAX).is_err() && shows(rt, &pruned, 0, b"1"));
+    expect(
+        rt,
+        pruned.extend_to(u64::MAX).is_err() && shows(rt, &pruned, 0, b"1"),
+    );
 }
 
 #[test]

@@ -3,7 +3,7 @@
 ghost use Rattle.std.specs.Prelude.{◌*◌, ◌^◌, ◌<◌};
 
 use crate::answers::holds;
-use crate::asked::ok;
+use crate::asked::{equal, equal_at, expect, expect_at, ok};
 use bitmap_core::bitmap::BitMap;
 use bitmap_core::bitmap::readable::Readable;
 use std::alloc::{AllocError, Global};
@@ -52,10 +52,10 @@ fn difference(alloc: Global, left: &[bool], right: &[bool]) -> Result<Vec<bool>,
 
 // Each bit of a bitmap.
 fn check_bits<const N: usize>(rt: &impl Abort, map: &BitMap<N>, bits: &[bool]) {
-    assert_eq!(rt; map.len(), bits.len() as u64);
+    expect(rt, map.len() == bits.len() as u64);
     for i in 0..bits.len() {
-        assert_eq!(rt; map.get(i as u64), bits[i], "bit {i} in chunks of {N}");
-        assert_eq!(rt; map.get_bit(i as u64), bits[i], "bit {i} in chunks of {N}");
+        equal_at(rt, (i, N), map.get(i as u64), bits[i]);
+        equal_at(rt, (i, N), map.get_bit(i as u64), bits[i]);
     }
 }
 
@@ -66,19 +66,19 @@ fn check_reads<const N: usize>(rt: &impl Abort, alloc: Global, bits: &[bool])
 {
     let map = ok(rt, BitMap::<N>::from_bools(alloc, bits));
     check_bits(rt, &map, bits);
-    assert!(rt; holds(&map, bits, &[]));
-    assert!(rt; ok(rt, map.to_bools()).as_slice() == bits);
-    assert_eq!(rt; map.count_ones(), count(bits, true));
-    assert_eq!(rt; map.count_zeros(), count(bits, false));
+    expect(rt, holds(&map, bits, &[]));
+    expect(rt, ok(rt, map.to_bools()).as_slice() == bits);
+    equal(rt, map.count_ones(), count(bits, true));
+    equal(rt, map.count_zeros(), count(bits, false));
     let positions = ok(rt, positions(alloc, bits, 0, map.len()));
-    assert!(rt; map.ones_iter().eq(positions.iter().copied()));
-    assert!(rt; map == ok(rt, map.clone()));
+    expect(rt, map.ones_iter().eq(positions.iter().copied()));
+    expect(rt, map == ok(rt, map.clone()));
 }
 
 // Pushes each bit.
 fn push_each<const N: usize>(rt: &impl Abort, map: &mut BitMap<N>, bits: &[bool]) {
     for i in 0..bits.len() {
-        assert_eq!(rt; map.len(), i as u64);
+        expect(rt, map.len() == i as u64);
         ok(rt, map.push(bits[i]));
     }
 }
@@ -86,7 +86,7 @@ fn push_each<const N: usize>(rt: &impl Abort, map: &mut BitMap<N>, bits: &[bool]
 // Sets each bit to its opposite.
 fn set_opposites<const N: usize>(rt: &impl Abort, map: &mut BitMap<N>, bits: &[bool]) {
     for i in 0..bits.len() {
-        assert_eq!(rt; map.len(), bits.len() as u64);
+        expect(rt, map.len() == bits.len() as u64);
         map.set(i as u64, !bits[i]);
     }
 }
@@ -94,9 +94,9 @@ fn set_opposites<const N: usize>(rt: &impl Abort, map: &mut BitMap<N>, bits: &[b
 // Flips and pops each bit, from the last on.
 fn pop_each<const N: usize>(rt: &impl Abort, map: &mut BitMap<N>, bits: &[bool]) {
     for i in (0..bits.len()).rev() {
-        assert_eq!(rt; map.len(), i as u64 + 1);
+        expect(rt, map.len() == i as u64 + 1);
         map.flip(i as u64);
-        assert_eq!(rt; map.pop(), !bits[i]);
+        equal(rt, map.pop(), !bits[i]);
     }
 }
 
@@ -108,14 +108,14 @@ fn check_edits<const N: usize>(rt: &impl Abort, alloc: Global, bits: &[bool])
     let whole = ok(rt, BitMap::<N>::from_bools(alloc, bits));
     let mut map = BitMap::<N>::new(alloc);
     push_each(rt, &mut map, bits);
-    assert!(rt; map == whole, "{} bits in chunks of {N}", bits.len());
+    expect_at(rt, (bits.len(), N), map == whole);
     let mut other = ok(rt, BitMap::<N>::zeroes(alloc, bits.len() as u64));
     set_opposites(rt, &mut other, bits);
-    assert_eq!(rt; map == other, bits.is_empty());
+    equal(rt, map == other, bits.is_empty());
     other.flip_all();
-    assert!(rt; map == other);
+    expect(rt, map == other);
     pop_each(rt, &mut map, bits);
-    assert!(rt; map.is_empty());
+    expect(rt, map.is_empty());
 }
 
 // The first bits kept, and zeros appended in place of the others.
@@ -126,14 +126,11 @@ fn check_lengths<const N: usize>(rt: &impl Abort, alloc: Global, bits: &[bool], 
     let mut map = ok(rt, BitMap::<N>::from_bools(alloc, bits));
     if keep <= bits.len() {
         map.truncate(keep as u64);
-        assert!(rt;
-            holds(&map, &bits[..keep], &[]),
-            "{keep} bits in chunks of {N}"
-        );
+        expect_at(rt, (keep, N), holds(&map, &bits[..keep], &[]));
         ok(rt, map.extend_to(bits.len() as u64));
-        assert_eq!(rt; map.len(), bits.len() as u64);
-        assert!(rt; map.is_unset(keep as u64..bits.len() as u64));
-        assert_eq!(rt; map.count_ones(), count(&bits[..keep], true));
+        equal(rt, map.len(), bits.len() as u64);
+        expect(rt, map.is_unset(keep as u64..bits.len() as u64));
+        equal(rt, map.count_ones(), count(&bits[..keep], true));
     }
 }
 
@@ -152,7 +149,7 @@ fn join_in_place<const N: usize>(
     other: &BitMap<N>,
     how: Join,
 ) {
-    assert_eq!(rt; map.len(), other.len());
+    expect(rt, map.len() == other.len());
     match how {
         Join::And => map.and(other),
         Join::Or => map.or(other),
@@ -165,15 +162,18 @@ fn check_operators<const N: usize>(rt: &impl Abort, alloc: Global, left: &[bool]
     requires positive { 0 < N }
     requires fits { 8 * N < 2 ^ 64 }
 {
-    assert_eq!(rt; left.len(), right.len());
+    expect(rt, left.len() == right.len());
     let map = ok(rt, BitMap::<N>::from_bools(alloc, left));
     let other = ok(rt, BitMap::<N>::from_bools(alloc, right));
     let both = ok(rt, both(alloc, left, right));
-    assert!(rt; holds(&ok(rt, &map & &other), both.as_slice(), &[]));
+    expect(rt, holds(&ok(rt, &map & &other), both.as_slice(), &[]));
     let either = ok(rt, either(alloc, left, right));
-    assert!(rt; holds(&ok(rt, &map | &other), either.as_slice(), &[]));
+    expect(rt, holds(&ok(rt, &map | &other), either.as_slice(), &[]));
     let difference = ok(rt, difference(alloc, left, right));
-    assert!(rt; holds(&ok(rt, &map ^ &other), difference.as_slice(), &[]));
+    expect(
+        rt,
+        holds(&ok(rt, &map ^ &other), difference.as_slice(), &[]),
+    );
 }
 
 // The joins in place.
@@ -184,11 +184,14 @@ fn check_joins<const N: usize>(rt: &impl Abort, alloc: Global, left: &[bool], ri
     let mut map = ok(rt, BitMap::<N>::from_bools(alloc, left));
     let other = ok(rt, BitMap::<N>::from_bools(alloc, right));
     join_in_place(rt, &mut map, &other, Join::Xor);
-    assert!(rt; holds(&map, &ok(rt, difference(alloc, left, right)), &[]));
+    expect(
+        rt,
+        holds(&map, &ok(rt, difference(alloc, left, right)), &[]),
+    );
     join_in_place(rt, &mut map, &other, Join::Or);
-    assert!(rt; holds(&map, &ok(rt, either(alloc, left, right)), &[]));
+    expect(rt, holds(&map, &ok(rt, either(alloc, left, right)), &[]));
     join_in_place(rt, &mut map, &other, Join::And);
-    assert!(rt; map == other);
+    expect(rt, map == other);
 }
 
 // The set positions of a range, and whether it has none.
@@ -200,19 +203,16 @@ fn check_ranges<const N: usize>(rt: &impl Abort, alloc: Global, bits: &[bool], s
     let positions = ok(rt, positions(alloc, bits, start, end));
     let mut ones = map.ones_iter_range(start..end);
     for position in &positions {
-        assert_eq!(rt;
-            ones.next(),
-            Some(*position),
-            "{start}..{end} in chunks of {N}"
-        );
+        equal_at(rt, (start, end, N), ones.next(), Some(*position));
     }
-    assert_eq!(rt; ones.next(), None, "{start}..{end} in chunks of {N}");
-    assert_eq!(rt; ones.next(), None);
+    equal_at(rt, (start, end, N), ones.next(), None);
+    equal(rt, ones.next(), None);
     if end <= map.len() {
-        assert_eq!(rt;
+        equal_at(
+            rt,
+            (start, end, N),
             map.is_unset(start..end),
             positions.is_empty(),
-            "{start}..{end} in chunks of {N}"
         );
     }
 }
@@ -222,7 +222,7 @@ fn check_width<const N: usize>(rt: &impl Abort, alloc: Global)
     requires positive { 0 < N }
     requires fits { 8 * N < 2 ^ 64 }
 {
-    assert!(rt; N <= 64);
+    expect(rt, N <= 64);
     let width = 8 * N as u64;
     let ends = [
         0,
@@ -267,7 +267,7 @@ fn check_extending<const N: usize, const M: usize>(rt: &impl Abort, alloc: Globa
     requires other_positive { 0 < M }
     requires other_fits { 8 * M < 2 ^ 64 }
 {
-    assert!(rt; N <= 64);
+    expect(rt, N <= 64);
     let width = 8 * N as u64;
     for len in 0..width + 2 {
         let first = ok(rt, bits(alloc, len, len, 1));
@@ -275,11 +275,12 @@ fn check_extending<const N: usize, const M: usize>(rt: &impl Abort, alloc: Globa
             let then = ok(rt, bits(alloc, more, !len, 1));
             let mut map = ok(rt, BitMap::<N>::from_bools(alloc, first.as_slice()));
             let other = ok(rt, BitMap::<M>::from_bools(alloc, then.as_slice()));
-            assert!(rt; map.len() < 1000 && other.len() < 3000);
+            expect(rt, map.len() < 1000 && other.len() < 3000);
             ok(rt, map.extend_from_bitmap(&other));
-            assert!(rt;
+            expect_at(
+                rt,
+                (len, N, more, M),
                 holds(&map, first.as_slice(), then.as_slice()),
-                "{len} bits in chunks of {N}, {more} more from chunks of {M}"
             );
         }
     }

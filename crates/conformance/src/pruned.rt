@@ -3,9 +3,9 @@
 ghost use Rattle.std.specs.Prelude.{◌*◌, ◌^◌, ◌<◌};
 
 use crate::asked::{
-    chunk_at, extend_from_bitmap, get_bit, get_chunk, last_chunk, of_chunks, ok, pop, pop_chunk,
-    prune_to_bit, push, push_byte, push_chunk, push_digits, set_bit, set_full_chunk, shows,
-    truncate, unprune,
+    chunk_at, equal, equal_at, expect, expect_at, extend_from_bitmap, get_bit, get_chunk,
+    last_chunk, of_chunks, ok, pop, pop_chunk, prune_to_bit, push, push_byte, push_chunk,
+    push_digits, set_bit, set_full_chunk, shows, truncate, unprune,
 };
 use bitmap_core::bitmap::BitMap;
 use bitmap_core::bitmap::prunable::{Error, Prunable};
@@ -42,32 +42,39 @@ fn check_edits<const N: usize>(rt: &impl Abort, alloc: Global)
     requires positive { 0 < N }
     requires fits { 8 * N < 2 ^ 64 }
 {
-    assert!(rt; N <= 64);
+    expect(rt, N <= 64);
     let width = 8 * N as u64;
-    assert_eq!(rt; Prunable::<N>::CHUNK_SIZE_BITS, width);
+    equal(rt, Prunable::<N>::CHUNK_SIZE_BITS, width);
     let mut map = of_chunks(rt, alloc, &[[0xff; N], [0; N]]);
     prune_to_bit(rt, &mut map, width);
     push(rt, &mut map, true);
     push(rt, &mut map, false);
     set_bit(rt, &mut map, width, true);
     set_bit(rt, &mut map, 2 * width + 1, true);
-    assert!(rt; counts(&map) == (2 * width + 2, width, 3, 1, 2));
-    assert!(rt; get_bit(rt, &map, width) && !get_bit(rt, &map, width + 1));
+    expect(rt, counts(&map) == (2 * width + 2, width, 3, 1, 2));
+    expect(rt, get_bit(rt, &map, width));
+    expect(rt, !get_bit(rt, &map, width + 1));
     let (last, used) = last_chunk(rt, &map);
-    assert!(rt; last[0] == 3 && used == 2);
-    assert!(rt; get_chunk(rt, &map, 2) == last && chunk_at(rt, &map, 2 * width + 1) == last);
-    assert!(rt; Prunable::<N>::get_bit_from_chunk(&last, 2 * width + 1));
-    assert!(rt; same(rt, &ok(rt, map.clone()), &map));
-    assert!(rt; pop(rt, &mut map) && pop(rt, &mut map));
+    expect(rt, last[0] == 3 && used == 2);
+    expect(
+        rt,
+        get_chunk(rt, &map, 2) == last && chunk_at(rt, &map, 2 * width + 1) == last,
+    );
+    expect(rt, Prunable::<N>::get_bit_from_chunk(&last, 2 * width + 1));
+    expect(rt, same(rt, &ok(rt, map.clone()), &map));
+    expect(rt, pop(rt, &mut map) && pop(rt, &mut map));
     push_byte(rt, &mut map, 0xa5);
     ok(rt, map.extend_to(3 * width));
     ok(rt, map.extend_to(width));
     let (last, used) = last_chunk(rt, &map);
-    assert!(rt; last[0] == 0xa5 && used == width && map.is_chunk_aligned());
+    expect(
+        rt,
+        last[0] == 0xa5 && used == width && map.is_chunk_aligned(),
+    );
     set_full_chunk(rt, &mut map, 1, &[0x5a; N]);
-    assert!(rt; pop_chunk(rt, &mut map) == last);
+    expect(rt, pop_chunk(rt, &mut map) == last);
     truncate(rt, &mut map, width + 2);
-    assert!(rt; shows(rt, &map, 1, b"01"));
+    expect(rt, shows(rt, &map, 1, b"01"));
 }
 
 // Pruned chunks put back.
@@ -75,19 +82,25 @@ fn check_put_back<const N: usize>(rt: &impl Abort, alloc: Global)
     requires positive { 0 < N }
     requires fits { 8 * N < 2 ^ 64 }
 {
-    assert!(rt; N <= 64);
+    expect(rt, N <= 64);
     let width = 8 * N as u64;
     let chunks = [[1; N], [2; N], [3; N]];
     let whole = of_chunks(rt, alloc, &chunks);
     let mut map = ok(rt, whole.clone());
     prune_to_bit(rt, &mut map, 3 * width);
-    assert!(rt; counts(&map) == (3 * width, 3 * width, 3, 3, 3) && !map.is_empty());
+    expect(
+        rt,
+        counts(&map) == (3 * width, 3 * width, 3, 3, 3) && !map.is_empty(),
+    );
     unprune(rt, &mut map, &[]);
-    assert_eq!(rt; map.pruned_chunks(), 3);
+    equal(rt, map.pruned_chunks(), 3);
     unprune(rt, &mut map, &[[2; N], [3; N]]);
-    assert!(rt; map.pruned_chunks() == 1 && get_chunk(rt, &map, 1) == [2; N]);
+    expect(
+        rt,
+        map.pruned_chunks() == 1 && get_chunk(rt, &map, 1) == [2; N],
+    );
     unprune(rt, &mut map, &[[1; N]]);
-    assert!(rt; same(rt, &map, &whole));
+    expect(rt, same(rt, &map, &whole));
 }
 
 // A front that is moved up to a chunk, and behind bits that were appended.
@@ -95,14 +108,17 @@ fn check_fronts<const N: usize>(rt: &impl Abort, alloc: Global)
     requires positive { 0 < N }
     requires fits { 8 * N < 2 ^ 64 }
 {
-    assert!(rt; N <= 64);
+    expect(rt, N <= 64);
     let width = 8 * N as u64;
     let mut map = of_chunks(rt, alloc, &[[1; N], [2; N], [3; N]]);
     prune_to_bit(rt, &mut map, 3 * width - 1);
-    assert!(rt; map.pruned_chunks() == 2 && get_chunk(rt, &map, 2) == [3; N]);
+    expect(
+        rt,
+        map.pruned_chunks() == 2 && get_chunk(rt, &map, 2) == [3; N],
+    );
     extend_from_bitmap(rt, &mut map, &ok(rt, BitMap::<3>::ones(alloc, 11)));
     prune_to_bit(rt, &mut map, 3 * width);
-    assert!(rt; shows(rt, &map, 3, b"11111111111"));
+    expect(rt, shows(rt, &map, 3, b"11111111111"));
 }
 
 // The places of a position, and the bitmaps of no bits.
@@ -110,11 +126,14 @@ fn check_places<const N: usize>(rt: &impl Abort, alloc: Global)
     requires positive { 0 < N }
     requires fits { 8 * N < 2 ^ 64 }
 {
-    assert!(rt; N <= 64);
+    expect(rt, N <= 64);
     let last = 16 * N as u64 - 1;
-    assert_eq!(rt; Prunable::<N>::to_chunk_index(last), 1);
-    assert_eq!(rt; Prunable::<N>::chunk_byte_offset(last), N - 1);
-    assert!(rt; Prunable::<N>::new(alloc).is_empty() && Prunable::<N>::default(alloc).is_empty());
+    equal(rt, Prunable::<N>::to_chunk_index(last), 1);
+    equal(rt, Prunable::<N>::chunk_byte_offset(last), N - 1);
+    expect(
+        rt,
+        Prunable::<N>::new(alloc).is_empty() && Prunable::<N>::default(alloc).is_empty(),
+    );
 }
 
 // All of these at one width.
@@ -142,17 +161,21 @@ fn each_call_at_each_width(rt: HostRuntime) {
 #[test]
 fn chunks_pruned_from_the_start(rt: HostRuntime) {
     let map = ok(&rt, Prunable::<2>::new_with_pruned_chunks(rt.alloc(), 1));
-    assert_eq!(rt; counts(&map), (16, 16, 1, 1, 1));
-    assert!(rt; map.is_chunk_aligned() && !map.is_empty());
+    equal(&rt, counts(&map), (16, 16, 1, 1, 1));
+    expect(&rt, map.is_chunk_aligned() && !map.is_empty());
     let refused = Prunable::<4>::new_with_pruned_chunks(rt.alloc(), 576460752303423488);
-    assert!(rt; refused.is_err_and(|why| why == Error::PrunedChunksOverflow));
-    assert_eq!(rt;
+    expect(
+        &rt,
+        refused.is_err_and(|why| why == Error::PrunedChunksOverflow),
+    );
+    equal(
+        &rt,
         ok(
             &rt,
-            format!(in rt.alloc(); "{}", Error::PrunedChunksOverflow)
+            format!(in rt.alloc(); "{}", Error::PrunedChunksOverflow),
         )
         .as_str(),
-        "pruned_chunks * CHUNK_SIZE_BITS overflows u64"
+        "pruned_chunks * CHUNK_SIZE_BITS overflows u64",
     );
 }
 
@@ -162,14 +185,15 @@ fn ends_of_the_positions(rt: HostRuntime) {
         &rt,
         Prunable::<8>::new_with_pruned_chunks(rt.alloc(), 288230376151711743),
     );
-    assert_eq!(rt; map.pruned_bits(), 18446744073709551552);
+    equal(&rt, map.pruned_bits(), 18446744073709551552);
     ok(&rt, map.extend_to(u64::MAX));
     set_bit(&rt, &mut map, u64::MAX - 1, true);
     let first = map.pruned_bits();
-    assert_eq!(rt; map.ones_iter_range(first..u64::MAX - 1).next(), None);
-    assert_eq!(rt;
+    equal(&rt, map.ones_iter_range(first..u64::MAX - 1).next(), None);
+    equal(
+        &rt,
         map.ones_iter_range(first..u64::MAX).next(),
-        Some(18446744073709551614)
+        Some(18446744073709551614),
     );
 }
 
@@ -177,21 +201,21 @@ fn ends_of_the_positions(rt: HostRuntime) {
 fn three_chunks(rt: HostRuntime) {
     let chunks = [[1, 2, 3, 4], [5, 6, 7, 8], [9, 10, 11, 12]];
     let mut map = of_chunks(&rt, rt.alloc(), &chunks);
-    assert_eq!(rt; get_chunk(&rt, &map, 0), [1, 2, 3, 4]);
+    equal(&rt, get_chunk(&rt, &map, 0), [1, 2, 3, 4]);
     prune_to_bit(&rt, &mut map, 32);
-    assert_eq!(rt; counts(&map), (96, 32, 3, 1, 3));
-    assert_eq!(rt; chunk_at(&rt, &map, 32), [5, 6, 7, 8]);
-    assert_eq!(rt; chunk_at(&rt, &map, 64), [9, 10, 11, 12]);
-    assert_eq!(rt; get_chunk(&rt, &map, 1), [5, 6, 7, 8]);
-    assert_eq!(rt; get_chunk(&rt, &map, 2), [9, 10, 11, 12]);
+    equal(&rt, counts(&map), (96, 32, 3, 1, 3));
+    equal(&rt, chunk_at(&rt, &map, 32), [5, 6, 7, 8]);
+    equal(&rt, chunk_at(&rt, &map, 64), [9, 10, 11, 12]);
+    equal(&rt, get_chunk(&rt, &map, 1), [5, 6, 7, 8]);
+    equal(&rt, get_chunk(&rt, &map, 2), [9, 10, 11, 12]);
     prune_to_bit(&rt, &mut map, 64);
-    assert_eq!(rt; counts(&map), (96, 64, 3, 2, 3));
-    assert_eq!(rt; chunk_at(&rt, &map, 95), [9, 10, 11, 12]);
+    equal(&rt, counts(&map), (96, 64, 3, 2, 3));
+    equal(&rt, chunk_at(&rt, &map, 95), [9, 10, 11, 12]);
     push_chunk(&rt, &mut map, &[13, 14, 15, 16]);
-    assert_eq!(rt; counts(&map), (128, 64, 4, 2, 4));
-    assert_eq!(rt; pop_chunk(&rt, &mut map), [13, 14, 15, 16]);
-    assert_eq!(rt; pop_chunk(&rt, &mut map), [9, 10, 11, 12]);
-    assert_eq!(rt; counts(&map), (64, 64, 2, 2, 2));
+    equal(&rt, counts(&map), (128, 64, 4, 2, 4));
+    equal(&rt, pop_chunk(&rt, &mut map), [13, 14, 15, 16]);
+    equal(&rt, pop_chunk(&rt, &mut map), [9, 10, 11, 12]);
+    equal(&rt, counts(&map), (64, 64, 2, 2, 2));
 }
 
 #[test]
@@ -202,11 +226,14 @@ fn chunks_popped(rt: HostRuntime) {
         [0x99, 0xaa, 0xbb, 0xcc],
     ];
     let mut map = of_chunks(&rt, rt.alloc(), &chunks);
-    assert_eq!(rt; pop_chunk(&rt, &mut map), [0x99, 0xaa, 0xbb, 0xcc]);
-    assert_eq!(rt; pop_chunk(&rt, &mut map), [0x55, 0x66, 0x77, 0x88]);
-    assert!(rt; shows(&rt, &map, 0, b"10001000010001001100110000100010"));
-    assert_eq!(rt; pop_chunk(&rt, &mut map), [0x11, 0x22, 0x33, 0x44]);
-    assert!(rt; map.is_empty());
+    equal(&rt, pop_chunk(&rt, &mut map), [0x99, 0xaa, 0xbb, 0xcc]);
+    equal(&rt, pop_chunk(&rt, &mut map), [0x55, 0x66, 0x77, 0x88]);
+    expect(
+        &rt,
+        shows(&rt, &map, 0, b"10001000010001001100110000100010"),
+    );
+    equal(&rt, pop_chunk(&rt, &mut map), [0x11, 0x22, 0x33, 0x44]);
+    expect(&rt, map.is_empty());
 }
 
 #[test]
@@ -214,29 +241,32 @@ fn pruned_again(rt: HostRuntime) {
     let mut map = of_chunks(&rt, rt.alloc(), &[[1, 2, 3, 4], [5, 6, 7, 8]]);
     for (bit, want) in [(31, 0), (32, 1), (32, 1), (16, 1), (0, 1), (63, 1), (64, 2)] {
         prune_to_bit(&rt, &mut map, bit);
-        assert_eq!(rt; map.pruned_chunks(), want, "pruned to {bit}");
+        equal_at(&rt, bit, map.pruned_chunks(), want);
     }
-    assert_eq!(rt; counts(&map), (64, 64, 2, 2, 2));
-    assert!(rt; !map.is_empty() && map.is_chunk_aligned());
+    equal(&rt, counts(&map), (64, 64, 2, 2, 2));
+    expect(&rt, !map.is_empty() && map.is_chunk_aligned());
 }
 
 #[test]
 fn partial_last_chunks(rt: HostRuntime) {
     let mut map = of_chunks(&rt, rt.alloc(), &[[0xff; 4], [0xaa; 4]]);
     push_digits(&rt, &mut map, b"101");
-    assert_eq!(rt; last_chunk(&rt, &map), ([5, 0, 0, 0], 3));
+    equal(&rt, last_chunk(&rt, &map), ([5, 0, 0, 0], 3));
     prune_to_bit(&rt, &mut map, 32);
-    assert_eq!(rt; counts(&map), (67, 32, 3, 1, 2));
-    assert_eq!(rt; last_chunk(&rt, &map), ([5, 0, 0, 0], 3));
-    assert!(rt; shows(&rt, &map, 1, b"01010101010101010101010101010101101"));
-    assert!(rt; !map.is_chunk_aligned());
+    equal(&rt, counts(&map), (67, 32, 3, 1, 2));
+    equal(&rt, last_chunk(&rt, &map), ([5, 0, 0, 0], 3));
+    expect(
+        &rt,
+        shows(&rt, &map, 1, b"01010101010101010101010101010101101"),
+    );
+    expect(&rt, !map.is_chunk_aligned());
     truncate(&rt, &mut map, 64);
-    assert_eq!(rt; last_chunk(&rt, &map), ([0xaa; 4], 32));
-    assert!(rt; map.is_chunk_aligned());
+    equal(&rt, last_chunk(&rt, &map), ([0xaa; 4], 32));
+    expect(&rt, map.is_chunk_aligned());
     truncate(&rt, &mut map, 35);
-    assert!(rt; shows(&rt, &map, 1, b"010"));
+    expect(&rt, shows(&rt, &map, 1, b"010"));
     truncate(&rt, &mut map, 32);
-    assert!(rt; shows(&rt, &map, 1, b""));
+    expect(&rt, shows(&rt, &map, 1, b""));
 }
 
 #[test]
@@ -254,9 +284,9 @@ fn places_of_positions(rt: HostRuntime) {
         (64, 2, 0, 1),
         (u64::MAX, 576460752303423487, 3, 128),
     ] {
-        assert_eq!(rt; Prunable::<4>::to_chunk_index(bit), chunk, "at {bit}");
-        assert_eq!(rt; Prunable::<4>::chunk_byte_offset(bit), byte, "at {bit}");
-        assert_eq!(rt; Prunable::<4>::chunk_byte_bitmask(bit), mask, "at {bit}");
+        equal_at(&rt, bit, Prunable::<4>::to_chunk_index(bit), chunk);
+        equal_at(&rt, bit, Prunable::<4>::chunk_byte_offset(bit), byte);
+        equal_at(&rt, bit, Prunable::<4>::chunk_byte_bitmask(bit), mask);
     }
     let chunk = [0b10101010, 0b11001100, 0b11110000, 0b00001111];
     for (bit, want) in [
@@ -267,10 +297,11 @@ fn places_of_positions(rt: HostRuntime) {
         (10, true),
         (43, true),
     ] {
-        assert_eq!(rt;
+        equal_at(
+            &rt,
+            bit,
             Prunable::<4>::get_bit_from_chunk(&chunk, bit),
             want,
-            "at {bit}"
         );
     }
 }
@@ -278,7 +309,7 @@ fn places_of_positions(rt: HostRuntime) {
 // Replaces the last chunk of 35 bits by one with all three of its bits.
 #[tactic(auto, using(crate::proofs::ShownBits::zero_past_three))]
 fn set_three_bits(rt: &impl Abort, map: &mut Prunable<4>) {
-    assert!(rt; map.pruned_chunks() <= 1 && map.len() == 35);
+    expect(rt, map.pruned_chunks() <= 1 && map.len() == 35);
     map.set_chunk_by_index(1, &[7, 0, 0, 0]);
 }
 
@@ -287,39 +318,45 @@ fn chunks_replaced(rt: HostRuntime) {
     let mut map = Prunable::<4>::new(rt.alloc());
     ok(&rt, map.extend_to(35));
     set_three_bits(&rt, &mut map);
-    assert_eq!(rt; get_chunk(&rt, &map, 1), [7, 0, 0, 0]);
-    assert_eq!(rt; last_chunk(&rt, &map), ([7, 0, 0, 0], 3));
+    equal(&rt, get_chunk(&rt, &map, 1), [7, 0, 0, 0]);
+    equal(&rt, last_chunk(&rt, &map), ([7, 0, 0, 0], 3));
     set_full_chunk(&rt, &mut map, 0, &[0xff; 4]);
-    assert!(rt; map.ones_iter_from(0).eq(0..35));
+    expect(&rt, map.ones_iter_from(0).eq(0..35));
     prune_to_bit(&rt, &mut map, 34);
-    assert!(rt; shows(&rt, &map, 1, b"111"));
+    expect(&rt, shows(&rt, &map, 1, b"111"));
     ok(&rt, map.extend_to(64));
     set_full_chunk(&rt, &mut map, 1, &[0, 0xff, 0, 0]);
-    assert!(rt; shows(&rt, &map, 1, b"00000000111111110000000000000000"));
+    expect(
+        &rt,
+        shows(&rt, &map, 1, b"00000000111111110000000000000000"),
+    );
 }
 
 #[test]
 fn bits_pushed_and_popped(rt: HostRuntime) {
     let mut map = Prunable::<4>::new(rt.alloc());
     push_digits(&rt, &mut map, b"101");
-    assert!(rt; shows(&rt, &map, 0, b"101"));
+    expect(&rt, shows(&rt, &map, 0, b"101"));
     set_bit(&rt, &mut map, 1, true);
-    assert!(rt; shows(&rt, &map, 0, b"111"));
+    expect(&rt, shows(&rt, &map, 0, b"111"));
     set_bit(&rt, &mut map, 1, false);
-    assert!(rt; pop(&rt, &mut map) && !pop(&rt, &mut map) && pop(&rt, &mut map));
-    assert!(rt; map.is_empty());
+    expect(
+        &rt,
+        pop(&rt, &mut map) && !pop(&rt, &mut map) && pop(&rt, &mut map),
+    );
+    expect(&rt, map.is_empty());
     for i in 0..100 {
         push(&rt, &mut map, i % 3 == 0);
-        assert_eq!(rt; map.is_chunk_aligned(), i % 32 == 31, "at {i}");
+        equal_at(&rt, i, map.is_chunk_aligned(), i % 32 == 31);
     }
     prune_to_bit(&rt, &mut map, 40);
     for i in (32..100).rev() {
-        assert_eq!(rt; pop(&rt, &mut map), i % 3 == 0, "at {i}");
-        assert_eq!(rt; map.len(), i);
+        equal_at(&rt, i, pop(&rt, &mut map), i % 3 == 0);
+        equal(&rt, map.len(), i);
     }
     push_byte(&rt, &mut map, 0xff);
     push_byte(&rt, &mut map, 0x01);
-    assert!(rt; shows(&rt, &map, 1, b"1111111110000000"));
+    expect(&rt, shows(&rt, &map, 1, b"1111111110000000"));
 }
 
 #[test]
@@ -328,21 +365,21 @@ fn zeros_appended(rt: HostRuntime) {
     push_digits(&rt, &mut map, b"101010101010101010101010101010");
     for (len, want) in [(5, 30), (30, 30), (65, 65)] {
         ok(&rt, map.extend_to(len));
-        assert_eq!(rt; map.len(), want, "extended to {len}");
+        equal_at(&rt, len, map.len(), want);
     }
-    assert!(rt; map.ones_iter_from(0).eq((0..30).step_by(2)));
+    expect(&rt, map.ones_iter_from(0).eq((0..30).step_by(2)));
     prune_to_bit(&rt, &mut map, 32);
     ok(&rt, map.extend_to(31));
     ok(&rt, map.extend_to(100));
-    assert_eq!(rt; counts(&map), (100, 32, 4, 1, 3));
-    assert_eq!(rt; map.ones_iter_from(0).next(), None);
+    equal(&rt, counts(&map), (100, 32, 4, 1, 3));
+    equal(&rt, map.ones_iter_from(0).next(), None);
 }
 
 #[test]
 fn a_bitmap_appended_or_pushed(rt: HostRuntime) {
     let mut source = ok(&rt, BitMap::<8>::zeroes(rt.alloc(), 1000));
     for i in 0..1000 {
-        assert!(rt; i < source.len());
+        expect(&rt, i < source.len());
         source.set(i, i % 3 == 0 || i % 7 == 0);
     }
     for floor in [128, 129, 191, 255, 256, 300] {
@@ -353,7 +390,7 @@ fn a_bitmap_appended_or_pushed(rt: HostRuntime) {
         for bit in source.iter() {
             push(&rt, &mut other, bit);
         }
-        assert_eq!(rt; map.len(), floor + 1000);
-        assert!(rt; same(&rt, &map, &other), "from {floor}");
+        equal(&rt, map.len(), floor + 1000);
+        expect_at(&rt, floor, same(&rt, &map, &other));
     }
 }

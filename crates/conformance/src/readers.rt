@@ -2,7 +2,7 @@
 
 ghost use Rattle.std.specs.Prelude.{◌≡◌, ◌*◌, ◌^◌, ◌<◌, true};
 
-use crate::asked::{extend_from_bitmap, ok, prune_to_bit, push, set_bit};
+use crate::asked::{equal, expect, expect_at, extend_from_bitmap, ok, prune_to_bit, push, set_bit};
 use bitmap_core::bitmap::BitMap;
 use bitmap_core::bitmap::prunable::Prunable;
 use bitmap_core::bitmap::readable::Readable;
@@ -119,31 +119,31 @@ impl Readable<9> for Counting {
 fn bits_past_the_length_are_not_read(rt: HostRuntime) {
     let mut ones = Five.ones_iter_from(0);
     for want in [Some(0), Some(1), Some(2), Some(3), Some(4), None, None] {
-        assert_eq!(rt; ones.next(), want);
+        equal(&rt, ones.next(), want);
     }
     let map = Counting::new(70);
-    assert!(rt; map.ones_iter_range(64..u64::MAX).eq(64..70));
+    expect(&rt, map.ones_iter_range(64..u64::MAX).eq(64..70));
 }
 
 #[test]
 fn positions_up_to_the_greatest(rt: HostRuntime) {
     let mut ones = Top.ones_iter_from(0);
     for want in 18446744073709551608..18446744073709551615 {
-        assert_eq!(rt; ones.next(), Some(want));
+        equal(&rt, ones.next(), Some(want));
     }
-    assert_eq!(rt; ones.next(), None);
-    assert_eq!(rt; ones.next(), None);
-    assert!(rt; Top.get_bit(18446744073709551614) && !Top.is_empty());
-    assert_eq!(rt; Top.pruned_bits(), 18446744073709551608);
+    equal(&rt, ones.next(), None);
+    equal(&rt, ones.next(), None);
+    expect(&rt, Top.get_bit(18446744073709551614) && !Top.is_empty());
+    equal(&rt, Top.pruned_bits(), 18446744073709551608);
 }
 
 #[test]
 fn few_questions(rt: HostRuntime) {
     for (start, end, chunk_calls) in [(0, 144, 2), (64, 72, 1), (72, 73, 1), (5, 5, 0)] {
         let map = Counting::new(144);
-        assert!(rt; map.ones_iter_range(start..end).eq(start..end));
-        assert!(rt; map.chunk_calls.get() <= chunk_calls, "{start}..{end}");
-        assert!(rt; map.len_calls.get() <= 1, "{start}..{end}");
+        expect(&rt, map.ones_iter_range(start..end).eq(start..end));
+        expect_at(&rt, (start, end), map.chunk_calls.get() <= chunk_calls);
+        expect_at(&rt, (start, end), map.len_calls.get() <= 1);
     }
 }
 
@@ -151,11 +151,14 @@ fn few_questions(rt: HostRuntime) {
 fn where_words_meet_chunks(rt: HostRuntime) {
     let mut map = ok(&rt, BitMap::<9>::zeroes(rt.alloc(), 144));
     for position in [63, 64, 71, 72] {
-        assert!(rt; position < map.len());
+        expect(&rt, position < map.len());
         map.set(position, true);
     }
-    assert!(rt; map.ones_iter().eq([63, 64, 71, 72].iter().copied()));
-    assert!(rt; map.ones_iter_range(64..72).eq([64, 71].iter().copied()));
+    expect(&rt, map.ones_iter().eq([63, 64, 71, 72].iter().copied()));
+    expect(
+        &rt,
+        map.ones_iter_range(64..72).eq([64, 71].iter().copied()),
+    );
 }
 
 #[test]
@@ -164,35 +167,39 @@ fn positions_behind_a_pruned_front(rt: HostRuntime) {
     let ones = ok(&rt, BitMap::<4>::ones(rt.alloc(), 64));
     ok(&rt, map.extend_from_bitmap(&ones));
     prune_to_bit(&rt, &mut map, 32);
-    assert!(rt; map.ones_iter_from(0).eq(32..64));
+    expect(&rt, map.ones_iter_from(0).eq(32..64));
     let mut sparse = Prunable::<4>::new(rt.alloc());
     ok(&rt, sparse.extend_to(96));
-    assert!(rt; sparse.pruned_bits() == 0 && sparse.len() == 96);
+    expect(&rt, sparse.pruned_bits() == 0 && sparse.len() == 96);
     for position in [40, 55, 64, 90] {
         set_bit(&rt, &mut sparse, position, true);
     }
     prune_to_bit(&rt, &mut sparse, 32);
-    assert!(rt;
+    expect(
+        &rt,
         sparse
             .ones_iter_from(32)
-            .eq([40, 55, 64, 90].iter().copied())
+            .eq([40, 55, 64, 90].iter().copied()),
     );
-    assert!(rt; sparse.ones_iter_from(50).eq([55, 64, 90].iter().copied()));
-    assert_eq!(rt; sparse.ones_iter_from(91).next(), None);
+    expect(
+        &rt,
+        sparse.ones_iter_from(50).eq([55, 64, 90].iter().copied()),
+    );
+    equal(&rt, sparse.ones_iter_from(91).next(), None);
 }
 
 #[test]
 fn positions_in_the_last_chunk(rt: HostRuntime) {
     let made = Prunable::<8>::new_with_pruned_chunks(rt.alloc(), 288230376151711743);
-    assert!(rt; made.is_ok());
+    expect(&rt, made.is_ok());
     if let Ok(mut map) = made {
-        assert_eq!(rt; map.ones_iter_from(0).next(), None);
-        assert_eq!(rt; map.len(), 18446744073709551552);
+        equal(&rt, map.ones_iter_from(0).next(), None);
+        equal(&rt, map.len(), 18446744073709551552);
         for i in 0..32 {
             push(&rt, &mut map, i == 0 || i == 31);
         }
         let want = [18446744073709551552, 18446744073709551583];
-        assert!(rt; map.ones_iter_from(0).eq(want.iter().copied()));
+        expect(&rt, map.ones_iter_from(0).eq(want.iter().copied()));
     }
 }
 
@@ -216,12 +223,12 @@ fn check_ranges<const N: usize>(rt: &impl Abort, alloc: Global, stride: usize)
     requires positive { 0 < N }
     requires fits { 8 * N < 2 ^ 64 }
 {
-    assert!(rt; N <= 64 && stride > 0);
+    expect(rt, N <= 64 && stride > 0);
     let width = 8 * N as u64;
     let len = 2 * width + 2;
     let mut dense = BitMap::<N>::new(alloc);
     for i in 0..len {
-        assert!(rt; dense.len() < len);
+        expect(rt, dense.len() < len);
         ok(rt, dense.push(i * i % 11 < 4));
     }
     let mut pruned = Prunable::<N>::new(alloc);
@@ -229,14 +236,8 @@ fn check_ranges<const N: usize>(rt: &impl Abort, alloc: Global, stride: usize)
     prune_to_bit(rt, &mut pruned, width);
     for start in (0..len + 3).step_by(stride) {
         for end in (0..len + 3).step_by(stride) {
-            assert!(rt;
-                agrees(&dense, start, end),
-                "{start}..{end} in chunks of {N}"
-            );
-            assert!(rt;
-                agrees(&pruned, start, end),
-                "{start}..{end} in chunks of {N}"
-            );
+            expect_at(rt, (start, end, N), agrees(&dense, start, end));
+            expect_at(rt, (start, end, N), agrees(&pruned, start, end));
         }
     }
 }

@@ -8,6 +8,7 @@ mod no_memory;
 mod pruned;
 
 use crate::answers::holds;
+use crate::asked::{equal, equal_at, expect, expect_at};
 use bitmap_core::bitmap::BitMap;
 use std::process::Abort;
 
@@ -25,40 +26,40 @@ const OTHERS: [bool; 16] = [
 
 // Uses a bitmap that begins with `BITS` by calls that take no memory.
 fn use_further<const N: usize>(rt: &impl Abort, map: &mut BitMap<N>) {
-    assert!(rt; map.len() >= 16);
+    expect(rt, map.len() >= 16);
     map.truncate(4);
     map.flip(0);
     map.set(1, true);
-    assert!(rt; map.pop());
-    assert!(rt; map.push(false).is_ok());
-    assert!(rt; holds(map, &[false, true, true, false], &[]));
+    expect(rt, map.pop());
+    expect(rt, map.push(false).is_ok());
+    expect(rt, holds(map, &[false, true, true, false], &[]));
 }
 
 #[test]
 fn with_capacity(rt: HostRuntime) {
     if let Ok(map) = BitMap::<3>::with_capacity(rt.alloc(), 1000) {
-        assert!(rt; map.is_empty());
+        expect(&rt, map.is_empty());
     }
 }
 
 #[test]
 fn zeroes(rt: HostRuntime) {
     if let Ok(map) = BitMap::<3>::zeroes(rt.alloc(), 1000) {
-        assert!(rt; holds(&map, &[false; 1000], &[]));
+        expect(&rt, holds(&map, &[false; 1000], &[]));
     }
 }
 
 #[test]
 fn ones(rt: HostRuntime) {
     if let Ok(map) = BitMap::<3>::ones(rt.alloc(), 1000) {
-        assert!(rt; holds(&map, &[true; 1000], &[]));
+        expect(&rt, holds(&map, &[true; 1000], &[]));
     }
 }
 
 #[test]
 fn from_bools(rt: HostRuntime) {
     if let Ok(map) = BitMap::<1>::from_bools(rt.alloc(), &BITS) {
-        assert!(rt; holds(&map, &BITS, &[]));
+        expect(&rt, holds(&map, &BITS, &[]));
     }
 }
 
@@ -68,9 +69,9 @@ fn to_bools(rt: HostRuntime) {
         return;
     };
     if let Ok(bools) = map.to_bools() {
-        assert!(rt; bools.as_slice() == BITS.as_slice());
+        expect(&rt, bools.as_slice() == BITS.as_slice());
     }
-    assert!(rt; holds(&map, &BITS, &[]));
+    expect(&rt, holds(&map, &BITS, &[]));
     use_further(&rt, &mut map);
 }
 
@@ -80,10 +81,10 @@ fn clone(rt: HostRuntime) {
         return;
     };
     if let Ok(mut copy) = map.clone() {
-        assert!(rt; holds(&copy, &BITS, &[]));
+        expect(&rt, holds(&copy, &BITS, &[]));
         use_further(&rt, &mut copy);
     }
-    assert!(rt; holds(&map, &BITS, &[]));
+    expect(&rt, holds(&map, &BITS, &[]));
     use_further(&rt, &mut map);
 }
 
@@ -97,11 +98,11 @@ fn bitand(rt: HostRuntime) {
     };
     if let Ok(both) = &map & &other {
         for i in 0..16 {
-            assert_eq!(rt; both.get(i as u64), BITS[i] && OTHERS[i], "at {i}");
+            equal_at(&rt, i, both.get(i as u64), BITS[i] && OTHERS[i]);
         }
     }
-    assert!(rt; holds(&other, &OTHERS, &[]));
-    assert!(rt; holds(&map, &BITS, &[]));
+    expect(&rt, holds(&other, &OTHERS, &[]));
+    expect(&rt, holds(&map, &BITS, &[]));
     use_further(&rt, &mut map);
 }
 
@@ -115,11 +116,11 @@ fn bitor(rt: HostRuntime) {
     };
     if let Ok(either) = &map | &other {
         for i in 0..16 {
-            assert_eq!(rt; either.get(i as u64), BITS[i] || OTHERS[i], "at {i}");
+            equal_at(&rt, i, either.get(i as u64), BITS[i] || OTHERS[i]);
         }
     }
-    assert!(rt; holds(&other, &OTHERS, &[]));
-    assert!(rt; holds(&map, &BITS, &[]));
+    expect(&rt, holds(&other, &OTHERS, &[]));
+    expect(&rt, holds(&map, &BITS, &[]));
     use_further(&rt, &mut map);
 }
 
@@ -133,11 +134,11 @@ fn bitxor(rt: HostRuntime) {
     };
     if let Ok(difference) = &map ^ &other {
         for i in 0..16 {
-            assert_eq!(rt; difference.get(i as u64), BITS[i] != OTHERS[i], "at {i}");
+            equal_at(&rt, i, difference.get(i as u64), BITS[i] != OTHERS[i]);
         }
     }
-    assert!(rt; holds(&other, &OTHERS, &[]));
-    assert!(rt; holds(&map, &BITS, &[]));
+    expect(&rt, holds(&other, &OTHERS, &[]));
+    expect(&rt, holds(&map, &BITS, &[]));
     use_further(&rt, &mut map);
 }
 
@@ -148,11 +149,11 @@ fn push(rt: HostRuntime) {
     };
     let refused = map.push(true).is_err()
         && {
-            assert!(rt; holds(&map, &BITS, &[]));
+            expect(&rt, holds(&map, &BITS, &[]));
             map.push(true).is_err()
         };
     let added: &[bool] = if refused { &[] } else { &[true] };
-    assert!(rt; holds(&map, &BITS, added));
+    expect(&rt, holds(&map, &BITS, added));
     use_further(&rt, &mut map);
 }
 
@@ -163,11 +164,11 @@ fn extend_to(rt: HostRuntime) {
     };
     let refused = map.extend_to(39).is_err()
         && {
-            assert!(rt; holds(&map, &BITS, &[]));
+            expect(&rt, holds(&map, &BITS, &[]));
             map.extend_to(39).is_err()
         };
     let added: &[bool] = if refused { &[] } else { &[false; 23] };
-    assert!(rt; holds(&map, &BITS, added));
+    expect(&rt, holds(&map, &BITS, added));
     use_further(&rt, &mut map);
 }
 
@@ -179,7 +180,7 @@ fn push_chunk(rt: HostRuntime) {
     let chunk = [0b0100_1101];
     let refused = map.push_chunk(&chunk).is_err()
         && {
-            assert!(rt; holds(&map, &BITS, &[]));
+            expect(&rt, holds(&map, &BITS, &[]));
             map.push_chunk(&chunk).is_err()
         };
     let added: &[bool] = if refused {
@@ -187,7 +188,7 @@ fn push_chunk(rt: HostRuntime) {
     } else {
         &[true, false, true, true, false, false, true, false]
     };
-    assert!(rt; holds(&map, &BITS, added));
+    expect(&rt, holds(&map, &BITS, added));
     use_further(&rt, &mut map);
 }
 
@@ -201,12 +202,12 @@ fn extend_from_bitmap(rt: HostRuntime) {
     };
     let refused = map.extend_from_bitmap(&other).is_err()
         && {
-            assert!(rt; holds(&map, &BITS, &[]));
+            expect(&rt, holds(&map, &BITS, &[]));
             map.extend_from_bitmap(&other).is_err()
         };
     let added: &[bool] = if refused { &[] } else { &OTHERS };
-    assert!(rt; holds(&map, &BITS, added));
-    assert!(rt; holds(&other, &OTHERS, &[]));
+    expect(&rt, holds(&map, &BITS, added));
+    expect(&rt, holds(&other, &OTHERS, &[]));
     use_further(&rt, &mut map);
 }
 
@@ -216,11 +217,11 @@ fn pushes_within_the_capacity(rt: HostRuntime) {
         return;
     };
     for i in 0..20 {
-        assert_eq!(rt; map.len(), i);
-        assert!(rt; map.push(i % 3 == 0).is_ok(), "at {i}");
+        expect(&rt, map.len() == i);
+        expect_at(&rt, i, map.push(i % 3 == 0).is_ok());
     }
     for i in (0..20).rev() {
-        assert_eq!(rt; map.len(), i + 1);
-        assert_eq!(rt; map.pop(), i % 3 == 0, "at {i}");
+        expect(&rt, map.len() == i + 1);
+        equal_at(&rt, i, map.pop(), i % 3 == 0);
     }
 }

@@ -1,6 +1,8 @@
 //! Bitmaps in unusual places: appended to a copy of themselves, in a deque that has wrapped, and iterators past their end.
 
-use crate::asked::{extend_from_bitmap, of_chunks, ok, prune_to_bit, push_chunk, shows, unprune};
+use crate::asked::{
+    equal, expect, extend_from_bitmap, of_chunks, ok, prune_to_bit, push_chunk, shows, unprune,
+};
 use bitmap_core::bitmap::codec::Write;
 use bitmap_core::bitmap::{BitMap, Readable};
 
@@ -9,10 +11,10 @@ fn appended_to_its_own_copy(rt: HostRuntime) {
     let bits = [true, false, true, true, false];
     let mut map = ok(&rt, BitMap::<1>::from_bools(rt.alloc(), &bits));
     let copy = ok(&rt, map.clone());
-    assert!(rt; u64::MAX - map.len() >= copy.len());
+    expect(&rt, u64::MAX - map.len() >= copy.len());
     ok(&rt, map.extend_from_bitmap(&copy));
-    assert!(rt; map.iter().eq(bits.iter().chain(&bits).copied()));
-    assert!(rt; copy.iter().eq(bits));
+    expect(&rt, map.iter().eq(bits.iter().chain(&bits).copied()));
+    expect(&rt, copy.iter().eq(bits));
 }
 
 // A copy has no room past its chunks. Three of them go at the front and three come at the end, so that the last ones stand
@@ -25,16 +27,22 @@ fn wrapped(rt: HostRuntime) {
     push_chunk(&rt, &mut map, &[0x55]);
     push_chunk(&rt, &mut map, &[0x66]);
     push_chunk(&rt, &mut map, &[0x77]);
-    assert!(rt; shows(&rt, &map, 3, b"00100010101010100110011011101110"));
-    assert!(rt; map.ones_iter_range(30..45).eq([30, 32, 34, 36, 38, 41, 42]));
+    expect(
+        &rt,
+        shows(&rt, &map, 3, b"00100010101010100110011011101110"),
+    );
+    expect(
+        &rt,
+        map.ones_iter_range(30..45).eq([30, 32, 34, 36, 38, 41, 42]),
+    );
     let mut out = Vec::new(rt.alloc());
     ok(&rt, map.write(&mut out));
     let bytes = [
         0, 0, 0, 0, 0, 0, 0, 3, 0, 0, 0, 0, 0, 0, 0, 32, 0x44, 0x55, 0x66, 0x77,
     ];
-    assert_eq!(rt; out.as_slice(), bytes.as_slice());
+    equal(&rt, out.as_slice(), bytes.as_slice());
     unprune(&rt, &mut map, &[[0x22], [0x33]]);
-    assert!(rt; map.ones_iter_range(0..26).eq([9, 13, 16, 17, 20, 21]));
+    expect(&rt, map.ones_iter_range(0..26).eq([9, 13, 16, 17, 20, 21]));
 }
 
 // The last of three chunks is left, and two come behind it.
@@ -46,16 +54,16 @@ fn appended_wrapped(rt: HostRuntime) {
     );
     prune_to_bit(&rt, &mut map, 16);
     extend_from_bitmap(&rt, &mut map, &ok(&rt, BitMap::<3>::ones(rt.alloc(), 9)));
-    assert!(rt; shows(&rt, &map, 2, b"11110000111111111"));
+    expect(&rt, shows(&rt, &map, 2, b"11110000111111111"));
 }
 
 #[test]
 fn iterators_past_their_end(rt: HostRuntime) {
     let map = ok(&rt, BitMap::<1>::from_bools(rt.alloc(), &[true, false]));
     let mut bits = map.iter();
-    assert_eq!(rt; (bits.next(), bits.next()), (Some(true), Some(false)));
-    assert_eq!(rt; (bits.next(), bits.next()), (None, None));
+    equal(&rt, (bits.next(), bits.next()), (Some(true), Some(false)));
+    equal(&rt, (bits.next(), bits.next()), (None, None));
     let mut positions = map.ones_iter();
-    assert_eq!(rt; positions.next(), Some(0));
-    assert_eq!(rt; (positions.next(), positions.next()), (None, None));
+    equal(&rt, positions.next(), Some(0));
+    equal(&rt, (positions.next(), positions.next()), (None, None));
 }

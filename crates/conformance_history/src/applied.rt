@@ -1,6 +1,6 @@
 //! Batches that a closure edits, which answers so or refuses, and which may put another bitmap in place of the one that it is lent.
 
-use crate::asked::{commit, keeps, push, push_run, shows};
+use crate::asked::{commit, expect, keeps, push, push_run, shows};
 use historical_bitmap::bitmap::historical::{ApplyError, CleanBitMap, DirtyBitMap, Error};
 use std::alloc::Global;
 use std::process::Abort;
@@ -27,17 +27,23 @@ fn other(rt: &impl Abort, alloc: Global) -> DirtyBitMap<4> {
 
 // What is handed back, where the closure answered this number.
 fn given_up(rt: &impl Abort, applied: Applied, number: u8) -> Option<CleanBitMap<4>> {
-    assert!(rt; applied.is_err());
+    expect(rt, applied.is_err());
     let (map, why) = applied.err()?;
-    assert!(rt; matches!(why, ApplyError::Batch(answered) if answered == number));
+    expect(
+        rt,
+        matches!(why, ApplyError::Batch(answered) if answered == number),
+    );
     Some(map)
 }
 
 // What is handed back, where the commit was refused for this.
 fn not_committed(rt: &impl Abort, applied: Applied, why: Error) -> Option<CleanBitMap<4>> {
-    assert!(rt; applied.is_err());
+    expect(rt, applied.is_err());
     let (map, found) = applied.err()?;
-    assert!(rt; matches!(found, ApplyError::Commit(found) if found == why));
+    expect(
+        rt,
+        matches!(found, ApplyError::Commit(found) if found == why),
+    );
     Some(map)
 }
 
@@ -52,7 +58,10 @@ fn number_that_is_committed_already(rt: HostRuntime) {
         attempted: 5,
     };
     let map = not_committed(&rt, applied, why);
-    assert!(rt; map.is_some_and(|map| keeps(&map, &[5]) && shows(&rt, map.current(), 0, b"10")));
+    expect(
+        &rt,
+        map.is_some_and(|map| keeps(&map, &[5]) && shows(&rt, map.current(), 0, b"10")),
+    );
 }
 
 #[test]
@@ -62,7 +71,10 @@ fn closure_that_refuses(rt: HostRuntime) {
         Err(7)
     });
     let map = given_up(&rt, applied, 7);
-    assert!(rt; map.is_some_and(|map| keeps(&map, &[5]) && shows(&rt, map.current(), 0, b"10")));
+    expect(
+        &rt,
+        map.is_some_and(|map| keeps(&map, &[5]) && shows(&rt, map.current(), 0, b"10")),
+    );
 }
 
 #[test]
@@ -74,10 +86,11 @@ fn empty_bitmap_put_in_place(rt: HostRuntime) {
         Ok(())
     });
     let map = applied.ok();
-    assert!(rt;
+    expect(
+        &rt,
         map.is_some_and(|map| map.len() == 1
             && keeps(&map, &[5])
-            && shows(&rt, map.current(), 0, b"1"))
+            && shows(&rt, map.current(), 0, b"1")),
     );
 }
 
@@ -93,7 +106,10 @@ fn other_bitmap_put_in_place(rt: HostRuntime) {
         attempted: 5,
     };
     let map = not_committed(&rt, applied, why);
-    assert!(rt; map.is_some_and(|map| keeps(&map, &[9]) && shows(&rt, map.current(), 0, b"111")));
+    expect(
+        &rt,
+        map.is_some_and(|map| keeps(&map, &[9]) && shows(&rt, map.current(), 0, b"111")),
+    );
 }
 
 #[test]
@@ -104,5 +120,8 @@ fn other_bitmap_put_in_place_and_refused(rt: HostRuntime) {
         Err(7)
     });
     let map = given_up(&rt, applied, 7);
-    assert!(rt; map.is_some_and(|map| keeps(&map, &[9]) && shows(&rt, map.current(), 0, b"111")));
+    expect(
+        &rt,
+        map.is_some_and(|map| keeps(&map, &[9]) && shows(&rt, map.current(), 0, b"111")),
+    );
 }

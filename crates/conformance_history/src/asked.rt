@@ -2,13 +2,14 @@
 //!
 //! Those that take memory stand here twice: `try_push` answers whether there was some, and `push` is for tests where there is.
 
-ghost use Rattle.std.specs.Prelude.{◌≡◌};
+ghost use Rattle.std.specs.Prelude.{◌≡◌, true};
 ghost use Rattle.bitmap_core.specs.PrunedBits.{pruned_bits};
 ghost use Rattle.historical_bitmap.specs.View.{pending_of};
 
 use historical_bitmap::bitmap::historical::{CleanBitMap, DirtyBitMap, Error, RewindError};
 use historical_bitmap::bitmap::{Prunable, Readable};
 use std::alloc::AllocError;
+use std::fmt::Debug;
 use std::process::Abort;
 
 /// What a call answered that was not refused.
@@ -17,6 +18,25 @@ pub fn ok<T, E: Drop>(rt: &impl Abort, answer: Result<T, E>) -> T {
         Ok(value) => value,
         Err(_) => panic!(rt; "it is refused"),
     }
+}
+
+/// Ends the test where something does not hold. Here the assertion is proved once, and not at each place.
+pub fn expect(rt: &impl Abort, holds: bool)
+    ensures { holds ≡ true }
+{
+    assert!(rt; holds);
+}
+
+/// The same, and names the place.
+pub fn expect_at<P: Debug + Drop>(rt: &impl Abort, place: P, holds: bool)
+    ensures { holds ≡ true }
+{
+    assert!(rt; holds, "at {place:?}");
+}
+
+/// Ends the test where two values differ, and shows them.
+pub fn equal<T: PartialEq + Debug + Drop>(rt: &impl Abort, left: T, right: T) {
+    assert_eq!(rt; left, right);
 }
 
 /// The bit at a retained position.

@@ -1,8 +1,8 @@
 //! Each public call once with ample memory, and both states behind their trait.
 
 use crate::asked::{
-    commit, current_bit, current_chunk, keeps, ok, pending_bit, pending_chunk, pending_shows, push,
-    push_byte, set_bit, shows, was,
+    commit, current_bit, current_chunk, equal, expect, keeps, ok, pending_bit, pending_chunk,
+    pending_shows, push, push_byte, set_bit, shows, was,
 };
 use historical_bitmap::bitmap::historical::{
     BitMap, Clean, CleanBitMap, Dirty, DirtyBitMap, Error, RewindError, State,
@@ -18,7 +18,10 @@ fn copy<const N: usize, S: State>(map: &BitMap<N, S>) -> Result<BitMap<N, S>, Al
 // A bitmap behind so many pruned chunks, or why there is none.
 fn behind(rt: &impl Abort, alloc: Global, pruned_chunks: usize) -> Result<u64, Error> {
     let map = CleanBitMap::<4>::new_with_pruned_chunks(alloc, pruned_chunks)?;
-    assert!(rt; map.current().pruned_chunks() == pruned_chunks && map.latest_commit().is_none());
+    expect(
+        rt,
+        map.current().pruned_chunks() == pruned_chunks && map.latest_commit().is_none(),
+    );
     Ok(map.len())
 }
 
@@ -28,18 +31,30 @@ fn bitmaps_made(rt: HostRuntime) {
         CleanBitMap::<3>::new(rt.alloc()),
         CleanBitMap::<3>::default(rt.alloc()),
     ] {
-        assert!(rt; map.is_empty() && map.len() == 0 && map.pruned_chunks() == 0);
-        assert!(rt; map.earliest_commit().is_none() && map.reverse_entries() == 0);
+        expect(
+            &rt,
+            map.is_empty() && map.len() == 0 && map.pruned_chunks() == 0,
+        );
+        expect(
+            &rt,
+            map.earliest_commit().is_none() && map.reverse_entries() == 0,
+        );
     }
-    assert!(rt; behind(&rt, rt.alloc(), 0) == Ok(0));
-    assert!(rt; behind(&rt, rt.alloc(), 2) == Ok(64));
-    assert!(rt; behind(&rt, rt.alloc(), 576460752303423487) == Ok(18446744073709551584));
-    assert!(rt; behind(&rt, rt.alloc(), 576460752303423488) == Err(Error::PrunedChunksOverflow));
+    expect(&rt, behind(&rt, rt.alloc(), 0) == Ok(0));
+    expect(&rt, behind(&rt, rt.alloc(), 2) == Ok(64));
+    expect(
+        &rt,
+        behind(&rt, rt.alloc(), 576460752303423487) == Ok(18446744073709551584),
+    );
+    expect(
+        &rt,
+        behind(&rt, rt.alloc(), 576460752303423488) == Err(Error::PrunedChunksOverflow),
+    );
 }
 
 // An edit of each kind that answers the bitmap, on what the one before it answers.
 fn edit_in_a_chain(rt: &impl Abort, map: &mut DirtyBitMap<3>) -> Result<(), AllocError> {
-    assert!(rt; map.is_empty() && map.pruned_chunks() == 0);
+    expect(rt, map.is_empty() && map.pruned_chunks() == 0);
     map.push_chunk(&[0xff, 0, 0x0f])?
         .push_byte(0x35)?
         .push(true)?
@@ -52,16 +67,28 @@ fn edit_in_a_chain(rt: &impl Abort, map: &mut DirtyBitMap<3>) -> Result<(), Allo
 fn edits_in_a_chain(rt: HostRuntime) {
     let mut map = CleanBitMap::<3>::new(rt.alloc()).into_dirty();
     ok(&rt, edit_in_a_chain(&rt, &mut map));
-    assert!(rt; pending_shows(&rt, &map, 1, b"001011001"));
-    assert!(rt; map.len() == 33 && !map.is_empty() && map.pruned_chunks() == 1);
-    assert!(rt; pending_bit(&rt, &map, 32) && !pending_bit(&rt, &map, 24));
-    assert_eq!(rt; pending_chunk(&rt, &map, 24), [0x34, 1, 0]);
-    assert!(rt; map.pop());
+    expect(&rt, pending_shows(&rt, &map, 1, b"001011001"));
+    expect(
+        &rt,
+        map.len() == 33 && !map.is_empty() && map.pruned_chunks() == 1,
+    );
+    expect(
+        &rt,
+        pending_bit(&rt, &map, 32) && !pending_bit(&rt, &map, 24),
+    );
+    equal(&rt, pending_chunk(&rt, &map, 24), [0x34, 1, 0]);
+    expect(&rt, map.pop());
     let map = commit(&rt, map, 5);
-    assert!(rt; shows(&rt, map.current(), 1, b"00101100"));
-    assert!(rt; map.len() == 32 && !map.is_empty() && map.pruned_chunks() == 1);
-    assert!(rt; current_bit(&rt, &map, 26) && !current_bit(&rt, &map, 31));
-    assert_eq!(rt; current_chunk(&rt, &map, 31), [0x34, 0, 0]);
+    expect(&rt, shows(&rt, map.current(), 1, b"00101100"));
+    expect(
+        &rt,
+        map.len() == 32 && !map.is_empty() && map.pruned_chunks() == 1,
+    );
+    expect(
+        &rt,
+        current_bit(&rt, &map, 26) && !current_bit(&rt, &map, 31),
+    );
+    equal(&rt, current_chunk(&rt, &map, 31), [0x34, 0, 0]);
 }
 
 #[test]
@@ -72,18 +99,30 @@ fn commits_listed_and_dropped(rt: HostRuntime) {
         push_byte(&rt, &mut batch, number as u8);
         map = commit(&rt, batch, number);
     }
-    assert!(rt; map.commit_exists(5) && !map.commit_exists(4));
-    assert!(rt; map.earliest_commit() == Some(3) && map.latest_commit() == Some(8));
+    expect(&rt, map.commit_exists(5) && !map.commit_exists(4));
+    expect(
+        &rt,
+        map.earliest_commit() == Some(3) && map.latest_commit() == Some(8),
+    );
     let mut numbers = map.commits();
-    assert!(rt; numbers.next() == Some(3) && numbers.next() == Some(5));
-    assert!(rt; numbers.next() == Some(8) && numbers.next() == None && numbers.next() == None);
-    assert!(rt; was(&rt, &map, 5, 0, b"1100000010100000"));
-    assert!(rt; map.reverse_entries() <= 3);
-    assert_eq!(rt; map.prune_commits_before(6), 2);
-    assert!(rt; keeps(&map, &[8]) && map.reverse_entries() <= 1);
+    expect(&rt, numbers.next() == Some(3) && numbers.next() == Some(5));
+    expect(
+        &rt,
+        numbers.next() == Some(8) && numbers.next() == None && numbers.next() == None,
+    );
+    expect(&rt, was(&rt, &map, 5, 0, b"1100000010100000"));
+    expect(&rt, map.reverse_entries() <= 3);
+    equal(&rt, map.prune_commits_before(6), 2);
+    expect(&rt, keeps(&map, &[8]) && map.reverse_entries() <= 1);
     map.clear_history();
-    assert!(rt; map.commits().next().is_none() && map.reverse_entries() == 0);
-    assert!(rt; shows(&rt, map.current(), 0, b"110000001010000000010000"));
+    expect(
+        &rt,
+        map.commits().next().is_none() && map.reverse_entries() == 0,
+    );
+    expect(
+        &rt,
+        shows(&rt, map.current(), 0, b"110000001010000000010000"),
+    );
 }
 
 #[test]
@@ -94,13 +133,13 @@ fn both_states_copied(rt: HostRuntime) {
     set_bit(&rt, &mut map, 0, false);
     push(&rt, &mut map, true);
     let batch = ok(&rt, copy::<3, Dirty<3>>(&map));
-    assert!(rt; pending_shows(&rt, &batch, 0, b"001100101"));
+    expect(&rt, pending_shows(&rt, &batch, 0, b"001100101"));
     let map = ok(&rt, copy::<3, Clean>(&map.abort()));
-    assert!(rt; shows(&rt, map.current(), 0, b"10110010"));
-    assert!(rt; keeps(&map, &[6]));
+    expect(&rt, shows(&rt, map.current(), 0, b"10110010"));
+    expect(&rt, keeps(&map, &[6]));
     let map = commit(&rt, batch, 7);
-    assert!(rt; keeps(&map, &[6, 7]));
-    assert!(rt; was(&rt, &map, 6, 0, b"10110010"));
+    expect(&rt, keeps(&map, &[6, 7]));
+    expect(&rt, was(&rt, &map, 6, 0, b"10110010"));
 }
 
 #[test]
@@ -124,7 +163,8 @@ fn refusals_in_words(rt: HostRuntime) {
         ),
         (Error::Memory(AllocError), "out of memory"),
     ] {
-        assert_eq!(rt; ok(&rt, format!(in rt.alloc(); "{why}")).as_str(), words);
+        let said = ok(&rt, format!(in rt.alloc(); "{why}"));
+        equal(&rt, said.as_str(), words);
     }
     for (why, words) in [
         (
@@ -133,6 +173,7 @@ fn refusals_in_words(rt: HostRuntime) {
         ),
         (RewindError::Memory(AllocError), "out of memory"),
     ] {
-        assert_eq!(rt; ok(&rt, format!(in rt.alloc(); "{why}")).as_str(), words);
+        let said = ok(&rt, format!(in rt.alloc(); "{why}"));
+        equal(&rt, said.as_str(), words);
     }
 }

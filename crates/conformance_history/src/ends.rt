@@ -3,8 +3,8 @@
 ghost use Rattle.bitmap_core.specs.Chunk.{IsWidth};
 
 use crate::asked::{
-    commit, current_bit, current_chunk, go_back, keeps, ok, pending_bit, pending_chunk, pop,
-    prune_to_bit, push, push_byte, push_run, read_bit, refuse, set_bit, stay,
+    commit, current_bit, current_chunk, equal, expect, go_back, keeps, ok, pending_bit,
+    pending_chunk, pop, prune_to_bit, push, push_byte, push_run, read_bit, refuse, set_bit, stay,
 };
 use historical_bitmap::bitmap::Readable;
 use historical_bitmap::bitmap::historical::{CleanBitMap, DirtyBitMap, Error};
@@ -19,7 +19,10 @@ fn greatest<const N: usize>(rt: &impl Abort, alloc: Global, chunks: usize) -> Op
     requires { IsWidth N }
 {
     let beyond = CleanBitMap::<N>::new_with_pruned_chunks(alloc, chunks.saturating_add(1));
-    assert!(rt; beyond.is_err_and(|why| why == Error::PrunedChunksOverflow));
+    expect(
+        rt,
+        beyond.is_err_and(|why| why == Error::PrunedChunksOverflow),
+    );
     CleanBitMap::new_with_pruned_chunks(alloc, chunks).ok()
 }
 
@@ -47,32 +50,40 @@ fn check_pending<const N: usize>(rt: &impl Abort, map: &mut DirtyBitMap<N>, firs
     let last = pending_bit(rt, map, LAST);
     set_bit(rt, map, LAST, !last);
     set_bit(rt, map, first, false);
-    assert!(rt; matches!(pending_chunk(rt, map, LAST).first(), Some(byte) if byte & 0x3f == 0x08));
+    expect(
+        rt,
+        matches!(pending_chunk(rt, map, LAST).first(), Some(byte) if byte & 0x3f == 0x08),
+    );
     set_bit(rt, map, first, true);
     set_bit(rt, map, LAST, last);
     prune_to_bit(rt, map, u64::MAX);
     prune_to_bit(rt, map, 0);
-    assert_eq!(rt; map.len(), u64::MAX);
+    equal(rt, map.len(), u64::MAX);
 }
 
 // The bits at both ends, and set positions in ranges that are whole, of one position, empty, reversed and before the front.
 fn check<B: Readable<N>, const N: usize>(rt: &impl Abort, map: &B, first: u64) {
-    assert!(rt; map.len() == u64::MAX && first < LAST);
+    expect(rt, map.len() == u64::MAX && first < LAST);
     let is_last_set = (LAST - first) % 3 == 0;
-    assert!(rt; read_bit(rt, map, first) && !read_bit(rt, map, first + 1));
-    assert_eq!(rt; read_bit(rt, map, LAST), is_last_set);
-    assert_eq!(rt;
+    expect(
+        rt,
+        read_bit(rt, map, first) && !read_bit(rt, map, first + 1),
+    );
+    equal(rt, read_bit(rt, map, LAST), is_last_set);
+    equal(
+        rt,
         map.ones_iter_range(first..u64::MAX).count() as u64,
-        (LAST - first) / 3 + 1
+        (LAST - first) / 3 + 1,
     );
-    assert!(rt; map.ones_iter_range(first..first + 1).eq([first]));
-    assert_eq!(rt;
+    expect(rt, map.ones_iter_range(first..first + 1).eq([first]));
+    equal(
+        rt,
         map.ones_iter_range(LAST..u64::MAX).next().is_some(),
-        is_last_set
+        is_last_set,
     );
-    assert!(rt; map.ones_iter_range(u64::MAX..u64::MAX).next().is_none());
-    assert!(rt; map.ones_iter_range(u64::MAX..first).next().is_none());
-    assert!(rt; map.ones_iter_range(0..first).next().is_none());
+    expect(rt, map.ones_iter_range(u64::MAX..u64::MAX).next().is_none());
+    expect(rt, map.ones_iter_range(u64::MAX..first).next().is_none());
+    expect(rt, map.ones_iter_range(0..first).next().is_none());
 }
 
 // Commits it, takes all bits away under the greatest number, after which there is none, and goes back.
@@ -86,22 +97,28 @@ fn check_commits<const N: usize>(rt: &impl Abort, map: DirtyBitMap<N>, first: u6
         attempted: LAST,
     };
     let map = refuse(rt, map, LAST, why).abort();
-    assert!(rt; map.at(LAST).is_some_and(|old| old.len() == first));
+    expect(rt, map.at(LAST).is_some_and(|old| old.len() == first));
     let then = map.at(7);
-    assert!(rt; then.is_some());
+    expect(rt, then.is_some());
     if let Some(then) = then {
         check(rt, &then, first);
     }
     let old = ok(rt, map.get_at_commit(7));
-    assert!(rt; old.is_some());
+    expect(rt, old.is_some());
     if let Some(old) = old {
         check(rt, &old, first);
     }
     let map = go_back(rt, map, 7);
     check(rt, map.current(), first);
     let is_last_set = read_bit(rt, map.current(), LAST);
-    assert!(rt; current_bit(rt, &map, first) && current_bit(rt, &map, LAST) == is_last_set);
-    assert!(rt; current_chunk(rt, &map, LAST) == current_chunk(rt, &map, first));
+    expect(
+        rt,
+        current_bit(rt, &map, first) && current_bit(rt, &map, LAST) == is_last_set,
+    );
+    expect(
+        rt,
+        current_chunk(rt, &map, LAST) == current_chunk(rt, &map, first),
+    );
 }
 
 // The greatest front, the bits behind it, and its commits.
@@ -109,7 +126,7 @@ fn check_ends<const N: usize>(rt: &impl Abort, alloc: Global, chunks: usize)
     requires { IsWidth N }
 {
     let made = greatest::<N>(rt, alloc, chunks);
-    assert!(rt; made.is_some());
+    expect(rt, made.is_some());
     if let Some(map) = made {
         let first = map.len();
         let mut map = map.into_dirty();
@@ -134,8 +151,8 @@ fn chunk_at_the_end_of_the_positions(rt: HostRuntime) {
     let made = CleanBitMap::<1>::new_with_pruned_chunks(rt.alloc(), 2305843009213693951);
     let mut map = ok(&rt, made).into_dirty();
     push_run(&rt, &mut map, 7, true);
-    assert_eq!(rt; map.len(), u64::MAX);
-    assert_eq!(rt; pending_chunk(&rt, &map, 18446744073709551614), [0x7f]);
+    equal(&rt, map.len(), u64::MAX);
+    equal(&rt, pending_chunk(&rt, &map, 18446744073709551614), [0x7f]);
 }
 
 #[test]
@@ -146,19 +163,29 @@ fn greatest_number(rt: HostRuntime) {
     };
     let map: DirtyBitMap<4> = CleanBitMap::new(rt.alloc()).into_dirty();
     let map = commit(&rt, map, u64::MAX - 1);
-    assert!(rt; keeps(&map, &[18446744073709551614]));
+    expect(&rt, keeps(&map, &[18446744073709551614]));
     let map = refuse(&rt, map.into_dirty(), u64::MAX, Error::ReservedCommitNumber);
     let map = refuse(&rt, map, 0, not_above).abort();
-    assert!(rt; map.commit_exists(u64::MAX - 1) && !map.commit_exists(u64::MAX));
-    assert!(rt; ok(&rt, map.get_at_commit(u64::MAX)).is_none());
-    assert!(rt; map.at(u64::MAX - 1).is_some() && map.at(u64::MAX).is_none());
+    expect(
+        &rt,
+        map.commit_exists(u64::MAX - 1) && !map.commit_exists(u64::MAX),
+    );
+    expect(&rt, ok(&rt, map.get_at_commit(u64::MAX)).is_none());
+    expect(
+        &rt,
+        map.at(u64::MAX - 1).is_some() && map.at(u64::MAX).is_none(),
+    );
     let mut map = go_back(&rt, stay(&rt, map, u64::MAX), u64::MAX - 1);
-    assert_eq!(rt;
+    equal(
+        &rt,
         (
             map.prune_commits_before(0),
-            map.prune_commits_before(u64::MAX - 1)
+            map.prune_commits_before(u64::MAX - 1),
         ),
-        (0, 0)
+        (0, 0),
     );
-    assert!(rt; map.prune_commits_before(u64::MAX) == 1 && keeps(&map, &[]));
+    expect(
+        &rt,
+        map.prune_commits_before(u64::MAX) == 1 && keeps(&map, &[]),
+    );
 }

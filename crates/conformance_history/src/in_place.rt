@@ -3,7 +3,8 @@
 ghost use Rattle.bitmap_core.specs.Chunk.{IsWidth};
 
 use crate::asked::{
-    commit, front, ok, pop, prune_to_bit, push_byte, push_chunk, push_run, reads_alike, set_bit,
+    commit, equal, expect, expect_at, front, ok, pop, prune_to_bit, push_byte, push_chunk,
+    push_run, reads_alike, set_bit,
 };
 use historical_bitmap::bitmap::historical::{CleanBitMap, DirtyBitMap};
 use historical_bitmap::bitmap::{Prunable, Readable};
@@ -128,14 +129,14 @@ fn read_both_ways<const N: usize>(rt: &impl Abort, alloc: Global)
         match (ok(rt, map.get_at_commit(number)), map.at(number)) {
             (Some(old), Some(then)) => {
                 let positions = ok(rt, ends(alloc, &old));
-                assert!(rt; reads_alike(rt, &then, &old), "{number}");
-                assert!(rt; ranges_alike(&then, &old, positions.as_slice()), "{number}");
+                expect_at(rt, number, reads_alike(rt, &then, &old));
+                expect_at(rt, number, ranges_alike(&then, &old, positions.as_slice()));
             }
-            _ => assert!(rt; false, "{number}"),
+            _ => expect_at(rt, number, false),
         }
     }
     for number in [0, 2, 3, 6, 10, u64::MAX] {
-        assert!(rt; map.at(number).is_none(), "{number}");
+        expect_at(rt, number, map.at(number).is_none());
     }
 }
 
@@ -181,14 +182,15 @@ fn a_state_from_before_two_more(rt: HostRuntime) {
     set_bit(&rt, &mut map, 9, false);
     let map = commit(&rt, map, 3);
     let Some(then) = map.at(1) else {
-        assert!(rt; false);
+        expect(&rt, false);
         return;
     };
-    assert_eq!(rt; then.len(), 16);
-    assert_eq!(rt; then.pruned_chunks(), 0);
-    assert!(rt;
+    equal(&rt, then.len(), 16);
+    equal(&rt, then.pruned_chunks(), 0);
+    expect(
+        &rt,
         then.ones_iter_range(0..16)
-            .eq([0, 2, 3, 6, 9, 10, 11, 13, 15])
+            .eq([0, 2, 3, 6, 9, 10, 11, 13, 15]),
     );
-    assert!(rt; then.ones_iter_range(3..10).eq([3, 6, 9]));
+    expect(&rt, then.ones_iter_range(3..10).eq([3, 6, 9]));
 }

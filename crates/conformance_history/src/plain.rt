@@ -4,8 +4,8 @@ ghost use Rattle.std.specs.Prelude.{ℕ, ◌<◌};
 ghost use Rattle.bitmap_core.specs.Chunk.{IsWidth};
 
 use crate::asked::{
-    commit, front, get_bit, ok, pending_bit, pending_chunk, pop, prune_to_bit, push, push_byte,
-    push_chunk, reads_alike, set_bit,
+    commit, equal, expect, expect_at, front, get_bit, ok, pending_bit, pending_chunk, pop,
+    prune_to_bit, push, push_byte, push_chunk, reads_alike, set_bit,
 };
 use historical_bitmap::bitmap::historical::{CleanBitMap, DirtyBitMap};
 use historical_bitmap::bitmap::{Prunable, Readable};
@@ -225,7 +225,10 @@ fn is<const N: usize>(rt: &impl Abort, map: &Prunable<N>, whole: &Whole) -> bool
 fn pending_is<const N: usize>(rt: &impl Abort, map: &DirtyBitMap<N>, whole: &Whole) -> bool {
     for position in front(rt, map)..map.len() {
         let chunk = pending_chunk(rt, map, position);
-        assert!(rt; Prunable::<N>::get_bit_from_chunk(&chunk, position) == whole.get(position));
+        expect(
+            rt,
+            Prunable::<N>::get_bit_from_chunk(&chunk, position) == whole.get(position),
+        );
         if pending_bit(rt, map, position) != whole.get(position) {
             return false;
         }
@@ -250,26 +253,26 @@ fn is_in_place<const N: usize>(
 // The old states of some commits, each read back whole and in place.
 fn check_old<const N: usize>(rt: &impl Abort, map: &CleanBitMap<N>, all: &[Kept]) {
     for kept in all {
-        assert!(rt; map.commit_exists(kept.number), "{}", kept.number);
+        expect_at(rt, kept.number, map.commit_exists(kept.number));
         match ok(rt, map.get_at_commit(kept.number)) {
             Some(old) => {
-                assert!(rt; is(rt, &old, &kept.whole), "{}", kept.number);
-                assert!(rt; is_in_place(rt, map, kept.number, &old), "{}", kept.number);
+                expect_at(rt, kept.number, is(rt, &old, &kept.whole));
+                expect_at(rt, kept.number, is_in_place(rt, map, kept.number, &old));
             }
-            None => assert!(rt; false, "{}", kept.number),
+            None => expect_at(rt, kept.number, false),
         }
     }
 }
 
 // What a bitmap answers where the machine stands.
 fn check<const N: usize>(rt: &impl Abort, map: &CleanBitMap<N>, machine: &Machine) {
-    assert!(rt; is(rt, map.current(), &machine.current));
+    expect(rt, is(rt, map.current(), &machine.current));
     check_old(rt, map, machine.kept.as_slice());
     let numbers = ok(rt, machine.numbers());
-    assert!(rt; map.commits().eq(numbers.iter().copied()));
-    assert!(rt; map.earliest_commit() == numbers.first().copied());
-    assert!(rt; map.latest_commit() == numbers.last().copied());
-    assert!(rt; map.reverse_entries() <= machine.cost());
+    expect(rt, map.commits().eq(numbers.iter().copied()));
+    expect(rt, map.earliest_commit() == numbers.first().copied());
+    expect(rt, map.latest_commit() == numbers.last().copied());
+    expect(rt, map.reverse_entries() <= machine.cost());
 }
 
 // Appends some bits.
@@ -312,7 +315,7 @@ fn pop_some<const N: usize>(
     let most = batch.width.saturating_mul(2).saturating_add(2);
     for _ in 0..random.below(most) {
         if front(rt, map) < map.len() {
-            assert!(rt; ok(rt, batch.pop()) == Some(pop(rt, map)));
+            expect(rt, ok(rt, batch.pop()) == Some(pop(rt, map)));
         }
     }
 }
@@ -370,8 +373,8 @@ fn edit<const N: usize>(
         5 | 6 => set_some(rt, map, batch, random),
         _ => prune_some(rt, map, batch, random),
     }
-    assert!(rt; map.len() == batch.whole.len());
-    assert!(rt; map.is_empty() == (batch.whole.len() == 0));
+    expect(rt, map.len() == batch.whole.len());
+    expect(rt, map.is_empty() == (batch.whole.len() == 0));
 }
 
 // A batch of edits that is committed or given up.
@@ -388,7 +391,7 @@ fn run_batch<const N: usize>(
     for _ in 0..random.below(12) {
         edit(rt, &mut map, &mut batch, random);
     }
-    assert!(rt; pending_is(rt, &map, &batch.whole), "{number}");
+    expect_at(rt, number, pending_is(rt, &map, &batch.whole));
     match random.below(8) {
         0 => map.abort(),
         1 => {
@@ -417,7 +420,7 @@ fn drop_some<const N: usize>(
         }
         1 | 2 | 3 => {
             let least = number.saturating_sub(random.below(10));
-            assert_eq!(rt; map.prune_commits_before(least), machine.prune(least));
+            equal(rt, map.prune_commits_before(least), machine.prune(least));
         }
         _ => {}
     }

@@ -7,8 +7,9 @@ mod applied;
 mod no_memory;
 
 use crate::asked::{
-    front, get_bit, keeps, pending_shows, pop, pop_run, refuse, shows, shows_runs, try_commit,
-    try_prune_to_bit, try_push, try_push_byte, try_push_chunk, try_push_run, try_set_bit, try_was,
+    equal, expect, front, get_bit, keeps, pending_shows, pop, pop_run, refuse, shows, shows_runs,
+    try_commit, try_prune_to_bit, try_push, try_push_byte, try_push_chunk, try_push_run,
+    try_set_bit, try_was,
 };
 use historical_bitmap::bitmap::Prunable;
 use historical_bitmap::bitmap::historical::{CleanBitMap, DirtyBitMap, Error, RewindError};
@@ -33,8 +34,8 @@ fn committed(rt: &impl Abort, alloc: Global) -> Option<CleanBitMap<1>> {
 fn begun(rt: &impl Abort, alloc: Global) -> Option<(DirtyBitMap<1>, CleanBitMap<1>)> {
     let before = committed(rt, alloc)?;
     let mut map = before.clone().ok()?.into_dirty();
-    assert!(rt; !pop(rt, &mut map));
-    assert!(rt; pending_shows(rt, &map, 1, PENDING));
+    expect(rt, !pop(rt, &mut map));
+    expect(rt, pending_shows(rt, &map, 1, PENDING));
     Some((map, before))
 }
 
@@ -89,12 +90,12 @@ fn same_history<const N: usize>(
 // Uses a batch on `committed` further: it is given up, which leaves what was before it, and its commits are dropped.
 fn use_further(rt: &impl Abort, map: DirtyBitMap<1>, before: &CleanBitMap<1>) {
     let mut map = map.abort();
-    assert!(rt; same_history(rt, &map, before));
-    assert_eq!(rt; map.prune_commits_before(2), 1);
-    assert!(rt; map.commits().eq([2].iter().copied()));
+    expect(rt, same_history(rt, &map, before));
+    equal(rt, map.prune_commits_before(2), 1);
+    expect(rt, map.commits().eq([2].iter().copied()));
     let mut map = map.into_dirty();
-    assert!(rt; !pop(rt, &mut map));
-    assert!(rt; pending_shows(rt, &map, 1, PENDING));
+    expect(rt, !pop(rt, &mut map));
+    expect(rt, pending_shows(rt, &map, 1, PENDING));
 }
 
 #[test]
@@ -104,11 +105,11 @@ fn bit_set(rt: HostRuntime) {
     };
     let refused = try_set_bit(&rt, &mut map, 8, true).is_err()
         && {
-            assert!(rt; pending_shows(&rt, &map, 1, PENDING));
+            expect(&rt, pending_shows(&rt, &map, 1, PENDING));
             try_set_bit(&rt, &mut map, 8, true).is_err()
         };
     let after: &[u8] = if refused { PENDING } else { b"111101011111000" };
-    assert!(rt; pending_shows(&rt, &map, 1, after));
+    expect(&rt, pending_shows(&rt, &map, 1, after));
     use_further(&rt, map, &before);
 }
 
@@ -119,7 +120,7 @@ fn bit_pushed(rt: HostRuntime) {
     };
     let refused = try_push(&rt, &mut map, true).is_err()
         && {
-            assert!(rt; pending_shows(&rt, &map, 1, PENDING));
+            expect(&rt, pending_shows(&rt, &map, 1, PENDING));
             try_push(&rt, &mut map, true).is_err()
         };
     let after: &[u8] = if refused {
@@ -127,7 +128,7 @@ fn bit_pushed(rt: HostRuntime) {
     } else {
         b"0111010111110001"
     };
-    assert!(rt; pending_shows(&rt, &map, 1, after));
+    expect(&rt, pending_shows(&rt, &map, 1, after));
     use_further(&rt, map, &before);
 }
 
@@ -138,7 +139,7 @@ fn byte_pushed(rt: HostRuntime) {
     };
     let refused = try_push_byte(&rt, &mut map, 0x4d).is_err()
         && {
-            assert!(rt; pending_shows(&rt, &map, 1, PENDING));
+            expect(&rt, pending_shows(&rt, &map, 1, PENDING));
             try_push_byte(&rt, &mut map, 0x4d).is_err()
         };
     let after: &[u8] = if refused {
@@ -146,7 +147,7 @@ fn byte_pushed(rt: HostRuntime) {
     } else {
         b"01110101111100010110010"
     };
-    assert!(rt; pending_shows(&rt, &map, 1, after));
+    expect(&rt, pending_shows(&rt, &map, 1, after));
     use_further(&rt, map, &before);
 }
 
@@ -157,7 +158,7 @@ fn chunk_pushed(rt: HostRuntime) {
     };
     let refused = try_push_chunk(&rt, &mut map, &[0x4d]).is_err()
         && {
-            assert!(rt; pending_shows(&rt, &map, 1, PENDING));
+            expect(&rt, pending_shows(&rt, &map, 1, PENDING));
             try_push_chunk(&rt, &mut map, &[0x4d]).is_err()
         };
     let after: &[u8] = if refused {
@@ -165,7 +166,7 @@ fn chunk_pushed(rt: HostRuntime) {
     } else {
         b"01110101111100010110010"
     };
-    assert!(rt; pending_shows(&rt, &map, 1, after));
+    expect(&rt, pending_shows(&rt, &map, 1, after));
     use_further(&rt, map, &before);
 }
 
@@ -176,13 +177,13 @@ fn front_pruned(rt: HostRuntime) {
     };
     let refused = try_prune_to_bit(&rt, &mut map, 16).is_err()
         && {
-            assert!(rt; pending_shows(&rt, &map, 1, PENDING));
+            expect(&rt, pending_shows(&rt, &map, 1, PENDING));
             try_prune_to_bit(&rt, &mut map, 16).is_err()
         };
     if refused {
-        assert!(rt; pending_shows(&rt, &map, 1, PENDING));
+        expect(&rt, pending_shows(&rt, &map, 1, PENDING));
     } else {
-        assert!(rt; pending_shows(&rt, &map, 2, b"1111000"));
+        expect(&rt, pending_shows(&rt, &map, 2, b"1111000"));
     }
     use_further(&rt, map, &before);
 }
@@ -203,12 +204,15 @@ fn batch_committed_after_a_refused_prune(rt: HostRuntime) {
     };
     let pruned = if refused { 0 } else { 2 };
     let count = if refused { 96 } else { 32 };
-    assert!(rt; shows_runs(&rt, map.current(), pruned, &[(count, true)]));
+    expect(
+        &rt,
+        shows_runs(&rt, map.current(), pruned, &[(count, true)]),
+    );
     if let Ok(Some(old)) = map.get_at_commit(1) {
-        assert!(rt; shows_runs(&rt, &old, 0, &[(96, true)]));
+        expect(&rt, shows_runs(&rt, &old, 0, &[(96, true)]));
     }
     if let Ok(Some(old)) = map.get_at_commit(2) {
-        assert!(rt; same(&rt, &old, map.current()));
+        expect(&rt, same(&rt, &old, map.current()));
     }
 }
 
@@ -233,17 +237,17 @@ fn push_across(rt: &impl Abort, alloc: Global, chunks: u64) {
     };
     let refused = try_push_byte(rt, &mut map, 0).is_err()
         && {
-            assert_eq!(rt; map.len(), 124);
+            equal(rt, map.len(), 124);
             try_push_byte(rt, &mut map, 0).is_err()
         };
-    assert_eq!(rt; map.len(), if refused { 124 } else { 132 });
+    equal(rt, map.len(), if refused { 124 } else { 132 });
     if !refused {
         pop_run(rt, &mut map, 8, false);
     }
     pop_run(rt, &mut map, 124, true);
-    assert!(rt; map.is_empty());
+    expect(rt, map.is_empty());
     let map = map.abort();
-    assert!(rt; shows_runs(rt, map.current(), 0, &[(128, true)]));
+    expect(rt, shows_runs(rt, map.current(), 0, &[(128, true)]));
 }
 
 #[test]
@@ -271,29 +275,29 @@ fn cleared_and_appended(rt: &impl Abort, alloc: Global) -> Option<DirtyBitMap<4>
 
 // What a bitmap answers with that batch committed under 2.
 fn check_committed(rt: &impl Abort, map: &CleanBitMap<4>) {
-    assert!(rt; map.commits().eq([1, 2].iter().copied()));
-    assert!(rt; shows(rt, map.current(), 0, b"001"));
-    assert!(rt; map.reverse_entries() <= 2);
-    assert!(rt; map.get_at_commit(3).is_ok_and(|old| old.is_none()));
+    expect(rt, map.commits().eq([1, 2].iter().copied()));
+    expect(rt, shows(rt, map.current(), 0, b"001"));
+    expect(rt, map.reverse_entries() <= 2);
+    expect(rt, map.get_at_commit(3).is_ok_and(|old| old.is_none()));
     if let Ok(old) = map.get_at_commit(1) {
-        assert!(rt; old.is_some_and(|old| shows(rt, &old, 0, b"10")));
+        expect(rt, old.is_some_and(|old| shows(rt, &old, 0, b"10")));
     }
     if let Ok(old) = map.get_at_commit(2) {
-        assert!(rt; old.is_some_and(|old| shows(rt, &old, 0, b"001")));
+        expect(rt, old.is_some_and(|old| shows(rt, &old, 0, b"001")));
     }
 }
 
 // What it answers with that batch given up.
 fn check_given_up(rt: &impl Abort, map: DirtyBitMap<4>) {
-    assert!(rt; pending_shows(rt, &map, 0, b"001"));
+    expect(rt, pending_shows(rt, &map, 0, b"001"));
     check_ten(rt, &map.abort());
 }
 
 // What it answers without that batch.
 fn check_ten(rt: &impl Abort, map: &CleanBitMap<4>) {
-    assert!(rt; map.commits().eq([1].iter().copied()));
-    assert!(rt; shows(rt, map.current(), 0, b"10"));
-    assert!(rt; map.reverse_entries() <= 1);
+    expect(rt, map.commits().eq([1].iter().copied()));
+    expect(rt, shows(rt, map.current(), 0, b"10"));
+    expect(rt, map.reverse_entries() <= 1);
 }
 
 #[test]
@@ -304,12 +308,12 @@ fn batch_committed(rt: HostRuntime) {
     match map.commit(2) {
         Ok(map) => check_committed(&rt, &map),
         Err((map, why)) => {
-            assert!(rt; why == Error::Memory(AllocError));
-            assert!(rt; pending_shows(&rt, &map, 0, b"001"));
+            expect(&rt, why == Error::Memory(AllocError));
+            expect(&rt, pending_shows(&rt, &map, 0, b"001"));
             match map.commit(2) {
                 Ok(map) => check_committed(&rt, &map),
                 Err((map, why)) => {
-                    assert!(rt; why == Error::Memory(AllocError));
+                    expect(&rt, why == Error::Memory(AllocError));
                     check_given_up(&rt, map);
                 }
             }
@@ -343,16 +347,22 @@ fn was_found(
 
 // What a bitmap answers with that batch committed under 3.
 fn check_removed(rt: &impl Abort, map: &CleanBitMap<1>) {
-    assert!(rt; keeps(map, &[1, 2, 3]) && shows(rt, map.current(), 2, b""));
-    assert!(rt; was_found(rt, map, 1, 0, b"1011001001110101"));
-    assert!(rt; was_found(rt, map, 2, 1, b"0111010111110000"));
-    assert!(rt; was_found(rt, map, 3, 2, b""));
-    assert!(rt; keeps(map, &[1, 2, 3]) && shows(rt, map.current(), 2, b""));
+    expect(
+        rt,
+        keeps(map, &[1, 2, 3]) && shows(rt, map.current(), 2, b""),
+    );
+    expect(rt, was_found(rt, map, 1, 0, b"1011001001110101"));
+    expect(rt, was_found(rt, map, 2, 1, b"0111010111110000"));
+    expect(rt, was_found(rt, map, 3, 2, b""));
+    expect(
+        rt,
+        keeps(map, &[1, 2, 3]) && shows(rt, map.current(), 2, b""),
+    );
 }
 
 // What is left of it where its commit is refused: the batch, which is given up.
 fn check_not_removed(rt: &impl Abort, map: DirtyBitMap<1>, before: &CleanBitMap<1>) {
-    assert!(rt; pending_shows(rt, &map, 2, b""));
+    expect(rt, pending_shows(rt, &map, 2, b""));
     use_further(rt, map, before);
 }
 
@@ -364,12 +374,12 @@ fn chunks_removed_and_pruned_committed(rt: HostRuntime) {
     match map.commit(3) {
         Ok(map) => check_removed(&rt, &map),
         Err((map, why)) => {
-            assert!(rt; why == Error::Memory(AllocError));
-            assert!(rt; pending_shows(&rt, &map, 2, b""));
+            expect(&rt, why == Error::Memory(AllocError));
+            expect(&rt, pending_shows(&rt, &map, 2, b""));
             match map.commit(3) {
                 Ok(map) => check_removed(&rt, &map),
                 Err((map, why)) => {
-                    assert!(rt; why == Error::Memory(AllocError));
+                    expect(&rt, why == Error::Memory(AllocError));
                     check_not_removed(&rt, map, &before);
                 }
             }
@@ -388,7 +398,10 @@ const FURTHER: [(usize, &[u8]); 5] = [
 
 // Makes one of five edits in a chain, behind an edit that drops nothing and takes no memory.
 fn edit_further(rt: &impl Abort, map: &mut DirtyBitMap<1>, which: usize) -> Result<(), AllocError> {
-    assert!(rt; front(rt, map) <= 8 && 16 <= map.len() && map.len() < 1000);
+    expect(
+        rt,
+        front(rt, map) <= 8 && 16 <= map.len() && map.len() < 1000,
+    );
     let edit = map.prune_to_bit(0)?;
     let _ = match which {
         0 => edit.set_bit(8, true)?,
@@ -406,16 +419,16 @@ fn check_further(rt: &impl Abort, alloc: Global, which: usize) {
     };
     let refused = edit_further(rt, &mut map, which).is_err()
         && {
-            assert!(rt; pending_shows(rt, &map, 1, PENDING));
+            expect(rt, pending_shows(rt, &map, 1, PENDING));
             edit_further(rt, &mut map, which).is_err()
         };
-    assert!(rt; which < 5);
+    expect(rt, which < 5);
     let (pruned_chunks, digits) = if refused {
         (1, PENDING)
     } else {
         FURTHER[which]
     };
-    assert!(rt; pending_shows(rt, &map, pruned_chunks, digits));
+    expect(rt, pending_shows(rt, &map, pruned_chunks, digits));
     use_further(rt, map, &before);
 }
 
@@ -434,16 +447,16 @@ fn first_batch_committed(rt: HostRuntime) {
     }
     match map.commit(7) {
         Ok(map) => {
-            assert!(rt; shows_runs(&rt, map.current(), 0, &[(40, true)]));
-            assert!(rt; map.commits().eq([7].iter().copied()));
-            assert!(rt; map.reverse_entries() <= 5);
+            expect(&rt, shows_runs(&rt, map.current(), 0, &[(40, true)]));
+            expect(&rt, map.commits().eq([7].iter().copied()));
+            expect(&rt, map.reverse_entries() <= 5);
         }
         Err((mut map, why)) => {
-            assert!(rt; why == Error::Memory(AllocError));
+            expect(&rt, why == Error::Memory(AllocError));
             pop_run(&rt, &mut map, 40, true);
             let map = map.abort();
-            assert!(rt; map.is_empty() && map.latest_commit().is_none());
-            assert_eq!(rt; map.reverse_entries(), 0);
+            expect(&rt, map.is_empty() && map.latest_commit().is_none());
+            equal(&rt, map.reverse_entries(), 0);
         }
     }
 }
@@ -454,26 +467,32 @@ fn old_state_read(rt: HostRuntime) {
         return;
     };
     if let Ok(old) = map.get_at_commit(1) {
-        assert!(rt; old.is_some_and(|old| shows(&rt, &old, 0, b"1011001001110101")));
+        expect(
+            &rt,
+            old.is_some_and(|old| shows(&rt, &old, 0, b"1011001001110101")),
+        );
     }
     if let Ok(old) = map.get_at_commit(2) {
-        assert!(rt; old.is_some_and(|old| shows(&rt, &old, 1, b"0111010111110000")));
+        expect(
+            &rt,
+            old.is_some_and(|old| shows(&rt, &old, 1, b"0111010111110000")),
+        );
     }
-    assert!(rt; shows(&rt, map.current(), 1, b"0111010111110000"));
-    assert!(rt; map.commits().eq([1, 2].iter().copied()));
+    expect(&rt, shows(&rt, map.current(), 1, b"0111010111110000"));
+    expect(&rt, map.commits().eq([1, 2].iter().copied()));
 }
 
 // What `committed` answers once it has gone back to 1. A batch on it is not committed under 1 again, and is edited.
 fn check_gone_back(rt: &impl Abort, map: CleanBitMap<1>) {
-    assert!(rt; shows(rt, map.current(), 0, b"1011001001110101"));
-    assert!(rt; keeps(&map, &[1]) && map.reverse_entries() <= 2);
+    expect(rt, shows(rt, map.current(), 0, b"1011001001110101"));
+    expect(rt, keeps(&map, &[1]) && map.reverse_entries() <= 2);
     let why = Error::NonMonotonicCommit {
         previous: 1,
         attempted: 1,
     };
     let mut map = refuse(rt, map.into_dirty(), 1, why);
-    assert!(rt; pop(rt, &mut map));
-    assert!(rt; pending_shows(rt, &map, 0, b"101100100111010"));
+    expect(rt, pop(rt, &mut map));
+    expect(rt, pending_shows(rt, &map, 0, b"101100100111010"));
 }
 
 #[test]
@@ -487,14 +506,14 @@ fn gone_back(rt: HostRuntime) {
     match map.rewind_to(1) {
         Ok(map) => check_gone_back(&rt, map),
         Err((map, why)) => {
-            assert!(rt; why == RewindError::Memory(AllocError));
-            assert!(rt; same_history(&rt, &map, &before));
+            expect(&rt, why == RewindError::Memory(AllocError));
+            expect(&rt, same_history(&rt, &map, &before));
             match map.rewind_to(1) {
                 Ok(map) => check_gone_back(&rt, map),
                 Err((map, why)) => {
-                    assert!(rt; why == RewindError::Memory(AllocError));
+                    expect(&rt, why == RewindError::Memory(AllocError));
                     let mut map = map.into_dirty();
-                    assert!(rt; !pop(&rt, &mut map));
+                    expect(&rt, !pop(&rt, &mut map));
                     use_further(&rt, map, &before);
                 }
             }
@@ -508,13 +527,13 @@ fn clean_bitmap_copied(rt: HostRuntime) {
         return;
     };
     if let Ok(copy) = map.clone() {
-        assert!(rt; same_history(&rt, &copy, &map));
+        expect(&rt, same_history(&rt, &copy, &map));
         let mut copy = copy.into_dirty();
-        assert!(rt; !pop(&rt, &mut copy));
+        expect(&rt, !pop(&rt, &mut copy));
         use_further(&rt, copy, &map);
     }
-    assert!(rt; shows(&rt, map.current(), 1, b"0111010111110000"));
-    assert!(rt; map.commits().eq([1, 2].iter().copied()));
+    expect(&rt, shows(&rt, map.current(), 1, b"0111010111110000"));
+    expect(&rt, map.commits().eq([1, 2].iter().copied()));
 }
 
 #[test]
@@ -528,9 +547,9 @@ fn dirty_bitmap_copied(rt: HostRuntime) {
         return;
     }
     if let Ok(copy) = map.clone() {
-        assert!(rt; pending_shows(&rt, &copy, 2, b"1111000"));
+        expect(&rt, pending_shows(&rt, &copy, 2, b"1111000"));
         use_further(&rt, copy, &before);
     }
-    assert!(rt; pending_shows(&rt, &map, 2, b"1111000"));
+    expect(&rt, pending_shows(&rt, &map, 2, b"1111000"));
     use_further(&rt, map, &before);
 }

@@ -1,10 +1,25 @@
-//! One command at a time.
+//! One command at a time, and what is asked of a reply.
+
+ghost use Rattle.std.specs.Prelude.{◌≡◌, true};
 
 use bitmap_session::command::Command;
 use bitmap_session::reply::Reply;
 use bitmap_session::session::Session;
 use std::alloc::Global;
+use std::fmt::Debug;
 use std::process::Abort;
+
+/// Ends the test where something does not hold. Here the assertion is proved once, and not at each place.
+pub fn expect(rt: &impl Abort, holds: bool)
+    ensures { holds ≡ true }
+{
+    assert!(rt; holds);
+}
+
+/// Ends the test where two values differ, and shows them.
+pub fn equal<T: PartialEq + Debug + Drop>(rt: &impl Abort, left: T, right: T) {
+    assert_eq!(rt; left, right);
+}
 
 /// The reply to one command. The test is over where there is no memory for it.
 pub fn ask<const N: usize>(
@@ -15,7 +30,7 @@ pub fn ask<const N: usize>(
 ) -> Reply<N> {
     let mut replies = Vec::new(alloc);
     let asked = session.run(&[command], &mut replies);
-    assert!(rt; asked.is_ok());
+    expect(rt, asked.is_ok());
     match replies.pop() {
         Some(reply) => reply,
         None => rt.abort(),

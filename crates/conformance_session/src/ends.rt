@@ -2,7 +2,7 @@
 
 ghost use Rattle.bitmap_core.specs.Chunk.{IsWidth};
 
-use crate::asked::{ask, does, len};
+use crate::asked::{ask, does, equal, expect, len};
 use bitmap_session::command::Command;
 use bitmap_session::reply::{Refusal, Reply};
 use bitmap_session::session::Session;
@@ -18,28 +18,37 @@ fn fifteen_bits_behind_the_greatest_front(rt: HostRuntime) {
     let alloc = rt.alloc();
     let mut session = Session::<7>::new(alloc);
     let map = &mut session;
-    assert!(rt; does(&rt, alloc, map, Command::Start(329406144173384850)));
-    assert_eq!(rt; len(&rt, alloc, map), Some(18446744073709551600));
-    assert!(rt; does(&rt, alloc, map, Command::Begin));
-    assert!(rt; is_too_long(&ask(&rt, alloc, map, Command::PushChunk([0xff; 7]))));
-    assert!(rt; does(&rt, alloc, map, Command::PushByte(0xff)));
-    assert!(rt; is_too_long(&ask(&rt, alloc, map, Command::PushByte(0xff))));
+    expect(
+        &rt,
+        does(&rt, alloc, map, Command::Start(329406144173384850)),
+    );
+    equal(&rt, len(&rt, alloc, map), Some(18446744073709551600));
+    expect(&rt, does(&rt, alloc, map, Command::Begin));
+    expect(
+        &rt,
+        is_too_long(&ask(&rt, alloc, map, Command::PushChunk([0xff; 7]))),
+    );
+    expect(&rt, does(&rt, alloc, map, Command::PushByte(0xff)));
+    expect(
+        &rt,
+        is_too_long(&ask(&rt, alloc, map, Command::PushByte(0xff))),
+    );
     for _ in 0..7 {
-        assert!(rt; does(&rt, alloc, map, Command::Push(true)));
+        expect(&rt, does(&rt, alloc, map, Command::Push(true)));
     }
-    assert!(rt; is_too_long(&ask(&rt, alloc, map, Command::Push(true))));
+    expect(&rt, is_too_long(&ask(&rt, alloc, map, Command::Push(true))));
     let Reply::Chunk(bytes) = ask(&rt, alloc, map, Command::Chunk(18446744073709551600)) else {
         panic!(rt; "another reply");
     };
-    assert_eq!(rt; bytes, [0xff, 0x7f, 0, 0, 0, 0, 0]);
-    assert!(rt; does(&rt, alloc, map, Command::Commit(1)));
+    equal(&rt, bytes, [0xff, 0x7f, 0, 0, 0, 0, 0]);
+    expect(&rt, does(&rt, alloc, map, Command::Commit(1)));
     let ones = ask(&rt, alloc, map, Command::Ones(0, 18446744073709551615));
     let Reply::Positions(Some(positions)) = ones else {
         panic!(rt; "another reply");
     };
-    assert_eq!(rt; positions.len(), 15);
-    assert_eq!(rt; positions.first(), Some(&18446744073709551600));
-    assert_eq!(rt; positions.last(), Some(&18446744073709551614));
+    equal(&rt, positions.len(), 15);
+    equal(&rt, positions.first(), Some(&18446744073709551600));
+    equal(&rt, positions.last(), Some(&18446744073709551614));
 }
 
 // The greatest front of so many chunks, at a length in bits, and one chunk more.
@@ -47,16 +56,19 @@ fn check_front<const N: usize>(rt: &impl Abort, alloc: Global, chunks: usize, bi
     requires { IsWidth N }
 {
     let mut session = Session::<N>::new(alloc);
-    assert!(rt; does(rt, alloc, &mut session, Command::Start(chunks)));
-    assert_eq!(rt; len(rt, alloc, &mut session), Some(bits));
+    expect(rt, does(rt, alloc, &mut session, Command::Start(chunks)));
+    equal(rt, len(rt, alloc, &mut session), Some(bits));
     let reply = ask(
         rt,
         alloc,
         &mut session,
         Command::Start(chunks.saturating_add(1)),
     );
-    assert!(rt; matches!(reply, Reply::Refused(Refusal::PrunedChunksOverflow)));
-    assert_eq!(rt; len(rt, alloc, &mut session), Some(bits));
+    expect(
+        rt,
+        matches!(reply, Reply::Refused(Refusal::PrunedChunksOverflow)),
+    );
+    equal(rt, len(rt, alloc, &mut session), Some(bits));
 }
 
 #[test]

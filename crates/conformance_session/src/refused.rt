@@ -2,6 +2,7 @@
 //!
 //! Each test is a scenario for runs in which requests are refused. It is over where its set-up is refused.
 
+use crate::asked::{equal, expect};
 use bitmap_session::command::Command;
 use bitmap_session::reply::Reply;
 use bitmap_session::session::Session;
@@ -19,8 +20,8 @@ fn room_for_the_replies(rt: HostRuntime) {
     let mut replies = Vec::new(rt.alloc());
     let first = [Command::Begin, Command::Push(true)];
     if session.run(&first, &mut replies).is_err() {
-        assert!(rt; replies.is_empty());
-        assert!(rt; has_len(&mut session, &mut replies, 0));
+        expect(&rt, replies.is_empty());
+        expect(&rt, has_len(&mut session, &mut replies, 0));
         return;
     }
     let len = u64::from(matches!(replies.last(), Some(Reply::Done)));
@@ -33,6 +34,9 @@ fn room_for_the_replies(rt: HostRuntime) {
         Command::Len,
     ];
     let refused = session.run(&then, &mut replies).is_err();
-    assert_eq!(rt; replies.len(), if refused { 2 } else { 8 });
-    assert!(rt; has_len(&mut session, &mut replies, if refused { len } else { 0 }));
+    equal(&rt, replies.len(), if refused { 2 } else { 8 });
+    expect(
+        &rt,
+        has_len(&mut session, &mut replies, if refused { len } else { 0 }),
+    );
 }

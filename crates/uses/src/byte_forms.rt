@@ -21,12 +21,13 @@ pub fn received(alloc: Global, bytes: &[u8]) -> Result<(BitMap<4>, usize), Codec
 #[cfg(test)]
 mod tests {
     use super::*;
+    use crate::checks::equal;
 
     #[test]
     fn receives_what_was_sent(rt: HostRuntime) -> Result<(), CodecError> {
         let map = BitMap::<4>::ones(rt.alloc(), 33).map_err(|_| CodecError::OutOfMemory)?;
         let bytes = sent(rt.alloc(), &map).map_err(|_| CodecError::OutOfMemory)?;
-        assert_eq!(rt; bytes.len(), 16);
+        equal(&rt, bytes.len(), 16);
         let (same, left) = received(rt.alloc(), bytes.as_slice())?;
         assert!(rt; same == map && left == 0);
         Ok(())

@@ -18,15 +18,16 @@ pub fn take_slot(slots: &mut BitMap<8>) -> Option<u64>
 #[cfg(test)]
 mod tests {
     use super::*;
+    use crate::checks::equal;
     use std::alloc::AllocError;
 
     #[test]
     fn takes_each_slot_once(rt: HostRuntime) -> Result<(), AllocError> {
         let mut slots = BitMap::<8>::zeroes(rt.alloc(), 3)?;
         slots.set(1, true);
-        assert_eq!(rt; take_slot(&mut slots), Some(0));
-        assert_eq!(rt; take_slot(&mut slots), Some(2));
-        assert_eq!(rt; take_slot(&mut slots), None);
+        equal(&rt, take_slot(&mut slots), Some(0));
+        equal(&rt, take_slot(&mut slots), Some(2));
+        equal(&rt, take_slot(&mut slots), None);
         Ok(())
     }
 }

@@ -44,18 +44,18 @@ pub fn keep_bit(
 #[cfg(test)]
 mod tests {
     use super::*;
+    use crate::checks::{equal, ok};
 
     #[test]
-    fn at_most_32(rt: HostRuntime) -> Result<(), AllocError> {
-        let first = keep_bit(CleanBitMap::new(rt.alloc()), 7, true).map_err(|_| AllocError)?;
-        assert_eq!(rt; (first.len(), first.latest_commit()), (1, Some(7)));
+    fn at_most_32(rt: HostRuntime) {
+        let first = ok(&rt, keep_bit(CleanBitMap::new(rt.alloc()), 7, true));
+        equal(&rt, (first.len(), first.latest_commit()), (1, Some(7)));
 
-        let full = CleanBitMap::new_with_pruned_chunks(rt.alloc(), 1).map_err(|_| AllocError)?;
+        let full = ok(&rt, CleanBitMap::new_with_pruned_chunks(rt.alloc(), 1));
         let Err((same, why)) = keep_bit(full, 7, true) else {
             panic!(rt; "33 bits are kept");
         };
-        assert_eq!(rt; (same.len(), same.latest_commit()), (32, None));
+        equal(&rt, (same.len(), same.latest_commit()), (32, None));
         assert!(rt; matches!(why, ApplyError::Batch(NotKept::Full)));
-        Ok(())
     }
 }

@@ -5,6 +5,8 @@
 
 pub mod any_bitmap;
 pub mod byte_forms;
+#[cfg(test)]
+mod checks;
 pub mod free_slots;
 pub mod kept_bits;
 pub mod loops;

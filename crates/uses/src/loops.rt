@@ -46,6 +46,7 @@ pub fn count_set<const N: usize>(bitmap: &BitMap<N>) -> usize
 #[cfg(test)]
 mod tests {
     use super::*;
+    use crate::checks::equal;
     use std::alloc::AllocError;
 
     #[test]
@@ -54,10 +55,10 @@ mod tests {
             true, true, false, true, true, true, false, false, false, true,
         ];
         let bitmap = BitMap::<8>::from_bools(rt.alloc(), bits.as_slice())?;
-        assert_eq!(rt; longest_run(&bitmap), 3);
-        assert_eq!(rt; widest_step(&bitmap), 4);
+        equal(&rt, longest_run(&bitmap), 3);
+        equal(&rt, widest_step(&bitmap), 4);
         assert!(rt; !is_all_set(&bitmap));
-        assert_eq!(rt; count_set(&bitmap), 6);
+        equal(&rt, count_set(&bitmap), 6);
         Ok(())
     }
 }

@@ -22,12 +22,13 @@ pub fn note(outcomes: &mut BitMap<8>, outcome: bool) -> Result<(), AllocError>
 #[cfg(test)]
 mod tests {
     use super::*;
+    use crate::checks::equal;
 
     #[test]
     fn behind_the_others(rt: HostRuntime) -> Result<(), AllocError> {
         let mut outcomes = BitMap::<8>::ones(rt.alloc(), 64)?;
         note(&mut outcomes, false)?;
-        assert_eq!(rt; (outcomes.len(), outcomes.get(64)), (65, false));
+        equal(&rt, (outcomes.len(), outcomes.get(64)), (65, false));
         Ok(())
     }
 }

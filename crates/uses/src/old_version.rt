@@ -26,6 +26,7 @@ pub fn count_in_version<const N: usize>(
 #[cfg(test)]
 mod tests {
     use super::*;
+    use crate::checks::equal;
     use std::alloc::AllocError;
     use std::test::Fail;
 
@@ -41,9 +42,9 @@ mod tests {
         let Ok(versions) = edits.commit(2) else {
             return Err(AllocError.into());
         };
-        assert_eq!(rt; count_in_version(&versions, 1, 4..24), Some(10));
-        assert_eq!(rt; count_in_version(&versions, 2, 4..24), Some(12));
-        assert_eq!(rt; count_in_version(&versions, 3, 4..24), None);
+        equal(&rt, count_in_version(&versions, 1, 4..24), Some(10));
+        equal(&rt, count_in_version(&versions, 2, 4..24), Some(12));
+        equal(&rt, count_in_version(&versions, 3, 4..24), None);
         Ok(())
     }
 }

@@ -13,9 +13,10 @@ pub fn marked() -> ([u8; 4], bool) {
 #[cfg(test)]
 mod tests {
     use super::*;
+    use crate::checks::equal;
 
     #[test]
     fn marks_its_bit(rt: HostRuntime) {
-        assert_eq!(rt; marked(), ([8, 0, 0, 0], true));
+        equal(&rt, marked(), ([8, 0, 0, 0], true));
     }
 }

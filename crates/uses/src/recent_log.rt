@@ -17,11 +17,12 @@ pub fn recent(alloc: Global) -> Result<Prunable<4>, AllocError> {
 #[cfg(test)]
 mod tests {
     use super::*;
+    use crate::checks::equal;
 
     #[test]
     fn keeps_its_positions(rt: HostRuntime) -> Result<(), AllocError> {
         let log = recent(rt.alloc())?;
-        assert_eq!(rt; (log.len(), log.pruned_bits()), (34, 32));
+        equal(&rt, (log.len(), log.pruned_bits()), (34, 32));
         Ok(())
     }
 }

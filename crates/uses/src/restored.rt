@@ -22,22 +22,20 @@ pub fn restored(flags: CleanBitMap<8>, checkpoint: u64) -> (CleanBitMap<8>, Resu
 #[cfg(test)]
 mod tests {
     use super::*;
-    use std::alloc::AllocError;
+    use crate::checks::{equal, ok};
 
     #[test]
-    fn are_back_or_stay(rt: HostRuntime) -> Result<(), AllocError> {
+    fn are_back_or_stay(rt: HostRuntime) {
         let mut flags = CleanBitMap::<8>::new(rt.alloc()).into_dirty();
-        flags.push(true)?;
-        let flags = flags.commit(1).map_err(|_| AllocError)?;
-        let mut flags = flags.into_dirty();
+        ok(&rt, flags.push(true));
+        let mut flags = ok(&rt, flags.commit(1)).into_dirty();
         assert!(rt; flags.len() < u64::MAX);
-        flags.push(false)?;
-        let flags = flags.commit(2).map_err(|_| AllocError)?;
+        ok(&rt, flags.push(false));
+        let flags = ok(&rt, flags.commit(2));
         let (flags, outcome) = restored(flags, 1);
         assert!(rt; outcome.is_ok() && flags.len() == 1);
         let (flags, outcome) = restored(flags, 2);
-        assert_eq!(rt; outcome, Err(RewindError::NoSuchCommit));
-        assert_eq!(rt; flags.len(), 1);
-        Ok(())
+        equal(&rt, outcome, Err(RewindError::NoSuchCommit));
+        equal(&rt, flags.len(), 1);
     }
 }

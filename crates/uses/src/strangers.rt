@@ -37,25 +37,29 @@ pub fn accept(alloc: Global, bytes: &mut &[u8]) -> Result<BitMap<8>, Refusal>
 #[cfg(test)]
 mod tests {
     use super::*;
+    use crate::checks::equal;
 
     #[test]
     fn tells_them_apart(rt: HostRuntime) {
         let mut from = [0, 0, 0, 0, 0, 0, 0, 1, 1, 0, 0, 0, 0, 0, 0, 0, 9].as_slice();
         assert!(rt; accept(rt.alloc(), &mut from).is_ok());
-        assert_eq!(rt; from, [9].as_slice());
-        assert_eq!(rt;
+        equal(&rt, from, [9].as_slice());
+        equal(
+            &rt,
             accept(rt.alloc(), &mut from).err(),
-            Some(Refusal::Incomplete)
+            Some(Refusal::Incomplete),
         );
         let mut from = [0, 0, 0, 0, 0, 0, 16, 1].as_slice();
-        assert_eq!(rt;
+        equal(
+            &rt,
             accept(rt.alloc(), &mut from).err(),
-            Some(Refusal::TooLong(4097))
+            Some(Refusal::TooLong(4097)),
         );
         let mut from = [0, 0, 0, 0, 0, 0, 0, 1, 2, 0, 0, 0, 0, 0, 0, 0].as_slice();
-        assert_eq!(rt;
+        equal(
+            &rt,
             accept(rt.alloc(), &mut from).err(),
-            Some(Refusal::Broken("Invalid trailing bits in encoded data"))
+            Some(Refusal::Broken("Invalid trailing bits in encoded data")),
         );
     }
 }

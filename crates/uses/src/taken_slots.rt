@@ -15,12 +15,14 @@ pub fn taken_slots(alloc: Global) -> Result<Vec<u64>, AllocError> {
 #[cfg(test)]
 mod tests {
     use super::*;
+    use crate::checks::equal;
 
     #[test]
     fn are_those_three(rt: HostRuntime) -> Result<(), AllocError> {
-        assert_eq!(rt;
+        equal(
+            &rt,
             taken_slots(rt.alloc())?.as_slice(),
-            [3, 64, 100].as_slice()
+            [3, 64, 100].as_slice(),
         );
         Ok(())
     }

@@ -17,12 +17,13 @@ pub fn tried<const N: usize>(bitmap: &mut BitMap<N>) -> Result<bool, AllocError>
 #[cfg(test)]
 mod tests {
     use super::*;
+    use crate::checks::equal;
 
     #[test]
     fn answers_its_bit(rt: HostRuntime) -> Result<(), AllocError> {
         let mut bitmap = BitMap::<3>::zeroes(rt.alloc(), 24)?;
         assert!(rt; tried(&mut bitmap)?);
-        assert_eq!(rt; bitmap.len(), 24);
+        equal(&rt, bitmap.len(), 24);
         Ok(())
     }
 }

@@ -34,15 +34,15 @@ pub fn append_two(
 #[cfg(test)]
 mod tests {
     use super::*;
+    use crate::checks::{equal, ok};
 
     #[test]
-    fn kept_under_its_number(rt: HostRuntime) -> Result<(), AllocError> {
-        let bitmap = append_two(CleanBitMap::new(rt.alloc()), 5).map_err(|_| AllocError)?;
-        assert_eq!(rt; (bitmap.len(), bitmap.latest_commit()), (2, Some(5)));
+    fn kept_under_its_number(rt: HostRuntime) {
+        let bitmap = ok(&rt, append_two(CleanBitMap::new(rt.alloc()), 5));
+        equal(&rt, (bitmap.len(), bitmap.latest_commit()), (2, Some(5)));
         let Err((same, _)) = append_two(bitmap, 5) else {
             panic!(rt; "5 is kept twice");
         };
-        assert_eq!(rt; (same.len(), same.latest_commit()), (2, Some(5)));
-        Ok(())
+        equal(&rt, (same.len(), same.latest_commit()), (2, Some(5)));
     }
 }

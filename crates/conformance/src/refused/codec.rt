@@ -1,6 +1,6 @@
 //! Byte forms.
 
-use crate::asked::{shows, try_push_digits};
+use crate::asked::{equal, expect, shows, try_push_digits};
 use bitmap_core::bitmap::BitMap;
 use bitmap_core::bitmap::codec::{CodecError, RangeCfg, Read, Write};
 use bitmap_core::bitmap::prunable::Prunable;
@@ -22,11 +22,11 @@ const BEFORE: &[u8] = b"ab";
 fn read_bits(rt: &impl Abort, alloc: Global, from: &mut &[u8]) -> bool {
     match BitMap::<4>::read_cfg(alloc, from, &RangeCfg::exact(3)) {
         Ok(map) => {
-            assert!(rt; map.iter().eq([true, false, true].iter().copied()));
+            expect(rt, map.iter().eq([true, false, true].iter().copied()));
             false
         }
         Err(error) => {
-            assert!(rt; matches!(error, CodecError::OutOfMemory));
+            expect(rt, matches!(error, CodecError::OutOfMemory));
             true
         }
     }
@@ -36,11 +36,11 @@ fn read_bits(rt: &impl Abort, alloc: Global, from: &mut &[u8]) -> bool {
 fn read_pruned(rt: &impl Abort, alloc: Global, from: &mut &[u8]) -> bool {
     match Prunable::<4>::read_cfg(alloc, from, &RangeCfg::exact(3)) {
         Ok(map) => {
-            assert!(rt; shows(rt, &map, 1, b"101"));
+            expect(rt, shows(rt, &map, 1, b"101"));
             false
         }
         Err(error) => {
-            assert!(rt; matches!(error, CodecError::OutOfMemory));
+            expect(rt, matches!(error, CodecError::OutOfMemory));
             true
         }
     }
@@ -58,11 +58,11 @@ fn bits_read(rt: HostRuntime) {
     let mut from = THREE_BITS.as_slice();
     let refused = read_bits(&rt, rt.alloc(), &mut from)
         && {
-            assert_eq!(rt; from, THREE_BITS.as_slice());
+            equal(&rt, from, THREE_BITS.as_slice());
             read_bits(&rt, rt.alloc(), &mut from)
         };
     let after: &[u8] = if refused { &THREE_BITS } else { &[0xaa] };
-    assert_eq!(rt; from, after);
+    equal(&rt, from, after);
 }
 
 #[test]
@@ -70,11 +70,11 @@ fn pruned_read(rt: HostRuntime) {
     let mut from = BEHIND_ONE.as_slice();
     let refused = read_pruned(&rt, rt.alloc(), &mut from)
         && {
-            assert_eq!(rt; from, BEHIND_ONE.as_slice());
+            equal(&rt, from, BEHIND_ONE.as_slice());
             read_pruned(&rt, rt.alloc(), &mut from)
         };
     let after: &[u8] = if refused { &BEHIND_ONE } else { &[0xaa] };
-    assert_eq!(rt; from, after);
+    equal(&rt, from, after);
 }
 
 #[test]
@@ -87,12 +87,12 @@ fn bits_written(rt: HostRuntime) {
     };
     let refused = map.write(&mut out).is_err()
         && {
-            assert_eq!(rt; out.as_slice(), BEFORE);
+            equal(&rt, out.as_slice(), BEFORE);
             map.write(&mut out).is_err()
         };
     let added: &[u8] = if refused { &[] } else { &THREE_BITS[..12] };
-    assert!(rt; out.iter().eq(BEFORE.iter().chain(added)));
-    assert!(rt; map.iter().eq([true, false, true].iter().copied()));
+    expect(&rt, out.iter().eq(BEFORE.iter().chain(added)));
+    expect(&rt, map.iter().eq([true, false, true].iter().copied()));
 }
 
 #[test]
@@ -105,10 +105,10 @@ fn pruned_written(rt: HostRuntime) {
     };
     let refused = map.write(&mut out).is_err()
         && {
-            assert_eq!(rt; out.as_slice(), BEFORE);
+            equal(&rt, out.as_slice(), BEFORE);
             map.write(&mut out).is_err()
         };
     let added: &[u8] = if refused { &[] } else { &BEHIND_ONE[..20] };
-    assert!(rt; out.iter().eq(BEFORE.iter().chain(added)));
-    assert!(rt; shows(&rt, &map, 1, b"101"));
+    expect(&rt, out.iter().eq(BEFORE.iter().chain(added)));
+    expect(&rt, shows(&rt, &map, 1, b"101"));
 }

@@ -10,6 +10,7 @@ mod pruned;
 mod readable;
 
 use crate::answers::{hash_of, holds};
+use crate::asked::{equal, expect};
 use bitmap_core::bitmap::BitMap;
 use std::alloc::Global;
 use std::fmt;
@@ -36,7 +37,7 @@ fn thirds<const N: usize>(rt: &impl Abort, alloc: Global, len: u64) -> Option<Bi
 {
     let mut map = BitMap::zeroes(alloc, len).ok()?;
     for position in (0..len).step_by(3) {
-        assert!(rt; position < map.len());
+        expect(rt, position < map.len());
         map.set(position, true);
     }
     Some(map)
@@ -44,21 +45,36 @@ fn thirds<const N: usize>(rt: &impl Abort, alloc: Global, len: u64) -> Option<Bi
 
 // What is asked of a bitmap as a whole, or of a part of it, where each third of its bits is set.
 fn check_reads<const N: usize>(rt: &impl Abort, map: &BitMap<N>, len: u64) {
-    assert!(rt; map.len() == len && len > 8);
-    assert!(rt; !map.is_empty() && map.is_chunk_aligned() == (len % (8 * N as u64) == 0));
+    expect(rt, map.len() == len && len > 8);
+    expect(
+        rt,
+        !map.is_empty() && map.is_chunk_aligned() == (len % (8 * N as u64) == 0),
+    );
     for position in 0..len {
-        assert_eq!(rt; map.get(position), position % 3 == 0);
-        assert!(rt; map.is_unset(position..position + 1) != map.get(position));
+        equal(rt, map.get(position), position % 3 == 0);
+        expect(
+            rt,
+            map.is_unset(position..position + 1) != map.get(position),
+        );
     }
-    assert!(rt; map.is_unset(7..9) && map.is_unset(9..7) && !map.is_unset(1..len));
-    assert_eq!(rt; map.count_ones(), len.div_ceil(3));
-    assert_eq!(rt; map.count_zeros(), len - len.div_ceil(3));
-    assert!(rt; map.iter().eq((0..len).map(|position| position % 3 == 0)));
-    assert!(rt; map.iter().size_hint() == (len as usize, Some(len as usize)));
-    assert!(rt; map.ones_iter().eq((0..len).step_by(3)));
+    expect(
+        rt,
+        map.is_unset(7..9) && map.is_unset(9..7) && !map.is_unset(1..len),
+    );
+    equal(rt, map.count_ones(), len.div_ceil(3));
+    equal(rt, map.count_zeros(), len - len.div_ceil(3));
+    expect(
+        rt,
+        map.iter().eq((0..len).map(|position| position % 3 == 0)),
+    );
+    expect(
+        rt,
+        map.iter().size_hint() == (len as usize, Some(len as usize)),
+    );
+    expect(rt, map.ones_iter().eq((0..len).step_by(3)));
     let mut text = Length { bytes: 0 };
-    assert!(rt; write!(text, "{map:?}").is_ok());
-    assert_eq!(rt; text.bytes as u64, if len > 64 { 75 } else { len + 8 });
+    expect(rt, write!(text, "{map:?}").is_ok());
+    equal(rt, text.bytes as u64, if len > 64 { 75 } else { len + 8 });
 }
 
 // What is asked of one bitmap, and of two that have the same bits or do not.
@@ -73,36 +89,36 @@ fn check_whole<const N: usize>(rt: &impl Abort, alloc: Global, len: u64)
         return;
     };
     check_reads(rt, &map, len);
-    assert!(rt; map == other && hash_of(&map) == hash_of(&other));
-    assert!(rt; other.len() > 0);
+    expect(rt, map == other && hash_of(&map) == hash_of(&other));
+    expect(rt, other.len() > 0);
     other.flip(0);
-    assert!(rt; map != other);
+    expect(rt, map != other);
 }
 
 // Bitmaps of as many bits joined in place.
 fn check_joins<const N: usize>(rt: &impl Abort, map: &mut BitMap<N>, other: &BitMap<N>) {
     map.flip_all();
-    assert!(rt; map.len() == other.len());
+    expect(rt, map.len() == other.len());
     map.or(other);
-    assert!(rt; map.count_zeros() == 0 && map.len() == other.len());
+    expect(rt, map.count_zeros() == 0 && map.len() == other.len());
     map.and(other);
-    assert!(rt; *map == *other && map.len() == other.len());
+    expect(rt, *map == *other && map.len() == other.len());
     map.xor(other);
-    assert!(rt; map.count_ones() == 0);
+    expect(rt, map.count_ones() == 0);
 }
 
 // Single bits changed and taken from the end, and the front kept. Two bits are left.
 fn check_changes<const N: usize>(rt: &impl Abort, map: &mut BitMap<N>, len: u64) {
-    assert!(rt; map.len() == len && len > 8);
+    expect(rt, map.len() == len && len > 8);
     map.set(0, true);
     map.flip(len - 1);
-    assert!(rt; map.count_ones() == 2 && map.len() == len);
-    assert!(rt; map.pop());
-    assert!(rt; map.len() >= 2);
+    expect(rt, map.count_ones() == 2 && map.len() == len);
+    expect(rt, map.pop());
+    expect(rt, map.len() >= 2);
     map.truncate(2);
-    assert!(rt; holds(map, &[true, false], &[]));
+    expect(rt, holds(map, &[true, false], &[]));
     map.set_all(true);
-    assert!(rt; holds(map, &[true, true], &[]));
+    expect(rt, holds(map, &[true, true], &[]));
 }
 
 // Each edit in place.
@@ -131,14 +147,14 @@ fn check_appends<const N: usize>(rt: &impl Abort, alloc: Global, len: u64)
     let Ok(two) = BitMap::<3>::ones(alloc, 2) else {
         return;
     };
-    assert!(rt; map.len() == len && len < 2000 && two.len() == 2);
-    assert!(rt; map.push(true).is_ok() && map.extend_to(len + 2).is_ok());
-    assert!(rt; map.len() == len + 2);
-    assert!(rt; map.extend_from_bitmap(&two).is_ok());
-    assert!(rt; map.extend_to(len).is_ok() && map.len() == len + 4);
+    expect(rt, map.len() == len && len < 2000 && two.len() == 2);
+    expect(rt, map.push(true).is_ok() && map.extend_to(len + 2).is_ok());
+    expect(rt, map.len() == len + 2);
+    expect(rt, map.extend_from_bitmap(&two).is_ok());
+    expect(rt, map.extend_to(len).is_ok() && map.len() == len + 4);
     for want in [true, true, false, true] {
-        assert!(rt; !map.is_empty());
-        assert_eq!(rt; map.pop(), want);
+        expect(rt, !map.is_empty());
+        equal(rt, map.pop(), want);
     }
     check_reads(rt, &map, len);
 }
@@ -149,17 +165,23 @@ fn check_no_bits<const N: usize>(rt: &impl Abort, alloc: Global)
     requires fits { 8 * N < 2 ^ 64 }
 {
     let mut map = BitMap::<N>::new(alloc);
-    assert!(rt; map.is_empty() && map == BitMap::<N>::default(alloc));
-    assert!(rt; BitMap::<N>::with_capacity(alloc, 0).is_ok());
-    assert!(rt; BitMap::<N>::zeroes(alloc, 0).is_ok());
-    assert!(rt; BitMap::<N>::ones(alloc, 0).is_ok());
-    assert!(rt; BitMap::<N>::from_bools(alloc, &[]).is_ok());
-    assert!(rt; map.extend_to(0).is_ok() && map.iter().next().is_none());
-    assert!(rt; map.ones_iter().next().is_none() && map.is_chunk_aligned());
+    expect(rt, map.is_empty() && map == BitMap::<N>::default(alloc));
+    expect(rt, BitMap::<N>::with_capacity(alloc, 0).is_ok());
+    expect(rt, BitMap::<N>::zeroes(alloc, 0).is_ok());
+    expect(rt, BitMap::<N>::ones(alloc, 0).is_ok());
+    expect(rt, BitMap::<N>::from_bools(alloc, &[]).is_ok());
+    expect(rt, map.extend_to(0).is_ok() && map.iter().next().is_none());
+    expect(
+        rt,
+        map.ones_iter().next().is_none() && map.is_chunk_aligned(),
+    );
     map.set_all(true);
     map.flip_all();
     map.truncate(0);
-    assert!(rt; map.count_ones() == 0 && map.count_zeros() == 0 && map.is_unset(0..0));
+    expect(
+        rt,
+        map.count_ones() == 0 && map.count_zeros() == 0 && map.is_unset(0..0),
+    );
 }
 
 // No bits appended to two full chunks.
@@ -167,14 +189,14 @@ fn check_full<const N: usize>(rt: &impl Abort, alloc: Global)
     requires positive { 0 < N }
     requires fits { 8 * N < 2 ^ 64 }
 {
-    assert!(rt; N <= 64);
+    expect(rt, N <= 64);
     let len = 16 * N as u64;
     let Some(mut map) = thirds::<N>(rt, alloc, len) else {
         return;
     };
-    assert!(rt; map.extend_to(len).is_ok());
-    assert_eq!(rt; map.len(), len);
-    assert!(rt; map.extend_from_bitmap(&BitMap::<3>::new(alloc)).is_ok());
+    expect(rt, map.extend_to(len).is_ok());
+    equal(rt, map.len(), len);
+    expect(rt, map.extend_from_bitmap(&BitMap::<3>::new(alloc)).is_ok());
     check_reads(rt, &map, len);
 }
 
@@ -225,8 +247,11 @@ fn no_bits_appended(rt: HostRuntime) {
 
 #[test]
 fn sizes_and_places(rt: HostRuntime) {
-    assert_eq!(rt; BitMap::<1>::max_encode_size(17), 11);
-    assert_eq!(rt; BitMap::<9>::max_encode_size(145), 35);
-    assert!(rt; BitMap::<1>::get_bit_from_chunk(&[4], 10));
-    assert!(rt; BitMap::<9>::get_bit_from_chunk(&[0, 0, 0, 0, 0, 0, 0, 0, 2], 137));
+    equal(&rt, BitMap::<1>::max_encode_size(17), 11);
+    equal(&rt, BitMap::<9>::max_encode_size(145), 35);
+    expect(&rt, BitMap::<1>::get_bit_from_chunk(&[4], 10));
+    expect(
+        &rt,
+        BitMap::<9>::get_bit_from_chunk(&[0, 0, 0, 0, 0, 0, 0, 0, 2], 137),
+    );
 }

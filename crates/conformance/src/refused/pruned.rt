@@ -1,8 +1,8 @@
 //! A bitmap with a pruned front.
 
 use crate::asked::{
-    pop, prune_to_bit, set_bit, shows, truncate, try_extend_from_bitmap, try_push, try_push_byte,
-    try_push_chunk, try_unprune,
+    expect, pop, prune_to_bit, set_bit, shows, truncate, try_extend_from_bitmap, try_push,
+    try_push_byte, try_push_chunk, try_unprune,
 };
 use bitmap_core::bitmap::BitMap;
 use bitmap_core::bitmap::prunable::Prunable;
@@ -33,9 +33,9 @@ fn set_up(rt: &impl Abort, alloc: Global) -> Option<Prunable<1>> {
 fn use_further(rt: &impl Abort, map: &mut Prunable<1>) {
     truncate(rt, map, 20);
     set_bit(rt, map, 17, true);
-    assert!(rt; pop(rt, map));
-    assert!(rt; try_push(rt, map, false).is_ok());
-    assert!(rt; shows(rt, map, map.pruned_chunks(), b"1110"));
+    expect(rt, pop(rt, map));
+    expect(rt, try_push(rt, map, false).is_ok());
+    expect(rt, shows(rt, map, map.pruned_chunks(), b"1110"));
 }
 
 #[test]
@@ -44,10 +44,10 @@ fn clone(rt: HostRuntime) {
         return;
     };
     if let Ok(mut copy) = map.clone() {
-        assert!(rt; shows(&rt, &copy, 2, DIGITS));
+        expect(&rt, shows(&rt, &copy, 2, DIGITS));
         use_further(&rt, &mut copy);
     }
-    assert!(rt; shows(&rt, &map, 2, DIGITS));
+    expect(&rt, shows(&rt, &map, 2, DIGITS));
     use_further(&rt, &mut map);
 }
 
@@ -58,7 +58,7 @@ fn bit_pushed(rt: HostRuntime) {
     };
     let refused = try_push(&rt, &mut map, true).is_err()
         && {
-            assert!(rt; shows(&rt, &map, 2, DIGITS));
+            expect(&rt, shows(&rt, &map, 2, DIGITS));
             try_push(&rt, &mut map, true).is_err()
         };
     let after: &[u8] = if refused {
@@ -66,7 +66,7 @@ fn bit_pushed(rt: HostRuntime) {
     } else {
         b"10110010011101011"
     };
-    assert!(rt; shows(&rt, &map, 2, after));
+    expect(&rt, shows(&rt, &map, 2, after));
     use_further(&rt, &mut map);
 }
 
@@ -77,7 +77,7 @@ fn byte_pushed(rt: HostRuntime) {
     };
     let refused = try_push_byte(&rt, &mut map, 0x4d).is_err()
         && {
-            assert!(rt; shows(&rt, &map, 2, DIGITS));
+            expect(&rt, shows(&rt, &map, 2, DIGITS));
             try_push_byte(&rt, &mut map, 0x4d).is_err()
         };
     let after: &[u8] = if refused {
@@ -85,7 +85,7 @@ fn byte_pushed(rt: HostRuntime) {
     } else {
         b"101100100111010110110010"
     };
-    assert!(rt; shows(&rt, &map, 2, after));
+    expect(&rt, shows(&rt, &map, 2, after));
     use_further(&rt, &mut map);
 }
 
@@ -96,7 +96,7 @@ fn chunk_pushed(rt: HostRuntime) {
     };
     let refused = try_push_chunk(&rt, &mut map, &[0x4d]).is_err()
         && {
-            assert!(rt; shows(&rt, &map, 2, DIGITS));
+            expect(&rt, shows(&rt, &map, 2, DIGITS));
             try_push_chunk(&rt, &mut map, &[0x4d]).is_err()
         };
     let after: &[u8] = if refused {
@@ -104,7 +104,7 @@ fn chunk_pushed(rt: HostRuntime) {
     } else {
         b"101100100111010110110010"
     };
-    assert!(rt; shows(&rt, &map, 2, after));
+    expect(&rt, shows(&rt, &map, 2, after));
     use_further(&rt, &mut map);
 }
 
@@ -115,7 +115,7 @@ fn zeros_appended(rt: HostRuntime) {
     };
     let refused = map.extend_to(55).is_err()
         && {
-            assert!(rt; shows(&rt, &map, 2, DIGITS));
+            expect(&rt, shows(&rt, &map, 2, DIGITS));
             map.extend_to(55).is_err()
         };
     let after: &[u8] = if refused {
@@ -123,7 +123,7 @@ fn zeros_appended(rt: HostRuntime) {
     } else {
         b"101100100111010100000000000000000000000"
     };
-    assert!(rt; shows(&rt, &map, 2, after));
+    expect(&rt, shows(&rt, &map, 2, after));
     use_further(&rt, &mut map);
 }
 
@@ -137,7 +137,7 @@ fn bitmap_appended(rt: HostRuntime) {
     };
     let refused = try_extend_from_bitmap(&rt, &mut map, &other).is_err()
         && {
-            assert!(rt; shows(&rt, &map, 2, DIGITS));
+            expect(&rt, shows(&rt, &map, 2, DIGITS));
             try_extend_from_bitmap(&rt, &mut map, &other).is_err()
         };
     let after: &[u8] = if refused {
@@ -145,7 +145,7 @@ fn bitmap_appended(rt: HostRuntime) {
     } else {
         b"10110010011101011011001001110101"
     };
-    assert!(rt; shows(&rt, &map, 2, after));
+    expect(&rt, shows(&rt, &map, 2, after));
     use_further(&rt, &mut map);
 }
 
@@ -157,13 +157,16 @@ fn chunks_put_back(rt: HostRuntime) {
     let chunks = [[0x0f], [0x33]];
     let refused = try_unprune(&rt, &mut map, &chunks).is_err()
         && {
-            assert!(rt; shows(&rt, &map, 2, DIGITS));
+            expect(&rt, shows(&rt, &map, 2, DIGITS));
             try_unprune(&rt, &mut map, &chunks).is_err()
         };
     if !refused {
-        assert!(rt; shows(&rt, &map, 0, b"11110000110011001011001001110101"));
+        expect(
+            &rt,
+            shows(&rt, &map, 0, b"11110000110011001011001001110101"),
+        );
         prune_to_bit(&rt, &mut map, 16);
     }
-    assert!(rt; shows(&rt, &map, 2, DIGITS));
+    expect(&rt, shows(&rt, &map, 2, DIGITS));
     use_further(&rt, &mut map);
 }

@@ -1,6 +1,6 @@
 //! A batch applied by a closure, where a request of the closure or of its commit is refused.
 
-use crate::asked::{pop, try_push, try_set_bit};
+use crate::asked::{expect, pop, try_push, try_set_bit};
 use crate::refused::{check_committed, check_ten, ten};
 use historical_bitmap::bitmap::historical::{ApplyError, CleanBitMap, Error};
 use std::alloc::AllocError;
@@ -18,11 +18,12 @@ fn apply(rt: &impl Abort, map: CleanBitMap<4>) -> Result<CleanBitMap<4>, CleanBi
     match applied {
         Ok(map) => Ok(map),
         Err((map, why)) => {
-            assert!(rt;
+            expect(
+                rt,
                 match why {
                     ApplyError::Batch(AllocError) => !is_edited,
                     ApplyError::Commit(why) => is_edited && why == Error::Memory(AllocError),
-                }
+                },
             );
             Err(map)
         }
@@ -43,7 +44,7 @@ fn batch_applied(rt: HostRuntime) {
                 Err(map) => {
                     check_ten(&rt, &map);
                     let mut map = map.into_dirty();
-                    assert!(rt; !pop(&rt, &mut map));
+                    expect(&rt, !pop(&rt, &mut map));
                     check_ten(&rt, &map.abort());
                 }
             }

@@ -1,9 +1,9 @@
 //! Calls that take no memory: where every request is refused they answer as they do with ample memory.
 
 use crate::asked::{
-    current_bit, current_chunk, keeps, pending_bit, pending_chunk, pending_shows, pop, pop_run,
-    read_bit, refuse, shows, stay, try_commit, try_prune_to_bit, try_push, try_push_byte,
-    try_push_run, try_set_bit,
+    current_bit, current_chunk, equal, expect, expect_at, keeps, pending_bit, pending_chunk,
+    pending_shows, pop, pop_run, read_bit, refuse, shows, stay, try_commit, try_prune_to_bit,
+    try_push, try_push_byte, try_push_run, try_set_bit,
 };
 use crate::refused::{PENDING, begun, committed};
 use historical_bitmap::bitmap::Readable;
@@ -24,7 +24,7 @@ fn chunk_popped(rt: HostRuntime) {
         return;
     };
     pop_run(&rt, &mut map, 32, true);
-    assert_eq!(rt; map.len(), 0);
+    equal(&rt, map.len(), 0);
 }
 
 #[test]
@@ -37,7 +37,7 @@ fn edited_chunk_popped(rt: HostRuntime) {
     }
     pop_run(&rt, &mut map, 31, true);
     pop_run(&rt, &mut map, 1, false);
-    assert_eq!(rt; map.len(), 0);
+    equal(&rt, map.len(), 0);
 }
 
 #[test]
@@ -49,9 +49,9 @@ fn edited_chunk_set(rt: HostRuntime) {
         return;
     }
     for bit in 1..32 {
-        assert!(rt; try_set_bit(&rt, &mut map, bit, false).is_ok(), "{bit}");
+        expect_at(&rt, bit, try_set_bit(&rt, &mut map, bit, false).is_ok());
     }
-    assert_eq!(rt; pending_chunk(&rt, &map, 31), [0; 4]);
+    equal(&rt, pending_chunk(&rt, &map, 31), [0; 4]);
 }
 
 #[test]
@@ -63,11 +63,11 @@ fn edited_chunk_filled(rt: HostRuntime) {
         return;
     }
     pop_run(&rt, &mut map, 12, true);
-    assert!(rt; try_push_byte(&rt, &mut map, 0x35).is_ok());
+    expect(&rt, try_push_byte(&rt, &mut map, 0x35).is_ok());
     for _ in 0..4 {
-        assert!(rt; try_push(&rt, &mut map, true).is_ok());
+        expect(&rt, try_push(&rt, &mut map, true).is_ok());
     }
-    assert_eq!(rt; pending_chunk(&rt, &map, 0), [0xfe, 0xff, 0x5f, 0xf3]);
+    equal(&rt, pending_chunk(&rt, &map, 0), [0xfe, 0xff, 0x5f, 0xf3]);
 }
 
 #[test]
@@ -76,19 +76,25 @@ fn front_pruned_no_further(rt: HostRuntime) {
         return;
     };
     for bit in 0..16 {
-        assert!(rt; try_prune_to_bit(&rt, &mut map, bit).is_ok(), "{bit}");
+        expect_at(&rt, bit, try_prune_to_bit(&rt, &mut map, bit).is_ok());
     }
-    assert!(rt; pending_shows(&rt, &map, 1, PENDING));
+    expect(&rt, pending_shows(&rt, &map, 1, PENDING));
 }
 
 #[test]
 fn values_made(rt: HostRuntime) {
-    assert!(rt; CleanBitMap::<4>::new(rt.alloc()).is_empty());
-    assert!(rt; CleanBitMap::<4>::default(rt.alloc()).is_empty());
+    expect(&rt, CleanBitMap::<4>::new(rt.alloc()).is_empty());
+    expect(&rt, CleanBitMap::<4>::default(rt.alloc()).is_empty());
     let made = CleanBitMap::<4>::new_with_pruned_chunks(rt.alloc(), 3);
-    assert!(rt; made.is_ok_and(|map| map.into_dirty().abort().pruned_chunks() == 3));
+    expect(
+        &rt,
+        made.is_ok_and(|map| map.into_dirty().abort().pruned_chunks() == 3),
+    );
     let refused = CleanBitMap::<4>::new_with_pruned_chunks(rt.alloc(), 576460752303423488);
-    assert!(rt; refused.is_err_and(|why| why == Error::PrunedChunksOverflow));
+    expect(
+        &rt,
+        refused.is_err_and(|why| why == Error::PrunedChunksOverflow),
+    );
 }
 
 #[test]
@@ -96,10 +102,13 @@ fn current_bitmap_read(rt: HostRuntime) {
     let Some(map) = committed(&rt, rt.alloc()) else {
         return;
     };
-    assert!(rt; map.len() == 24 && !map.is_empty() && map.pruned_chunks() == 1);
-    assert!(rt; current_bit(&rt, &map, 9) && !current_bit(&rt, &map, 8));
-    assert_eq!(rt; current_chunk(&rt, &map, 23), [0x0f]);
-    assert!(rt; shows(&rt, map.current(), 1, b"0111010111110000"));
+    expect(
+        &rt,
+        map.len() == 24 && !map.is_empty() && map.pruned_chunks() == 1,
+    );
+    expect(&rt, current_bit(&rt, &map, 9) && !current_bit(&rt, &map, 8));
+    equal(&rt, current_chunk(&rt, &map, 23), [0x0f]);
+    expect(&rt, shows(&rt, map.current(), 1, b"0111010111110000"));
 }
 
 #[test]
@@ -107,10 +116,13 @@ fn pending_bitmap_read(rt: HostRuntime) {
     let Some((map, _before)) = begun(&rt, rt.alloc()) else {
         return;
     };
-    assert!(rt; map.len() == 23 && !map.is_empty() && map.pruned_chunks() == 1);
-    assert!(rt; pending_bit(&rt, &map, 9) && !pending_bit(&rt, &map, 8));
-    assert_eq!(rt; pending_chunk(&rt, &map, 22), [0x0f]);
-    assert!(rt; keeps(&map.abort(), &[1, 2]));
+    expect(
+        &rt,
+        map.len() == 23 && !map.is_empty() && map.pruned_chunks() == 1,
+    );
+    expect(&rt, pending_bit(&rt, &map, 9) && !pending_bit(&rt, &map, 8));
+    equal(&rt, pending_chunk(&rt, &map, 22), [0x0f]);
+    expect(&rt, keeps(&map.abort(), &[1, 2]));
 }
 
 #[test]
@@ -124,7 +136,7 @@ fn numbers_refused(rt: HostRuntime) {
         attempted: 2,
     };
     let map = refuse(&rt, map, 2, why);
-    assert!(rt; pending_shows(&rt, &map, 1, PENDING));
+    expect(&rt, pending_shows(&rt, &map, 1, PENDING));
 }
 
 // Applies a batch that removes a bit and answers so, and answers what is handed back with the refusal.
@@ -135,25 +147,28 @@ fn refuse_batch(
     answer: Result<(), u8>,
 ) -> Option<(CleanBitMap<1>, ApplyError<u8>)> {
     let applied = map.apply_batch(number, |batch| {
-        assert!(rt; !pop(rt, batch));
+        expect(rt, !pop(rt, batch));
         answer
     });
-    assert!(rt; applied.is_err(), "{number}");
+    expect_at(rt, number, applied.is_err());
     applied.err()
 }
 
 // Applies batches that are refused, and answers the bitmap that is handed back.
 fn refuse_batches(rt: &impl Abort, map: CleanBitMap<1>) -> Option<CleanBitMap<1>> {
     let (map, why) = refuse_batch(rt, map, u64::MAX, Ok(()))?;
-    assert!(rt; matches!(why, ApplyError::Commit(why) if why == Error::ReservedCommitNumber));
+    expect(
+        rt,
+        matches!(why, ApplyError::Commit(why) if why == Error::ReservedCommitNumber),
+    );
     let (map, why) = refuse_batch(rt, map, 2, Ok(()))?;
     let wanted = Error::NonMonotonicCommit {
         previous: 2,
         attempted: 2,
     };
-    assert!(rt; matches!(why, ApplyError::Commit(why) if why == wanted));
+    expect(rt, matches!(why, ApplyError::Commit(why) if why == wanted));
     let (map, why) = refuse_batch(rt, map, 3, Err(7))?;
-    assert!(rt; matches!(why, ApplyError::Batch(7)));
+    expect(rt, matches!(why, ApplyError::Batch(7)));
     Some(map)
 }
 
@@ -163,9 +178,10 @@ fn batches_refused(rt: HostRuntime) {
         return;
     };
     let map = refuse_batches(&rt, map);
-    assert!(rt;
+    expect(
+        &rt,
         map.is_some_and(|map| keeps(&map, &[1, 2])
-            && shows(&rt, map.current(), 1, b"0111010111110000"))
+            && shows(&rt, map.current(), 1, b"0111010111110000")),
     );
 }
 
@@ -175,9 +191,10 @@ fn number_not_kept(rt: HostRuntime) {
         return;
     };
     for number in [0, 3, u64::MAX] {
-        assert!(rt;
+        expect_at(
+            &rt,
+            number,
             map.get_at_commit(number).is_ok_and(|old| old.is_none()),
-            "{number}"
         );
     }
 }
@@ -187,14 +204,20 @@ fn old_state_read_in_place(rt: HostRuntime) {
     let Some(map) = committed(&rt, rt.alloc()) else {
         return;
     };
-    assert!(rt; map.at(0).is_none() && map.at(3).is_none() && map.at(u64::MAX).is_none());
+    expect(
+        &rt,
+        map.at(0).is_none() && map.at(3).is_none() && map.at(u64::MAX).is_none(),
+    );
     let Some(then) = map.at(1) else {
-        assert!(rt; false);
+        expect(&rt, false);
         return;
     };
-    assert!(rt; then.len() == 16 && then.pruned_chunks() == 0 && then.complete_chunks() == 2);
-    assert!(rt; read_bit(&rt, &then, 2) && !read_bit(&rt, &then, 8));
-    assert!(rt; then.ones_iter_range(3..10).eq([3, 6, 9]));
+    expect(
+        &rt,
+        then.len() == 16 && then.pruned_chunks() == 0 && then.complete_chunks() == 2,
+    );
+    expect(&rt, read_bit(&rt, &then, 2) && !read_bit(&rt, &then, 8));
+    expect(&rt, then.ones_iter_range(3..10).eq([3, 6, 9]));
 }
 
 #[test]
@@ -205,8 +228,8 @@ fn number_not_gone_back_to(rt: HostRuntime) {
     for number in [0, 3, u64::MAX] {
         map = stay(&rt, map, number);
     }
-    assert!(rt; keeps(&map, &[1, 2]) && map.reverse_entries() <= 4);
-    assert!(rt; shows(&rt, map.current(), 1, b"0111010111110000"));
+    expect(&rt, keeps(&map, &[1, 2]) && map.reverse_entries() <= 4);
+    expect(&rt, shows(&rt, map.current(), 1, b"0111010111110000"));
 }
 
 #[test]
@@ -214,13 +237,19 @@ fn commits_listed_and_dropped(rt: HostRuntime) {
     let Some(mut map) = committed(&rt, rt.alloc()) else {
         return;
     };
-    assert!(rt; map.commit_exists(1) && map.commit_exists(2) && !map.commit_exists(3));
-    assert!(rt; map.earliest_commit() == Some(1) && map.latest_commit() == Some(2));
-    assert!(rt; keeps(&map, &[1, 2]));
-    assert!(rt; map.reverse_entries() <= 4);
-    assert_eq!(rt; map.prune_commits_before(2), 1);
-    assert!(rt; keeps(&map, &[2]));
+    expect(
+        &rt,
+        map.commit_exists(1) && map.commit_exists(2) && !map.commit_exists(3),
+    );
+    expect(
+        &rt,
+        map.earliest_commit() == Some(1) && map.latest_commit() == Some(2),
+    );
+    expect(&rt, keeps(&map, &[1, 2]));
+    expect(&rt, map.reverse_entries() <= 4);
+    equal(&rt, map.prune_commits_before(2), 1);
+    expect(&rt, keeps(&map, &[2]));
     map.clear_history();
-    assert!(rt; keeps(&map, &[]) && map.reverse_entries() == 0);
-    assert!(rt; shows(&rt, map.current(), 1, b"0111010111110000"));
+    expect(&rt, keeps(&map, &[]) && map.reverse_entries() == 0);
+    expect(&rt, shows(&rt, map.current(), 1, b"0111010111110000"));
 }

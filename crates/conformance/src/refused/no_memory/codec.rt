@@ -2,6 +2,7 @@
 
 ghost use Rattle.std.specs.Prelude.{◌*◌, ◌^◌, ◌<◌};
 
+use crate::asked::expect;
 use crate::codec::refusal;
 use crate::refused::no_memory;
 use crate::refused::no_memory::pruned;
@@ -28,20 +29,23 @@ fn check_bits<const N: usize>(rt: &impl Abort, alloc: Global)
     requires positive { 0 < N }
     requires fits { 8 * N < 2 ^ 64 }
 {
-    assert!(rt; N <= 64);
+    expect(rt, N <= 64);
     let any = RangeCfg::any();
     let mut one = text(1, 0);
     one[8] = 2;
     let few = refusal::<BitMap<N>>(alloc, &one[..7], &any);
-    assert!(rt; matches!(few, Some(CodecError::EndOfBuffer)));
+    expect(rt, matches!(few, Some(CodecError::EndOfBuffer)));
     let length = refusal::<BitMap<N>>(alloc, &one[..8 + N], &RangeCfg::at_least(2));
-    assert!(rt; matches!(length, Some(CodecError::InvalidLength(1))));
+    expect(rt, matches!(length, Some(CodecError::InvalidLength(1))));
     let chunk = refusal::<BitMap<N>>(alloc, &one[..7 + N], &any);
-    assert!(rt; matches!(chunk, Some(CodecError::EndOfBuffer)));
+    expect(rt, matches!(chunk, Some(CodecError::EndOfBuffer)));
     let longest = refusal::<BitMap<N>>(alloc, &text(u64::MAX, 0), &any);
-    assert!(rt; matches!(longest, Some(CodecError::EndOfBuffer)));
+    expect(rt, matches!(longest, Some(CodecError::EndOfBuffer)));
     let trailing = refusal::<BitMap<N>>(alloc, &one[..8 + N], &any);
-    assert!(rt; matches!(trailing, Some(CodecError::Invalid("BitMap", _))));
+    expect(
+        rt,
+        matches!(trailing, Some(CodecError::Invalid("BitMap", _))),
+    );
 }
 
 // Each fault of the text of a bitmap with a pruned front.
@@ -49,27 +53,33 @@ fn check_pruned<const N: usize>(rt: &impl Abort, alloc: Global)
     requires positive { 0 < N }
     requires fits { 8 * N < 2 ^ 64 }
 {
-    assert!(rt; N <= 64);
+    expect(rt, N <= 64);
     let any = RangeCfg::any();
     let width = 8 * N as u64;
     let (most, room) = (u64::MAX / width, u64::MAX % width);
     let few = refusal::<Prunable<N>>(alloc, &text(1, 1)[..7], &any);
-    assert!(rt; matches!(few, Some(CodecError::EndOfBuffer)));
+    expect(rt, matches!(few, Some(CodecError::EndOfBuffer)));
     let many = refusal::<Prunable<N>>(alloc, &text(u64::MAX, 0), &any);
-    assert!(rt; matches!(many, Some(CodecError::Invalid("Prunable", _))));
+    expect(rt, matches!(many, Some(CodecError::Invalid("Prunable", _))));
     let long = text(most, room + 1);
     let total = refusal::<Prunable<N>>(alloc, &long[..16 + N], &any);
-    assert!(rt; matches!(total, Some(CodecError::Invalid("Prunable", _))));
+    expect(
+        rt,
+        matches!(total, Some(CodecError::Invalid("Prunable", _))),
+    );
     let mut one = text(1, 1);
     one[16] = 2;
     let short = refusal::<Prunable<N>>(alloc, &one[..15], &any);
-    assert!(rt; matches!(short, Some(CodecError::EndOfBuffer)));
+    expect(rt, matches!(short, Some(CodecError::EndOfBuffer)));
     let length = refusal::<Prunable<N>>(alloc, &one[..16 + N], &RangeCfg::exact(2));
-    assert!(rt; matches!(length, Some(CodecError::InvalidLength(1))));
+    expect(rt, matches!(length, Some(CodecError::InvalidLength(1))));
     let chunk = refusal::<Prunable<N>>(alloc, &one[..15 + N], &any);
-    assert!(rt; matches!(chunk, Some(CodecError::EndOfBuffer)));
+    expect(rt, matches!(chunk, Some(CodecError::EndOfBuffer)));
     let trailing = refusal::<Prunable<N>>(alloc, &one[..16 + N], &any);
-    assert!(rt; matches!(trailing, Some(CodecError::Invalid("BitMap", _))));
+    expect(
+        rt,
+        matches!(trailing, Some(CodecError::Invalid("BitMap", _))),
+    );
 }
 
 // Both bitmaps written where there is room for them.
@@ -77,7 +87,7 @@ fn check_written<const N: usize>(rt: &impl Abort, alloc: Global)
     requires positive { 0 < N }
     requires fits { 8 * N < 2 ^ 64 }
 {
-    assert!(rt; N <= 64);
+    expect(rt, N <= 64);
     let Some(dense) = no_memory::thirds::<N>(rt, alloc, 16 * N as u64 + 1) else {
         return;
     };
@@ -90,9 +100,15 @@ fn check_written<const N: usize>(rt: &impl Abort, alloc: Global)
     };
     for _ in 0..pruned::SLIDES {
         out.clear();
-        assert!(rt; dense.write(&mut out).is_ok() && dense.encode_size() == size);
-        assert!(rt; pruned.write(&mut out).is_ok() && pruned.encode_size() == size + 8);
-        assert!(rt; out.len() == 2 * size + 8);
+        expect(
+            rt,
+            dense.write(&mut out).is_ok() && dense.encode_size() == size,
+        );
+        expect(
+            rt,
+            pruned.write(&mut out).is_ok() && pruned.encode_size() == size + 8,
+        );
+        expect(rt, out.len() == 2 * size + 8);
         pruned::slide(rt, &mut pruned);
     }
 }
@@ -101,8 +117,9 @@ fn check_written<const N: usize>(rt: &impl Abort, alloc: Global)
 fn faults(rt: HostRuntime) {
     let four = [0, 0, 0, 0, 0, 0, 0, 3, 0x0d, 0, 0, 0];
     let trailing = refusal::<BitMap<4>>(rt.alloc(), &four, &RangeCfg::any());
-    assert!(rt;
-        matches!(trailing, Some(CodecError::Invalid("BitMap", why)) if why == "Invalid trailing bits in encoded data")
+    expect(
+        &rt,
+        matches!(trailing, Some(CodecError::Invalid("BitMap", why)) if why == "Invalid trailing bits in encoded data"),
     );
     check_bits::<1>(&rt, rt.alloc());
     check_bits::<3>(&rt, rt.alloc());
@@ -138,7 +155,7 @@ fn ranges(rt: HostRuntime) {
         RangeCfg::between(3, 3),
         RangeCfg::any(),
     ] {
-        assert!(rt; range.contains(3));
+        expect(&rt, range.contains(3));
     }
-    assert!(rt; !RangeCfg::between(5, 3).contains(4));
+    expect(&rt, !RangeCfg::between(5, 3).contains(4));
 }

@@ -3,7 +3,7 @@
 ghost use Rattle.std.specs.Prelude.{◌*◌, ◌^◌, ◌<◌};
 
 use crate::asked::{
-    chunk_at, get_bit, get_chunk, last_chunk, pop, pop_chunk, prune_to_bit, set_bit,
+    chunk_at, equal, expect, get_bit, get_chunk, last_chunk, pop, pop_chunk, prune_to_bit, set_bit,
     set_full_chunk, truncate, try_extend_from_bitmap, try_push, try_push_byte, try_unprune,
 };
 use bitmap_core::bitmap::BitMap;
@@ -19,7 +19,7 @@ pub fn thirds<const N: usize>(rt: &impl Abort, alloc: Global) -> Option<Prunable
     requires positive { 0 < N }
     requires fits { 8 * N < 2 ^ 64 }
 {
-    assert!(rt; N <= 64);
+    expect(rt, N <= 64);
     let mut map = Prunable::<N>::new_with_pruned_chunks(alloc, 2).ok()?;
     map.extend_to(40 * N as u64).ok()?;
     let first = map.pruned_bits();
@@ -37,11 +37,14 @@ fn set_thirds<const N: usize>(rt: &impl Abort, map: &mut Prunable<N>, first: u64
 // Drops the first of some whole chunks, and appends another, for which the ring has room.
 pub fn slide<const N: usize>(rt: &impl Abort, map: &mut Prunable<N>) {
     let len = map.len();
-    assert!(rt; N > 0 && N <= 64 && len < 100_000 && map.is_chunk_aligned());
+    expect(
+        rt,
+        N > 0 && N <= 64 && len < 100_000 && map.is_chunk_aligned(),
+    );
     let width = 8 * N as u64;
     let next = map.pruned_bits().saturating_add(width);
     prune_to_bit(rt, map, next);
-    assert!(rt; map.extend_to(len + width).is_ok());
+    expect(rt, map.extend_to(len + width).is_ok());
     set_thirds(rt, map, len);
 }
 
@@ -49,33 +52,51 @@ pub fn slide<const N: usize>(rt: &impl Abort, map: &mut Prunable<N>) {
 fn check_reads<const N: usize>(rt: &impl Abort, map: &Prunable<N>) {
     let (first, len) = (map.pruned_bits(), map.len());
     let pruned = map.pruned_chunks();
-    assert!(rt; !map.is_empty() && map.is_chunk_aligned() && pruned < 100);
-    assert!(rt; map.chunks_len() == pruned + 3 && map.complete_chunks() == pruned + 3);
+    expect(
+        rt,
+        !map.is_empty() && map.is_chunk_aligned() && pruned < 100,
+    );
+    expect(
+        rt,
+        map.chunks_len() == pruned + 3 && map.complete_chunks() == pruned + 3,
+    );
     for position in first..len {
-        assert_eq!(rt; get_bit(rt, map, position), position % 3 == 0);
+        equal(rt, get_bit(rt, map, position), position % 3 == 0);
         let chunk = chunk_at(rt, map, position);
-        assert!(rt; Prunable::<N>::get_bit_from_chunk(&chunk, position) == (position % 3 == 0));
+        expect(
+            rt,
+            Prunable::<N>::get_bit_from_chunk(&chunk, position) == (position % 3 == 0),
+        );
     }
-    assert!(rt; get_chunk(rt, map, pruned) == chunk_at(rt, map, first));
-    assert!(rt; last_chunk(rt, map).0 == get_chunk(rt, map, pruned + 2));
+    expect(rt, get_chunk(rt, map, pruned) == chunk_at(rt, map, first));
+    expect(rt, last_chunk(rt, map).0 == get_chunk(rt, map, pruned + 2));
 }
 
 // Each edit that adds no chunk. It leaves the three chunks as they were.
 fn check_edits<const N: usize>(rt: &impl Abort, map: &mut Prunable<N>, two: &BitMap<3>) {
     let (first, len) = (map.pruned_bits(), map.len());
-    assert!(rt; 9 < len && len < 100_000);
-    assert!(rt; try_unprune(rt, map, &[]).is_ok());
+    expect(rt, 9 < len && len < 100_000);
+    expect(rt, try_unprune(rt, map, &[]).is_ok());
     let index = map.pruned_chunks();
     let chunk = get_chunk(rt, map, index);
     set_full_chunk(rt, map, index, &[0xff; N]);
-    assert!(rt; get_bit(rt, map, first) && get_bit(rt, map, first.saturating_add(1)));
+    expect(
+        rt,
+        get_bit(rt, map, first) && get_bit(rt, map, first.saturating_add(1)),
+    );
     set_full_chunk(rt, map, index, &chunk);
     set_bit(rt, map, len - 1, true);
-    assert!(rt; pop(rt, map));
+    expect(rt, pop(rt, map));
     truncate(rt, map, len - 6);
-    assert!(rt; try_push(rt, map, true).is_ok() && map.extend_to(len - 4).is_ok());
-    assert!(rt; try_extend_from_bitmap(rt, map, two).is_ok());
-    assert!(rt; map.extend_to(len).is_ok() && map.extend_to(first).is_ok());
+    expect(
+        rt,
+        try_push(rt, map, true).is_ok() && map.extend_to(len - 4).is_ok(),
+    );
+    expect(rt, try_extend_from_bitmap(rt, map, two).is_ok());
+    expect(
+        rt,
+        map.extend_to(len).is_ok() && map.extend_to(first).is_ok(),
+    );
     set_thirds(rt, map, len - 6);
     prune_to_bit(rt, map, first);
 }
@@ -98,7 +119,7 @@ fn check_width<const N: usize>(rt: &impl Abort, alloc: Global)
         slide(rt, &mut map);
     }
     let chunk = last_chunk(rt, &map).0;
-    assert!(rt; pop_chunk(rt, &mut map) == chunk);
+    expect(rt, pop_chunk(rt, &mut map) == chunk);
 }
 
 // A byte that is appended to a chunk with room for it.
@@ -110,10 +131,13 @@ fn check_byte<const N: usize>(rt: &impl Abort, alloc: Global)
         return;
     };
     let len = map.len();
-    assert!(rt; len > 8);
+    expect(rt, len > 8);
     truncate(rt, &mut map, len - 8);
-    assert!(rt; try_push_byte(rt, &mut map, 0x80).is_ok());
-    assert!(rt; map.len() == len && pop(rt, &mut map) && !pop(rt, &mut map));
+    expect(rt, try_push_byte(rt, &mut map, 0x80).is_ok());
+    expect(
+        rt,
+        map.len() == len && pop(rt, &mut map) && !pop(rt, &mut map),
+    );
 }
 
 #[test]
@@ -135,22 +159,28 @@ fn byte_appended_to_an_open_chunk(rt: HostRuntime) {
 
 #[test]
 fn nothing_retained(rt: HostRuntime) {
-    assert!(rt; Prunable::<9>::new(rt.alloc()).is_empty());
-    assert!(rt; Prunable::<9>::default(rt.alloc()).is_empty());
-    assert!(rt; Prunable::<9>::new_with_pruned_chunks(rt.alloc(), usize::MAX).is_err());
+    expect(&rt, Prunable::<9>::new(rt.alloc()).is_empty());
+    expect(&rt, Prunable::<9>::default(rt.alloc()).is_empty());
+    expect(
+        &rt,
+        Prunable::<9>::new_with_pruned_chunks(rt.alloc(), usize::MAX).is_err(),
+    );
     let Ok(mut map) = Prunable::<9>::new_with_pruned_chunks(rt.alloc(), 7) else {
         return;
     };
-    assert!(rt; try_unprune(&rt, &mut map, &[]).is_ok() && map.extend_to(504).is_ok());
+    expect(
+        &rt,
+        try_unprune(&rt, &mut map, &[]).is_ok() && map.extend_to(504).is_ok(),
+    );
     prune_to_bit(&rt, &mut map, 504);
     truncate(&rt, &mut map, 504);
-    assert!(rt; map.len() == 504 && map.pruned_chunks() == 7);
+    expect(&rt, map.len() == 504 && map.pruned_chunks() == 7);
 }
 
 #[test]
 fn places(rt: HostRuntime) {
-    assert_eq!(rt; Prunable::<9>::to_chunk_index(145), 2);
-    assert_eq!(rt; Prunable::<9>::chunk_byte_offset(143), 8);
-    assert_eq!(rt; Prunable::<9>::chunk_byte_bitmask(143), 128);
-    assert!(rt; Prunable::<1>::get_bit_from_chunk(&[4], 10));
+    equal(&rt, Prunable::<9>::to_chunk_index(145), 2);
+    equal(&rt, Prunable::<9>::chunk_byte_offset(143), 8);
+    equal(&rt, Prunable::<9>::chunk_byte_bitmask(143), 128);
+    expect(&rt, Prunable::<1>::get_bit_from_chunk(&[4], 10));
 }

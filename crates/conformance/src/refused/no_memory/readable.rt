@@ -2,6 +2,7 @@
 
 ghost use Rattle.std.specs.Prelude.{◌*◌, ◌^◌, ◌<◌};
 
+use crate::asked::{equal, expect};
 use crate::refused::no_memory;
 use crate::refused::no_memory::pruned::{SLIDES, slide};
 use bitmap_core::bitmap::readable::Readable;
@@ -12,30 +13,33 @@ use std::process::Abort;
 fn check_reader<B: Readable<N>, const N: usize>(rt: &impl Abort, map: &B) {
     let (first, len, pruned) = (map.pruned_bits(), map.len(), map.pruned_chunks());
     let width = 8 * N as u64;
-    assert!(rt; first < len && !map.is_empty() && pruned < 100);
+    expect(rt, first < len && !map.is_empty() && pruned < 100);
     for position in first..len {
-        assert_eq!(rt; map.get_bit(position), position % 3 == 0);
+        equal(rt, map.get_bit(position), position % 3 == 0);
     }
     for index in pruned..map.complete_chunks() {
         let at = index as u64 * width;
-        assert!(rt; map.get_chunk(index)[0] & 1 == (at % 3 == 0) as u8);
+        expect(rt, map.get_chunk(index)[0] & 1 == (at % 3 == 0) as u8);
     }
     let (chunk, used) = map.last_chunk();
-    assert!(rt; used > 0 && used <= width && chunk == map.get_chunk(((len - 1) / width) as usize));
+    expect(
+        rt,
+        used > 0 && used <= width && chunk == map.get_chunk(((len - 1) / width) as usize),
+    );
     check_ones(rt, map);
 }
 
 // The set positions from each position, to their end and past it.
 fn check_ones<B: Readable<N>, const N: usize>(rt: &impl Abort, map: &B) {
     let (first, len) = (map.pruned_bits(), map.len());
-    assert!(rt; len < 100_000);
+    expect(rt, len < 100_000);
     for start in first..len {
         let above = start.next_multiple_of(3);
-        assert!(rt; map.ones_iter_from(start).eq((above..len).step_by(3)));
+        expect(rt, map.ones_iter_from(start).eq((above..len).step_by(3)));
     }
     let mut ones = map.ones_iter_range(first..len);
-    assert!(rt; ones.by_ref().last().is_some_and(|last| last % 3 == 0));
-    assert!(rt; ones.next().is_none() && ones.next().is_none());
+    expect(rt, ones.by_ref().last().is_some_and(|last| last % 3 == 0));
+    expect(rt, ones.next().is_none() && ones.next().is_none());
 }
 
 // Both bitmaps of one width, the one with a pruned front at each place of its ring.
