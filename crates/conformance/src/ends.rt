@@ -35,8 +35,30 @@ fn greatest<const N: usize>(rt: &impl Abort, alloc: Global, most: usize) -> Prun
     map
 }
 
-// What any reader is asked: the bits at both ends and beside them, the only chunk, and set positions in ranges that are
-// whole, of one position, empty, reversed and before the front.
+// The set positions in ranges that are whole, of one position, empty, reversed and before the front.
+fn check_positions<B: Readable<N>, const N: usize>(rt: &impl Abort, map: &B, first: u64) {
+    equal(rt, map.len(), u64::MAX);
+    expect(rt, map.ones_iter_from(0).eq([first, LAST]));
+    expect(
+        rt,
+        map.ones_iter_range(first..first.saturating_add(1))
+            .eq([first]),
+    );
+    equal(
+        rt,
+        map.ones_iter_range(first.saturating_add(1)..LAST).next(),
+        None,
+    );
+    let mut last = map.ones_iter_from(LAST);
+    for want in [Some(LAST), None, None] {
+        equal(rt, last.next(), want);
+    }
+    equal(rt, map.ones_iter_from(u64::MAX).next(), None);
+    equal(rt, map.ones_iter_range(u64::MAX..first).next(), None);
+    equal(rt, map.ones_iter_range(0..first).next(), None);
+}
+
+// What any reader is asked: the bits at both ends and beside them, the only chunk, and set positions.
 fn check_reader<B: Readable<N>, const N: usize>(rt: &impl Abort, map: &B, first: u64, room: u64) {
     expect(
         rt,
@@ -50,17 +72,7 @@ fn check_reader<B: Readable<N>, const N: usize>(rt: &impl Abort, map: &B, first:
         rt,
         used == room && map.get_chunk(map.complete_chunks()) == chunk,
     );
-    expect(rt, map.ones_iter_from(0).eq([first, LAST]));
-    expect(rt, map.ones_iter_range(first..next).eq([first]));
-    expect(rt, map.ones_iter_range(next..LAST).next().is_none());
-    let mut last = map.ones_iter_from(LAST);
-    expect(
-        rt,
-        last.next() == Some(LAST) && last.next().is_none() && last.next().is_none(),
-    );
-    expect(rt, map.ones_iter_from(u64::MAX).next().is_none());
-    expect(rt, map.ones_iter_range(u64::MAX..first).next().is_none());
-    expect(rt, map.ones_iter_range(0..first).next().is_none());
+    check_positions(rt, map, first);
 }
 
 // The counts of chunks, and the only chunk by each of the calls that answer it.

@@ -63,18 +63,25 @@ fn check_edits<const N: usize>(rt: &impl Abort, alloc: Global)
     expect(rt, Prunable::<N>::get_bit_from_chunk(&last, 2 * width + 1));
     expect(rt, same(rt, &ok(rt, map.clone()), &map));
     expect(rt, pop(rt, &mut map) && pop(rt, &mut map));
-    push_byte(rt, &mut map, 0xa5);
+    check_whole_chunks(rt, &mut map, width);
+}
+
+// A chunk appended as a byte and zeros, behind a pruned one and another, which is replaced. At the end two bits are left.
+fn check_whole_chunks<const N: usize>(rt: &impl Abort, map: &mut Prunable<N>, width: u64) {
+    let _ = map.len();
+    expect(rt, N <= 64 && width == 8 * N as u64);
+    push_byte(rt, map, 0xa5);
     ok(rt, map.extend_to(3 * width));
     ok(rt, map.extend_to(width));
-    let (last, used) = last_chunk(rt, &map);
+    let (last, used) = last_chunk(rt, map);
     expect(
         rt,
         last[0] == 0xa5 && used == width && map.is_chunk_aligned(),
     );
-    set_full_chunk(rt, &mut map, 1, &[0x5a; N]);
-    expect(rt, pop_chunk(rt, &mut map) == last);
-    truncate(rt, &mut map, width + 2);
-    expect(rt, shows(rt, &map, 1, b"01"));
+    set_full_chunk(rt, map, 1, &[0x5a; N]);
+    expect(rt, pop_chunk(rt, map) == last);
+    truncate(rt, map, width + 2);
+    expect(rt, shows(rt, map, 1, b"01"));
 }
 
 // Pruned chunks put back.
@@ -375,6 +382,20 @@ fn zeros_appended(rt: HostRuntime) {
     equal(&rt, map.ones_iter_from(0).next(), None);
 }
 
+// A bitmap appended at once, and bit by bit, to zeros behind a pruned chunk.
+fn check_appended(rt: &impl Abort, alloc: Global, source: &BitMap<8>, floor: u64) {
+    expect(rt, source.len() <= 1000 && floor <= 1000);
+    let mut map = ok(rt, Prunable::<16>::new_with_pruned_chunks(alloc, 1));
+    ok(rt, map.extend_to(floor));
+    let mut other = ok(rt, map.clone());
+    extend_from_bitmap(rt, &mut map, source);
+    for bit in source.iter() {
+        push(rt, &mut other, bit);
+    }
+    equal_at(rt, floor, map.len(), floor + source.len());
+    expect_at(rt, floor, same(rt, &map, &other));
+}
+
 #[test]
 fn a_bitmap_appended_or_pushed(rt: HostRuntime) {
     let mut source = ok(&rt, BitMap::<8>::zeroes(rt.alloc(), 1000));
@@ -383,14 +404,6 @@ fn a_bitmap_appended_or_pushed(rt: HostRuntime) {
         source.set(i, i % 3 == 0 || i % 7 == 0);
     }
     for floor in [128, 129, 191, 255, 256, 300] {
-        let mut map = ok(&rt, Prunable::<16>::new_with_pruned_chunks(rt.alloc(), 1));
-        ok(&rt, map.extend_to(floor));
-        let mut other = ok(&rt, map.clone());
-        extend_from_bitmap(&rt, &mut map, &source);
-        for bit in source.iter() {
-            push(&rt, &mut other, bit);
-        }
-        equal(&rt, map.len(), floor + 1000);
-        expect_at(&rt, floor, same(&rt, &map, &other));
+        check_appended(&rt, rt.alloc(), &source, floor);
     }
 }

@@ -161,6 +161,28 @@ fn where_words_meet_chunks(rt: HostRuntime) {
     );
 }
 
+// Four positions, behind a pruned chunk.
+fn check_few(rt: &impl Abort, alloc: Global) {
+    let mut sparse = Prunable::<4>::new(alloc);
+    ok(rt, sparse.extend_to(96));
+    expect(rt, sparse.pruned_bits() == 0 && sparse.len() == 96);
+    for position in [40, 55, 64, 90] {
+        set_bit(rt, &mut sparse, position, true);
+    }
+    prune_to_bit(rt, &mut sparse, 32);
+    expect(
+        rt,
+        sparse
+            .ones_iter_from(32)
+            .eq([40, 55, 64, 90].iter().copied()),
+    );
+    expect(
+        rt,
+        sparse.ones_iter_from(50).eq([55, 64, 90].iter().copied()),
+    );
+    equal(rt, sparse.ones_iter_from(91).next(), None);
+}
+
 #[test]
 fn positions_behind_a_pruned_front(rt: HostRuntime) {
     let mut map = Prunable::<4>::new(rt.alloc());
@@ -168,24 +190,7 @@ fn positions_behind_a_pruned_front(rt: HostRuntime) {
     ok(&rt, map.extend_from_bitmap(&ones));
     prune_to_bit(&rt, &mut map, 32);
     expect(&rt, map.ones_iter_from(0).eq(32..64));
-    let mut sparse = Prunable::<4>::new(rt.alloc());
-    ok(&rt, sparse.extend_to(96));
-    expect(&rt, sparse.pruned_bits() == 0 && sparse.len() == 96);
-    for position in [40, 55, 64, 90] {
-        set_bit(&rt, &mut sparse, position, true);
-    }
-    prune_to_bit(&rt, &mut sparse, 32);
-    expect(
-        &rt,
-        sparse
-            .ones_iter_from(32)
-            .eq([40, 55, 64, 90].iter().copied()),
-    );
-    expect(
-        &rt,
-        sparse.ones_iter_from(50).eq([55, 64, 90].iter().copied()),
-    );
-    equal(&rt, sparse.ones_iter_from(91).next(), None);
+    check_few(&rt, rt.alloc());
 }
 
 #[test]

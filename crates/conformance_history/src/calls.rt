@@ -25,21 +25,18 @@ fn behind(rt: &impl Abort, alloc: Global, pruned_chunks: usize) -> Result<u64, E
     Ok(map.len())
 }
 
+// A bitmap without bits and commits.
+fn check_empty(rt: &impl Abort, map: &CleanBitMap<3>) {
+    expect(rt, map.is_empty());
+    equal(rt, (map.len(), map.pruned_chunks()), (0, 0));
+    equal(rt, map.earliest_commit(), None);
+    equal(rt, map.reverse_entries(), 0);
+}
+
 #[test]
 fn bitmaps_made(rt: HostRuntime) {
-    for map in [
-        CleanBitMap::<3>::new(rt.alloc()),
-        CleanBitMap::<3>::default(rt.alloc()),
-    ] {
-        expect(
-            &rt,
-            map.is_empty() && map.len() == 0 && map.pruned_chunks() == 0,
-        );
-        expect(
-            &rt,
-            map.earliest_commit().is_none() && map.reverse_entries() == 0,
-        );
-    }
+    check_empty(&rt, &CleanBitMap::new(rt.alloc()));
+    check_empty(&rt, &CleanBitMap::default(rt.alloc()));
     expect(&rt, behind(&rt, rt.alloc(), 0) == Ok(0));
     expect(&rt, behind(&rt, rt.alloc(), 2) == Ok(64));
     expect(
@@ -91,6 +88,19 @@ fn edits_in_a_chain(rt: HostRuntime) {
     equal(&rt, current_chunk(&rt, &map, 31), [0x34, 0, 0]);
 }
 
+// What is told of the commits 3, 5 and 8, each of a byte more.
+fn check_three_commits(rt: &impl Abort, map: &CleanBitMap<3>) {
+    expect(rt, map.commit_exists(5) && !map.commit_exists(4));
+    equal(rt, map.earliest_commit(), Some(3));
+    equal(rt, map.latest_commit(), Some(8));
+    let mut numbers = map.commits();
+    for want in [Some(3), Some(5), Some(8), None, None] {
+        equal(rt, numbers.next(), want);
+    }
+    expect(rt, was(rt, map, 5, 0, b"1100000010100000"));
+    expect(rt, map.reverse_entries() <= 3);
+}
+
 #[test]
 fn commits_listed_and_dropped(rt: HostRuntime) {
     let mut map = CleanBitMap::<3>::new(rt.alloc());
@@ -99,26 +109,12 @@ fn commits_listed_and_dropped(rt: HostRuntime) {
         push_byte(&rt, &mut batch, number as u8);
         map = commit(&rt, batch, number);
     }
-    expect(&rt, map.commit_exists(5) && !map.commit_exists(4));
-    expect(
-        &rt,
-        map.earliest_commit() == Some(3) && map.latest_commit() == Some(8),
-    );
-    let mut numbers = map.commits();
-    expect(&rt, numbers.next() == Some(3) && numbers.next() == Some(5));
-    expect(
-        &rt,
-        numbers.next() == Some(8) && numbers.next() == None && numbers.next() == None,
-    );
-    expect(&rt, was(&rt, &map, 5, 0, b"1100000010100000"));
-    expect(&rt, map.reverse_entries() <= 3);
+    check_three_commits(&rt, &map);
     equal(&rt, map.prune_commits_before(6), 2);
     expect(&rt, keeps(&map, &[8]) && map.reverse_entries() <= 1);
     map.clear_history();
-    expect(
-        &rt,
-        map.commits().next().is_none() && map.reverse_entries() == 0,
-    );
+    equal(&rt, map.commits().next(), None);
+    equal(&rt, map.reverse_entries(), 0);
     expect(
         &rt,
         shows(&rt, map.current(), 0, b"110000001010000000010000"),

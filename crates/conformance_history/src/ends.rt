@@ -86,6 +86,35 @@ fn check<B: Readable<N>, const N: usize>(rt: &impl Abort, map: &B, first: u64) {
     expect(rt, map.ones_iter_range(0..first).next().is_none());
 }
 
+// The state that is kept under 7, read in place and made a bitmap.
+fn check_kept<const N: usize>(rt: &impl Abort, map: &CleanBitMap<N>, first: u64) {
+    let then = map.at(7);
+    expect(rt, then.is_some());
+    if let Some(then) = then {
+        check(rt, &then, first);
+    }
+    let old = ok(rt, map.get_at_commit(7));
+    expect(rt, old.is_some());
+    if let Some(old) = old {
+        check(rt, &old, first);
+    }
+}
+
+// The same of the current bitmap, and its bits and chunks at both ends.
+fn check_current<const N: usize>(rt: &impl Abort, map: &CleanBitMap<N>, first: u64) {
+    equal(rt, map.len(), u64::MAX);
+    check(rt, map.current(), first);
+    let is_last_set = read_bit(rt, map.current(), LAST);
+    expect(
+        rt,
+        current_bit(rt, map, first) && current_bit(rt, map, LAST) == is_last_set,
+    );
+    expect(
+        rt,
+        current_chunk(rt, map, LAST) == current_chunk(rt, map, first),
+    );
+}
+
 // Commits it, takes all bits away under the greatest number, after which there is none, and goes back.
 fn check_commits<const N: usize>(rt: &impl Abort, map: DirtyBitMap<N>, first: u64) {
     let mut map = commit(rt, map, 7).into_dirty();
@@ -98,27 +127,9 @@ fn check_commits<const N: usize>(rt: &impl Abort, map: DirtyBitMap<N>, first: u6
     };
     let map = refuse(rt, map, LAST, why).abort();
     expect(rt, map.at(LAST).is_some_and(|old| old.len() == first));
-    let then = map.at(7);
-    expect(rt, then.is_some());
-    if let Some(then) = then {
-        check(rt, &then, first);
-    }
-    let old = ok(rt, map.get_at_commit(7));
-    expect(rt, old.is_some());
-    if let Some(old) = old {
-        check(rt, &old, first);
-    }
+    check_kept(rt, &map, first);
     let map = go_back(rt, map, 7);
-    check(rt, map.current(), first);
-    let is_last_set = read_bit(rt, map.current(), LAST);
-    expect(
-        rt,
-        current_bit(rt, &map, first) && current_bit(rt, &map, LAST) == is_last_set,
-    );
-    expect(
-        rt,
-        current_chunk(rt, &map, LAST) == current_chunk(rt, &map, first),
-    );
+    check_current(rt, &map, first);
 }
 
 // The greatest front, the bits behind it, and its commits.
@@ -155,6 +166,19 @@ fn chunk_at_the_end_of_the_positions(rt: HostRuntime) {
     equal(&rt, pending_chunk(&rt, &map, 18446744073709551614), [0x7f]);
 }
 
+// What is told of numbers where the greatest alone is kept.
+fn check_greatest(rt: &impl Abort, map: &CleanBitMap<4>) {
+    expect(
+        rt,
+        map.commit_exists(u64::MAX - 1) && !map.commit_exists(u64::MAX),
+    );
+    expect(rt, ok(rt, map.get_at_commit(u64::MAX)).is_none());
+    expect(
+        rt,
+        map.at(u64::MAX - 1).is_some() && map.at(u64::MAX).is_none(),
+    );
+}
+
 #[test]
 fn greatest_number(rt: HostRuntime) {
     let not_above = Error::NonMonotonicCommit {
@@ -166,15 +190,7 @@ fn greatest_number(rt: HostRuntime) {
     expect(&rt, keeps(&map, &[18446744073709551614]));
     let map = refuse(&rt, map.into_dirty(), u64::MAX, Error::ReservedCommitNumber);
     let map = refuse(&rt, map, 0, not_above).abort();
-    expect(
-        &rt,
-        map.commit_exists(u64::MAX - 1) && !map.commit_exists(u64::MAX),
-    );
-    expect(&rt, ok(&rt, map.get_at_commit(u64::MAX)).is_none());
-    expect(
-        &rt,
-        map.at(u64::MAX - 1).is_some() && map.at(u64::MAX).is_none(),
-    );
+    check_greatest(&rt, &map);
     let mut map = go_back(&rt, stay(&rt, map, u64::MAX), u64::MAX - 1);
     equal(
         &rt,

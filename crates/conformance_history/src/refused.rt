@@ -188,6 +188,19 @@ fn front_pruned(rt: HostRuntime) {
     use_further(&rt, map, &before);
 }
 
+// What is left of three chunks of ones that are committed under 1, after a batch that prunes two or, refused, none.
+fn check_after_a_prune(rt: &impl Abort, map: &CleanBitMap<4>, refused: bool) {
+    let pruned = if refused { 0 } else { 2 };
+    let count = if refused { 96 } else { 32 };
+    expect(rt, shows_runs(rt, map.current(), pruned, &[(count, true)]));
+    if let Ok(Some(old)) = map.get_at_commit(1) {
+        expect(rt, shows_runs(rt, &old, 0, &[(96, true)]));
+    }
+    if let Ok(Some(old)) = map.get_at_commit(2) {
+        expect(rt, same(rt, &old, map.current()));
+    }
+}
+
 #[test]
 fn batch_committed_after_a_refused_prune(rt: HostRuntime) {
     let mut map = CleanBitMap::<4>::new(rt.alloc()).into_dirty();
@@ -202,18 +215,7 @@ fn batch_committed_after_a_refused_prune(rt: HostRuntime) {
     let Ok(map) = try_commit(&rt, map, 2) else {
         return;
     };
-    let pruned = if refused { 0 } else { 2 };
-    let count = if refused { 96 } else { 32 };
-    expect(
-        &rt,
-        shows_runs(&rt, map.current(), pruned, &[(count, true)]),
-    );
-    if let Ok(Some(old)) = map.get_at_commit(1) {
-        expect(&rt, shows_runs(&rt, &old, 0, &[(96, true)]));
-    }
-    if let Ok(Some(old)) = map.get_at_commit(2) {
-        expect(&rt, same(&rt, &old, map.current()));
-    }
+    check_after_a_prune(&rt, &map, refused);
 }
 
 // A batch on sixteen bytes of ones that has set the first bit of so many chunks, and popped four bits.
@@ -439,6 +441,22 @@ fn edits_in_a_chain(rt: HostRuntime) {
     }
 }
 
+// Forty set bits that are committed under 7, with no commit before.
+fn check_first(rt: &impl Abort, map: &CleanBitMap<1>) {
+    expect(rt, shows_runs(rt, map.current(), 0, &[(40, true)]));
+    expect(rt, keeps(map, &[7]));
+    expect(rt, map.reverse_entries() <= 5);
+}
+
+// The same forty bits handed back, as there was no memory to commit them.
+fn check_handed_back(rt: &impl Abort, mut map: DirtyBitMap<1>, why: Error) {
+    expect(rt, why == Error::Memory(AllocError));
+    pop_run(rt, &mut map, 40, true);
+    let map = map.abort();
+    expect(rt, map.is_empty() && map.latest_commit().is_none());
+    equal(rt, map.reverse_entries(), 0);
+}
+
 #[test]
 fn first_batch_committed(rt: HostRuntime) {
     let mut map = CleanBitMap::<1>::new(rt.alloc()).into_dirty();
@@ -446,18 +464,8 @@ fn first_batch_committed(rt: HostRuntime) {
         return;
     }
     match map.commit(7) {
-        Ok(map) => {
-            expect(&rt, shows_runs(&rt, map.current(), 0, &[(40, true)]));
-            expect(&rt, map.commits().eq([7].iter().copied()));
-            expect(&rt, map.reverse_entries() <= 5);
-        }
-        Err((mut map, why)) => {
-            expect(&rt, why == Error::Memory(AllocError));
-            pop_run(&rt, &mut map, 40, true);
-            let map = map.abort();
-            expect(&rt, map.is_empty() && map.latest_commit().is_none());
-            equal(&rt, map.reverse_entries(), 0);
-        }
+        Ok(map) => check_first(&rt, &map),
+        Err((map, why)) => check_handed_back(&rt, map, why),
     }
 }
 

@@ -43,13 +43,9 @@ fn thirds<const N: usize>(rt: &impl Abort, alloc: Global, len: u64) -> Option<Bi
     Some(map)
 }
 
-// What is asked of a bitmap as a whole, or of a part of it, where each third of its bits is set.
-fn check_reads<const N: usize>(rt: &impl Abort, map: &BitMap<N>, len: u64) {
-    expect(rt, map.len() == len && len > 8);
-    expect(
-        rt,
-        !map.is_empty() && map.is_chunk_aligned() == (len % (8 * N as u64) == 0),
-    );
+// What is asked of each bit, and of all of them in turn, where each third is set.
+fn check_each<const N: usize>(rt: &impl Abort, map: &BitMap<N>, len: u64) {
+    expect(rt, map.len() == len);
     for position in 0..len {
         equal(rt, map.get(position), position % 3 == 0);
         expect(
@@ -59,19 +55,29 @@ fn check_reads<const N: usize>(rt: &impl Abort, map: &BitMap<N>, len: u64) {
     }
     expect(
         rt,
+        map.iter().eq((0..len).map(|position| position % 3 == 0)),
+    );
+    expect(rt, map.ones_iter().eq((0..len).step_by(3)));
+}
+
+// What is asked of a bitmap as a whole, or of a part of it, where each third of its bits is set.
+fn check_reads<const N: usize>(rt: &impl Abort, map: &BitMap<N>, len: u64) {
+    expect(rt, map.len() == len && len > 8);
+    expect(
+        rt,
+        !map.is_empty() && map.is_chunk_aligned() == (len % (8 * N as u64) == 0),
+    );
+    expect(
+        rt,
         map.is_unset(7..9) && map.is_unset(9..7) && !map.is_unset(1..len),
     );
     equal(rt, map.count_ones(), len.div_ceil(3));
     equal(rt, map.count_zeros(), len - len.div_ceil(3));
     expect(
         rt,
-        map.iter().eq((0..len).map(|position| position % 3 == 0)),
-    );
-    expect(
-        rt,
         map.iter().size_hint() == (len as usize, Some(len as usize)),
     );
-    expect(rt, map.ones_iter().eq((0..len).step_by(3)));
+    check_each(rt, map, len);
     let mut text = Length { bytes: 0 };
     expect(rt, write!(text, "{map:?}").is_ok());
     equal(rt, text.bytes as u64, if len > 64 { 75 } else { len + 8 });
