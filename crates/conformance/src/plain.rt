@@ -217,6 +217,18 @@ fn check_ranges<const N: usize>(rt: &impl Abort, alloc: Global, bits: &[bool], s
     }
 }
 
+// The ranges that begin or end at one of these ends.
+fn check_ends<const N: usize>(rt: &impl Abort, alloc: Global, bits: &[bool], ends: &[u64], end: u64)
+    requires positive { 0 < N }
+    requires fits { 8 * N < 2 ^ 64 }
+{
+    for start in ends {
+        check_ranges::<N>(rt, alloc, bits, *start, end);
+    }
+    check_ranges::<N>(rt, alloc, bits, end, u64::MAX);
+    check_ranges::<N>(rt, alloc, bits, u64::MAX, end);
+}
+
 // All of these at one width.
 fn check_width<const N: usize>(rt: &impl Abort, alloc: Global)
     requires positive { 0 < N }
@@ -251,11 +263,7 @@ fn check_width<const N: usize>(rt: &impl Abort, alloc: Global)
         check_joins::<N>(rt, alloc, dense.as_slice(), other.as_slice());
         for end in ends {
             check_lengths::<N>(rt, alloc, dense.as_slice(), end as usize);
-            for start in ends {
-                check_ranges::<N>(rt, alloc, sparse.as_slice(), start, end);
-            }
-            check_ranges::<N>(rt, alloc, sparse.as_slice(), end, u64::MAX);
-            check_ranges::<N>(rt, alloc, sparse.as_slice(), u64::MAX, end);
+            check_ends::<N>(rt, alloc, sparse.as_slice(), &ends, end);
         }
     }
 }

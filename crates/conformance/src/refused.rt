@@ -8,7 +8,7 @@ mod no_memory;
 mod pruned;
 
 use crate::answers::holds;
-use crate::asked::{equal, equal_at, expect, expect_at};
+use crate::asked::{equal_at, expect, expect_at};
 use bitmap_core::bitmap::BitMap;
 use std::process::Abort;
 
