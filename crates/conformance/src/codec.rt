@@ -19,6 +19,11 @@ const THREE_BITS: [u8; 12] = [0, 0, 0, 0, 0, 0, 0, 3, 5, 0, 0, 0];
 // The same behind one pruned chunk.
 const BEHIND_ONE: [u8; 20] = [0, 0, 0, 0, 0, 0, 0, 1, 0, 0, 0, 0, 0, 0, 0, 3, 5, 0, 0, 0];
 
+// A full chunk and four bits behind two pruned chunks.
+const BEHIND_TWO: [u8; 24] = [
+    0, 0, 0, 0, 0, 0, 0, 2, 0, 0, 0, 0, 0, 0, 0, 36, 3, 4, 5, 6, 6, 0, 0, 0,
+];
+
 // The most pruned chunks of four bytes, and what follows them up to the last byte of the length.
 const MOST_PRUNED: [u8; 15] = [7, 255, 255, 255, 255, 255, 255, 255, 0, 0, 0, 0, 0, 0, 0];
 
@@ -416,9 +421,7 @@ fn forms_behind_a_pruned_front(rt: HostRuntime) {
         alloc,
         2,
         b"110000000010000010100000011000000110",
-        &[
-            0, 0, 0, 0, 0, 0, 0, 2, 0, 0, 0, 0, 0, 0, 0, 36, 3, 4, 5, 6, 6, 0, 0, 0,
-        ],
+        &BEHIND_TWO,
     );
     check_behind::<3>(
         &rt,
@@ -463,8 +466,8 @@ fn faults_behind_a_pruned_front(rt: HostRuntime) {
     expect(
         &rt,
         is_length(
-            refusal::<Prunable<4>>(alloc, &BEHIND_ONE, &RangeCfg::exact(35)),
-            3,
+            refusal::<Prunable<4>>(alloc, &BEHIND_TWO, &RangeCfg::exact(100)),
+            36,
         ),
     );
     expect(

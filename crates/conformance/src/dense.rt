@@ -194,6 +194,7 @@ fn sizes_of_byte_forms(rt: HostRuntime) {
     for (bits, want) in [(0, 8), (1, 12), (32, 12), (33, 16)] {
         equal_at(&rt, bits, BitMap::<4>::max_encode_size(bits), want);
     }
+    equal(&rt, BitMap::<1>::max_encode_size(10), 10);
     equal(&rt, BitMap::<3>::max_encode_size(24), 11);
     equal(&rt, BitMap::<3>::max_encode_size(25), 14);
     equal(
@@ -386,14 +387,14 @@ fn whole_chunks_and_two_bits(rt: HostRuntime) {
 fn zeros_past_the_length(rt: HostRuntime) {
     for len in [0, 1, 15, 20, 27, 31, 32, 33] {
         let mut map = ok(&rt, BitMap::<4>::ones(rt.alloc(), len));
-        expect_at(&rt, len, is_clean(&map));
+        expect_at(&rt, ("ones", len), is_clean(&map));
         map.flip_all();
-        expect_at(&rt, len, is_clean(&map));
+        expect_at(&rt, ("flip_all", len), is_clean(&map));
         map.set_all(true);
-        expect_at(&rt, len, is_clean(&map));
+        expect_at(&rt, ("set_all", len), is_clean(&map));
         equal(&rt, map.count_ones(), len);
         map.truncate(len / 2);
-        expect_at(&rt, len, is_clean(&map));
+        expect_at(&rt, ("truncate", len), is_clean(&map));
     }
 }
 
@@ -402,9 +403,12 @@ fn zeros_past_the_length_of_joins(rt: HostRuntime) {
     for len in [1, 15, 20, 33] {
         let map = ok(&rt, BitMap::<4>::ones(rt.alloc(), len));
         let other = ok(&rt, BitMap::<4>::zeroes(rt.alloc(), len));
-        expect_at(&rt, len, is_clean(&ok(&rt, &map & &other)));
-        expect_at(&rt, len, is_clean(&ok(&rt, &map | &other)));
-        expect_at(&rt, len, is_clean(&ok(&rt, &map ^ &other)));
+        let joined = ok(&rt, &map & &other);
+        expect_at(&rt, ("and", len), is_clean(&joined));
+        let joined = ok(&rt, &map | &other);
+        expect_at(&rt, ("or", len), is_clean(&joined));
+        let joined = ok(&rt, &map ^ &other);
+        expect_at(&rt, ("xor", len), is_clean(&joined));
     }
 }
 
@@ -414,11 +418,11 @@ fn pushes_and_pops(rt: HostRuntime) {
     for i in 0..100 {
         expect(&rt, map.len() == i);
         ok(&rt, map.push(i % 2 == 0));
-        expect_at(&rt, i, is_clean(&map));
+        expect_at(&rt, ("push", i), is_clean(&map));
     }
     for i in (0..100).rev() {
         expect(&rt, map.len() == i + 1);
-        equal_at(&rt, i, map.pop(), i % 2 == 0);
-        expect_at(&rt, i, is_clean(&map));
+        equal_at(&rt, ("pop", i), map.pop(), i % 2 == 0);
+        expect_at(&rt, ("pop", i), is_clean(&map));
     }
 }

@@ -8,7 +8,8 @@ use crate::asked::{
     pop_chunk, prune_to_bit, push, push_byte, push_chunk, set_bit, set_full_chunk, shows, truncate,
     unprune,
 };
-use bitmap_core::bitmap::codec::{EncodeSize, RangeCfg, Read, Write};
+use crate::codec::written;
+use bitmap_core::bitmap::codec::{EncodeSize, RangeCfg, Read};
 use bitmap_core::bitmap::prunable::{Error, Prunable};
 use bitmap_core::bitmap::{BitMap, Readable};
 use std::alloc::Global;
@@ -120,8 +121,7 @@ fn check_form<const N: usize>(rt: &impl Abort, alloc: Global, map: &Prunable<N>,
     requires positive { 0 < N }
     requires fits { 8 * N < 2 ^ 64 }
 {
-    let mut out = Vec::new(alloc);
-    ok(rt, map.write(&mut out));
+    let out = written(rt, alloc, map);
     equal(rt, out.len(), map.encode_size());
     let mut from = out.as_slice();
     match Prunable::<N>::read_cfg(alloc, &mut from, &RangeCfg::exact(room)) {

@@ -3,7 +3,7 @@
 use crate::asked::{
     equal, expect, extend_from_bitmap, of_chunks, ok, prune_to_bit, push_chunk, shows, unprune,
 };
-use bitmap_core::bitmap::codec::Write;
+use crate::codec::written;
 use bitmap_core::bitmap::{BitMap, Readable};
 
 #[test]
@@ -35,8 +35,7 @@ fn wrapped(rt: HostRuntime) {
         &rt,
         map.ones_iter_range(30..45).eq([30, 32, 34, 36, 38, 41, 42]),
     );
-    let mut out = Vec::new(rt.alloc());
-    ok(&rt, map.write(&mut out));
+    let out = written(&rt, rt.alloc(), &map);
     let bytes = [
         0, 0, 0, 0, 0, 0, 0, 3, 0, 0, 0, 0, 0, 0, 0, 32, 0x44, 0x55, 0x66, 0x77,
     ];
