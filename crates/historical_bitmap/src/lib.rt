@@ -2,4 +2,3 @@
 #![tactic(auto)]
 
 pub mod bitmap;
-pub mod laws;

@@ -3,7 +3,7 @@
 ghost use Rattle.std.specs.Prelude.{◌≡◌, ◌+◌, ◌^◌, ◌<◌, length};
 
 use bitmap_core::bitmap::BitMap;
-use bitmap_core::laws::whole::push_then_pop;
+use bitmap_laws::whole::push_then_pop;
 use std::alloc::AllocError;
 
 /// Changes nothing, by the law of `push_then_pop`.
