@@ -1,12 +1,5 @@
--- Chunks of bytes: where a bit stands in them, what edits do to their bits, and what bytes they are.
-pub mod Bits
-pub mod AsBytes
-pub mod Lists
+-- Runs of chunks: alike, whole, combined, and with a byte written.
 pub mod Equal
-pub mod OfBytes
-pub mod Front
 pub mod Whole
 pub mod Combined
-pub mod Places
 pub mod ByteWritten
-pub mod Packed

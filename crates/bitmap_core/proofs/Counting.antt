@@ -1,8 +1,2 @@
--- How many bits of a range are true, and whether none is: by position, byte, word and chunk.
-pub mod Ones
-pub mod Places
-pub mod Tests
-pub mod ByteRanges
+-- How many bits of a range of joined chunks are true.
 pub mod JoinedChunks
-pub mod Words
-pub mod Blocks

@@ -1,4 +1,3 @@
-pub mod Bytes
 pub mod Chunks
 pub mod Lists
 pub mod Counting

@@ -1,5 +1,4 @@
 -- Lists of bits and of positions, and what edits of the chunks do to them.
-pub mod Bits
 pub mod Edits
 pub mod WholeBits
 pub mod BitByBit

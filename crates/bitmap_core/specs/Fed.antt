@@ -6,8 +6,8 @@ use Rattle.std.specs.Cmp.{booleans_Decides}
 use Rattle.std.specs.Cmp.Lexicographic.{pointwise, pointwise_decides}
 use Rattle.std.proofs.Math.Bool.{beq}
 use Rattle.std.proofs.Common.{ap}
-use Rattle.bitmap_core.specs.Chunk.{chunk_of}
-use Rattle.bitmap_core.specs.Spelling.{chunk_count}
+use Rattle.bitmap_bytes.specs.Chunk.{chunk_of}
+use Rattle.bitmap_bytes.specs.Bits.{chunk_count}
 
 -- what a hash of the bits v is fed: their number, and their chunks of n bytes
 unfoldable pub fed_bits : ℕ → List Bool → List (List ℕ)

@@ -1,6 +1,3 @@
-pub mod Chunk
-pub mod Bits
-pub mod Combined
 pub mod Fed
 pub mod PrunedBits
 pub mod Text

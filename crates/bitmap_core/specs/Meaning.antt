@@ -2,7 +2,8 @@
 use Rattle.std.specs.Prelude.{◌≡◌, ℕ, ◌+◌, ◌-◌, ◌*◌, ◌/◌, ◌%◌, ◌^◌, ◌<◌, ◌≤◌, min, max, Bool, true, false, List, ◌++◌, length, slice_index_or, ◌==◌, nat_lt, if◌then◌else◌}
 use Rattle.std.specs.Int.{bit_at as digit_at}
 use Rattle.std.specs.List.{filter, range_with_len}
-use Rattle.bitmap_core.specs.Chunk.{chunk_bit, IsWidth}
+use Rattle.bitmap_bytes.specs.Chunk.{chunk_bit, IsWidth}
+use Rattle.bitmap_bytes.specs.Words.{starts_word, word_start, next_word, IsCut}
 use Rattle.bitmap_core.specs.PrunedBits.{PrunedBits, bit_len, bit_at}
 
 -- how many chunks are pruned at the front, how many bits there are (the pruned ones counted), and the bit at each position
@@ -46,18 +47,6 @@ ones_between bit lo hi = filter bit (range_with_len lo (hi - lo))
 abbrev pub ones : ℕ → Meaning → ℕ → ℕ → List ℕ
 ones n m a b = ones_between m.bit (max a (8 * n * m.pruned)) (min b m.len)
 
--- a word begins at k: words of 64 bits stand side by side from the start of each chunk, and its last one may be short
-abbrev pub starts_word : ℕ → ℕ → Bool
-starts_word n k = ((k % (8 * n)) % 64) == 0
-
--- where the word begins that has position k
-abbrev pub word_start : ℕ → ℕ → ℕ
-word_start n k = k - (k % (8 * n)) % 64
-
--- where the next word begins after one that begins at k
-abbrev pub next_word : ℕ → ℕ → ℕ
-next_word n k = k + (if nat_lt (k % (8 * n) + 64) (8 * n) then 64 else 8 * n - k % (8 * n))
-
 -- how many words meet lo up to hi
 abbrev pub words_between : ℕ → ℕ → ℕ → ℕ
 words_between n lo hi = if nat_lt lo hi then length (ones_between (starts_word n) (word_start n lo) hi) else 0
@@ -88,10 +77,6 @@ pub record IsScan (n : ℕ) (m : Meaning) (base : ℕ) (end : ℕ) (chunk : List
   pub retained : base < end → 8 * n * m.pruned ≤ base
   pub shown : base < end → ShowsChunk n m (base / (8 * n)) chunk
   pub counted : loads + length (ones_between (starts_word n) (base + 1) end) ≡ words_between n first end
-
--- a word at base has no bit at or past the end
-abbrev pub IsCut : ℕ → ℕ → ℕ → Type 0
-IsCut base word end = (i : ℕ) → i < 64 → end ≤ base + i → (digit_at word i == 1) ≡ false
 
 -- what holds of an iterator: its fields are as they should be, and its word has no bit at or past the end
 pub record IsIterating (n : ℕ) (m : Meaning) (base word end : ℕ) (chunk : List ℕ) (loads first : ℕ) : Type 0 where

@@ -1,7 +1,7 @@
 -- A bitmap whose front may be pruned, by whole chunks. Positions are absolute. A chunk has n bytes.
 use Rattle.std.specs.Prelude.{ℕ, ◌+◌, ◌-◌, ◌*◌, ◌/◌, ◌^◌, ◌<◌, ◌≤◌, Bool, false, List, ◌∷◌, [], ◌++◌, length, map, take, drop, replicate, ◌==◌, nat_lt, if◌then◌else◌, slice_index_or, slice_set}
 use Rattle.std.specs.List.{range_with_len, flat_map}
-use Rattle.bitmap_core.specs.Chunk.{chunk_from, chunk_bit, chunk_bits, IsWidth}
+use Rattle.bitmap_bytes.specs.Chunk.{chunk_from, chunk_bit, chunk_bits, IsWidth}
 
 -- a bitmap: the number of chunks pruned at its front, and the bits after them
 pub record PrunedBits : Type 0 where

@@ -5,9 +5,10 @@ use Rattle.std.specs.List.{range_with_len, list_any}
 use Rattle.bitmap_core.specs.declared.bitmap.codec.error.CodecError.{CodecError}
 use Rattle.bitmap_core.specs.declared.bitmap.codec.error.CodecError.TheVariants as errors
 use Rattle.bitmap_core.specs.declared.bitmap.codec.range.RangeCfg.{RangeCfg}
-use Rattle.bitmap_core.specs.Chunk.{bit_in}
+use Rattle.bitmap_bytes.specs.Chunk.{bit_in}
 use Rattle.bitmap_core.specs.PrunedBits.{PrunedBits, bit_len}
-use Rattle.bitmap_core.specs.Spelling.{chunk_count, spelling, pruned_spelling}
+use Rattle.bitmap_bytes.specs.Bits.{chunk_count}
+use Rattle.bitmap_core.specs.Spelling.{spelling, pruned_spelling}
 
 -- what can be wrong with a text
 pub data Fault : Type 0 where

@@ -20,7 +20,7 @@ ghost use Rattle.std.proofs.Math.Bool.{xor};
 ghost use Rattle.bitmap_core.specs.Meaning.{words_between};
 ghost use Rattle.bitmap_core.specs.Spelling.{spelling};
 ghost use Rattle.std.specs.Int.{div_ceil};
-ghost use Rattle.bitmap_core.specs.Chunk.{chunk_bit, chunk_bits, IsWidth};
+ghost use Rattle.bitmap_bytes.specs.Chunk.{chunk_bit, chunk_bits, IsWidth};
 
 pub mod codec;
 mod debug;
@@ -58,7 +58,7 @@ pub struct BitMap<const N: usize> {
 
 impl<const N: usize> Model for BitMap<N> {
     ghost use Rattle.std.specs.Prelude.{List, Bool};
-    ghost use Rattle.bitmap_core.specs.Bits.{bits, IsPacked};
+    ghost use Rattle.bitmap_bytes.specs.Bits.{bits, IsPacked};
 
     ghost Value = { List Bool };
 

@@ -1,7 +1,7 @@
 //! Bitmaps: lists of bits, packed into chunks of any width.
 //!
 //! `bitmap` has the bitmaps: dense ones, ones with a pruned front, what both are to their readers, and their byte forms.
-//! `chunk` has what the layers above do with a single chunk. The crate `bitmap_laws` has what users may rest on besides the calls' own contracts.
+//! `chunk`, of the crate `bitmap_bytes`, has what the layers above do with a single chunk. The crate `bitmap_laws` has what users may rest on besides the calls' own contracts.
 //!
 //! What is said once for all calls:
 //!
@@ -14,4 +14,5 @@
 #![tactic(auto)]
 
 pub mod bitmap;
-pub mod chunk;
+
+pub use bitmap_bytes::chunk;

@@ -7,7 +7,7 @@ ghost use Rattle.std.specs.Int.{div_ceil};
 ghost use Rattle.bitmap_core.specs.PrunedBits.{PrunedBits, bit_len};
 ghost use Rattle.bitmap_core.specs.Reading.{admits, bits_fault, bits_in, pruned_fault, pruned_in, SpellsBits, SpellsPruned};
 ghost use Rattle.bitmap_core.specs.Spelling.{pruned_spelling, spelling};
-ghost use Rattle.bitmap_core.specs.Chunk.{IsWidth};
+ghost use Rattle.bitmap_bytes.specs.Chunk.{IsWidth};
 
 use bitmap_core::bitmap::BitMap;
 use bitmap_core::bitmap::codec::{CodecError, EncodeSize, RangeCfg, Read, Write};

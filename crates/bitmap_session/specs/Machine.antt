@@ -4,7 +4,7 @@ use Rattle.std.specs.List.{sum_by}
 use Rattle.std.specs.Map.{keys_of}
 use Rattle.std.specs.Option.{option_or, option_map}
 use Rattle.std.specs.Set.{distinct_count}
-use Rattle.bitmap_core.specs.Chunk.{byte_bits, chunk_bits}
+use Rattle.bitmap_bytes.specs.Chunk.{byte_bits, chunk_bits}
 use Rattle.bitmap_core.specs.PrunedBits.{PrunedBits, pruned_bits, bit_len, bit_at, chunk, last_bit}
 use Rattle.bitmap_core.specs.Meaning.{ones, pruned_meaning}
 use Rattle.bitmap_core.specs.Spelling.{pruned_spelling}

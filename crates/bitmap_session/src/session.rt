@@ -5,7 +5,7 @@ mod dirty;
 mod shown;
 
 ghost use Rattle.std.specs.Prelude.{◌≡◌, ◌+◌, ◌<◌, ◌≤◌, List, [], ◌∷◌, ◌++◌, length, map, IsOk, OnErr, OnOk, vec_len, vec_capacity};
-ghost use Rattle.bitmap_core.specs.Chunk.{IsWidth};
+ghost use Rattle.bitmap_bytes.specs.Chunk.{IsWidth};
 ghost use Rattle.bitmap_session.specs.Machine.{Agrees, StepTo, RunsOn, first_machine};
 ghost use Rattle.bitmap_session.specs.Seen.{seen, said};
 
@@ -56,7 +56,7 @@ pub struct Session<const N: usize> {
 }
 
 impl<const N: usize> Model for Session<N> {
-    ghost use Rattle.bitmap_core.specs.Chunk.{IsWidth};
+    ghost use Rattle.bitmap_bytes.specs.Chunk.{IsWidth};
     ghost use Rattle.bitmap_session.specs.Machine.{Machine};
 
     ghost Value = { Machine };

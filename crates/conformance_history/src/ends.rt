@@ -1,6 +1,6 @@
 //! The ends of the positions and of the numbers: behind the greatest pruned front as many bits as there are positions left, at six widths.
 
-ghost use Rattle.bitmap_core.specs.Chunk.{IsWidth};
+ghost use Rattle.bitmap_bytes.specs.Chunk.{IsWidth};
 
 use crate::asked::{
     commit, current_bit, current_chunk, equal, expect, go_back, keeps, ok, pending_bit,

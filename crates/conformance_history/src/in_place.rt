@@ -1,6 +1,6 @@
 //! Old states read in place, beside the same states as bitmaps of their own.
 
-ghost use Rattle.bitmap_core.specs.Chunk.{IsWidth};
+ghost use Rattle.bitmap_bytes.specs.Chunk.{IsWidth};
 
 use crate::asked::{
     commit, equal, expect, expect_at, front, ok, pop, prune_to_bit, push_byte, push_chunk,

@@ -1,7 +1,7 @@
 //! Edits without a pattern, against a machine that keeps every committed bitmap whole.
 
 ghost use Rattle.std.specs.Prelude.{ℕ, ◌<◌};
-ghost use Rattle.bitmap_core.specs.Chunk.{IsWidth};
+ghost use Rattle.bitmap_bytes.specs.Chunk.{IsWidth};
 
 use crate::asked::{
     commit, equal, expect, expect_at, front, get_bit, ok, pending_bit, pending_chunk, pop,

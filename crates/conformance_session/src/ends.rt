@@ -1,6 +1,6 @@
 //! The ends of the positions, at widths that `replay` offers and at others.
 
-ghost use Rattle.bitmap_core.specs.Chunk.{IsWidth};
+ghost use Rattle.bitmap_bytes.specs.Chunk.{IsWidth};
 
 use crate::asked::{ask, does, equal, expect, len};
 use bitmap_session::command::Command;

@@ -5,7 +5,7 @@ use Rattle.std.proofs.lemmas.Bool.{cases_eq, cases_lt, eq-eqb, ne_eqb}
 use Rattle.std.proofs.lemmas.Nat.{mod_below, mul-le}
 use Rattle.std.specs.Option.{option_map}
 use Rattle.std.specs.Prelude.{OnOk, OnErr, Option, Some, None, IsSome, MatchOption}
-use Rattle.bitmap_core.specs.Chunk.{chunk_bit}
+use Rattle.bitmap_bytes.specs.Chunk.{chunk_bit}
 use Rattle.bitmap_core.proofs.Pruned.Positions.{place}
 use Rattle.bitmap_core.specs.PrunedBits.{PrunedBits, pruned_bits, bit_at, last_bit}
 use Rattle.historical_bitmap.specs.Edits.{Edit, IsAccepted, pushes}

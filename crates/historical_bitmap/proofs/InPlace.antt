@@ -8,10 +8,10 @@ use Rattle.std.specs.Map.{keys_of}
 use Rattle.std.specs.Ordering.{nat_cmp}
 use Rattle.std.specs.Prelude.{Option, Some, None, MatchOption, option_map, slice_get, unwrap_or}
 use Rattle.std.specs.Option.{option_or}
-use Rattle.bitmap_core.specs.Chunk.{chunk_bit, IsWidth}
+use Rattle.bitmap_bytes.specs.Chunk.{chunk_bit, IsWidth}
 use Rattle.bitmap_core.specs.PrunedBits.{PrunedBits, bit_at, bit_len, chunk, HasBit, HasChunk}
 use Rattle.bitmap_core.specs.Meaning.{pruned_meaning, ShowsChunk}
-use Rattle.bitmap_core.proofs.Chunks.Bits.{chunk_bit-mod}
+use Rattle.bitmap_bytes.proofs.Chunks.Bits.{chunk_bit-mod}
 use Rattle.bitmap_core.proofs.Pruned.Positions.{bit_from_bits, len_from_bits}
 use Rattle.historical_bitmap.specs.Record.{Reverse, bit_from, before, kept}
 use Rattle.historical_bitmap.specs.Undo.{CanUndo}

@@ -4,10 +4,10 @@ use mathlib.Core.Logic.{inl, inr}
 use Rattle.std.proofs.lemmas.Bool.{cases_lt}
 use Rattle.std.proofs.Math.Nat.{mul-add-mod_self_left}
 use Rattle.std.proofs.lemmas.Nat.{div-mul-add, mul-le}
-use Rattle.bitmap_core.specs.Chunk.{chunk_bit, byte_of, IsChunk}
+use Rattle.bitmap_bytes.specs.Chunk.{chunk_bit, byte_of, IsChunk}
 use Rattle.bitmap_core.specs.PrunedBits.{PrunedBits, pruned_bits, bit_at, chunk}
-use Rattle.bitmap_core.proofs.Chunks.Bits.{chunk_bit-mod}
-use Rattle.bitmap_core.proofs.Bytes.Made.{bytes_are, byte_same, map_range_same}
+use Rattle.bitmap_bytes.proofs.Chunks.Bits.{chunk_bit-mod}
+use Rattle.bitmap_bytes.proofs.Bytes.Made.{bytes_are, byte_same, map_range_same}
 use Rattle.bitmap_core.proofs.Pruned.Positions.{place, bit_past}
 use Rattle.historical_bitmap.specs.Pending.{Layer, pending_bits, pending_chunk, LayerFits}
 use Rattle.historical_bitmap.proofs.PendingEdits.{pending_len, pending_at, chunk_bit_is, chunk_bit_past}

@@ -7,9 +7,9 @@ use Rattle.std.proofs.lemmas.Bool.{cases_lt, cases_eq, eq-eqb, ne_eqb, lt-ltb, l
 use Rattle.std.proofs.lemmas.Nat.{le-div, div-mul-add, mul-le}
 use Rattle.std.specs.Prelude.{Bool, false, cond, ◌==◌, map, max, nat_eq, Option, Some, None, MatchOption, unwrap_or}
 use Rattle.std.specs.Map.{lookup}
-use Rattle.bitmap_core.specs.Chunk.{chunk_bit}
+use Rattle.bitmap_bytes.specs.Chunk.{chunk_bit}
 use Rattle.bitmap_core.specs.PrunedBits.{PrunedBits, pruned_bits, bit_len, bit_at, from_bits, HasBit, chunk, pushed, popped, set_at, pruned_to, truncated}
-use Rattle.bitmap_core.proofs.Chunks.Places.{same_place}
+use Rattle.bitmap_bytes.proofs.Chunks.Places.{same_place}
 use Rattle.bitmap_core.proofs.Pruned.Positions.{place, front_of, same_from_bits, bit_from_bits, len_from_bits}
 use Rattle.bitmap_core.proofs.Pruned.Edits.{bit_pushed, bit_truncated, bit_set, bit_pruned, popped_is}
 use Rattle.historical_bitmap.specs.Edits.{Edit, after, IsAccepted, from_to}

@@ -14,7 +14,7 @@ use Rattle.std.specs.Ordering.{nat_cmp}
 use Rattle.std.specs.declared.cmp.Ordering.TheVariants.{Less}
 use Rattle.std.specs.Map.{lookup, keys_of}
 use Rattle.std.specs.Set.{is_member, distinct_count}
-use Rattle.bitmap_core.specs.Chunk.{chunk_bit}
+use Rattle.bitmap_bytes.specs.Chunk.{chunk_bit}
 use Rattle.bitmap_core.specs.PrunedBits.{PrunedBits, bit_len, bit_at, HasBit, chunk}
 use Rattle.bitmap_core.proofs.Pruned.Positions.{place, bit_past}
 use Rattle.historical_bitmap.specs.Record.{ChunkDiff, Reverse, bit_from, kept, bytes_of, kept_bytes, LeadsBack}

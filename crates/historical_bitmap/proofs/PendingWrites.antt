@@ -12,9 +12,9 @@ use Rattle.std.proofs.Math.Nat.{mod-eq_of_lt}
 use Rattle.std.specs.Int.{bit_at as bit_at_byte}
 use Rattle.std.specs.List.{range_with_len}
 use Rattle.std.specs.Map.{lookup}
-use Rattle.bitmap_core.specs.Chunk.{bit_in, byte_bits, chunk_bit, chunk_bits, IsChunk, IsByteJoined}
+use Rattle.bitmap_bytes.specs.Chunk.{bit_in, byte_bits, chunk_bit, chunk_bits, IsChunk, IsByteJoined}
 use Rattle.bitmap_core.specs.PrunedBits.{PrunedBits, pruned_bits, bit_len, bit_at, chunk, truncated, HasBit}
-use Rattle.bitmap_core.proofs.Bytes.Made.{map_range_same}
+use Rattle.bitmap_bytes.proofs.Bytes.Made.{map_range_same}
 use Rattle.bitmap_core.proofs.Pruned.Positions.{place, bit_past}
 use Rattle.bitmap_core.proofs.Pruned.Edits.{bit_truncated}
 use Rattle.historical_bitmap.specs.Edits.{from_to}

@@ -3,9 +3,9 @@ use Rattle.std.proofs.Common.{◌≡◌, ℕ, ◌*◌, ◌/◌, ◌%◌, ◌<◌
 use Rattle.std.proofs.Math.Nat.{mod-mod}
 use Rattle.std.proofs.lemmas.Nat.{le-div, mod_below}
 use Rattle.std.specs.Prelude.{Option, Some, None, MatchOption}
-use Rattle.bitmap_core.specs.Chunk.{chunk_bit}
+use Rattle.bitmap_bytes.specs.Chunk.{chunk_bit}
 use Rattle.bitmap_core.specs.PrunedBits.{PrunedBits, bit_at, HasBit, HasChunk, chunk}
-use Rattle.bitmap_core.proofs.Chunks.Bits.{chunk_bit-mod}
+use Rattle.bitmap_bytes.proofs.Chunks.Bits.{chunk_bit-mod}
 use Rattle.bitmap_core.proofs.Pruned.Positions.{place, same_from_bits, chunk_bit_of_chunk}
 use Rattle.historical_bitmap.specs.Record.{Reverse, kept, bit_from, before, IsUnchanged, LeadsBack}
 

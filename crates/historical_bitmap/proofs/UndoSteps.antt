@@ -13,10 +13,10 @@ use Rattle.std.specs.Ordering.{nat_cmp}
 use Rattle.std.specs.declared.cmp.Ordering.TheVariants.{Less}
 use Rattle.std.specs.Map.{lookup, keys_of}
 use Rattle.std.proofs.lemmas.Map.Keys.{sorted_head, sorted_tail}
-use Rattle.bitmap_core.specs.Chunk.{chunk_bit, chunk_bits}
+use Rattle.bitmap_bytes.specs.Chunk.{chunk_bit, chunk_bits}
 use Rattle.bitmap_core.specs.PrunedBits.{PrunedBits, pruned_bits, bit_len, bit_at, from_bits, HasBit, unpruned, with_chunk}
-use Rattle.bitmap_core.proofs.Chunks.Bits.{chunk_bit-mod}
-use Rattle.bitmap_core.proofs.Chunks.Front.{length-front_bits}
+use Rattle.bitmap_bytes.proofs.Chunks.Bits.{chunk_bit-mod}
+use Rattle.bitmap_bytes.proofs.Chunks.Front.{length-front_bits}
 use Rattle.bitmap_core.proofs.Pruned.Positions.{front_of, same_from_bits, bit_from_bits, len_from_bits}
 use Rattle.bitmap_core.proofs.Pruned.Edits.{bit_extended, bit_truncated, bit_unpruned_low}
 use Rattle.historical_bitmap.specs.Record.{ChunkDiff, Reverse, kept, kept_bytes, bytes_of, bit_from, before}

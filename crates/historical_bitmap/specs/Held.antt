@@ -4,7 +4,7 @@ use Rattle.std.specs.BTreeMap.{is_at}
 use Rattle.std.specs.List.Sorted.{IsStrictlySortedBy}
 use Rattle.std.specs.Map.{keys_of, lookup, set_value}
 use Rattle.std.specs.Ordering.{nat_cmp}
-use Rattle.bitmap_core.specs.Chunk.{IsWidth}
+use Rattle.bitmap_bytes.specs.Chunk.{IsWidth}
 
 -- the entries, with the chunk in its place under the index that is held, where there is one
 abbrev pub with_held : List (ℕ × List ℕ) → Option ℕ → List ℕ → List (ℕ × List ℕ)

@@ -5,7 +5,7 @@ use Rattle.std.specs.List.Sorted.{IsStrictlySortedBy}
 use Rattle.std.specs.Map.{lookup, keys_of}
 use Rattle.std.specs.Option.{option_map, option_or}
 use Rattle.std.specs.Ordering.{nat_cmp}
-use Rattle.bitmap_core.specs.Chunk.{IsWidth}
+use Rattle.bitmap_bytes.specs.Chunk.{IsWidth}
 use Rattle.bitmap_core.specs.PrunedBits.{PrunedBits, bit_len}
 use Rattle.historical_bitmap.specs.Record.{Reverse, before, kept}
 use Rattle.historical_bitmap.specs.Undo.{CanUndo}

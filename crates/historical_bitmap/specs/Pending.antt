@@ -5,7 +5,7 @@ use Rattle.std.specs.List.Sorted.{IsStrictlySortedBy}
 use Rattle.std.specs.Map.{lookup, keys_of}
 use Rattle.std.specs.Ordering.{nat_cmp}
 use Rattle.std.specs.Set.{is_member}
-use Rattle.bitmap_core.specs.Chunk.{bit_in, chunk_bit, IsBitWritten, IsByteJoined}
+use Rattle.bitmap_bytes.specs.Chunk.{bit_in, chunk_bit, IsBitWritten, IsByteJoined}
 use Rattle.bitmap_core.specs.PrunedBits.{PrunedBits, bit_len, from_bits, chunk, truncated, pruned_to}
 use Rattle.historical_bitmap.specs.Edits.{Edit, from_to}
 use Rattle.historical_bitmap.specs.Edits.Edit.{Push, Pop, Set, Prune}

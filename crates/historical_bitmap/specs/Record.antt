@@ -1,7 +1,7 @@
 -- The record of a commit, which leads from what the commit left back to what stood before it. A chunk has n bytes.
 use Rattle.std.specs.Prelude.{◌≡◌, ℕ, ◌*◌, ◌/◌, Bool, List, Option, Some, None, MatchOption, nat_eq}
 use Rattle.std.specs.Map.{lookup}
-use Rattle.bitmap_core.specs.Chunk.{chunk_bit}
+use Rattle.bitmap_bytes.specs.Chunk.{chunk_bit}
 use Rattle.bitmap_core.specs.PrunedBits.{PrunedBits, bit_len, bit_at, HasBit, HasChunk, from_bits, chunk}
 
 -- what a commit did to a chunk: it changed it, cut it off, made it or pruned it. All but a made one carry the bytes that stood there before

@@ -4,7 +4,7 @@ use Rattle.std.specs.List.{filter, flat_map}
 use Rattle.std.specs.List.Sorted.{IsStrictlySortedBy}
 use Rattle.std.specs.Ordering.{nat_cmp}
 use Rattle.std.specs.Map.{keys_of}
-use Rattle.bitmap_core.specs.Chunk.{chunk_bit}
+use Rattle.bitmap_bytes.specs.Chunk.{chunk_bit}
 use Rattle.bitmap_core.specs.PrunedBits.{PrunedBits, bit_len, HasBit, truncated, extended, unpruned, with_chunk}
 use Rattle.historical_bitmap.specs.Edits.{from_to}
 use Rattle.historical_bitmap.specs.Record.{ChunkDiff, Reverse, kept_bytes, kept}

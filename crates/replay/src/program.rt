@@ -1,7 +1,7 @@
 //! The program: a script is read, checked and run, its replies are printed, and a fault is told.
 
 ghost use Rattle.std.specs.Prelude.{◌≡◌, length, IfSome, OnSome};
-ghost use Rattle.bitmap_core.specs.Chunk.{IsWidth};
+ghost use Rattle.bitmap_bytes.specs.Chunk.{IsWidth};
 ghost use Rattle.replay.specs.Width.{IsOfferedWidth};
 
 use crate::print::write_replies;

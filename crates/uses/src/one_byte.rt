@@ -1,7 +1,7 @@
 //! A type of one's own that is readable: eight bits in one chunk of one byte.
 
 ghost use Rattle.std.specs.Prelude.{[], ◌∷◌};
-ghost use Rattle.bitmap_core.specs.Chunk.{chunk_bit};
+ghost use Rattle.bitmap_bytes.specs.Chunk.{chunk_bit};
 
 use bitmap_core::bitmap::Readable;
 

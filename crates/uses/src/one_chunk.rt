@@ -1,6 +1,6 @@
 //! The bits of one chunk.
 
-use bitmap_core::chunk;
+use bitmap_bytes::chunk;
 
 /// The chunk 8, 0, 0, 0, and whether its bit 3 is set, which it is.
 pub fn marked() -> ([u8; 4], bool) {

@@ -5,11 +5,11 @@ use Rattle.std.proofs.Math.Nat.{div-add-mod, div-div-eq-div-mul}
 use Rattle.std.proofs.lemmas.List.{length-set, get_or_read, length-append, get_or_append_left, get_or-append_right}
 use Rattle.std.proofs.lemmas.List.FromFn.{length-map-range_with_len, get_or-map-range_with_len}
 use Rattle.std.proofs.lemmas.Bool.{cases_eq, cases_lt}
-use Rattle.bitmap_core.specs.Chunk.{chunk_bit, byte_bits, IsByteWritten}
-use Rattle.bitmap_core.specs.Bits.{bits, IsBytePut, IsChunkCount, IsZeroFrom}
-use Rattle.bitmap_core.proofs.Lists.Bits.{get_or-bits, bits_are, len_is}
-use Rattle.bitmap_core.proofs.Chunks.Lists.{bit_of-set_here, bit_of-set_other}
-use Rattle.bitmap_core.proofs.Chunks.Places.{same_place}
+use Rattle.bitmap_bytes.specs.Chunk.{chunk_bit, byte_bits, IsByteWritten}
+use Rattle.bitmap_bytes.specs.Bits.{bits, IsBytePut, IsChunkCount, IsZeroFrom}
+use Rattle.bitmap_bytes.proofs.Lists.Bits.{get_or-bits, bits_are, len_is}
+use Rattle.bitmap_bytes.proofs.Chunks.Lists.{bit_of-set_here, bit_of-set_other}
+use Rattle.bitmap_bytes.proofs.Chunks.Places.{same_place}
 
 -- bytes of one place in chunks of one index are one byte
 same_byte : (n i j : ℕ) → i / (8 * n) ≡ j / (8 * n) → i / 8 % n ≡ j / 8 % n → i / 8 ≡ j / 8

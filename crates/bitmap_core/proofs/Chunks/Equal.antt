@@ -6,9 +6,9 @@ use Rattle.std.specs.Cmp.Lexicographic.{pointwise, pointwise_decides}
 use Rattle.std.proofs.lemmas.Bool.Decides.{Decides-eqb}
 use Rattle.std.proofs.lemmas.List.{ext_get_or, get_or_default, take-append-drop}
 use Rattle.std.proofs.Math.Seq.{take-append_seam, drop-append_seam}
-use Rattle.bitmap_core.specs.Bits.{bit_of, AreChunks}
-use Rattle.bitmap_core.proofs.Chunks.Bits.{byte_from_bits}
-use Rattle.bitmap_core.proofs.Chunks.Lists.{chunk_from_bits}
+use Rattle.bitmap_bytes.specs.Bits.{bit_of, AreChunks}
+use Rattle.bitmap_bytes.proofs.Chunks.Bits.{byte_from_bits}
+use Rattle.bitmap_bytes.proofs.Chunks.Lists.{chunk_from_bits}
 
 -- chunks with the same bits are the same
 chunks_from_bits : (n : ℕ) (xs ys : List (List ℕ)) → 0 < n → length xs ≡ length ys → AreChunks n xs → AreChunks n ys

@@ -5,14 +5,14 @@ use Rattle.std.proofs.Math.Nat.{lt_of_mul-lt-mul_left, mul-add, mul-div_right, m
 use Rattle.std.proofs.lemmas.Nat.{div-mul-add, mod-mul-add, div_below}
 use Rattle.std.proofs.lemmas.List.{get_or_past, length-take-le}
 use Rattle.std.proofs.lemmas.Bool.{cases_lt, cases_eq, eq-eqb, ne_eqb}
-use Rattle.bitmap_core.specs.Chunk.{byte_of, chunk_bit}
-use Rattle.bitmap_core.specs.Bits.{bit_of, bits, IsChunkCount, IsZeroFrom}
+use Rattle.bitmap_bytes.specs.Chunk.{byte_of, chunk_bit}
+use Rattle.bitmap_bytes.specs.Bits.{bit_of, bits, IsChunkCount, IsZeroFrom}
 use Rattle.bitmap_core.specs.PrunedBits.{chunk, plain_bits}
-use Rattle.bitmap_core.proofs.Chunks.Bits.{chunk_bit-mod}
-use Rattle.bitmap_core.proofs.Bytes.Made.{byte_same, map_range_same}
-use Rattle.bitmap_core.proofs.Lists.Bits.{get_or-bits, bits-same, take-bits, len_is}
-use Rattle.bitmap_core.proofs.Chunks.Lists.{bit_of-take_in, bit_of-set_here, bit_of-set_other, IsZeroFrom-count}
-use Rattle.bitmap_core.proofs.Chunks.Places.{full_len}
+use Rattle.bitmap_bytes.proofs.Chunks.Bits.{chunk_bit-mod}
+use Rattle.bitmap_bytes.proofs.Bytes.Made.{byte_same, map_range_same}
+use Rattle.bitmap_bytes.proofs.Lists.Bits.{get_or-bits, bits-same, take-bits, len_is}
+use Rattle.bitmap_bytes.proofs.Chunks.Lists.{bit_of-take_in, bit_of-set_here, bit_of-set_other, IsZeroFrom-count}
+use Rattle.bitmap_bytes.proofs.Chunks.Places.{full_len}
 
 -- a chunk in which a bit stands is there
 pub chunk_within : (n k len i : ℕ) → 8 * n * i < len → IsChunkCount n k len → i < k

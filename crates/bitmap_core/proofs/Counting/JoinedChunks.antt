@@ -4,12 +4,12 @@ use Rattle.std.specs.List.{range_with_len, count_by, list_all, slice_range, flat
 use Rattle.std.proofs.Math.Nat.{mul-add}
 use Rattle.std.proofs.lemmas.List.{length-append}
 use Rattle.std.proofs.lemmas.Bool.{cases_lt}
-use Rattle.bitmap_core.specs.Chunk.{chunk_bits, bit_in}
-use Rattle.bitmap_core.specs.Bits.{bit_of, bits, AreChunks}
-use Rattle.bitmap_core.proofs.Counting.Ones.{ones_from, ones_from_add, ones_from_same, ones_from_le, count-bits}
-use Rattle.bitmap_core.proofs.Counting.Places.{ones_from_split, none_from, rest_zero, some_left}
-use Rattle.bitmap_core.proofs.Counting.Words.{none_chunk_slice, count-chunk}
-use Rattle.bitmap_core.proofs.Bytes.Shifted.{bit_in-flat, bit_in-left, bit_in-right}
+use Rattle.bitmap_bytes.specs.Chunk.{chunk_bits, bit_in}
+use Rattle.bitmap_bytes.specs.Bits.{bit_of, bits, AreChunks}
+use Rattle.bitmap_bytes.proofs.Counting.Ones.{ones_from, ones_from_add, ones_from_same, ones_from_le, count-bits}
+use Rattle.bitmap_bytes.proofs.Counting.Places.{ones_from_split, none_from, rest_zero, some_left}
+use Rattle.bitmap_bytes.proofs.Counting.Words.{none_chunk_slice, count-chunk}
+use Rattle.bitmap_bytes.proofs.Bytes.Shifted.{bit_in-flat, bit_in-left, bit_in-right}
 
 flat-length : (n : ℕ) (chunks : List (List ℕ)) → AreChunks n chunks → length (flat_map (λ c. c) chunks) ≡ n * length chunks
 flat-length n [] h = omega arith

@@ -5,8 +5,8 @@ use Rattle.std.proofs.Common.{◌-◌, ◌⊎◌, ◌∙◌, zero, suc, refl, ap
 use Rattle.std.proofs.Math.Nat.{mod-eq_of_lt}
 use Rattle.std.proofs.lemmas.Nat.{mod_below}
 use Rattle.std.proofs.lemmas.Bool.{false≢true, lt-ltb, le-ltb}
-use Rattle.bitmap_core.specs.Chunk.{chunk_bit, chunk_bits, IsBitWritten, bit_in, IsChunk, bit_value, byte_of, byte_bits, chunk_from, chunk_of, IsByteWritten, IsByteJoined}
-use Rattle.bitmap_core.proofs.Chunks.Bits.{chunk_bit-mod}
+use Rattle.bitmap_bytes.specs.Chunk.{chunk_bit, chunk_bits, IsBitWritten, bit_in, IsChunk, bit_value, byte_of, byte_bits, chunk_from, chunk_of, IsByteWritten, IsByteJoined}
+use Rattle.bitmap_bytes.proofs.Chunks.Bits.{chunk_bit-mod}
 use Rattle.bitmap_core.proofs.Examples.EachPlace.{same_at, same_places, is_other}
 
 -- bit 9 of a chunk of two bytes is the second lowest of the second byte

@@ -6,10 +6,10 @@ use Rattle.std.proofs.lemmas.List.FromFn.{get_or-map-range_with_len}
 use Rattle.std.proofs.lemmas.Bool.{cases_lt, ne_eqb}
 use Rattle.std.proofs.Math.Nat.{mod-eq_of_lt}
 use Rattle.std.proofs.lemmas.Nat.{mod_below}
-use Rattle.bitmap_core.specs.Chunk.{chunk_bit}
-use Rattle.bitmap_core.specs.Bits.{bit_of}
-use Rattle.bitmap_core.proofs.Chunks.Bits.{chunk_bit-mod}
-use Rattle.bitmap_core.proofs.Chunks.Lists.{bit_of_past}
+use Rattle.bitmap_bytes.specs.Chunk.{chunk_bit}
+use Rattle.bitmap_bytes.specs.Bits.{bit_of}
+use Rattle.bitmap_bytes.proofs.Chunks.Bits.{chunk_bit-mod}
+use Rattle.bitmap_bytes.proofs.Chunks.Lists.{bit_of_past}
 
 -- the first k values of a function, those out of the question left false
 abbrev pub table : (ℕ → Bool) → (ℕ → Bool) → ℕ → List Bool

@@ -5,13 +5,13 @@ use Rattle.std.proofs.Common.{zero, suc, refl, ap, sym, ◌∙◌, arith, inl, i
 use Rattle.std.proofs.lemmas.Nat.{mod_below}
 use Rattle.std.proofs.Math.Bool.{xor}
 use Rattle.std.proofs.lemmas.Bool.{false≢true, cases_lt}
-use Rattle.bitmap_core.specs.Chunk.{chunk_bit}
-use Rattle.bitmap_core.specs.Bits.{bit_of, bits, IsZeroFrom, IsChunkCount, IsBitPut, AreChunks, IsBytePut}
-use Rattle.bitmap_core.specs.Combined.{IsCombined}
-use Rattle.bitmap_core.proofs.Chunks.Lists.{bit_of_past}
-use Rattle.bitmap_core.proofs.Counting.Tests.{any_range_at}
+use Rattle.bitmap_bytes.specs.Chunk.{chunk_bit}
+use Rattle.bitmap_bytes.specs.Bits.{bit_of, bits, IsZeroFrom, IsChunkCount, IsBitPut, AreChunks, IsBytePut}
+use Rattle.bitmap_bytes.specs.Combined.{IsCombined}
+use Rattle.bitmap_bytes.proofs.Chunks.Lists.{bit_of_past}
+use Rattle.bitmap_bytes.proofs.Counting.Tests.{any_range_at}
 use Rattle.bitmap_core.proofs.Examples.EachPlace.{table, same_at, same_bits, is_other}
-use Rattle.bitmap_core.proofs.Chunks.Bits.{chunk_bit-mod}
+use Rattle.bitmap_bytes.proofs.Chunks.Bits.{chunk_bit-mod}
 
 -- bit 8 of two chunks of one byte is the lowest of the second
 first_of_the_second : bit_of 1 ((0 ∷ []) ∷ (1 ∷ []) ∷ []) 8 ≡ true

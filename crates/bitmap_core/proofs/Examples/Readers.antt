@@ -3,9 +3,10 @@ use Rattle.std.specs.Prelude.{◌≡◌, ◌^◌, true, false, ◌==◌, ◌||�
 use Rattle.std.specs.Int.{bit_at as digit_at}
 use Rattle.std.proofs.Common.{zero, suc, refl, arith}
 use Rattle.std.proofs.lemmas.Bool.{false≢true}
-use Rattle.bitmap_core.proofs.Counting.Tests.{any_range_at}
+use Rattle.bitmap_bytes.proofs.Counting.Tests.{any_range_at}
 use Rattle.bitmap_core.specs.PrunedBits.{PrunedBits}
-use Rattle.bitmap_core.specs.Meaning.{Meaning, plain_meaning, pruned_meaning, IsLawful, IsRetainedChunk, IsRetained, ShowsChunk, ones_between, ones, starts_word, word_start, next_word, words_between, words, word_bit, left_from, IsScan, IsCut}
+use Rattle.bitmap_bytes.specs.Words.{starts_word, word_start, next_word, IsCut}
+use Rattle.bitmap_core.specs.Meaning.{Meaning, plain_meaning, pruned_meaning, IsLawful, IsRetainedChunk, IsRetained, ShowsChunk, ones_between, ones, words_between, words, word_bit, left_from, IsScan}
 
 -- two bits, 1 and 0, nothing pruned
 abbrev pub plain : Meaning

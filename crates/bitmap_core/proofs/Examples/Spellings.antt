@@ -1,7 +1,8 @@
 -- The bytes that spell bitmaps.
 use Rattle.std.specs.Prelude.{◌≡◌, true, false, [], ◌∷◌, ◌++◌, replicate}
 use Rattle.std.proofs.Common.{refl}
-use Rattle.bitmap_core.specs.Spelling.{chunk_count, spelling, pruned_spelling}
+use Rattle.bitmap_bytes.specs.Bits.{chunk_count}
+use Rattle.bitmap_core.specs.Spelling.{spelling, pruned_spelling}
 
 -- chunks of four bytes: none for no bits, one for 1 and for 32, two for 33
 chunks_of_none : chunk_count 4 0 ≡ 0

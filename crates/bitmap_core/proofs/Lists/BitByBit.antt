@@ -4,7 +4,7 @@ use Rattle.std.specs.List.{count_by, zip}
 use Rattle.std.proofs.lemmas.Slice.Zip.{get_or-zip, length-zip}
 use Rattle.std.proofs.lemmas.List.{length-map, get_or-map}
 use Rattle.std.proofs.lemmas.List.Sums.{count_by-le-length}
-use Rattle.bitmap_core.proofs.Counting.Places.{count-not}
+use Rattle.bitmap_bytes.proofs.Counting.Places.{count-not}
 
 not-twice : (b : Bool) → not (not b) ≡ b
 not-twice true = refl

@@ -6,12 +6,12 @@ use Rattle.std.proofs.lemmas.Nat.{div-mul-add, mod-mul-add}
 use Rattle.std.proofs.lemmas.List.{get_or-set_same, get_or-set_other, length-set, get_or_append_left, get_or-append_right, length-append, length-replicate, get_or-replicate, append-nil}
 use Rattle.std.proofs.lemmas.List.FromFn.{length-map-range_with_len, get_or-map-range_with_len}
 use Rattle.std.proofs.lemmas.Bool.{cases_eq, cases_lt}
-use Rattle.bitmap_core.specs.Chunk.{chunk_bit}
-use Rattle.bitmap_core.specs.Bits.{bit_of, bits, IsChunkCount, IsBitPut, IsZeroFrom}
-use Rattle.bitmap_core.proofs.Chunks.Places.{index_below, full_len}
-use Rattle.bitmap_core.proofs.Chunks.Bits.{chunk_bit-mod}
-use Rattle.bitmap_core.proofs.Lists.Bits.{get_or-bits, bits-more, bits_are, bits-same, len_is, take-bits}
-use Rattle.bitmap_core.proofs.Chunks.Lists.{bit_of-push_in, bit_of-push_here}
+use Rattle.bitmap_bytes.specs.Chunk.{chunk_bit}
+use Rattle.bitmap_bytes.specs.Bits.{bit_of, bits, IsChunkCount, IsBitPut, IsZeroFrom}
+use Rattle.bitmap_bytes.proofs.Chunks.Places.{index_below, full_len}
+use Rattle.bitmap_bytes.proofs.Chunks.Bits.{chunk_bit-mod}
+use Rattle.bitmap_bytes.proofs.Lists.Bits.{get_or-bits, bits-more, bits_are, bits-same, len_is, take-bits}
+use Rattle.bitmap_bytes.proofs.Chunks.Lists.{bit_of-push_in, bit_of-push_here}
 
 -- a bit put, pushed and popped
 pub bits-put : (n : ℕ) (xs ys : List (List ℕ)) (i : ℕ) (b : Bool) (len : ℕ) (v : List Bool) → IsBitPut n xs ys i b

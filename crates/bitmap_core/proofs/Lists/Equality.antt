@@ -6,8 +6,8 @@ use Rattle.std.specs.Bool.{Decides}
 use Rattle.std.specs.Cmp.{booleans_Decides}
 use Rattle.std.specs.Cmp.Lexicographic.{pointwise, pointwise_decides}
 use Rattle.std.proofs.Math.Bool.{beq}
-use Rattle.bitmap_core.specs.Bits.{bit_of, bits, IsZeroFrom}
-use Rattle.bitmap_core.proofs.Lists.Bits.{get_or-bits, bits-same, len_is}
+use Rattle.bitmap_bytes.specs.Bits.{bit_of, bits, IsZeroFrom}
+use Rattle.bitmap_bytes.proofs.Lists.Bits.{get_or-bits, bits-same, len_is}
 
 decides_from : {P : Type 0} (r : Bool) → (r ≡ true → P) → (r ≡ false → P → ⊥) → Decides r P
 decides_from true f g = (f, λ _. refl)

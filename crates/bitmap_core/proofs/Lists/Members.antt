@@ -8,8 +8,8 @@ use Rattle.std.proofs.lemmas.List.Elements.{All-filter, filter_passes}
 use Rattle.std.proofs.lemmas.List.FromFn.{length-range_with_len, get_or-range_with_len, fill_by_all}
 use Rattle.std.proofs.lemmas.List.Kept.{IsStrictlyIncreasing-filter}
 use Rattle.bitmap_core.specs.Meaning.{Meaning, IsRetained, ones, ones_between}
-use Rattle.bitmap_core.proofs.Counting.Ones.{ones_from}
-use Rattle.bitmap_core.proofs.Counting.Places.{count_map}
+use Rattle.bitmap_bytes.proofs.Counting.Ones.{ones_from}
+use Rattle.bitmap_bytes.proofs.Counting.Places.{count_map}
 use Rattle.bitmap_core.proofs.Lists.SetPositions.{ones_between-append, ones_between-hit}
 
 -- what stands behind the front of a list is in it

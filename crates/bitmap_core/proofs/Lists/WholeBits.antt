@@ -4,12 +4,12 @@ use Rattle.std.specs.List.{zip}
 use Rattle.std.proofs.lemmas.Slice.Zip.{get_or-zip, length-zip}
 use Rattle.std.proofs.lemmas.List.{get_or_append_left, get_or-append_right, get_or-replicate, length-append, length-replicate, length-map, get_or-map}
 use Rattle.std.proofs.lemmas.Bool.{cases_lt}
-use Rattle.bitmap_core.specs.Chunk.{chunk_bit}
-use Rattle.bitmap_core.specs.Bits.{bit_of, bits, IsChunkCount, IsZeroFrom}
-use Rattle.bitmap_core.specs.Combined.{IsCombined}
-use Rattle.bitmap_core.proofs.Chunks.Places.{index_below}
-use Rattle.bitmap_core.proofs.Lists.Bits.{get_or-bits, bits_are, len_is}
-use Rattle.bitmap_core.proofs.Chunks.Lists.{bit_of_past}
+use Rattle.bitmap_bytes.specs.Chunk.{chunk_bit}
+use Rattle.bitmap_bytes.specs.Bits.{bit_of, bits, IsChunkCount, IsZeroFrom}
+use Rattle.bitmap_bytes.specs.Combined.{IsCombined}
+use Rattle.bitmap_bytes.proofs.Chunks.Places.{index_below}
+use Rattle.bitmap_bytes.proofs.Lists.Bits.{get_or-bits, bits_are, len_is}
+use Rattle.bitmap_bytes.proofs.Chunks.Lists.{bit_of_past}
 
 pub bits-flip : (n : ℕ) (xs ys zs : List (List ℕ)) (len : ℕ) (v : List Bool) → bits n xs len ≡ v
     → ((i : ℕ) → i < len → bit_of n ys i ≡ not (bit_of n xs i)) → ((i : ℕ) → i < len → bit_of n zs i ≡ bit_of n ys i)

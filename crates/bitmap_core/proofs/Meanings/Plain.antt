@@ -2,11 +2,11 @@
 use Rattle.std.proofs.Common.{◌≡◌, ℕ, ◌+◌, ◌-◌, ◌*◌, ◌/◌, ◌%◌, ◌^◌, ◌<◌, Bool, false, List, [], length, get_or, sym, ap, ◌∙◌, arith}
 use Rattle.std.proofs.Math.Nat.{div-add-mod, mod-eq_of_lt, div-le_self, lt_of_mul-lt-mul_left}
 use Rattle.std.proofs.lemmas.Nat.{mod_below, div-mul-add, mod-mul-add}
-use Rattle.bitmap_core.specs.Chunk.{chunk_bit}
-use Rattle.bitmap_core.specs.Bits.{bits, IsChunkCount}
+use Rattle.bitmap_bytes.specs.Chunk.{chunk_bit}
+use Rattle.bitmap_bytes.specs.Bits.{bits, IsChunkCount}
 use Rattle.bitmap_core.specs.Meaning.{Meaning, plain_meaning, IsLawful, ShowsChunk}
-use Rattle.bitmap_core.proofs.Chunks.Bits.{chunk_bit-mod}
-use Rattle.bitmap_core.proofs.Lists.Bits.{get_or-bits, len_is}
+use Rattle.bitmap_bytes.proofs.Chunks.Bits.{chunk_bit-mod}
+use Rattle.bitmap_bytes.proofs.Lists.Bits.{get_or-bits, len_is}
 
 -- a bit below the length, read out of its chunk
 pub shown_bit : (n : ℕ) (m : Meaning) (bytes : List ℕ) (k : ℕ) → 0 < n → k < m.len → ShowsChunk n m (k / (8 * n)) bytes

@@ -1,7 +1,7 @@
 -- What a bitmap with a pruned front is to its readers.
 use Rattle.std.proofs.Common.{◌≡◌, ℕ, ◌+◌, ◌-◌, ◌*◌, ◌/◌, ◌%◌, ◌^◌, ◌<◌, List, ap, ◌∙◌, arith}
 use Rattle.std.proofs.Math.Nat.{div-le_self, div-add-mod}
-use Rattle.bitmap_core.specs.Chunk.{chunk_bit}
+use Rattle.bitmap_bytes.specs.Chunk.{chunk_bit}
 use Rattle.bitmap_core.specs.PrunedBits.{PrunedBits, bit_len, chunk}
 use Rattle.bitmap_core.specs.Meaning.{pruned_meaning, IsLawful, ShowsChunk}
 use Rattle.bitmap_core.proofs.Pruned.Positions.{chunk_bit_of_chunk}

@@ -6,11 +6,11 @@ use Rattle.std.proofs.lemmas.List.{length-append, length-take, length-take-le, l
 use Rattle.std.proofs.lemmas.Bool.{cases_lt, cases_eq, cases_order, eq-eqb, ne_eqb, lt-ltb, le-ltb}
 use Rattle.std.proofs.lemmas.List.FromFn.{length-map-range_with_len, get_or-map-range_with_len}
 use Rattle.std.specs.List.{flat_map, range_with_len}
-use Rattle.bitmap_core.specs.Chunk.{chunk_bit, chunk_bits}
-use Rattle.bitmap_core.specs.Bits.{bit_of}
+use Rattle.bitmap_bytes.specs.Chunk.{chunk_bit, chunk_bits}
+use Rattle.bitmap_bytes.specs.Bits.{bit_of}
 use Rattle.bitmap_core.specs.PrunedBits.{PrunedBits, pruned_bits, bit_len, bit_at, HasBit, chunk, pushed, popped, set_at, appended, extended, truncated, pruned_to, unpruned, with_chunk}
-use Rattle.bitmap_core.proofs.Chunks.Bits.{chunk_bit-mod}
-use Rattle.bitmap_core.proofs.Chunks.Front.{length-front_bits, get_or-front_bits}
+use Rattle.bitmap_bytes.proofs.Chunks.Bits.{chunk_bit-mod}
+use Rattle.bitmap_bytes.proofs.Chunks.Front.{length-front_bits, get_or-front_bits}
 use Rattle.bitmap_core.proofs.Pruned.Positions.{same_pruned, same_bitmap, bit_past, bit_from_bits, len_from_bits, front_of, place, chunk_bit_of_chunk}
 
 -- lengths

@@ -5,12 +5,12 @@ use Rattle.std.proofs.Math.Nat.{div-add-mod, lt_of_mul-lt-mul_left, mul-add, mul
 use Rattle.std.proofs.lemmas.List.{ext_get_or, get_or_past}
 use Rattle.std.proofs.lemmas.List.FromFn.{length-map-range_with_len, get_or-map-range_with_len}
 use Rattle.std.proofs.lemmas.Nat.{mul-le}
-use Rattle.bitmap_core.specs.Bits.{IsChunkCount}
-use Rattle.bitmap_core.specs.Chunk.{byte_of, chunk_bit}
+use Rattle.bitmap_bytes.specs.Bits.{IsChunkCount}
+use Rattle.bitmap_bytes.specs.Chunk.{byte_of, chunk_bit}
 use Rattle.bitmap_core.specs.PrunedBits.{PrunedBits, plain_bits, pruned_bits, bit_len, bit_at, HasBit, HasChunk, from_bits, chunk}
-use Rattle.bitmap_core.proofs.Chunks.Places.{IsChunkCount-ceil, count_unique}
-use Rattle.bitmap_core.proofs.Chunks.Front.{IsChunkCount-front}
-use Rattle.bitmap_core.proofs.Bytes.Made.{byte_same, chunk_bit_of_bytes, map_range_same}
+use Rattle.bitmap_bytes.proofs.Chunks.Places.{IsChunkCount-ceil, count_unique}
+use Rattle.bitmap_bytes.proofs.Chunks.Front.{IsChunkCount-front}
+use Rattle.bitmap_bytes.proofs.Bytes.Made.{byte_same, chunk_bit_of_bytes, map_range_same}
 
 -- bitmaps are the same where their two parts are
 pub same_pruned : (a b : PrunedBits) → a.pruned ≡ b.pruned → a.bits ≡ b.bits → a ≡ b

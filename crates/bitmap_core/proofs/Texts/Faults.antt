@@ -5,11 +5,12 @@ use Rattle.std.specs.Prelude.{codes, IsSome}
 use Rattle.std.proofs.Math.Nat.{mul-add, le-mul_of_pos_right, lt_of_mul-lt-mul_left}
 use Rattle.std.proofs.lemmas.Bool.{ltb-false, ltb-true, le-ltb, lt-ltb}
 use Rattle.std.proofs.lemmas.List.{length-append}
-use Rattle.bitmap_core.specs.Chunk.{bit_in}
-use Rattle.bitmap_core.specs.Spelling.{chunk_count, spelling}
+use Rattle.bitmap_bytes.specs.Chunk.{bit_in}
+use Rattle.bitmap_bytes.specs.Bits.{chunk_count}
+use Rattle.bitmap_core.specs.Spelling.{spelling}
 use Rattle.bitmap_core.specs.Reading.{Fault, number, chunk_bytes, trailing, bits_tests, bits_fault, pruned_fault, first_fault, has_too_many_bits, SpellsBits}
 use Rattle.bitmap_core.specs.Reading.Fault.{Invalid}
-use Rattle.bitmap_core.proofs.Chunks.Places.{IsChunkCount-ceil}
+use Rattle.bitmap_bytes.proofs.Chunks.Places.{IsChunkCount-ceil}
 use Rattle.bitmap_core.proofs.Texts.Spellings.{AreBytes, number-lt, value, length-value, text-spells, length-spelling, spelling-number, spelling-trailing}
 
 -- a test that found no fault

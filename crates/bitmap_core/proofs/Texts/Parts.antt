@@ -10,12 +10,12 @@ use Rattle.std.proofs.lemmas.List.{length-append, length-drop, drop-drop}
 use Rattle.std.proofs.lemmas.List.FromFn.{length-map-range_with_len}
 use Rattle.std.proofs.lemmas.List.Folds.{flat_map-map}
 use Rattle.std.proofs.lemmas.List.Concat.{flat_map-append}
-use Rattle.bitmap_core.specs.Chunk.{bit_in, chunk_of}
-use Rattle.bitmap_core.specs.Bits.{bit_of, bits, IsChunkCount, IsZeroFrom}
-use Rattle.bitmap_core.specs.Spelling.{chunk_count, spelling}
+use Rattle.bitmap_bytes.specs.Chunk.{bit_in, chunk_of}
+use Rattle.bitmap_bytes.specs.Bits.{bit_of, bits, IsChunkCount, IsZeroFrom, chunk_count}
+use Rattle.bitmap_core.specs.Spelling.{spelling}
 use Rattle.bitmap_core.specs.Reading.{number, chunk_bytes, trailing, bits_fault}
 use Rattle.bitmap_core.specs.Reading.Fault.{Invalid}
-use Rattle.bitmap_core.proofs.Chunks.Places.{IsChunkCount-ceil, fewer_ceil}
+use Rattle.bitmap_bytes.proofs.Chunks.Places.{IsChunkCount-ceil, fewer_ceil}
 use Rattle.bitmap_core.proofs.Texts.Spellings.{AreBytes, value, chunks_in, length-chunks_in, zeros, same_past, text-spells, length-spelling}
 use Rattle.bitmap_core.proofs.Texts.Faults.{sound}
 

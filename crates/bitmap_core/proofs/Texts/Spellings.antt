@@ -9,17 +9,17 @@ use Rattle.std.proofs.lemmas.List.{ext_get_or, get_or_past, get_or-take, get_or-
 use Rattle.std.proofs.lemmas.List.FromFn.{fill_by_all}
 use Rattle.std.proofs.lemmas.List.Folds.{flat_map-map}
 use Rattle.std.proofs.lemmas.Bool.{cases_lt}
-use Rattle.bitmap_core.specs.Chunk.{bit_in, chunk_of}
-use Rattle.bitmap_core.specs.Bits.{bit_of, bits, IsZeroFrom}
-use Rattle.bitmap_core.specs.Spelling.{chunk_count, spelling}
+use Rattle.bitmap_bytes.specs.Chunk.{bit_in, chunk_of}
+use Rattle.bitmap_bytes.specs.Bits.{bit_of, bits, IsZeroFrom, chunk_count}
+use Rattle.bitmap_core.specs.Spelling.{spelling}
 use Rattle.bitmap_core.specs.Reading.{number, chunk_bytes, trailing, bits_in}
-use Rattle.bitmap_core.proofs.Chunks.Places.{IsChunkCount-ceil}
-use Rattle.bitmap_core.proofs.Lists.Bits.{length-bits}
-use Rattle.bitmap_core.proofs.Chunks.Lists.{bit_of_past}
-use Rattle.bitmap_core.proofs.Chunks.AsBytes.{chunk_is, length-chunk_of}
-use Rattle.bitmap_core.proofs.Counting.Words.{get_or-first_chunks}
-use Rattle.bitmap_core.proofs.Counting.Tests.{any_range_at, any_range_none, any_range-same}
-use Rattle.bitmap_core.proofs.Chunks.OfBytes.{length-first_chunks, first_chunks-all, bit_of-first_chunks, length-range_pieces, bit_in-chunks}
+use Rattle.bitmap_bytes.proofs.Chunks.Places.{IsChunkCount-ceil}
+use Rattle.bitmap_bytes.proofs.Lists.Bits.{length-bits}
+use Rattle.bitmap_bytes.proofs.Chunks.Lists.{bit_of_past}
+use Rattle.bitmap_bytes.proofs.Chunks.AsBytes.{chunk_is, length-chunk_of}
+use Rattle.bitmap_bytes.proofs.Counting.Words.{get_or-first_chunks}
+use Rattle.bitmap_bytes.proofs.Counting.Tests.{any_range_at, any_range_none, any_range-same}
+use Rattle.bitmap_bytes.proofs.Chunks.OfBytes.{length-first_chunks, first_chunks-all, bit_of-first_chunks, length-range_pieces, bit_in-chunks}
 
 -- each is a byte
 abbrev pub AreBytes : List ℕ → Type 0

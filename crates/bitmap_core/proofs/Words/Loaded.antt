@@ -3,12 +3,13 @@ use Rattle.std.proofs.Common.{◌≡◌, ◌≢◌, eqb, ℕ, ◌+◌, ◌-◌, 
 use Rattle.std.proofs.lemmas.Bool.{cases_lt, cases_eq}
 use Rattle.std.proofs.lemmas.List.{append-nil}
 use Rattle.std.proofs.lemmas.Nat.{div-add-mod'}
-use Rattle.bitmap_core.specs.Meaning.{Meaning, ShowsChunk, word_bit, starts_word, next_word, word_start, ones_between, left_from, IsCut}
+use Rattle.bitmap_bytes.specs.Words.{starts_word, next_word, word_start, IsCut}
+use Rattle.bitmap_core.specs.Meaning.{Meaning, ShowsChunk, word_bit, ones_between, left_from}
 use Rattle.std.specs.Int.{bit_at}
-use Rattle.bitmap_core.specs.Chunk.{chunk_bit}
-use Rattle.bitmap_core.proofs.Bytes.Bits.{bit_of_zero_byte}
+use Rattle.bitmap_bytes.specs.Chunk.{chunk_bit}
+use Rattle.bitmap_bytes.proofs.Bytes.Bits.{bit_of_zero_byte}
 use Rattle.bitmap_core.proofs.Lists.SetPositions.{ones_between-append, ones_between-same, ones_between-false, ones_between-none, ones_between-first}
-use Rattle.bitmap_core.proofs.Words.Starts.{Follows, follows}
+use Rattle.bitmap_bytes.proofs.Words.Starts.{Follows, follows}
 
 -- ---- a word that was loaded
 

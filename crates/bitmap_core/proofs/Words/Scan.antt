@@ -2,9 +2,10 @@
 use Rattle.std.proofs.Common.{◌≡◌, ℕ, suc, ◌+◌, ◌*◌, ◌/◌, ◌%◌, ◌^◌, ◌<◌, ◌≤◌, ⊎_elim, Bool, true, List, [], ◌∷◌, ◌++◌, length, refl, arith, ap, ◌∙◌}
 use Rattle.std.proofs.lemmas.Bool.{cases_lt, lt-ltb, le-ltb}
 use Rattle.std.proofs.lemmas.Nat.{mod_below}
-use Rattle.bitmap_core.specs.Meaning.{Meaning, IsLawful, ShowsChunk, starts_word, next_word, word_start, words_between, ones_between, IsScan}
+use Rattle.bitmap_bytes.specs.Words.{starts_word, next_word, word_start}
+use Rattle.bitmap_core.specs.Meaning.{Meaning, IsLawful, ShowsChunk, words_between, ones_between, IsScan}
 use Rattle.bitmap_core.proofs.Lists.SetPositions.{ones_between-append, ones_between-false, ones_between-hit, ones_between-length}
-use Rattle.bitmap_core.proofs.Words.Starts.{Stays, Leaves, next_cases, Follows, follows, inside_none, start_of, start_chunk, retained_start}
+use Rattle.bitmap_bytes.proofs.Words.Starts.{Stays, Leaves, next_cases, Follows, follows, inside_none, start_of, start_chunk, retained_start}
 
 -- ---- the count of loads
 

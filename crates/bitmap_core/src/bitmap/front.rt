@@ -2,7 +2,7 @@
 
 ghost use Rattle.std.specs.Prelude.{◌≡◌, ◌≤◌, ◌<◌, ◌+◌, ◌-◌, ◌*◌, ◌/◌, ◌%◌, ◌^◌, ◌++◌, ℕ, cond, ◌==◌, drop, false, length, slice_index_or, take, IsOk, OnOk, OnErr};
 ghost use Rattle.std.specs.List.{flat_map};
-ghost use Rattle.bitmap_core.specs.Chunk.{byte_bits, chunk_bit, chunk_bits};
+ghost use Rattle.bitmap_bytes.specs.Chunk.{byte_bits, chunk_bit, chunk_bits};
 ghost use Rattle.bitmap_core.specs.PrunedBits.{chunk, plain_bits};
 
 use crate::bitmap::{BitMap, deque};

@@ -18,7 +18,7 @@
 
 ghost use Rattle.std.specs.Prelude.{◌≡◌, ℕ, ◌+◌, ◌-◌, ◌*◌, ◌/◌, ◌%◌, ◌^◌, ◌<◌, ◌≤◌, ◌↔◌, [], false, length, IfOk, OnOk, OnErr, IsOk, ◌==◌};
 ghost use Rattle.std.specs.Int.{div_ceil};
-ghost use Rattle.bitmap_core.specs.Chunk.{byte_bits, chunk_bit, chunk_bits, IsWidth};
+ghost use Rattle.bitmap_bytes.specs.Chunk.{byte_bits, chunk_bit, chunk_bits, IsWidth};
 ghost use Rattle.bitmap_core.specs.PrunedBits.{appended, bit_at, bit_len, chunk, extended, HasChunk, HasBit, last_bit, popped, pruned_bits, pruned_to, pushed, set_at, truncated, unpruned, with_chunk};
 
 mod error;

@@ -42,7 +42,7 @@ use std::ops::Range;
 ///
 /// ```
 /// ghost use Rattle.std.specs.Prelude.{[], ◌∷◌};
-/// ghost use Rattle.bitmap_core.specs.Chunk.{chunk_bit};
+/// ghost use Rattle.bitmap_bytes.specs.Chunk.{chunk_bit};
 ///
 /// use bitmap_core::bitmap::Readable;
 ///

@@ -1,7 +1,7 @@
 //! What a session does in a batch: one function a command.
 
 ghost use Rattle.std.specs.Prelude.{◌≡◌, ◌+◌, ◌*◌, ◌/◌, ◌^◌, ◌<◌, ◌≤◌, not, IsOk, OnErr, OnOk};
-ghost use Rattle.bitmap_core.specs.Chunk.{byte_bits, chunk_bits, IsWidth};
+ghost use Rattle.bitmap_bytes.specs.Chunk.{byte_bits, chunk_bits, IsWidth};
 ghost use Rattle.bitmap_core.specs.PrunedBits as spec;
 ghost use Rattle.bitmap_core.specs.PrunedBits.{bit_len, HasBit};
 ghost use Rattle.bitmap_core.specs.Reading.{is_past_64};

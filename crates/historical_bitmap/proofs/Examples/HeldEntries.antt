@@ -3,7 +3,7 @@ use Rattle.std.specs.Prelude.{◌≡◌, ℕ, true, false, List, [], ◌∷◌, 
 use Rattle.std.specs.List.Sorted.{IsStrictlySortedBy}
 use Rattle.std.proofs.Common.{refl, arith}
 use Rattle.std.proofs.lemmas.Bool.{false≢true}
-use Rattle.bitmap_core.specs.Chunk.{IsWidth}
+use Rattle.bitmap_bytes.specs.Chunk.{IsWidth}
 use Rattle.historical_bitmap.specs.Record as spec
 use Rattle.historical_bitmap.specs.declared.bitmap.historical.record.ChunkDiff.TheVariants.{Modified, Removed, Added, Pruned}
 use Rattle.historical_bitmap.specs.Held.{with_held, is_held_at, IsHeld}

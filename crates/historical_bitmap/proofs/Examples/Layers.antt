@@ -3,7 +3,7 @@ use Rattle.std.specs.Prelude.{◌≡◌, ℕ, ◌/◌, ◌%◌, slice_index_or, 
 use Rattle.std.proofs.Common.{refl, ap, arith, get_or, subst, sym}
 use Rattle.std.proofs.lemmas.Bool.{cases_Bool, cases_eq, false≢true, ne_eqb}
 use mathlib.Core.Logic.{inl, inr}
-use Rattle.bitmap_core.specs.Chunk.{chunk_bit}
+use Rattle.bitmap_bytes.specs.Chunk.{chunk_bit}
 use Rattle.bitmap_core.specs.PrunedBits.{PrunedBits}
 use Rattle.bitmap_core.proofs.Examples.Chunks.{byte_joined}
 use Rattle.bitmap_core.proofs.Examples.EachPlace.{same_places, is_other}

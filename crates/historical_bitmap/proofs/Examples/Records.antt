@@ -6,7 +6,7 @@ use Rattle.std.proofs.Common.{refl, ap, arith, get_or, subst, sym}
 use mathlib.Core.Bool.{false≢true}
 use Rattle.std.proofs.lemmas.Bool.{cases_eq, ne_eqb}
 use mathlib.Core.Logic.{inl, inr, ◌⊎◌}
-use Rattle.bitmap_core.specs.Chunk.{chunk_bit}
+use Rattle.bitmap_bytes.specs.Chunk.{chunk_bit}
 use Rattle.bitmap_core.specs.PrunedBits.{PrunedBits, HasChunk, chunk}
 use Rattle.historical_bitmap.specs.Record.{Reverse, kept, IsUnchanged, LeadsBack}
 use Rattle.historical_bitmap.specs.Record.ChunkDiff.{Modified, Removed, Added, Pruned}

@@ -3,10 +3,10 @@
 ghost use Rattle.std.specs.Prelude.{◌≡◌, ℕ, ◌+◌, ◌-◌, ◌*◌, ◌^◌, ◌<◌, ◌≤◌, ◌++◌, None, drop, length, slice_index, take, vec_capacity, vec_len, IfErr, IfOk, IsSome, OnOk};
 ghost use Rattle.std.specs.List.{list_any, range_with_len};
 ghost use Rattle.std.specs.Simd.{first_chunks};
-ghost use Rattle.bitmap_core.specs.Bits.{bit_of, bits, IsChunkCount, IsZeroFrom};
-ghost use Rattle.bitmap_core.specs.Spelling.{chunk_count, spelling};
+ghost use Rattle.bitmap_bytes.specs.Bits.{bit_of, bits, IsChunkCount, IsZeroFrom, chunk_count};
+ghost use Rattle.bitmap_core.specs.Spelling.{spelling};
 ghost use Rattle.bitmap_core.specs.Reading.{admits, bits_fault, bits_in, chunk_bytes, fault, number};
-ghost use Rattle.bitmap_core.specs.Chunk.{IsWidth};
+ghost use Rattle.bitmap_bytes.specs.Chunk.{IsWidth};
 
 use crate::bitmap::codec::{CodecError, EncodeSize, RangeCfg, Read, Write};
 use crate::bitmap::{BitMap, deque};

@@ -3,9 +3,10 @@
 ghost use Rattle.std.specs.Prelude.{◌≡◌, ℕ, ◌+◌, ◌*◌, ◌^◌, ◌<◌, ◌≤◌, Bool, None, drop, length, slice_index, take, IfErr, IfOk, OnOk};
 ghost use Rattle.std.specs.Simd.{first_chunks};
 ghost use Rattle.bitmap_core.specs.PrunedBits.{bit_len};
-ghost use Rattle.bitmap_core.specs.Spelling.{chunk_count, pruned_spelling};
+ghost use Rattle.bitmap_bytes.specs.Bits.{chunk_count};
+ghost use Rattle.bitmap_core.specs.Spelling.{pruned_spelling};
 ghost use Rattle.bitmap_core.specs.Reading.{admits, bits_fault, chunk_bytes, fault, number, pruned_fault, pruned_in};
-ghost use Rattle.bitmap_core.specs.Chunk.{IsWidth};
+ghost use Rattle.bitmap_bytes.specs.Chunk.{IsWidth};
 
 use crate::bitmap::BitMap;
 use crate::bitmap::codec::dense::parts;

@@ -3,8 +3,8 @@
 ghost use Rattle.std.specs.Prelude.{◌≡◌, ℕ, ◌+◌, ◌-◌, ◌*◌, ◌/◌, ◌%◌, ◌^◌, ◌<◌, ◌≤◌, ◌++◌, length, IsOk, OnOk, OnErr};
 ghost use Rattle.std.specs.Int.{div_ceil};
 ghost use Rattle.std.specs.VecDeque.{deque_capacity};
-ghost use Rattle.bitmap_core.specs.Chunk.{bit_in, IsWidth};
-ghost use Rattle.bitmap_core.specs.Bits.{bit_of, IsChunkCount};
+ghost use Rattle.bitmap_bytes.specs.Chunk.{bit_in, IsWidth};
+ghost use Rattle.bitmap_bytes.specs.Bits.{bit_of, IsChunkCount};
 
 use crate::chunk::join::{chunk_from, join};
 use crate::chunk::{chunk_count, chunk_index, chunk_width};

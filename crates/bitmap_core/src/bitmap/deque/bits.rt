@@ -1,8 +1,8 @@
 //! Single bits and bytes of a deque of chunks.
 
 ghost use Rattle.std.specs.Prelude.{◌≡◌, ℕ, ◌+◌, ◌*◌, ◌/◌, ◌%◌, ◌^◌, ◌<◌, length, not};
-ghost use Rattle.bitmap_core.specs.Chunk.{IsWidth};
-ghost use Rattle.bitmap_core.specs.Bits.{bit_of, IsBitPut, IsBytePut, IsChunkCount, IsZeroFrom};
+ghost use Rattle.bitmap_bytes.specs.Chunk.{IsWidth};
+ghost use Rattle.bitmap_bytes.specs.Bits.{bit_of, IsBitPut, IsBytePut, IsChunkCount, IsZeroFrom};
 
 use crate::chunk;
 use crate::chunk::{chunk_index, chunk_width};

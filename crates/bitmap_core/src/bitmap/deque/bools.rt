@@ -1,8 +1,8 @@
 //! A deque of chunks from booleans, and as booleans.
 
 ghost use Rattle.std.specs.Prelude.{◌≡◌, ℕ, ◌+◌, ◌*◌, ◌^◌, ◌<◌, ◌≤◌, ◌++◌, length, false, slice_index_or, vec_len, vec_capacity, IfOk, IsOk};
-ghost use Rattle.bitmap_core.specs.Chunk.{IsWidth};
-ghost use Rattle.bitmap_core.specs.Bits.{bit_of, bits, IsChunkCount};
+ghost use Rattle.bitmap_bytes.specs.Chunk.{IsWidth};
+ghost use Rattle.bitmap_bytes.specs.Bits.{bit_of, bits, IsChunkCount};
 
 use crate::chunk;
 use crate::chunk::{chunk_count, chunk_width};

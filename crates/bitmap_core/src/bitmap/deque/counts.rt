@@ -2,7 +2,7 @@
 
 ghost use Rattle.std.specs.Prelude.{◌≡◌, ◌+◌, ◌-◌, ◌*◌, ◌^◌, ◌<◌, ◌≤◌, length, not};
 ghost use Rattle.std.specs.List.{count_by, list_all, range_with_len};
-ghost use Rattle.bitmap_core.specs.Bits.{bit_of, bits};
+ghost use Rattle.bitmap_bytes.specs.Bits.{bit_of, bits};
 
 use crate::bitmap::deque::runs::bytes;
 use crate::chunk::words;

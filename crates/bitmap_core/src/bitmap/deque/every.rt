@@ -3,9 +3,9 @@
 ghost use Rattle.std.specs.Prelude.{◌≡◌, ℕ, ◌+◌, ◌*◌, ◌/◌, ◌<◌, ◌≤◌, [], ◌++◌, length, not, slice_index_or};
 ghost use Rattle.std.specs.Bool.{Decides};
 ghost use Rattle.std.specs.List.{fold};
-ghost use Rattle.bitmap_core.specs.Bits.{bit_of, AreChunks};
-ghost use Rattle.bitmap_core.specs.Chunk.{chunk_bit};
-ghost use Rattle.bitmap_core.specs.Combined.{IsCombined};
+ghost use Rattle.bitmap_bytes.specs.Bits.{bit_of, AreChunks};
+ghost use Rattle.bitmap_bytes.specs.Chunk.{chunk_bit};
+ghost use Rattle.bitmap_bytes.specs.Combined.{IsCombined};
 
 use crate::bitmap::deque::runs::slices;
 use crate::chunk::facts::all_known;

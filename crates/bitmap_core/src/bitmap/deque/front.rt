@@ -2,7 +2,7 @@
 
 ghost use Rattle.std.specs.Prelude.{◌≡◌, ℕ, ◌+◌, ◌*◌, ◌<◌, ◌≤◌, [], ◌++◌, drop, length, map, slice_index_or, slice_set, IsOk, OnOk, OnErr};
 ghost use Rattle.std.specs.List.{range_with_len};
-ghost use Rattle.bitmap_core.specs.Chunk.{byte_of, chunk_bit};
+ghost use Rattle.bitmap_bytes.specs.Chunk.{byte_of, chunk_bit};
 
 use crate::chunk::facts::from_own_bits;
 use std::alloc::AllocError;

@@ -1,8 +1,8 @@
 //! A deque of chunks made longer and shorter.
 
 ghost use Rattle.std.specs.Prelude.{◌≡◌, ℕ, ◌+◌, ◌*◌, ◌%◌, ◌^◌, ◌<◌, ◌≤◌, [], ◌∷◌, ◌++◌, length, replicate, OnOk, OnErr, IsOk};
-ghost use Rattle.bitmap_core.specs.Chunk.{IsWidth};
-ghost use Rattle.bitmap_core.specs.Bits.{bit_of, IsChunkCount, IsZeroFrom};
+ghost use Rattle.bitmap_bytes.specs.Chunk.{IsWidth};
+ghost use Rattle.bitmap_bytes.specs.Bits.{bit_of, IsChunkCount, IsZeroFrom};
 
 use crate::bitmap::deque::bits::clear_tail;
 use crate::chunk::{chunk_count, chunk_width};

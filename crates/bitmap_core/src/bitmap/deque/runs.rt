@@ -2,7 +2,7 @@
 
 ghost use Rattle.std.specs.Prelude.{◌≡◌, ◌++◌};
 ghost use Rattle.std.specs.List.{flat_map};
-ghost use Rattle.bitmap_core.specs.Bits.{AreChunks};
+ghost use Rattle.bitmap_bytes.specs.Bits.{AreChunks};
 
 use crate::chunk::facts::all_known;
 use std::collections::VecDeque;

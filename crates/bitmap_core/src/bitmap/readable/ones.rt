@@ -3,8 +3,9 @@
 ghost use Rattle.std.specs.Prelude.{◌≡◌, ◌≢◌, ℕ, ◌+◌, ◌*◌, ◌/◌, ◌%◌, ◌^◌, ◌<◌, ◌≤◌, ◌==◌, true, false, [], length, MatchBool};
 ghost use Rattle.std.specs.Int.{bit_at};
 ghost use Rattle.std.specs.Iterator.{YieldsFirst, item_count};
-ghost use Rattle.bitmap_core.specs.Chunk.{chunk_bit, IsWidth};
-ghost use Rattle.bitmap_core.specs.Meaning.{starts_word, next_word, left_from, IsScan, IsCut, ones, ones_between, words, IsLawful, IsRetained, ShowsChunk};
+ghost use Rattle.bitmap_bytes.specs.Chunk.{chunk_bit, IsWidth};
+ghost use Rattle.bitmap_bytes.specs.Words.{starts_word, next_word, IsCut};
+ghost use Rattle.bitmap_core.specs.Meaning.{left_from, IsScan, ones, ones_between, words, IsLawful, IsRetained, ShowsChunk};
 
 use crate::bitmap::readable::Readable;
 use crate::chunk::load::{following_word, high_bits, take_lowest, word_base, word_below};

@@ -1,7 +1,7 @@
 //! What is asked of a historical bitmap with no edit pending, its commits apart.
 
 ghost use Rattle.std.specs.Prelude.{◌≡◌, ℕ, ◌*◌, ◌/◌, ◌^◌, ◌<◌, ◌↔◌, ◌==◌, [], None, IfOk, IfErr, IsOk};
-ghost use Rattle.bitmap_core.specs.Chunk.{IsWidth};
+ghost use Rattle.bitmap_bytes.specs.Chunk.{IsWidth};
 ghost use Rattle.bitmap_core.specs.PrunedBits.{bit_at, bit_len, chunk, HasBit};
 ghost use Rattle.historical_bitmap.specs.Pending.{unedited};
 ghost use Rattle.historical_bitmap.specs.declared.bitmap.historical.error.Error.TheVariants.{PrunedChunksOverflow};

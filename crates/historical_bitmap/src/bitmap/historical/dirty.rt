@@ -2,7 +2,7 @@
 
 ghost use Rattle.std.specs.Prelude.{◌≡◌, ℕ, ◌+◌, ◌*◌, ◌/◌, ◌%◌, ◌^◌, ◌<◌, ◌≤◌, ◌==◌, [], ◌∷◌, ◌++◌, length, None, Some, IfErr, IfOk, IsOk, OnErr, OnOk, unwrap_or, alloc_error};
 ghost use Rattle.std.specs.Result.{result_err};
-ghost use Rattle.bitmap_core.specs.Chunk.{byte_bits, chunk_bits, IsWidth};
+ghost use Rattle.bitmap_bytes.specs.Chunk.{byte_bits, chunk_bits, IsWidth};
 ghost use Rattle.bitmap_core.specs.PrunedBits.{bit_at, bit_len, chunk, HasBit, last_bit};
 ghost use Rattle.historical_bitmap.specs.declared.bitmap.historical.error.Error.TheVariants.{Memory};
 ghost use Rattle.historical_bitmap.specs.Edits.Edit.{Pop, Prune, Push, Set};

@@ -1,7 +1,7 @@
 //! A chain of edits of a dirty bitmap.
 
 ghost use Rattle.std.specs.Prelude.{◌≡◌, ◌+◌, ◌*◌, ◌/◌, ◌%◌, ◌^◌, ◌<◌, ◌≤◌, IfOk, IsOk};
-ghost use Rattle.bitmap_core.specs.Chunk.{byte_bits, chunk_bits};
+ghost use Rattle.bitmap_bytes.specs.Chunk.{byte_bits, chunk_bits};
 ghost use Rattle.bitmap_core.specs.PrunedBits.{bit_len, HasBit};
 ghost use Rattle.historical_bitmap.specs.Edits.Edit.{Prune, Push, Set};
 ghost use Rattle.historical_bitmap.specs.Edits.{pushes};

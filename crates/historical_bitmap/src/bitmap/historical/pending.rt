@@ -7,7 +7,7 @@ ghost use Rattle.std.specs.Map.{keys_of, lookup};
 ghost use Rattle.std.specs.Option.{option_map};
 ghost use Rattle.std.specs.Ordering.{nat_cmp};
 ghost use Rattle.std.specs.Set.{distinct_count};
-ghost use Rattle.bitmap_core.specs.Chunk.{bit_in, byte_bits, chunk_bit, chunk_bits, IsChunk, IsWidth};
+ghost use Rattle.bitmap_bytes.specs.Chunk.{bit_in, byte_bits, chunk_bit, chunk_bits, IsChunk, IsWidth};
 ghost use Rattle.bitmap_core.specs.PrunedBits.{PrunedBits, bit_at, bit_len, chunk, HasBit, pruned_bits, truncated};
 ghost use Rattle.historical_bitmap.specs.Edits.{from_to};
 ghost use Rattle.historical_bitmap.specs.Pending.{Appends, diff_of, edited_chunk, IsNextMember, layer_marks, LayerFits, old_chunk, pending_bits, pending_chunk, Pops, Prunes, ReversesLayer, run_bits, unedited, Writes};
@@ -35,7 +35,7 @@ pub struct Dirty<const N: usize> {
 }
 
 impl<const N: usize> Model for Dirty<N> {
-    ghost use Rattle.bitmap_core.specs.Chunk.{IsWidth};
+    ghost use Rattle.bitmap_bytes.specs.Chunk.{IsWidth};
     ghost use Rattle.historical_bitmap.specs.Pending.{Layer};
 
     ghost Value = { Layer };

@@ -4,7 +4,7 @@ ghost use Rattle.std.specs.Prelude.{◌≡◌, ℕ, ◌<◌, ◌≤◌, [], ◌�
 ghost use Rattle.std.specs.List.Sorted.{IsStrictlySortedBy};
 ghost use Rattle.std.specs.Map.{keys_of, lookup};
 ghost use Rattle.std.specs.Ordering.{nat_cmp};
-ghost use Rattle.bitmap_core.specs.Chunk.{IsWidth};
+ghost use Rattle.bitmap_bytes.specs.Chunk.{IsWidth};
 ghost use Rattle.historical_bitmap.specs.Record.{bytes_of, kept, kept_bytes};
 ghost use Rattle.historical_bitmap.specs.Stored.{diff_value, entry_values};
 ghost use Rattle.historical_bitmap.specs.Undo.{kept_between, pruned_chunks};
@@ -53,7 +53,7 @@ impl<const N: usize> Model for CommitDiff<N> {
 
     ghost Value = { Reverse };
 
-    ghost use Rattle.bitmap_core.specs.Chunk.{IsWidth};
+    ghost use Rattle.bitmap_bytes.specs.Chunk.{IsWidth};
 
     ghost invariant = { λ r. IsWidth N };
 

@@ -1,6 +1,6 @@
 use Rattle.std.proofs.Common.{◌%◌, ◌*◌, ◌∙◌, ap, arith, sym}
 use Rattle.std.proofs.lemmas.Bool.{false≢true}
-use Rattle.bitmap_core.proofs.Lists.Bits.{bits-same, len_is}
+use Rattle.bitmap_bytes.proofs.Lists.Bits.{bits-same, len_is}
 use Rattle.bitmap_core.proofs.Chunks.ByteWritten.{bits-byte, IsChunkCount-byte, IsZeroFrom-byte}
 use Rattle.bitmap_core.proofs.bitmap.BitMap.append_byte.Goals as goal
 

@@ -1,6 +1,6 @@
 use Rattle.std.proofs.Common.{sym, arith}
-use Rattle.bitmap_core.proofs.Lists.Bits.{len_is}
-use Rattle.bitmap_core.proofs.Chunks.AsBytes.{slices_are}
+use Rattle.bitmap_bytes.proofs.Lists.Bits.{len_is}
+use Rattle.bitmap_bytes.proofs.Chunks.AsBytes.{slices_are}
 use Rattle.bitmap_core.proofs.Texts.Spellings.{length-spelling}
 use Rattle.bitmap_core.proofs.Texts.Parts.{spelling_pieces, written}
 use Rattle.bitmap_core.proofs.bitmap.BitMap.append_spelling.Goals as goal

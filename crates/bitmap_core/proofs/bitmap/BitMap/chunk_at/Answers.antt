@@ -1,5 +1,5 @@
 use Rattle.std.proofs.Common.{arith}
-use Rattle.bitmap_core.proofs.Lists.Bits.{len_is}
+use Rattle.bitmap_bytes.proofs.Lists.Bits.{len_is}
 use Rattle.bitmap_core.proofs.Chunks.Whole.{chunk_within, stored_chunk}
 use Rattle.bitmap_core.proofs.bitmap.BitMap.chunk_at.Goals as goal
 

@@ -1,7 +1,7 @@
 use Rattle.std.proofs.Common.{◌≡◌, ◌∙◌, sym, ap, length, arith}
-use Rattle.bitmap_core.specs.Bits.{bits}
-use Rattle.bitmap_core.proofs.Lists.Bits.{len_is}
-use Rattle.bitmap_core.proofs.Chunks.Places.{count_unique}
+use Rattle.bitmap_bytes.specs.Bits.{bits}
+use Rattle.bitmap_bytes.proofs.Lists.Bits.{len_is}
+use Rattle.bitmap_bytes.proofs.Chunks.Places.{count_unique}
 use Rattle.bitmap_core.proofs.Lists.WholeBits.{bits-zip, IsZeroFrom-zip}
 use Rattle.bitmap_core.proofs.bitmap.BitMap.combine.Goals as goal
 

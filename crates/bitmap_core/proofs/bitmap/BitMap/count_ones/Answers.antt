@@ -1,8 +1,8 @@
 use Rattle.std.proofs.Common.{◌*◌, ◌∙◌, length, arith}
-use Rattle.bitmap_core.specs.Bits.{bit_of}
-use Rattle.bitmap_core.proofs.Lists.Bits.{len_is}
-use Rattle.bitmap_core.proofs.Counting.Ones.{count-bits, ones_from_bound}
-use Rattle.bitmap_core.proofs.Counting.Places.{count-whole}
+use Rattle.bitmap_bytes.specs.Bits.{bit_of}
+use Rattle.bitmap_bytes.proofs.Lists.Bits.{len_is}
+use Rattle.bitmap_bytes.proofs.Counting.Ones.{count-bits, ones_from_bound}
+use Rattle.bitmap_bytes.proofs.Counting.Places.{count-whole}
 use Rattle.bitmap_core.proofs.bitmap.BitMap.count_ones.Goals as goal
 
 pub count_ones-requires : goal.count_ones-requires

@@ -1,5 +1,5 @@
 use Rattle.std.proofs.Common.{arith}
-use Rattle.bitmap_core.proofs.Counting.Places.{count-not}
+use Rattle.bitmap_bytes.proofs.Counting.Places.{count-not}
 use Rattle.bitmap_core.proofs.bitmap.BitMap.count_zeros.Goals as goal
 
 pub returns : goal.returns

@@ -1,8 +1,8 @@
 use Rattle.std.proofs.Common.{◌≤◌, length, arith}
 use Rattle.std.proofs.lemmas.List.{length-drop}
-use Rattle.bitmap_core.proofs.Lists.Bits.{len_is}
-use Rattle.bitmap_core.proofs.Chunks.Front.{bits-drop, IsChunkCount-drop, IsZeroFrom-drop}
-use Rattle.bitmap_core.proofs.Chunks.Places.{fewer_chunks}
+use Rattle.bitmap_bytes.proofs.Lists.Bits.{len_is}
+use Rattle.bitmap_bytes.proofs.Chunks.Front.{bits-drop, IsChunkCount-drop, IsZeroFrom-drop}
+use Rattle.bitmap_bytes.proofs.Chunks.Places.{fewer_chunks}
 use Rattle.bitmap_core.proofs.bitmap.BitMap.drop_front_chunks.Goals as goal
 
 pub drop_front-requires : goal.drop_front-requires

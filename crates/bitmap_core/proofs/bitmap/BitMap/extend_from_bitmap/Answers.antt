@@ -1,12 +1,12 @@
 use Rattle.std.proofs.Common.{◌≡◌, ◌-◌, ◌*◌, ◌∙◌, length, ap, sym, arith}
-use Rattle.bitmap_core.specs.Chunk.{bit_in}
+use Rattle.bitmap_bytes.specs.Chunk.{bit_in}
 use Rattle.std.specs.Int.{div_ceil}
 use Rattle.std.proofs.lemmas.Bool.{false≢true}
-use Rattle.bitmap_core.proofs.Chunks.Places.{IsChunkCount-ceil, count_unique}
-use Rattle.bitmap_core.proofs.Lists.Bits.{len_is}
+use Rattle.bitmap_bytes.proofs.Chunks.Places.{IsChunkCount-ceil, count_unique}
+use Rattle.bitmap_bytes.proofs.Lists.Bits.{len_is}
 use Rattle.bitmap_core.proofs.Lists.Edits.{bits-append}
-use Rattle.bitmap_core.proofs.Chunks.Lists.{IsZeroFrom-append}
-use Rattle.bitmap_core.proofs.Bytes.Shifted.{bit_in-flat}
+use Rattle.bitmap_bytes.proofs.Chunks.Lists.{IsZeroFrom-append}
+use Rattle.bitmap_bytes.proofs.Bytes.Shifted.{bit_in-flat}
 use Rattle.bitmap_core.proofs.bitmap.BitMap.extend_from_bitmap.Goals as goal
 
 pub overflow_add-total : goal.overflow_add-total

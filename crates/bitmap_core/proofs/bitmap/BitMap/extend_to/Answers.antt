@@ -1,8 +1,8 @@
 use Rattle.std.proofs.Common.{◌≡◌, ◌*◌, length, arith}
 use Rattle.std.specs.Int.{div_ceil}
 use Rattle.std.proofs.lemmas.Bool.{false≢true}
-use Rattle.bitmap_core.proofs.Chunks.Places.{IsChunkCount-ceil, count_unique}
-use Rattle.bitmap_core.proofs.Lists.Bits.{len_is}
+use Rattle.bitmap_bytes.proofs.Chunks.Places.{IsChunkCount-ceil, count_unique}
+use Rattle.bitmap_bytes.proofs.Lists.Bits.{len_is}
 use Rattle.bitmap_core.proofs.Lists.Edits.{bits-extend, append_nothing}
 use Rattle.bitmap_core.proofs.bitmap.BitMap.extend_to.Goals as goal
 

@@ -1,8 +1,8 @@
 use Rattle.std.proofs.Common.{◌≡◌, ◌∙◌, sym, ap, get_or, false, arith}
-use Rattle.bitmap_core.specs.Bits.{bit_of}
-use Rattle.bitmap_core.proofs.Lists.Bits.{at_within, len_is, get_or-bits}
+use Rattle.bitmap_bytes.specs.Bits.{bit_of}
+use Rattle.bitmap_bytes.proofs.Lists.Bits.{at_within, len_is, get_or-bits}
 use Rattle.bitmap_core.proofs.Lists.Edits.{bits-put}
-use Rattle.bitmap_core.proofs.Chunks.Lists.{IsZeroFrom-put}
+use Rattle.bitmap_bytes.proofs.Chunks.Lists.{IsZeroFrom-put}
 use Rattle.bitmap_core.proofs.bitmap.BitMap.flip.Goals as goal
 
 pub flip_bit-requires : goal.flip_bit-requires

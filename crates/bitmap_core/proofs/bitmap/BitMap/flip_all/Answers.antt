@@ -1,4 +1,4 @@
-use Rattle.bitmap_core.proofs.Chunks.Places.{index_below}
+use Rattle.bitmap_bytes.proofs.Chunks.Places.{index_below}
 use Rattle.bitmap_core.proofs.Lists.WholeBits.{bits-flip}
 use Rattle.bitmap_core.proofs.bitmap.BitMap.flip_all.Goals as goal
 

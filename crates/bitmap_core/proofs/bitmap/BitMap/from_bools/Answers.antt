@@ -1,5 +1,5 @@
 use Rattle.std.proofs.Common.{refl}
-use Rattle.bitmap_core.proofs.Lists.Bits.{bits_are}
+use Rattle.bitmap_bytes.proofs.Lists.Bits.{bits_are}
 use Rattle.bitmap_core.proofs.bitmap.BitMap.from_bools.Goals as goal
 
 pub returns-clause-ok : goal.returns-clause-ok

@@ -1,5 +1,5 @@
 use Rattle.std.proofs.Common.{◌%◌, ◌*◌, sym, ap, eqb}
-use Rattle.bitmap_core.proofs.Lists.Bits.{len_is}
+use Rattle.bitmap_bytes.proofs.Lists.Bits.{len_is}
 use Rattle.bitmap_core.proofs.bitmap.BitMap.is_chunk_aligned.Goals as goal
 
 pub returns : goal.returns

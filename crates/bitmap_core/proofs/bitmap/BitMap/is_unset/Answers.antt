@@ -1,6 +1,6 @@
 use Rattle.std.proofs.Common.{◌∙◌, arith}
-use Rattle.bitmap_core.proofs.Lists.Bits.{len_is}
-use Rattle.bitmap_core.proofs.Counting.Places.{none_range}
+use Rattle.bitmap_bytes.proofs.Lists.Bits.{len_is}
+use Rattle.bitmap_bytes.proofs.Counting.Places.{none_range}
 use Rattle.bitmap_core.proofs.bitmap.BitMap.is_unset.Goals as goal
 
 pub is_unset-requires : goal.is_unset-requires

@@ -1,4 +1,4 @@
-use Rattle.bitmap_core.proofs.Lists.Bits.{len_is}
+use Rattle.bitmap_bytes.proofs.Lists.Bits.{len_is}
 use Rattle.std.proofs.Common.{sym, arith}
 use Rattle.bitmap_core.proofs.bitmap.BitMap.len.Goals as goal
 

@@ -1,8 +1,8 @@
 use Rattle.std.proofs.Common.{◌∙◌, true, arith}
 use Rattle.std.proofs.lemmas.List.{length-replicate}
-use Rattle.bitmap_core.proofs.Chunks.Places.{IsChunkCount-ceil, index_below}
-use Rattle.bitmap_core.proofs.Lists.Bits.{bits-replicate}
-use Rattle.bitmap_core.proofs.Chunks.Lists.{bit_of-ones}
+use Rattle.bitmap_bytes.proofs.Chunks.Places.{IsChunkCount-ceil, index_below}
+use Rattle.bitmap_bytes.proofs.Lists.Bits.{bits-replicate}
+use Rattle.bitmap_bytes.proofs.Chunks.Lists.{bit_of-ones}
 use Rattle.bitmap_core.proofs.bitmap.BitMap.ones.Goals as goal
 
 pub clear_tail-requires : goal.clear_tail-requires

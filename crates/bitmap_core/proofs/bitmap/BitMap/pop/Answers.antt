@@ -1,8 +1,8 @@
 use Rattle.std.proofs.Common.{◌≡◌, ◌+◌, ◌-◌, ◌∙◌, arith}
-use Rattle.bitmap_core.proofs.Lists.Bits.{len_is}
-use Rattle.bitmap_core.proofs.Chunks.Places.{last_within}
+use Rattle.bitmap_bytes.proofs.Lists.Bits.{len_is}
+use Rattle.bitmap_bytes.proofs.Chunks.Places.{last_within}
 use Rattle.bitmap_core.proofs.Lists.Edits.{bits-pop}
-use Rattle.bitmap_core.proofs.Chunks.Lists.{IsZeroFrom-pop}
+use Rattle.bitmap_bytes.proofs.Chunks.Lists.{IsZeroFrom-pop}
 use Rattle.bitmap_core.proofs.bitmap.BitMap.pop.Goals as goal
 
 pub overflow_sub-last : goal.overflow_sub-last

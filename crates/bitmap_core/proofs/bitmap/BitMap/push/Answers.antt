@@ -1,8 +1,8 @@
 use Rattle.std.proofs.Common.{◌%◌, ◌*◌, ◌∙◌, ap, arith}
 use Rattle.std.proofs.lemmas.Bool.{false≢true}
-use Rattle.bitmap_core.proofs.Lists.Bits.{len_is, bits-same}
+use Rattle.bitmap_bytes.proofs.Lists.Bits.{len_is, bits-same}
 use Rattle.bitmap_core.proofs.Lists.Edits.{bits-push}
-use Rattle.bitmap_core.proofs.Chunks.Lists.{IsBitPut_same}
+use Rattle.bitmap_bytes.proofs.Chunks.Lists.{IsBitPut_same}
 use Rattle.bitmap_core.proofs.bitmap.BitMap.push.Goals as goal
 use Rattle.bitmap_core.proofs.bitmap.BitMap.push.Goals.{then-bit, else-bit}
 

@@ -1,9 +1,9 @@
 use Rattle.std.proofs.Common.{◌∙◌, ◌*◌, ◌%◌, sym, ap, arith}
 use Rattle.std.proofs.lemmas.List.{length_push}
 use Rattle.std.proofs.Math.Nat.{mul-add}
-use Rattle.bitmap_core.proofs.Chunks.Places.{IsChunkCount-chunk, full_len}
-use Rattle.bitmap_core.proofs.Lists.Bits.{len_is}
-use Rattle.bitmap_core.proofs.Chunks.Lists.{IsZeroFrom-count}
+use Rattle.bitmap_bytes.proofs.Chunks.Places.{IsChunkCount-chunk, full_len}
+use Rattle.bitmap_bytes.proofs.Lists.Bits.{len_is}
+use Rattle.bitmap_bytes.proofs.Chunks.Lists.{IsZeroFrom-count}
 use Rattle.bitmap_core.proofs.Lists.Edits.{bits-push_chunk}
 use Rattle.bitmap_core.proofs.bitmap.BitMap.push_chunk.Goals as goal
 

@@ -1,7 +1,7 @@
 use Rattle.std.proofs.Common.{arith}
 use Rattle.std.proofs.lemmas.List.{length-append}
-use Rattle.bitmap_core.proofs.Lists.Bits.{len_is}
-use Rattle.bitmap_core.proofs.Chunks.Front.{bits-front, IsChunkCount-front, IsZeroFrom-front}
+use Rattle.bitmap_bytes.proofs.Lists.Bits.{len_is}
+use Rattle.bitmap_bytes.proofs.Chunks.Front.{bits-front, IsChunkCount-front, IsZeroFrom-front}
 use Rattle.bitmap_core.proofs.bitmap.BitMap.put_front_chunks.Goals as goal
 
 pub overflow_add-self : goal.overflow_add-self

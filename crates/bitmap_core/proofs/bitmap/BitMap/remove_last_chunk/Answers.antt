@@ -1,6 +1,6 @@
 use Rattle.std.proofs.Common.{◌-◌, ◌*◌, ◌/◌, ◌∙◌, ap, arith, sym, take}
 use Rattle.bitmap_core.specs.PrunedBits.{chunk, plain_bits}
-use Rattle.bitmap_core.proofs.Lists.Bits.{len_is}
+use Rattle.bitmap_bytes.proofs.Lists.Bits.{len_is}
 use Rattle.bitmap_core.proofs.Chunks.Whole.{last_whole, IsChunkCount-last, IsZeroFrom-last, bits-last}
 use Rattle.bitmap_core.proofs.bitmap.BitMap.remove_last_chunk.Goals as goal
 

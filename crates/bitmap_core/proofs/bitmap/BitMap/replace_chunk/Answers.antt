@@ -1,6 +1,6 @@
 use Rattle.std.proofs.Common.{◌<◌, length, arith, ◌∙◌, sym}
 use Rattle.std.proofs.lemmas.List.{length-set}
-use Rattle.bitmap_core.proofs.Lists.Bits.{len_is, length-bits}
+use Rattle.bitmap_bytes.proofs.Lists.Bits.{len_is, length-bits}
 use Rattle.bitmap_core.proofs.Chunks.Whole.{chunk_within, IsZeroFrom-replaced, get_or-replaced}
 use Rattle.bitmap_core.proofs.bitmap.BitMap.replace_chunk.Goals as goal
 

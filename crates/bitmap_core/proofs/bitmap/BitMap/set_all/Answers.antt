@@ -1,5 +1,5 @@
 use Rattle.std.proofs.Common.{◌∙◌}
-use Rattle.bitmap_core.proofs.Chunks.Places.{index_below}
+use Rattle.bitmap_bytes.proofs.Chunks.Places.{index_below}
 use Rattle.bitmap_core.proofs.Lists.WholeBits.{bits-fill}
 use Rattle.bitmap_core.proofs.bitmap.BitMap.set_all.Goals as goal
 

@@ -1,5 +1,5 @@
 use Rattle.std.proofs.Common.{arith}
-use Rattle.bitmap_core.proofs.Lists.Bits.{len_is}
+use Rattle.bitmap_bytes.proofs.Lists.Bits.{len_is}
 use Rattle.bitmap_core.proofs.Lists.Edits.{bits-take}
 use Rattle.bitmap_core.proofs.bitmap.BitMap.truncate.Goals as goal
 

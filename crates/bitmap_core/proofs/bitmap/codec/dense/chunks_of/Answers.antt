@@ -1,5 +1,5 @@
 use Rattle.std.proofs.Common.{◌∙◌}
-use Rattle.bitmap_core.proofs.Chunks.OfBytes.{chunks-exact}
+use Rattle.bitmap_bytes.proofs.Chunks.OfBytes.{chunks-exact}
 use Rattle.bitmap_core.proofs.bitmap.codec.dense.chunks_of.Goals as goal
 
 pub returns : goal.returns

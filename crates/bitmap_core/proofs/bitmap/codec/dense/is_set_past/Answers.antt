@@ -1,5 +1,5 @@
 use Rattle.std.proofs.Common.{◌∙◌}
-use Rattle.bitmap_core.proofs.Chunks.OfBytes.{past_chunk, past_full}
+use Rattle.bitmap_bytes.proofs.Chunks.OfBytes.{past_chunk, past_full}
 use Rattle.bitmap_core.proofs.bitmap.codec.dense.is_set_past.Goals as goal
 
 pub returns-then-from-eq0 : goal.returns-then-from-eq0

@@ -1,8 +1,8 @@
 use Rattle.std.proofs.Common.{◌≡◌, ◌≤◌, ◌*◌, ◌∙◌, ◌^◌, ◌<◌, length, drop, take, true, false, arith, rules, sym}
-use Rattle.bitmap_core.specs.Spelling.{chunk_count}
+use Rattle.bitmap_bytes.specs.Bits.{chunk_count}
 use Rattle.bitmap_core.specs.Reading.{number, admits}
-use Rattle.bitmap_core.proofs.Chunks.Places.{IsChunkCount-ceil}
-use Rattle.bitmap_core.proofs.Chunks.OfBytes.{length-first_chunks}
+use Rattle.bitmap_bytes.proofs.Chunks.Places.{IsChunkCount-ceil}
+use Rattle.bitmap_bytes.proofs.Chunks.OfBytes.{length-first_chunks}
 use Rattle.bitmap_core.proofs.Texts.Faults.{sound-none, count-le}
 use Rattle.bitmap_core.proofs.Texts.Parts.{bytes-lt, read_past, read_whole, read_rest, read_chunks, trailing_fault}
 use Rattle.bitmap_core.proofs.bitmap.codec.dense.parts.Goals as goal

@@ -1,7 +1,7 @@
 use Rattle.std.proofs.Common.{◌≡◌, ◌≤◌, ◌-◌, ◌*◌, ◌∙◌, length, ap, arith}
 use Rattle.std.specs.Int.{div_ceil}
-use Rattle.bitmap_core.specs.Bits.{bit_of}
-use Rattle.bitmap_core.proofs.Chunks.Places.{more_ceil, none_missing, index_below, IsChunkCount-ceil}
+use Rattle.bitmap_bytes.specs.Bits.{bit_of}
+use Rattle.bitmap_bytes.proofs.Chunks.Places.{more_ceil, none_missing, index_below, IsChunkCount-ceil}
 use Rattle.bitmap_core.proofs.bitmap.deque.append.append_run.Goals as goal
 
 pub overflow_sub-count : goal.overflow_sub-count

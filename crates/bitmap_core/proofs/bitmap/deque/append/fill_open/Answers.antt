@@ -1,6 +1,6 @@
 use Rattle.std.proofs.Common.{◌≡◌, ◌+◌, ◌*◌, ◌/◌, length, arith}
-use Rattle.bitmap_core.proofs.Chunks.Places.{open_last}
-use Rattle.bitmap_core.proofs.Bytes.Shifted.{joined_here, joined_full}
+use Rattle.bitmap_bytes.proofs.Chunks.Places.{open_last}
+use Rattle.bitmap_bytes.proofs.Bytes.Shifted.{joined_here, joined_full}
 use Rattle.bitmap_core.proofs.bitmap.deque.append.fill_open.Goals as goal
 
 pub returns-then-len-chunk_width-ne0-clause-joined : goal.returns-then-len-chunk_width-ne0-clause-joined

@@ -1,9 +1,9 @@
 use Rattle.std.proofs.Common.{◌≡◌, ◌<◌, ◌≤◌, ◌+◌, ◌*◌, ◌/◌, ◌∙◌, length, inl, inr, arith}
 use Rattle.std.proofs.lemmas.List.{length_push}
 use Rattle.std.proofs.lemmas.Bool.{cases_eq}
-use Rattle.bitmap_core.proofs.Chunks.Lists.{bit_of-push_in}
-use Rattle.bitmap_core.proofs.Chunks.Places.{within_more}
-use Rattle.bitmap_core.proofs.Bytes.Shifted.{pushed_here}
+use Rattle.bitmap_bytes.proofs.Chunks.Lists.{bit_of-push_in}
+use Rattle.bitmap_bytes.proofs.Chunks.Places.{within_more}
+use Rattle.bitmap_bytes.proofs.Bytes.Shifted.{pushed_here}
 use Rattle.bitmap_core.proofs.bitmap.deque.append.push_whole.Goals as goal
 
 pub loop-chunks-preserved : goal.loop-chunks-preserved

@@ -1,7 +1,7 @@
 use Rattle.std.proofs.Common.{◌≡◌, ℕ, ◌-◌, ◌*◌, ◌/◌, ◌<◌, ◌≤◌, ◌++◌, length}
 use Rattle.std.specs.VecDeque.{deque_capacity}
-use Rattle.bitmap_core.specs.Chunk.{bit_in}
-use Rattle.bitmap_core.specs.Bits.{bit_of}
+use Rattle.bitmap_bytes.specs.Chunk.{bit_in}
+use Rattle.bitmap_bytes.specs.Bits.{bit_of}
 use Rattle.bitmap_core.proofs.bitmap.deque.append.push_whole.Given as goal
 
 abbrev pub invariant-loop-chunks : goal.invariant-loop-chunks

@@ -1,4 +1,4 @@
-use Rattle.bitmap_core.proofs.Chunks.Lists.{IsZeroFrom-cleared, IsZeroFrom-full}
+use Rattle.bitmap_bytes.proofs.Chunks.Lists.{IsZeroFrom-cleared, IsZeroFrom-full}
 use Rattle.bitmap_core.proofs.bitmap.deque.bits.clear_tail.Goals as goal
 
 pub returns-then-from-ne0-clause-zero : goal.returns-then-from-ne0-clause-zero

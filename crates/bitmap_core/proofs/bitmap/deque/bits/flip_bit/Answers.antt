@@ -1,5 +1,5 @@
 use Rattle.std.proofs.Common.{arith}
-use Rattle.bitmap_core.proofs.Chunks.Lists.{IsBitPut-flip}
+use Rattle.bitmap_bytes.proofs.Chunks.Lists.{IsBitPut-flip}
 use Rattle.bitmap_core.proofs.bitmap.deque.bits.flip_bit.Goals as goal
 
 pub index_mut-requires : goal.index_mut-requires

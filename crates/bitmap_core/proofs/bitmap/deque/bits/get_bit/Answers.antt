@@ -1,6 +1,6 @@
 use Rattle.std.proofs.Common.{◌∙◌, ap, arith, []}
 use Rattle.std.proofs.lemmas.List.{get_or_read}
-use Rattle.bitmap_core.specs.Chunk.{chunk_bit}
+use Rattle.bitmap_bytes.specs.Chunk.{chunk_bit}
 use Rattle.bitmap_core.proofs.bitmap.deque.bits.get_bit.Goals as goal
 
 pub index-requires : goal.index-requires

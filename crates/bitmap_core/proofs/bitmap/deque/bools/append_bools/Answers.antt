@@ -1,6 +1,6 @@
 use Rattle.std.proofs.Common.{◌*◌, arith}
 use Rattle.std.proofs.Math.Nat.{mul-add}
-use Rattle.bitmap_core.proofs.Chunks.Packed.{bools-chunk, bools-none}
+use Rattle.bitmap_bytes.proofs.Chunks.Packed.{bools-chunk, bools-none}
 use Rattle.bitmap_core.proofs.bitmap.deque.bools.append_bools.Goals as goal
 
 pub loop-i-init : goal.loop-i-init

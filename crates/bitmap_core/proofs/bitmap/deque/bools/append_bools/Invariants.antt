@@ -1,5 +1,5 @@
 use Rattle.std.proofs.Common.{◌≡◌, ◌+◌, ◌-◌, ◌*◌, ◌++◌}
-use Rattle.bitmap_core.specs.Bits.{bits}
+use Rattle.bitmap_bytes.specs.Bits.{bits}
 use Rattle.bitmap_core.proofs.bitmap.deque.bools.append_bools.Given as goal
 
 abbrev pub invariant-loop-i : goal.invariant-loop-i

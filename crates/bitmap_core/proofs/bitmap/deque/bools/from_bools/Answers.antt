@@ -1,7 +1,7 @@
 use Rattle.std.proofs.Common.{◌≡◌, ◌*◌, length, ap, arith}
 use Rattle.std.specs.Int.{div_ceil}
-use Rattle.bitmap_core.proofs.Chunks.Places.{IsChunkCount-ceil}
-use Rattle.bitmap_core.proofs.Chunks.Packed.{chunks-more, all-bits}
+use Rattle.bitmap_bytes.proofs.Chunks.Places.{IsChunkCount-ceil}
+use Rattle.bitmap_bytes.proofs.Chunks.Packed.{chunks-more, all-bits}
 use Rattle.bitmap_core.proofs.bitmap.deque.bools.from_bools.Goals as goal
 
 pub loop-i-preserved : goal.loop-i-preserved

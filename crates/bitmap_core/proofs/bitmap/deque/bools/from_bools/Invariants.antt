@@ -1,5 +1,5 @@
 use Rattle.std.proofs.Common.{◌≡◌, ℕ, ◌*◌, ◌<◌, ◌≤◌, false, get_or}
-use Rattle.bitmap_core.specs.Bits.{bit_of}
+use Rattle.bitmap_bytes.specs.Bits.{bit_of}
 use Rattle.bitmap_core.proofs.bitmap.deque.bools.from_bools.Given as goal
 
 abbrev pub invariant-loop-i : goal.invariant-loop-i

@@ -1,5 +1,5 @@
 use Rattle.std.proofs.Common.{◌≡◌, ℕ, ◌*◌, ◌/◌, ◌<◌, ◌≤◌, length}
-use Rattle.bitmap_core.specs.Bits.{bit_of}
+use Rattle.bitmap_bytes.specs.Bits.{bit_of}
 use Rattle.bitmap_core.proofs.bitmap.deque.every.fill.Given as goal
 
 abbrev pub invariant-loop-chunk : goal.invariant-loop-chunk

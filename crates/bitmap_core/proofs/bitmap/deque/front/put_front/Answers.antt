@@ -1,5 +1,5 @@
 use Rattle.std.proofs.Common.{◌∷◌, ◌∙◌, ap, arith}
-use Rattle.bitmap_core.proofs.Chunks.Front.{put_front_step}
+use Rattle.bitmap_bytes.proofs.Chunks.Front.{put_front_step}
 use Rattle.bitmap_core.proofs.bitmap.deque.front.put_front.Goals as goal
 
 pub loop-left-preserved : goal.loop-left-preserved

@@ -1,7 +1,7 @@
 use Rattle.std.proofs.Common.{◌-◌, length, arith}
 use Rattle.std.proofs.lemmas.List.{length-take-le}
-use Rattle.bitmap_core.proofs.Chunks.Places.{IsChunkCount-fewer, IsChunkCount-kept}
-use Rattle.bitmap_core.proofs.Chunks.Lists.{bit_of-drop_last}
+use Rattle.bitmap_bytes.proofs.Chunks.Places.{IsChunkCount-fewer, IsChunkCount-kept}
+use Rattle.bitmap_bytes.proofs.Chunks.Lists.{bit_of-drop_last}
 use Rattle.bitmap_core.proofs.bitmap.deque.growth.drop_room.Goals as goal
 
 pub returns-then-len-chunk_width-eq0-clause-count : goal.returns-then-len-chunk_width-eq0-clause-count

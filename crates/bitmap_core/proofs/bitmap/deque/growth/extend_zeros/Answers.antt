@@ -1,8 +1,8 @@
 use Rattle.std.proofs.Common.{◌≡◌, ◌-◌, ◌*◌, ◌∙◌, length, arith}
 use Rattle.std.specs.Int.{div_ceil}
 use Rattle.std.proofs.lemmas.Result.{on_ok_weaker}
-use Rattle.bitmap_core.proofs.Chunks.Places.{none_missing}
-use Rattle.bitmap_core.proofs.Chunks.Lists.{IsChunkCount-appended}
+use Rattle.bitmap_bytes.proofs.Chunks.Places.{none_missing}
+use Rattle.bitmap_bytes.proofs.Chunks.Lists.{IsChunkCount-appended}
 use Rattle.bitmap_core.proofs.bitmap.deque.growth.extend_zeros.Goals as goal
 
 pub returns-clause-room : goal.returns-clause-room

@@ -1,5 +1,5 @@
 use Rattle.std.proofs.lemmas.List.{length_push}
-use Rattle.bitmap_core.proofs.Chunks.Places.{IsChunkCount-more, IsChunkCount-same}
+use Rattle.bitmap_bytes.proofs.Chunks.Places.{IsChunkCount-more, IsChunkCount-same}
 use Rattle.bitmap_core.proofs.bitmap.deque.growth.make_room.Goals as goal
 
 pub returns-in_ok-add_chunk-clause-room : goal.returns-in_ok-add_chunk-clause-room

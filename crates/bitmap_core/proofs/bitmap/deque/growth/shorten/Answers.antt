@@ -1,7 +1,7 @@
 use Rattle.std.proofs.Common.{◌∙◌, arith}
 use Rattle.std.proofs.lemmas.List.{length-take-le}
-use Rattle.bitmap_core.proofs.Chunks.Places.{IsChunkCount-ceil, fewer_chunks, index_below}
-use Rattle.bitmap_core.proofs.Chunks.Lists.{bit_of-take_in}
+use Rattle.bitmap_bytes.proofs.Chunks.Places.{IsChunkCount-ceil, fewer_chunks, index_below}
+use Rattle.bitmap_bytes.proofs.Chunks.Lists.{bit_of-take_in}
 use Rattle.bitmap_core.proofs.bitmap.deque.growth.shorten.Goals as goal
 
 pub clear_tail-requires : goal.clear_tail-requires

@@ -2,8 +2,8 @@ use Rattle.std.proofs.Common.{◌≡◌, ◌∙◌, sym, ap, length}
 use Rattle.std.specs.List.{fold}
 use Rattle.std.specs.Hash as fed
 use Rattle.bitmap_core.specs.Fed.{fed_bits}
-use Rattle.bitmap_core.proofs.Lists.Bits.{len_is}
-use Rattle.bitmap_core.proofs.Chunks.AsBytes.{chunks_are}
+use Rattle.bitmap_bytes.proofs.Lists.Bits.{len_is}
+use Rattle.bitmap_bytes.proofs.Chunks.AsBytes.{chunks_are}
 use Rattle.bitmap_core.proofs.bitmap.ops.BitMapHash.hash.Goals as goal
 
 pub returns : goal.returns

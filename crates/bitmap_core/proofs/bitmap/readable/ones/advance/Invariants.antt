@@ -1,5 +1,6 @@
 use Rattle.std.proofs.Common.{◌-◌, ◌≡◌, ◌≤◌}
-use Rattle.bitmap_core.specs.Meaning.{Meaning, IsScan, IsCut, left_from}
+use Rattle.bitmap_bytes.specs.Words.{IsCut}
+use Rattle.bitmap_core.specs.Meaning.{Meaning, IsScan, left_from}
 use Rattle.bitmap_core.proofs.bitmap.readable.ones.advance.Given as goal
 
 abbrev pub invariant-loop-cursor : goal.invariant-loop-cursor

@@ -1,5 +1,5 @@
 use Rattle.std.proofs.Common.{◌≡◌, ℕ, ◌*◌, ◌/◌, ◌≤◌, ap, sym, arith}
-use Rattle.bitmap_core.specs.Chunk.{chunk_bit}
+use Rattle.bitmap_bytes.specs.Chunk.{chunk_bit}
 use Rattle.bitmap_core.specs.PrunedBits.{bit_at, bit_len}
 use Rattle.historical_bitmap.proofs.Restored.{bit_in_chunk}
 use Rattle.historical_bitmap.proofs.PendingWrites.{cut_is, zeros_past}

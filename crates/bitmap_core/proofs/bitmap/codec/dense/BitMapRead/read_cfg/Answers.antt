@@ -1,7 +1,7 @@
 use Rattle.std.proofs.Common.{arith, rules, ◌≡◌, ◌∙◌, ◌++◌, sym, ap, length}
-use Rattle.bitmap_core.specs.Bits.{bits}
+use Rattle.bitmap_bytes.specs.Bits.{bits}
 use Rattle.bitmap_core.specs.Spelling.{spelling}
-use Rattle.bitmap_core.proofs.Lists.Bits.{length-bits}
+use Rattle.bitmap_bytes.proofs.Lists.Bits.{length-bits}
 use Rattle.bitmap_core.proofs.Texts.Spellings.{number-lt, bits_in_spelled}
 use Rattle.bitmap_core.proofs.Texts.Parts.{read_is}
 use Rattle.bitmap_core.proofs.bitmap.codec.dense.BitMapRead.read_cfg.Goals as goal

@@ -1,6 +1,6 @@
 use Rattle.std.proofs.Common.{arith, rules, ◌≡◌, ◌∙◌, ap, length}
-use Rattle.bitmap_core.specs.Bits.{bits}
-use Rattle.bitmap_core.proofs.Lists.Bits.{length-bits}
+use Rattle.bitmap_bytes.specs.Bits.{bits}
+use Rattle.bitmap_bytes.proofs.Lists.Bits.{length-bits}
 use Rattle.bitmap_core.proofs.Texts.Spellings.{AreBytes-drop, number-lt}
 use Rattle.bitmap_core.proofs.Texts.Parts.{read_is}
 use Rattle.bitmap_core.proofs.Pruned.Texts.{pruned_read, pruned_in_spelled}

@@ -1,7 +1,8 @@
 use Rattle.std.proofs.Common.{ℕ, ◌-◌, ◌*◌, ◌/◌, min, max, sym, ◌∙◌, ap, arith, refl}
-use Rattle.bitmap_core.specs.Meaning.{Meaning, ShowsChunk, word_start}
+use Rattle.bitmap_bytes.specs.Words.{word_start}
+use Rattle.bitmap_core.specs.Meaning.{Meaning, ShowsChunk}
 use Rattle.bitmap_core.proofs.Lists.SetPositions.{ones_between-none, ones_between-at, ones_fit}
-use Rattle.bitmap_core.proofs.Words.Starts.{start_of, start_near, start_chunk, end_near}
+use Rattle.bitmap_bytes.proofs.Words.Starts.{start_of, start_near, start_chunk, end_near}
 use Rattle.bitmap_core.proofs.Words.Loaded.{IsMasked, masked_cut, left_none, left_loaded, first_loaded}
 use Rattle.bitmap_core.proofs.Words.Scan.{first_scan, counted_first}
 use Rattle.bitmap_core.proofs.bitmap.readable.ones.OnesIter.over.Goals as goal

@@ -1,5 +1,5 @@
 use Rattle.std.proofs.Common.{◌+◌, ◌^◌, ◌<◌, arith, sym}
-use Rattle.bitmap_core.specs.Chunk.{byte_bits}
+use Rattle.bitmap_bytes.specs.Chunk.{byte_bits}
 use Rattle.bitmap_core.specs.PrunedBits.{bit_len}
 use Rattle.historical_bitmap.specs.Pending.{pending_bits}
 use Rattle.historical_bitmap.proofs.DirtyEdits.{tried_run, tried_run_fits, tried_run_holds}

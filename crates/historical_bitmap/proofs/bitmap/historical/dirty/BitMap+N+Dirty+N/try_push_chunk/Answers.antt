@@ -1,6 +1,6 @@
 use Rattle.std.proofs.Common.{◌+◌, ◌*◌, ◌^◌, ◌<◌, arith, sym}
 use Rattle.std.proofs.lemmas.List.FromFn.{length-map-range_with_len}
-use Rattle.bitmap_core.specs.Chunk.{chunk_bit, chunk_bits}
+use Rattle.bitmap_bytes.specs.Chunk.{chunk_bit, chunk_bits}
 use Rattle.bitmap_core.specs.PrunedBits.{bit_len}
 use Rattle.historical_bitmap.specs.Pending.{pending_bits}
 use Rattle.historical_bitmap.proofs.DirtyEdits.{tried_run, tried_run_fits, tried_run_holds}

@@ -1,0 +1,5 @@
+pub mod Bytes
+pub mod Chunks
+pub mod Lists
+pub mod Counting
+pub mod Words

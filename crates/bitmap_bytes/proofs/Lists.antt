@@ -1,0 +1,2 @@
+-- Lists of bits, and the chunks that they are packed into.
+pub mod Bits

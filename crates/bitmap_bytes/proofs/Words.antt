@@ -1,0 +1,5 @@
+-- Words of a chunk: where they begin, their masks, and what is made of bytes.
+pub mod Starts
+pub mod Masks
+pub mod OfBytes
+pub mod Joined

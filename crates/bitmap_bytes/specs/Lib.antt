@@ -1,0 +1,4 @@
+pub mod Chunk
+pub mod Bits
+pub mod Combined
+pub mod Words

@@ -1,0 +1,104 @@
+//! Words of 64 bits out of a chunk. The lowest bit of a word is its first.
+
+ghost use Rattle.std.specs.Prelude.{◌≡◌, ◌≢◌, ℕ, ◌+◌, ◌*◌, ◌/◌, ◌%◌, ◌^◌, ◌<◌, ◌≤◌, ◌==◌, true, false, length, slice_index_or, MatchOption};
+ghost use Rattle.std.specs.Int.{bit_at};
+ghost use Rattle.bitmap_bytes.specs.Chunk.{chunk_bit, IsWidth};
+ghost use Rattle.bitmap_bytes.specs.Words.{IsCut, next_word, starts_word, word_start};
+
+// The 64 bits of a chunk from byte `byte` on, which is at most `N`, with zeros past the end of the chunk.
+fn word_at<const N: usize>(chunk: &[u8; N], byte: usize) -> u64
+    requires { byte ≤ N }
+    ensures inside { (t : ℕ) → t < 64 → 8 * byte + t < 8 * N → (bit_at result t == 1) ≡ chunk_bit N chunk.now (8 * byte + t) }
+    ensures past { (t : ℕ) → t < 64 → 8 * N ≤ 8 * byte + t → (bit_at result t == 1) ≡ false }
+{
+    let bytes = &chunk[..];
+    first_word(&bytes[byte..])
+}
+
+// The first eight bytes, with zeros where there are fewer.
+fn first_word(bytes: &[u8]) -> u64
+    ensures { (t : ℕ) → t < 64 → bit_at result t ≡ bit_at (slice_index_or bytes.now (t / 8) 0) (t % 8) }
+{
+    match bytes.first_chunk::<8>() {
+        Some(word) => u64::from_le_bytes(*word),
+        None => short_word(bytes),
+    }
+}
+
+// Fewer than eight bytes, with zeros after them.
+fn short_word(bytes: &[u8]) -> u64
+    requires { length bytes.now < 8 }
+    ensures { (t : ℕ) → t < 64 → bit_at result t ≡ bit_at (slice_index_or bytes.now (t / 8) 0) (t % 8) }
+{
+    let mut word = [0; 8];
+    for i in 0..bytes.len() {
+        word[i] = bytes[i];
+    }
+    u64::from_le_bytes(word)
+}
+
+// A word with zeros in place of its bits from `count` on: all of it where `count` is 64 or more.
+fn low_bits(word: u64, count: u64) -> u64
+    ensures kept { (t : ℕ) → t < 64 → t < count → (bit_at result t == 1) ≡ (bit_at word t == 1) }
+    ensures cut { (t : ℕ) → t < 64 → count ≤ t → (bit_at result t == 1) ≡ false }
+{
+    if count < 64 {
+        word & ((1 << count) - 1)
+    } else {
+        word
+    }
+}
+
+/// A word with zeros in place of its bits below `start`, which is below 64. No memory.
+pub fn high_bits(word: u64, start: u64) -> u64
+    requires { start < 64 }
+    ensures kept { (t : ℕ) → t < 64 → start ≤ t → (bit_at result t == 1) ≡ (bit_at word t == 1) }
+    ensures cut { (t : ℕ) → t < start → (bit_at result t == 1) ≡ false }
+{
+    word & (u64::MAX << start)
+}
+
+/// Clears the lowest set bit of a word that is not 0, and answers its place. No memory.
+pub fn take_lowest(word: &mut u64) -> u64
+    requires { 0 < word.old }
+    ensures within { result < 64 }
+    ensures set { (bit_at word.old result == 1) ≡ true }
+    ensures lowest { (t : ℕ) → t < result → (bit_at word.old t == 1) ≡ false }
+    ensures cleared { (bit_at word.new result == 1) ≡ false }
+    ensures others { (t : ℕ) → t < 64 → t ≢ result → (bit_at word.new t == 1) ≡ (bit_at word.old t == 1) }
+{
+    let old = *word;
+    *word = old & (old - 1);
+    old.trailing_zeros() as u64
+}
+
+/// Where the word begins that has a position of a whole bitmap: words stand side by side from the start of each chunk. No memory.
+pub fn word_base<const N: usize>(position: u64) -> u64
+    requires width { IsWidth N }
+    ensures { result ≡ word_start N position }
+{
+    position - position % (8 * N as u64) % 64
+}
+
+/// Where the next word begins after one that begins at `base`, unless that is past `u64`. No memory.
+pub fn following_word<const N: usize>(base: u64) -> Option<u64>
+    requires width { IsWidth N }
+    ensures { MatchOption result (2 ^ 64 ≤ next_word N base) (λ k. k ≡ next_word N base) }
+{
+    let width = 8 * N as u64;
+    let stride = (width - base % width).min(64);
+    base.checked_add(stride)
+}
+
+/// The word of a chunk that begins at position `base` of the whole bitmap, with zeros from the end of the chunk and from position `end` on. No memory.
+pub fn word_below<const N: usize>(chunk: &[u8; N], base: u64, end: u64) -> u64
+    requires width { IsWidth N }
+    requires start { starts_word N base ≡ true }
+    requires below { base < end }
+    ensures inside { (i : ℕ) → i < 64 → base + i < end → base % (8 * N) + i < 8 * N → (bit_at result i == 1) ≡ chunk_bit N chunk.now (base % (8 * N) + i) }
+    ensures past_chunk { (i : ℕ) → i < 64 → 8 * N ≤ base % (8 * N) + i → (bit_at result i == 1) ≡ false }
+    ensures past_end { IsCut base result end }
+{
+    let byte = (base % (8 * N as u64) / 8) as usize;
+    low_bits(word_at(chunk, byte), end - base)
+}

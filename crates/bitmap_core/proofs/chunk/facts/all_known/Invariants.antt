@@ -1,6 +1,0 @@
-use Rattle.std.proofs.Common.{ℕ, ◌<◌, get_or, []}
-use Rattle.bitmap_core.specs.Chunk.{IsChunk}
-use Rattle.bitmap_core.proofs.chunk.facts.all_known.Given as goal
-
-abbrev pub invariant-loop-i : goal.invariant-loop-i
-invariant-loop-i g l = (k : ℕ) → k < l.i → IsChunk g.row.N (get_or l.chunks k [])

@@ -1,5 +1,0 @@
-use Rattle.bitmap_core.proofs.Bytes.Bits.{bit_test}
-use Rattle.bitmap_core.proofs.chunk.get_bit.Goals as goal
-
-pub returns : goal.returns
-returns g c = rw (c.byte_index.ensures.value, c.bit_mask.ensures.value) (bit_test _ _)

@@ -1,9 +1,0 @@
-use Rattle.std.proofs.Common.{arith}
-use Rattle.bitmap_core.proofs.Bytes.Shifted.{joined_low, joined_high}
-use Rattle.bitmap_core.proofs.chunk.join.joined_word.Goals as goal
-
-pub returns-clause-low : goal.returns-clause-low
-returns-clause-low c = λ t h. joined_low 64 _ _ _ t (omega arith) h
-
-pub returns-clause-high : goal.returns-clause-high
-returns-clause-high c = λ t u h. joined_high 64 c.args.low c.args.high c.args.skip t (omega arith) (omega arith) u h

@@ -1,5 +1,0 @@
-use Rattle.bitmap_core.proofs.Bytes.Bits.{and_bit}
-use Rattle.bitmap_core.proofs.chunk.whole.AndBitwise.of_bytes.Goals as goal
-
-pub returns : goal.returns
-returns c = λ k. and_bit _ _ k

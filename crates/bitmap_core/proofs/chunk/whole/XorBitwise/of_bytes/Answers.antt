@@ -1,5 +1,0 @@
-use Rattle.bitmap_core.proofs.Bytes.Bits.{xor_bit}
-use Rattle.bitmap_core.proofs.chunk.whole.XorBitwise.of_bytes.Goals as goal
-
-pub returns : goal.returns
-returns c = λ k. xor_bit _ _ k

@@ -1,7 +1,0 @@
-use Rattle.std.proofs.Common.{◌≡◌, ◌*◌}
-use Rattle.bitmap_core.specs.Bits.{bit_of}
-use Rattle.bitmap_core.proofs.Counting.Ones.{ones_from}
-use Rattle.bitmap_core.proofs.chunk.words.are_blocks_zero.Given as goal
-
-abbrev pub invariant-loop-block : goal.invariant-loop-block
-invariant-loop-block g l = ones_from (bit_of g.row.M l.blocks) 0 (8 * g.row.M * l.block-index) ≡ 0

@@ -1,7 +1,0 @@
-use Rattle.std.proofs.Common.{◌≡◌, ◌*◌}
-use Rattle.bitmap_core.proofs.Counting.Ones.{ones_from}
-use Rattle.bitmap_core.specs.Chunk.{bit_in}
-use Rattle.bitmap_core.proofs.chunk.words.are_bytes_zero.Given as goal
-
-abbrev pub invariant-loop-byte : goal.invariant-loop-byte
-invariant-loop-byte l = ones_from (bit_in l.bytes) 0 (8 * l.byte-index) ≡ 0

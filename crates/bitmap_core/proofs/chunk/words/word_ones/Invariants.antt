@@ -1,7 +1,0 @@
-use Rattle.std.proofs.Common.{◌≡◌, ◌*◌}
-use Rattle.bitmap_core.specs.Bits.{bit_of}
-use Rattle.bitmap_core.proofs.Counting.Ones.{ones_from}
-use Rattle.bitmap_core.proofs.chunk.words.word_ones.Given as goal
-
-abbrev pub invariant-loop-word : goal.invariant-loop-word
-invariant-loop-word l = l.total ≡ ones_from (bit_of 8 l.words) 0 (64 * l.word-index)
