@@ -1,5 +1,5 @@
 -- What a bitmap is to its readers. A chunk has n bytes.
-use Rattle.std.specs.Prelude.{◌≡◌, ℕ, ◌+◌, ◌-◌, ◌*◌, ◌/◌, ◌%◌, ◌^◌, ◌<◌, ◌≤◌, min, max, Bool, true, false, List, ◌++◌, length, slice_index_or, ◌==◌, nat_lt, if◌then◌else◌}
+use Rattle.std.specs.Prelude.{◌≡◌, ℕ, ◌+◌, ◌-◌, ◌*◌, ◌/◌, ◌^◌, ◌<◌, ◌≤◌, min, max, Bool, true, false, List, ◌++◌, length, slice_index_or, ◌==◌, nat_lt, if◌then◌else◌}
 use Rattle.std.specs.Int.{bit_at as digit_at}
 use Rattle.std.specs.List.{filter, range_with_len}
 use Rattle.bitmap_bytes.specs.Chunk.{chunk_bit, IsWidth}
