@@ -1,4 +1,4 @@
-//! Answers that were worked out by hand, and the calls of a dense bitmap that `plain` does not try.
+//! The calls of a dense bitmap: what each answers was worked out by hand.
 
 ghost use Rattle.std.specs.Prelude.{◌*◌, ◌^◌, ◌<◌};
 
@@ -103,6 +103,20 @@ fn joins_of_five_bits(rt: HostRuntime) {
     let mut map = map;
     map.flip_all();
     expect(&rt, shows(&map, b"01001"));
+}
+
+#[test]
+fn joins_in_place(rt: HostRuntime) {
+    let mut map = bitmap::<3>(&rt, rt.alloc(), b"10110");
+    let other = bitmap::<3>(&rt, rt.alloc(), b"11010");
+    expect(&rt, map.len() == 5 && other.len() == 5);
+    map.xor(&other);
+    expect(&rt, shows(&map, b"01100") && map.len() == 5);
+    map.or(&other);
+    expect(&rt, shows(&map, b"11110") && map.len() == 5);
+    map.and(&other);
+    expect(&rt, map == other);
+    expect(&rt, map.get(3) && !map.get_bit(2));
 }
 
 #[test]

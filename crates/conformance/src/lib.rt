@@ -8,13 +8,13 @@ mod asked;
 #[cfg(test)]
 mod broken;
 #[cfg(test)]
+mod bytes;
+#[cfg(test)]
 mod codec;
 #[cfg(test)]
 mod dense;
 #[cfg(test)]
 mod ends;
-#[cfg(test)]
-mod plain;
 #[cfg(test)]
 mod pruned;
 #[cfg(test)]

@@ -12,6 +12,4 @@ mod ends;
 #[cfg(test)]
 mod in_place;
 #[cfg(test)]
-mod plain;
-#[cfg(test)]
 mod refused;

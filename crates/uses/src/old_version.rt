@@ -27,24 +27,30 @@ pub fn count_in_version<const N: usize>(
 mod tests {
     use super::*;
     use crate::checks::equal;
-    use std::alloc::AllocError;
-    use std::test::Fail;
+    use std::process::Abort;
+
+    // The version of a byte more, under a number.
+    fn with_byte(
+        rt: &impl Abort,
+        versions: CleanBitMap<8>,
+        byte: u8,
+        number: u64,
+    ) -> CleanBitMap<8> {
+        let mut edits = versions.into_dirty();
+        assert!(rt; edits.len() < 1000);
+        assert!(rt; edits.push_byte(byte).is_ok());
+        match edits.commit(number) {
+            Ok(versions) => versions,
+            Err(_) => panic!(rt; "version {number} is refused"),
+        }
+    }
 
     #[test]
-    fn counts_no_bit_of_a_later_version(rt: HostRuntime) -> Result<(), Fail> {
-        let mut edits = CleanBitMap::<8>::new(rt.alloc()).into_dirty();
-        edits.push_byte(0x5d)?.push_byte(0xff)?;
-        let Ok(versions) = edits.commit(1) else {
-            return Err(AllocError.into());
-        };
-        let mut edits = versions.into_dirty();
-        edits.push_byte(0x03)?;
-        let Ok(versions) = edits.commit(2) else {
-            return Err(AllocError.into());
-        };
-        equal(&rt, count_in_version(&versions, 1, 4..24), Some(10));
-        equal(&rt, count_in_version(&versions, 2, 4..24), Some(12));
-        equal(&rt, count_in_version(&versions, 3, 4..24), None);
-        Ok(())
+    fn counts_no_bit_of_a_later_version(rt: HostRuntime) {
+        let versions = with_byte(&rt, CleanBitMap::new(rt.alloc()), 0x5d, 1);
+        let versions = with_byte(&rt, versions, 0x03, 2);
+        equal(&rt, count_in_version(&versions, 1, 2..16), Some(4));
+        equal(&rt, count_in_version(&versions, 2, 2..16), Some(6));
+        equal(&rt, count_in_version(&versions, 3, 2..16), None);
     }
 }

@@ -1,0 +1,129 @@
+//! The calls on the bytes of one chunk: what each answers was worked out by hand.
+
+use crate::asked::{equal, expect, ok};
+use bitmap_core::chunk;
+use bitmap_core::chunk::whole::{And, Or, Xor};
+use bitmap_core::chunk::{facts, join, load, whole, words};
+use std::alloc::Global;
+use std::process::Abort;
+
+#[test]
+fn places_of_positions(rt: HostRuntime) {
+    equal(&rt, chunk::chunk_width::<3>(), 24);
+    equal(&rt, chunk::chunk_index::<3>(23), 0);
+    equal(&rt, chunk::chunk_index::<3>(24), 1);
+    equal(&rt, chunk::chunk_count::<3>(24), 1);
+    equal(&rt, chunk::chunk_count::<3>(25), 2);
+    equal(&rt, chunk::byte_index::<3>(41), 2);
+    equal(&rt, chunk::bit_mask(11), 8);
+}
+
+#[test]
+fn one_bit_or_byte_written(rt: HostRuntime) {
+    let mut bytes = [1, 2, 3];
+    chunk::set_bit(&mut bytes, 23, true);
+    equal(&rt, bytes, [1, 2, 0x83]);
+    // The position of a whole bitmap names bit 0 of its second chunk.
+    chunk::set_bit(&mut bytes, 24, false);
+    equal(&rt, bytes, [0, 2, 0x83]);
+    chunk::flip_bit(&mut bytes, 9);
+    equal(&rt, bytes, [0, 0, 0x83]);
+    chunk::set_byte(&mut bytes, 12, 0xf0);
+    equal(&rt, bytes, [0, 0xf0, 0x83]);
+    expect(
+        &rt,
+        chunk::get_bit(&bytes, 12) && !chunk::get_bit(&bytes, 11),
+    );
+}
+
+#[test]
+fn the_end_of_a_chunk(rt: HostRuntime) {
+    let mut bytes = [0xff; 3];
+    chunk::clear_from(&mut bytes, 11);
+    equal(&rt, bytes, [0xff, 7, 0]);
+    expect(&rt, chunk::is_set_from(&bytes, 10));
+    expect(&rt, !chunk::is_set_from(&bytes, 11));
+    expect(&rt, !chunk::is_set_from(&bytes, u64::MAX));
+}
+
+// The first three bits of 5 are 1, 0 and 1.
+fn check_bools(rt: &impl Abort, alloc: Global) {
+    equal(rt, chunk::from_bools::<2>(&[true, false, true]), [5, 0]);
+    let mut bools = ok(rt, Vec::with_capacity(alloc, 3));
+    chunk::append_bools(&[5, 0], 3, &mut bools);
+    expect(rt, bools.as_slice() == &[true, false, true][..]);
+}
+
+#[test]
+fn booleans_of_a_chunk(rt: HostRuntime) {
+    check_bools(&rt, rt.alloc());
+}
+
+#[test]
+fn chunks_of_a_run(rt: HostRuntime) {
+    equal(
+        &rt,
+        join::chunk_from::<2>(&[0xf0], &[0x81, 1], 4),
+        [0x1f, 0x18],
+    );
+    equal(
+        &rt,
+        join::chunk_from::<2>(&[0xf0], &[0x81, 1], 12),
+        [0x18, 0],
+    );
+    let mut bytes = [0x0f, 0xff];
+    join::join(&mut bytes, 4, &[0xa5], &[0x3c]);
+    equal(&rt, bytes, [0x5f, 0xca]);
+    let mut bytes = [0x0f, 0xf0];
+    join::join_byte(&mut bytes, 4, 0xa5);
+    equal(&rt, bytes, [0x5f, 0xfa]);
+}
+
+#[test]
+fn words_of_a_chunk(rt: HostRuntime) {
+    equal(&rt, load::high_bits(0xff, 4), 0xf0);
+    let mut word = 12;
+    equal(&rt, load::take_lowest(&mut word), 2);
+    equal(&rt, word, 8);
+    equal(&rt, load::word_base::<9>(71), 64);
+    equal(&rt, load::following_word::<9>(64), Some(72));
+    equal(&rt, load::following_word::<64>(u64::MAX - 63), None);
+    equal(&rt, load::word_below(&[0xff; 9], 64, 70), 0x3f);
+}
+
+#[test]
+fn every_bit_at_once(rt: HostRuntime) {
+    let mut bytes = [0x0f, 0];
+    whole::flip(&mut bytes);
+    equal(&rt, bytes, [0xf0, 0xff]);
+    whole::fill(&mut bytes, true);
+    equal(&rt, bytes, [0xff, 0xff]);
+    whole::fill(&mut bytes, false);
+    equal(&rt, bytes, [0, 0]);
+}
+
+#[test]
+fn two_chunks_combined(rt: HostRuntime) {
+    let mut bytes = [0x0c, 0xff];
+    whole::combine::<And, 2>(&mut bytes, &[0x0a, 0x0f]);
+    equal(&rt, bytes, [8, 0x0f]);
+    whole::combine::<Or, 2>(&mut bytes, &[3, 0xf0]);
+    equal(&rt, bytes, [11, 0xff]);
+    whole::combine::<Xor, 2>(&mut bytes, &[1, 0x0f]);
+    equal(&rt, bytes, [10, 0xf0]);
+}
+
+#[test]
+fn bits_of_some_bytes(rt: HostRuntime) {
+    equal(&rt, words::count_ones(&[0xff, 1, 0x80]), 10);
+    expect(&rt, words::is_unset(&[1, 0, 0x80], 1, 23));
+    expect(&rt, !words::is_unset(&[1, 0, 0x80], 0, 23));
+    expect(&rt, !words::is_unset(&[1, 0, 0x80], 1, 24));
+    expect(&rt, words::is_unset(&[0xff], 5, 5));
+}
+
+#[test]
+fn facts_change_nothing(rt: HostRuntime) {
+    facts::all_known(&[[1, 2], [3, 4]]);
+    equal(&rt, *facts::from_own_bits(&[1, 2]), [1, 2]);
+}
