@@ -122,6 +122,22 @@ fn bits_of_some_bytes(rt: HostRuntime) {
     expect(&rt, words::is_unset(&[0xff], 5, 5));
 }
 
+// More bytes than the calls take one by one: by words, and by blocks of them.
+#[test]
+fn many_bytes(rt: HostRuntime) {
+    let run = [0xf0, 0x81, 1, 0, 0, 0, 0, 0, 0x5a, 0x0c];
+    let joined = [0x1f, 0x18, 0, 0, 0, 0, 0, 0xa0, 0xc5];
+    equal(&rt, join::chunk_from::<9>(&run, &[], 4), joined);
+    equal(&rt, join::chunk_from::<9>(&[], &run, 4), joined);
+    let mut bytes = [0x0c; 9];
+    whole::combine::<Xor, 9>(&mut bytes, &[0x0a; 9]);
+    equal(&rt, bytes, [6; 9]);
+    equal(&rt, words::count_ones(&[0x11; 75]), 150);
+    expect(&rt, words::is_unset(&[0x10; 75], 589, 596));
+    expect(&rt, !words::is_unset(&[0x10; 75], 5, 13));
+    equal(&rt, load::following_word::<9>(0), Some(64));
+}
+
 #[test]
 fn facts_change_nothing(rt: HostRuntime) {
     facts::all_known(&[[1, 2], [3, 4]]);
