@@ -17,7 +17,8 @@ import re
 import subprocess
 import sys
 import tempfile
-from concurrent.futures import ThreadPoolExecutor
+from concurrent.futures import ProcessPoolExecutor
+from functools import partial
 from pathlib import Path
 
 from machine import LAST, Bitmap, Machine, State
@@ -184,14 +185,14 @@ def try_refused(room, pool, count):
     scripts = [(width, path) for path, width in itertools.product(examples, WIDTHS) if is_script(width, path.read_text().split("\n"))]
     for seed, width in itertools.product(range(count), WIDTHS):
         scripts.append((width, write(room, f"{seed}_{width}.script", Drawing(seed, width).lines(200))))
-    return pool.map(lambda it: check_refused(library, *it), scripts)
+    return pool.map(partial(check_refused, library), *zip(*scripts))
 
 
 def main():
     what, count = sys.argv[1], int(sys.argv[2])
-    with tempfile.TemporaryDirectory() as room, ThreadPoolExecutor(os.cpu_count()) as pool:
+    with tempfile.TemporaryDirectory() as room, ProcessPoolExecutor() as pool:
         if what == "drawn":
-            tried = [(found, 1, MAY_LACK) for found in pool.map(lambda number: check_drawn(room, number), range(count))]
+            tried = [(found, 1, MAY_LACK) for found in pool.map(partial(check_drawn, room), range(count), chunksize=20)]
         else:
             tried = list(try_refused(room, pool, count))
     faults = [line for found, _, _ in tried for line in found]

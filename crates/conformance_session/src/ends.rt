@@ -13,6 +13,31 @@ fn is_too_long<const N: usize>(reply: &Reply<N>) -> bool {
     matches!(reply, Reply::Refused(Refusal::TooLong))
 }
 
+// Fills the fifteen bits behind the greatest front with ones. Whatever needs more room is refused.
+fn fill(rt: &impl Abort, alloc: Global, session: &mut Session<7>) {
+    let chunk = ask(rt, alloc, session, Command::PushChunk([0xff; 7]));
+    expect(rt, is_too_long(&chunk));
+    expect(rt, does(rt, alloc, session, Command::PushByte(0xff)));
+    let byte = ask(rt, alloc, session, Command::PushByte(0xff));
+    expect(rt, is_too_long(&byte));
+    for _ in 0..7 {
+        expect(rt, does(rt, alloc, session, Command::Push(true)));
+    }
+    let bit = ask(rt, alloc, session, Command::Push(true));
+    expect(rt, is_too_long(&bit));
+}
+
+// The ones of the whole bitmap are those fifteen.
+fn check_ones(rt: &impl Abort, alloc: Global, session: &mut Session<7>) {
+    let ones = ask(rt, alloc, session, Command::Ones(0, 18446744073709551615));
+    let Reply::Positions(Some(positions)) = ones else {
+        panic!(rt; "another reply");
+    };
+    equal(rt, positions.len(), 15);
+    equal(rt, positions.first(), Some(&18446744073709551600));
+    equal(rt, positions.last(), Some(&18446744073709551614));
+}
+
 #[test]
 fn fifteen_bits_behind_the_greatest_front(rt: HostRuntime) {
     let alloc = rt.alloc();
@@ -24,31 +49,13 @@ fn fifteen_bits_behind_the_greatest_front(rt: HostRuntime) {
     );
     equal(&rt, len(&rt, alloc, map), Some(18446744073709551600));
     expect(&rt, does(&rt, alloc, map, Command::Begin));
-    expect(
-        &rt,
-        is_too_long(&ask(&rt, alloc, map, Command::PushChunk([0xff; 7]))),
-    );
-    expect(&rt, does(&rt, alloc, map, Command::PushByte(0xff)));
-    expect(
-        &rt,
-        is_too_long(&ask(&rt, alloc, map, Command::PushByte(0xff))),
-    );
-    for _ in 0..7 {
-        expect(&rt, does(&rt, alloc, map, Command::Push(true)));
-    }
-    expect(&rt, is_too_long(&ask(&rt, alloc, map, Command::Push(true))));
+    fill(&rt, alloc, map);
     let Reply::Chunk(bytes) = ask(&rt, alloc, map, Command::Chunk(18446744073709551600)) else {
         panic!(rt; "another reply");
     };
     equal(&rt, bytes, [0xff, 0x7f, 0, 0, 0, 0, 0]);
     expect(&rt, does(&rt, alloc, map, Command::Commit(1)));
-    let ones = ask(&rt, alloc, map, Command::Ones(0, 18446744073709551615));
-    let Reply::Positions(Some(positions)) = ones else {
-        panic!(rt; "another reply");
-    };
-    equal(&rt, positions.len(), 15);
-    equal(&rt, positions.first(), Some(&18446744073709551600));
-    equal(&rt, positions.last(), Some(&18446744073709551614));
+    check_ones(&rt, alloc, map);
 }
 
 // The greatest front of so many chunks, at a length in bits, and one chunk more.

@@ -127,24 +127,31 @@ fn alone<const N: usize>(name: &[u8]) -> Option<Command<N>> {
     })
 }
 
-// The command of a name and a word.
-fn with_one<const N: usize>(name: &[u8], word: &[u8]) -> Option<Command<N>> {
+// The command of a name and a decimal number.
+fn with_number<const N: usize>(name: &[u8], number: u64) -> Option<Command<N>> {
     Some(match name {
-        b"start" => Command::Start(count(word)?),
-        b"push" => Command::Push(bit(word)?),
-        b"push-byte" => Command::PushByte(byte(word)?),
-        b"push-chunk" => Command::PushChunk(chunk(word)?),
-        b"prune" => Command::Prune(decimal(word)?),
-        b"commit" => Command::Commit(decimal(word)?),
-        b"rewind" => Command::Rewind(decimal(word)?),
-        b"get" => Command::Get(decimal(word)?),
-        b"chunk" => Command::Chunk(decimal(word)?),
-        b"at" => Command::At(decimal(word)?),
-        b"encode-at" => Command::EncodeAt(decimal(word)?),
-        b"exists" => Command::Exists(decimal(word)?),
-        b"drop-before" => Command::DropBefore(decimal(word)?),
+        b"prune" => Command::Prune(number),
+        b"commit" => Command::Commit(number),
+        b"rewind" => Command::Rewind(number),
+        b"get" => Command::Get(number),
+        b"chunk" => Command::Chunk(number),
+        b"at" => Command::At(number),
+        b"encode-at" => Command::EncodeAt(number),
+        b"exists" => Command::Exists(number),
+        b"drop-before" => Command::DropBefore(number),
         _ => return None,
     })
+}
+
+// The command of a name and a word.
+fn with_one<const N: usize>(name: &[u8], word: &[u8]) -> Option<Command<N>> {
+    match name {
+        b"start" => Some(Command::Start(count(word)?)),
+        b"push" => Some(Command::Push(bit(word)?)),
+        b"push-byte" => Some(Command::PushByte(byte(word)?)),
+        b"push-chunk" => Some(Command::PushChunk(chunk(word)?)),
+        _ => with_number(name, decimal(word)?),
+    }
 }
 
 // The command of a name and two words, `decode` left out.
