@@ -10,11 +10,15 @@ pub mod Members
 pub mod TouchedChunks
 pub mod EditedMaps
 pub mod HeldChunks
+pub mod FilledBits
+pub mod RunChunks
 pub mod PendingEdits
+pub mod PendingEnds
 pub mod PendingMarks
 pub mod PendingChunks
 pub mod PendingRecords
 pub mod PendingApplied
+pub mod RunApplied
 pub mod PendingAppends
 pub mod PendingNext
 pub mod PendingWrites

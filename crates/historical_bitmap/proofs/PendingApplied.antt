@@ -12,7 +12,7 @@ use Rattle.std.specs.Map.{lookup, keys_of}
 use Rattle.bitmap_core.specs.PrunedBits.{PrunedBits, pruned_bits, bit_len, bit_at, HasBit, pruned_to, extended, truncated}
 use Rattle.bitmap_core.proofs.Pruned.Positions.{front_of, bit_from_bits, len_from_bits}
 use Rattle.bitmap_core.proofs.Pruned.Edits.{bit_extended, bit_pruned}
-use Rattle.historical_bitmap.specs.Record.{bytes_of}
+use Rattle.historical_bitmap.specs.Record.{bit_from, bytes_of}
 use Rattle.historical_bitmap.specs.Undo.{put_back, resized}
 use Rattle.historical_bitmap.specs.Pending.{Layer, CanApply, edited_chunk, layer_bit, pending_bits, edits_of, applied_in_steps}
 use Rattle.historical_bitmap.proofs.PendingEdits.{same_pending}
@@ -32,6 +32,13 @@ bytes_edits (e ∷ es) i = elim (cases_eq i e.0) [
   | inl f ↦ rw (eq-eqb i e.0 f) refl
   | inr ne ↦ rw (ne_eqb i e.0 ne) (bytes_edits es i)
 ]
+
+-- a bit where the edited chunks are put in place: that of its chunk where it is edited
+pub put_bit : (n : ℕ) (b : PrunedBits) (es : List (ℕ × List ℕ)) (k : ℕ) → IsStrictlySortedBy nat_cmp (keys_of es) → HasBit n b k → bit_at n (put_back n b (edits_of es)) k ≡ bit_from n (lookup (nat_eq (k / (8 * n))) es) b k
+put_bit n b es k sorted there =
+    ap (λ ys. bit_at n (put_back n b ys) k) (sym (keep_all (edits_of es)))
+    ∙ (bit_put n b 0 (edits_of es) k (rw (keys_edits es) sorted) there
+    ∙ rw (le-leb 0 (k / (8 * n)) (omega arith), bytes_edits es (k / (8 * n))) refl)
 
 -- the pending edits carried out give the pending bitmap
 module _ (n : ℕ) (b : PrunedBits) (l : Layer) (pos : 0 < n) (begins : 8 * n * l.pruned ≤ l.len) (rises : b.pruned ≤ l.pruned) (sorted : IsStrictlySortedBy nat_cmp (keys_of l.edited)) where

@@ -75,6 +75,17 @@ writes_longer n b l mid m k value total w len pruned captured edited = record {
   edited = λ q. ap (λ es. lookup (nat_eq q) es) edited ∙ w.edited q;
 }
 
+-- the same where the length becomes another
+pub writes_to : (n : ℕ) (b : PrunedBits) (l m : Layer) (k : ℕ) (value : Bool) (total : ℕ) (bytes : List ℕ) → m.len ≡ total → m.pruned ≡ l.pruned → m.captured ≡ l.captured → SetsIn n (chunk n (truncated n b l.len) (k / (8 * n))) l.edited m.edited (k / (8 * n)) k value bytes → Writes n b l k value total m
+writes_to n b l m k value total bytes len pruned captured s = record {
+  len = len;
+  pruned = pruned;
+  captured = captured;
+  bytes = bytes;
+  written = s.written;
+  edited = s.edited;
+}
+
 -- ---- a pop inside a chunk
 pub pops_inside : (n : ℕ) (l m : Layer) → m.len ≡ l.len - 1 → m.pruned ≡ l.pruned → m.captured ≡ l.captured → 0 < (l.len - 1) % (8 * n) → (edited_chunk l ((l.len - 1) / (8 * n)) ≡ None → m.edited ≡ l.edited) → IfSome (edited_chunk l ((l.len - 1) / (8 * n))) (λ chunk. IsSetIn n l.edited m.edited ((l.len - 1) / (8 * n)) chunk (l.len - 1) false) → Pops n l m
 pops_inside n l m len pruned captured rest none some = go (edited_chunk l ((l.len - 1) / (8 * n))) refl some

@@ -5,5 +5,6 @@ pub mod Undo
 pub mod History
 pub mod Pending
 pub mod Held
+pub mod Run
 pub mod View
 pub mod Batch

@@ -9,6 +9,7 @@ mod dirty;
 mod edit;
 mod edited;
 pub mod error;
+mod grown;
 mod pending;
 mod record;
 mod state;

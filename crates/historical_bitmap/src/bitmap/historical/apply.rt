@@ -1,14 +1,16 @@
 //! Pending edits made in the current bitmap: first what may be refused, then what takes no memory.
 
-ghost use Rattle.std.specs.Prelude.{◌≡◌, ℕ, ◌*◌, ◌≤◌, [], IfOk, MatchOption, OnOk, OnErr, nat_eq};
+ghost use Rattle.std.specs.Prelude.{◌≡◌, ℕ, ◌+◌, ◌*◌, ◌<◌, ◌≤◌, List, get_or, length, IfOk, MatchOption, OnOk, OnErr, nat_eq};
 ghost use Rattle.std.specs.List.Sorted.{IsStrictlySortedBy};
 ghost use Rattle.std.specs.Map.{keys_of, lookup};
 ghost use Rattle.std.specs.Ordering.{nat_cmp};
 ghost use Rattle.bitmap_bytes.specs.Chunk.{IsWidth};
 ghost use Rattle.bitmap_core.specs.PrunedBits.{PrunedBits, bit_len, extended, pruned_bits, truncated};
 ghost use Rattle.historical_bitmap.specs.Pending.{CanApply, Layer, LayerFits, edits_of, layer_of, pending_bits};
+ghost use Rattle.historical_bitmap.specs.Run.{run_entries};
 ghost use Rattle.historical_bitmap.specs.Undo.{IsOldChunk, put_back};
 
+use crate::bitmap::historical::grown::GrownChunks;
 use bitmap_core::bitmap::Prunable;
 use std::alloc::AllocError;
 use std::collections::BTreeMap;
@@ -42,17 +44,43 @@ pub(crate) fn shrink_back<const N: usize>(current: &mut Prunable<N>, before: u64
 pub(crate) fn overwrite<const N: usize>(
     current: &mut Prunable<N>,
     len: u64,
-    edited: &BTreeMap<usize, [u8; N]>,
+    edited: GrownChunks<N>,
     pruned: usize,
 )
-    requires { CanApply N current.old (layer_of len pruned edited.now.entries) }
-    ensures { current.new ≡ pending_bits N current.old (layer_of len pruned edited.now.entries) }
+    requires { CanApply N current.old (layer_of len pruned edited) }
+    ensures { current.new ≡ pending_bits N current.old (layer_of len pruned edited.entry) }
 {
     let _ = current.len();
     current.truncate(len);
-    write_chunks(current, edited);
+    write_all(current, edited);
     let width = 8 * N as u64;
     current.prune_to_bit(width * pruned as u64);
+}
+
+// Replaces the bits of edited chunks. No memory.
+fn write_all<const N: usize>(current: &mut Prunable<N>, edited: GrownChunks<N>)
+    requires width { IsWidth N }
+    requires retained { (i : ℕ) → MatchOption (lookup (nat_eq i) edited) (Unit {0}) (λ bytes. current.old.pruned ≤ i) }
+    requires fits { (i : ℕ) → MatchOption (lookup (nat_eq i) edited) (Unit {0}) (IsOldChunk N (bit_len N current.old) i) }
+    ensures value { current.new ≡ put_back N current.old (edits_of edited.entry) }
+    ensures sorted { IsStrictlySortedBy nat_cmp (keys_of edited.entry) }
+{
+    let (others, from, run) = edited.into_parts();
+    write_chunks(current, &others);
+    write_run(current, from, &run);
+}
+
+// Replaces the bits of the chunks of a run. No memory.
+fn write_run<const N: usize>(current: &mut Prunable<N>, from: usize, run: &Vec<[u8; N]>)
+    requires width { IsWidth N }
+    requires retained { (at : ℕ) → at < length run.now.items → current.old.pruned ≤ from + at }
+    requires fits { (at : ℕ) (other : List ℕ) → at < length run.now.items → IsOldChunk N (bit_len N current.old) (from + at) (get_or run.now.items at other) }
+    ensures value { current.new ≡ put_back N current.old (edits_of (run_entries from run.now.items)) }
+{
+    let _ = current.len();
+    for at in 0..run.len() {
+        current.set_chunk_by_index(from + at, &run[at]);
+    }
 }
 
 // Replaces the bits of chunks. No memory.

@@ -193,7 +193,7 @@ impl<const N: usize> BitMap<N, Dirty<N>> {
         }
         let pruned = self.state.pruned_chunks();
         let edited = self.state.into_edited();
-        overwrite(&mut self.current, len, &edited, pruned);
+        overwrite(&mut self.current, len, edited, pruned);
         Ok(BitMap {
             current: self.current,
             commits: self.commits,

@@ -12,7 +12,7 @@ ghost use Rattle.historical_bitmap.specs.Pending.{IsByteSetIn, IsNextMember, IsS
 
 use bitmap_core::bitmap::prunable::Prunable;
 use bitmap_core::chunk::join::join_byte;
-use bitmap_core::chunk::{self, chunk_width, clear_from};
+use bitmap_core::chunk::{self, bit_mask, byte_index, chunk_width, clear_from};
 use std::alloc::{AllocError, Global};
 use std::collections::BTreeMap;
 use std::collections::btree_map::Entry;
@@ -61,6 +61,26 @@ pub(crate) fn replace_bit<const N: usize>(chunk: &mut [u8; N], bit: u64, value: 
     chunk::set_bit(chunk, bit, value);
     known(chunk);
     old
+}
+
+// The mask of a bit in its byte where it is set, else none.
+#[inline]
+fn mask_where(bit: u64, value: bool) -> u8
+    ensures value { result ≡ (if value then 2 ^ (bit % 8) else 0) }
+    ensures fits { result < 256 }
+{
+    if value { bit_mask(bit) } else { 0 }
+}
+
+// Writes a bit of a chunk in which it is zero: the byte is not needed for it, so that bits in a row do not wait for one another. No memory.
+#[inline]
+pub(crate) fn fill_bit<const N: usize>(chunk: &mut [u8; N], bit: u64, value: bool)
+    requires width { IsWidth N }
+    requires zero { chunk_bit N chunk.old bit ≡ false }
+    ensures new { IsWritten N chunk.old bit value chunk.new }
+{
+    chunk[byte_index::<N>(bit)] |= mask_where(bit, value);
+    known(chunk);
 }
 
 // Clears the bits of a chunk from bit `from` on.
@@ -328,6 +348,13 @@ impl<const N: usize> EditedChunks<N> {
             Some((index, _)) => Some(*index),
             None => None,
         }
+    }
+
+    // The indices ascend.
+    pub(crate) fn order(&self)
+        ensures { IsStrictlySortedBy nat_cmp (keys_of self.now) }
+    {
+        let _recent = self.recent;
     }
 
     // The same chunks once more. Takes memory for them.

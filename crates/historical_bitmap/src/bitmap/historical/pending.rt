@@ -1,6 +1,6 @@
 //! The edits of a batch that are pending.
 
-ghost use Rattle.std.specs.Prelude.{◌≡◌, ℕ, ◌+◌, ◌-◌, ◌*◌, ◌/◌, ◌%◌, ◌^◌, ◌<◌, ◌≤◌, ◌++◌, List, length, map, true, false, if◌then◌else◌, nat_lt, IfOk, MatchOption, None, OnOk, OnErr, IsOk, IsSome, nat_eq, unwrap_or, slice_index, [], vec_len, vec_capacity};
+ghost use Rattle.std.specs.Prelude.{◌≡◌, ℕ, ◌+◌, ◌-◌, ◌*◌, ◌/◌, ◌%◌, ◌^◌, ◌<◌, ◌≤◌, ◌++◌, List, length, map, true, false, if◌then◌else◌, nat_lt, IfOk, IfSome, MatchOption, None, OnOk, OnErr, IsOk, IsSome, nat_eq, unwrap_or, slice_index, [], vec_len, vec_capacity};
 ghost use Rattle.std.specs.List.{range_with_len};
 ghost use Rattle.std.specs.List.Sorted.{IsStrictlySortedBy};
 ghost use Rattle.std.specs.Map.{keys_of, lookup};
@@ -15,13 +15,13 @@ ghost use Rattle.historical_bitmap.specs.Record.{LeadsBack};
 ghost use Rattle.historical_bitmap.specs.Stored.{diff_value};
 ghost use Rattle.historical_bitmap.specs.Undo.{CanUndo};
 
-use crate::bitmap::historical::edited::{EditedChunks, first_chunk, known};
+use crate::bitmap::historical::edited::{first_chunk, known};
+use crate::bitmap::historical::grown::GrownChunks;
 use crate::bitmap::historical::record::{ChunkDiff, CommitDiff};
 use bitmap_core::bitmap::prunable::Prunable;
 use bitmap_core::chunk::join::{chunk_from, join};
 use bitmap_core::chunk::{chunk_index, chunk_width, clear_from, get_bit};
 use std::alloc::{AllocError, Global};
-use std::collections::BTreeMap;
 use std::marker::Model;
 
 /// Edits are pending: the length and the number of pruned chunks that they leave, the chunks that they edit, and the old bytes of those that they prune.
@@ -29,7 +29,7 @@ use std::marker::Model;
 pub struct Dirty<const N: usize> {
     len: u64,
     pruned: usize,
-    edited: EditedChunks<N>,
+    edited: GrownChunks<N>,
     captured: Vec<[u8; N]>,
     alloc: Global,
 }
@@ -47,7 +47,7 @@ impl<const N: usize> Model for Dirty<N> {
 
 // The bytes of a chunk with the edits.
 fn chunk_with<const N: usize>(
-    edited: &EditedChunks<N>,
+    edited: &GrownChunks<N>,
     current: &Prunable<N>,
     len: u64,
     index: usize,
@@ -68,7 +68,7 @@ fn chunk_with<const N: usize>(
 
 // The bytes that a prune captures of a chunk.
 fn chunk_before<const N: usize>(
-    edited: &EditedChunks<N>,
+    edited: &GrownChunks<N>,
     current: &Prunable<N>,
     len: u64,
     index: usize,
@@ -88,7 +88,7 @@ fn chunk_before<const N: usize>(
 // Captures the chunks from `from` up to `to`, for which there is room.
 fn capture<const N: usize>(
     captured: &mut Vec<[u8; N]>,
-    edited: &EditedChunks<N>,
+    edited: &GrownChunks<N>,
     current: &Prunable<N>,
     len: u64,
     from: usize,
@@ -114,7 +114,7 @@ impl<const N: usize> Dirty<N> {
         Dirty {
             len: current.len(),
             pruned: current.pruned_chunks(),
-            edited: EditedChunks::new(alloc),
+            edited: GrownChunks::new(alloc),
             captured: Vec::new(alloc),
             alloc,
         }
@@ -185,13 +185,14 @@ impl<const N: usize> Dirty<N> {
     pub(crate) fn push(&mut self, current: &Prunable<N>, value: bool) -> Result<(), AllocError>
         requires low { pruned_bits N current.now ≤ self.old.len }
         requires fits { self.old.len + 1 < 2 ^ 64 }
+        requires zero { IfSome (edited_chunk self.old (self.old.len / (8 * N))) (λ bytes. chunk_bit N bytes self.old.len ≡ false) }
         ensures ok { OnOk result (Writes N current.now self.old self.old.len value (self.old.len + 1) self.new) }
         ensures err { OnErr result (self.new ≡ self.old) }
         ensures edited { IsSome (edited_chunk self.old (self.old.len / (8 * N))) → IsOk result }
     {
-        let len = self.len();
-        self.edited.expect(chunk_index::<N>(len));
-        self.write(current, len, value)?;
+        let len = self.len;
+        let index = chunk_index::<N>(len);
+        self.edited.push_bit(current, len, index, len, value)?;
         self.len = len + 1;
         Ok(())
     }
@@ -199,6 +200,7 @@ impl<const N: usize> Dirty<N> {
     // Takes the last bit off, and answers it where its chunk is edited. No memory.
     pub(crate) fn pop(&mut self) -> Option<bool>
         requires some { 0 < self.old.len }
+        requires last { (q : ℕ) → self.old.len ≤ 8 * N * q → edited_chunk self.old q ≡ None }
         ensures pops { Pops N self.old self.new }
         ensures bit { result ≡ option_map (λ bytes. chunk_bit N bytes (self.old.len - 1)) (edited_chunk self.old ((self.old.len - 1) / (8 * N))) }
     {
@@ -392,10 +394,10 @@ impl<const N: usize> Dirty<N> {
     }
 
     // The edited chunks by index. No memory.
-    pub(crate) fn into_edited(self) -> BTreeMap<usize, [u8; N]>
-        ensures { result.entries ≡ self.entry.edited }
+    pub(crate) fn into_edited(self) -> GrownChunks<N>
+        ensures { result ≡ self.entry.edited }
     {
-        self.edited.into_map()
+        self.edited
     }
 
     // The same edits once more. Takes memory for their chunks.

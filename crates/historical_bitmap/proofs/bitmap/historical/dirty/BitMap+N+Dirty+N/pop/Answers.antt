@@ -1,6 +1,8 @@
-use Rattle.std.proofs.Common.{◌≡◌, ℕ, ◌-◌, ◌*◌, ◌/◌, ◌<◌, List, length, ap, sym, ◌∙◌}
+use Rattle.std.proofs.Common.{◌≡◌, ℕ, ◌-◌, ◌*◌, ◌/◌, ◌<◌, List, None, length, ap, sym, ◌∙◌, arith}
 use Rattle.std.specs.Prelude.{Option}
 use Rattle.bitmap_core.specs.PrunedBits.{bit_at, last_bit}
+use Rattle.bitmap_bytes.specs.Chunk.{chunk_bit}
+use Rattle.historical_bitmap.proofs.PendingEnds.{has_last, not_edited}
 use Rattle.historical_bitmap.specs.Edits.Edit.{Pop}
 use Rattle.historical_bitmap.specs.Pending.{edited_chunk, layer_bit, pending_bits}
 use Rattle.historical_bitmap.proofs.DirtyEdits.{edit_fits, edit_of, last_pending, popped_none, popped_some}
@@ -26,3 +28,10 @@ returns-clause-value g c =
       | in-Some w ↦ w.result-is ∙ popped_some g.row.N c.self.inside.current (c.self.inside.state.len - 1) w.in-Some.value chunk w.in-Some.ensures.bit
       | in-None w ↦ w.result-is ∙ (w.get_bit.ensures ∙ (ap (λ (len : ℕ). bit_at g.row.N c.self.inside.current (len - 1)) c.len-last-2.ensures.value ∙ popped_none g.row.N c.self.inside.current (c.self.inside.state.len - 1) chunk w.in-None.ensures.bit))
     ])
+
+pub get_bit-requires : goal.get_bit-requires
+get_bit-requires g c =
+    let some : 0 < length (pending_bits g.row.N c.self.inside.current c.self.inside.state).bits = rw (sym c.self.view_is) at c.requires in
+    let none : edited_chunk c.self.inside.state ((c.self.inside.state.len - 1) / (8 * g.row.N)) ≡ None = not_edited (λ bytes. chunk_bit g.row.N bytes (c.self.inside.state.len - 1)) (edited_chunk c.self.inside.state ((c.self.inside.state.len - 1) / (8 * g.row.N))) c.in-None.ensures.bit in
+    let h = has_last g.row.N c.self.inside.current c.self.inside.state c.len-last.ensures.width.positive c.self.invariant.0 some none in
+    (omega arith, (omega (arith, h.0, c.len-last-2.ensures.value), omega (arith, h.1, c.len-last-2.ensures.value)))

@@ -5,6 +5,7 @@ use Rattle.historical_bitmap.specs.Edits.Edit.{Push}
 use Rattle.historical_bitmap.specs.Pending.{pending_bits}
 use Rattle.historical_bitmap.proofs.DirtyEdits.{past_front, tried_edit, tried_fits, tried_holds}
 use Rattle.historical_bitmap.proofs.PendingEdits.{pending_len}
+use Rattle.historical_bitmap.proofs.PendingEnds.{zero_at_len}
 use Rattle.historical_bitmap.proofs.bitmap.historical.dirty.BitMap+N+Dirty+N.try_push.Goals as goal
 
 pub invariant_of-self : goal.invariant_of-self
@@ -25,7 +26,10 @@ push-requires g c =
         omega arith,
         (
           past_front g.row.N c.self.inside.current c.self.inside.state c.self.inside.state.len c.self.invariant.0 c.self.invariant.0.front,
-          omega (arith, room, pending_len g.row.N c.self.inside.current c.self.inside.state c.len.ensures.width.positive c.self.invariant.0),
+          (
+            omega (arith, room, pending_len g.row.N c.self.inside.current c.self.inside.state c.len.ensures.width.positive c.self.invariant.0),
+            zero_at_len g.row.N c.self.inside.current c.self.inside.state c.self.invariant.0,
+          ),
         ),
       ),
     )

@@ -1,4 +1,9 @@
 use Rattle.std.proofs.Common.{◌≡◌, ℕ, ◌-◌, ◌*◌, ◌/◌, ◌%◌, ◌<◌, ◌≤◌, Some, length, ap, ◌∙◌, subst, arith}
+use Rattle.std.proofs.Math.Nat.{mul-div-le}
+use Rattle.std.proofs.lemmas.Nat.{mul-le}
+use Rattle.std.specs.Prelude.{nat_eq}
+use Rattle.std.specs.Map.{lookup}
+use Rattle.historical_bitmap.proofs.PendingEnds.{none_past_len, past_index}
 use Rattle.historical_bitmap.specs.Pending.{Puts, PutsTwo, run_bits}
 use Rattle.historical_bitmap.proofs.PendingWrites.{begun_has, rest_has, appends_one, appends_two, run_len}
 use Rattle.historical_bitmap.proofs.bitmap.historical.pending.Dirty.append.Goals as goal
@@ -33,3 +38,22 @@ returns-clause-ok g c =
     let rest = rest_has n b l bytes pos c.chunk_from-rest.result c.known-2.ensures.len (rw (c.chunk_width.ensures, c.chunk_width-2.ensures, at) at c.chunk_from-rest.ensures) in
     let put : PutsTwo c.args.self.now.edited c.write_two.new.self (c.args.self.now.len / (8 * g.row.N)) c.join.new.chunk c.chunk_from-rest.result = subst (λ es. PutsTwo es c.write_two.new.self (c.args.self.now.len / (8 * g.row.N)) c.join.new.chunk c.chunk_from-rest.result) (ap (λ l. l.edited) v) (rw index at c.in_ok-write_two.ensures.ok) in
     appends_two n b l _ (run_bits bytes) pos (omega (arith, c.requires.some, run_len bytes)) (omega (arith, at, run_len bytes)) (ap (λ l. l.pruned) v) (ap (λ l. l.captured) v) c.join.new.chunk c.chunk_from-rest.result (omega (arith, room, run_len bytes)) (omega (arith, c.requires.short, run_len bytes)) has rest put
+
+pub write_two-requires : goal.write_two-requires
+write_two-requires g c =
+    let pos = c.len-len.ensures.width.positive in
+    let index : c.chunk_index-first.result ≡ c.args.self.now.len / (8 * g.row.N) = c.chunk_index-first.ensures ∙ ap (λ (k : ℕ). k / (8 * g.row.N)) c.len-len.ensures.value in
+    let low : 8 * g.row.N * (c.args.self.now.len / (8 * g.row.N)) ≤ c.args.self.now.len = mul-div-le c.args.self.now.len (8 * g.row.N) in
+    let more : 8 * (c.args.self.now.len / (8 * g.row.N)) ≤ 8 * g.row.N * (c.args.self.now.len / (8 * g.row.N)) = mul-le 8 (c.args.self.now.len / (8 * g.row.N)) (8 * g.row.N) (c.args.self.now.len / (8 * g.row.N)) (omega (arith, pos)) (omega arith) in (
+      omega (arith, c.len-len.ensures.width.fits),
+      (
+        omega (arith, c.len-len.ensures.width.fits),
+        (
+          omega (arith, index, low, more, c.requires.fits),
+          λ q h.
+              let past : c.args.self.now.len / (8 * g.row.N) < q = omega (arith, h, index) in
+              let under = past_index g.row.N c.args.self.now.len q pos past in
+              ap (λ l. lookup (nat_eq q) l.edited) c.self.view_is ∙ none_past_len g.row.N c.args.current.now c.args.self.now c.requires.layer q (omega (arith, under)),
+        ),
+      ),
+    )

@@ -1,11 +1,35 @@
-use Rattle.std.proofs.Common.{ℕ, ◌+◌, List, ap, ◌∙◌, subst, arith}
-use Rattle.historical_bitmap.specs.Pending.{Layer, Writes}
-use Rattle.historical_bitmap.proofs.PendingWrites.{writes_longer}
+use Rattle.std.proofs.Common.{◌≡◌, ◌+◌, ◌*◌, ◌/◌, ◌^◌, ◌<◌, ◌≤◌, false, sym, refl, arith}
+use Rattle.std.proofs.Math.Nat.{mul-div-le}
+use Rattle.std.specs.Prelude.{IfSome, nat_eq}
+use Rattle.std.specs.Map.{lookup}
+use Rattle.bitmap_bytes.specs.Chunk.{chunk_bit}
+use Rattle.historical_bitmap.proofs.PendingEnds.{index_from}
+use Rattle.historical_bitmap.proofs.PendingWrites.{writes_to}
 use Rattle.historical_bitmap.proofs.bitmap.historical.pending.Dirty.push.Goals as goal
 
 pub returns-clause-ok : goal.returns-clause-ok
 returns-clause-ok g c =
-    let v = c.self-2.view_is in
-    let same = ap (λ (es : List (ℕ × List ℕ)). record { len = c.self.inside.len; pruned = c.self.inside.pruned; edited = es; captured = c.self.inside.captured.items }) c.expect.ensures.same ∙ c.self.view_is in
-    let written = subst (λ (l : Layer). Writes g.row.N c.args.current.now l c.args.self.now.len c.args.value l.len c.write.new.self) same (rw c.len-len.ensures.value at c.in_ok-write.ensures.ok) in
-    writes_longer g.row.N c.args.current.now c.args.self.now c.write.new.self _ c.args.self.now.len c.args.value (c.args.self.now.len + 1) written (omega (arith, c.len-len.ensures.value)) (ap (λ l. l.pruned) v) (ap (λ l. l.captured) v) (ap (λ l. l.edited) v)
+    let set = rw c.chunk_index-index.ensures at c.in_ok-push_bit.ensures.ok in
+    rw (sym c.self.view_is) (writes_to g.row.N c.args.current.now _ _ c.self.inside.len c.args.value (c.self.inside.len + 1) set.0 refl refl refl set.1)
+
+pub push_bit-requires : goal.push_bit-requires
+push_bit-requires g c =
+    let pos = c.self.invariant.positive in
+    let low : 8 * g.row.N * c.args.current.now.pruned ≤ c.self.inside.len = rw (sym c.self.view_is) at c.requires.low in
+    let room : c.self.inside.len + 1 < 2 ^ 64 = rw (sym c.self.view_is) at c.requires.fits in
+    let zero : IfSome (lookup (nat_eq (c.self.inside.len / (8 * g.row.N))) c.self.inside.edited) (λ bytes. chunk_bit g.row.N bytes c.self.inside.len ≡ false) = rw (sym c.self.view_is) at c.requires.zero in (
+      omega (arith, c.self.invariant.fits),
+      (
+        omega arith,
+        (
+          c.self.invariant,
+          (
+            omega (arith, c.chunk_index-index.ensures, index_from g.row.N c.args.current.now.pruned c.self.inside.len pos low),
+            (
+              rw c.chunk_index-index.ensures (omega (arith, room, mul-div-le c.self.inside.len (8 * g.row.N))),
+              rw c.chunk_index-index.ensures zero,
+            ),
+          ),
+        ),
+      ),
+    )

@@ -33,6 +33,9 @@ loop-index-preserved g c = rw c.in_ok-push.ensures.ok (record {
   builds = builds_more g.row.N c.args.current.now c.args.self.now c.loop-index.from c.in-Some.index c.loop-index.record.entries _ c.loop-index.invariant.builds c.in-Some.ensures.0 c.in-Some.ensures.1 c.in-Some.ensures.2 (ap (λ d. c.loop-index.record.entries ++ (c.in-Some.index, d) ∷ []) c.diff.ensures);
 })
 
+pub returns-clause-reverses : goal.returns-clause-reverses
+returns-clause-reverses g c = builds_all g.row.N c.args.current.now c.args.self.now c.loop-index.from c.loop-index.record c.loop-index.invariant.len c.loop-index.invariant.pruned c.loop-index.invariant.builds c.in_default.ensures
+
 pub returns-clause-leads_back : goal.returns-clause-leads_back
 returns-clause-leads_back g c =
     let whole = builds_all g.row.N c.args.current.now c.args.self.now c.loop-index.from c.loop-index.record c.loop-index.invariant.len c.loop-index.invariant.pruned c.loop-index.invariant.builds c.in_default.ensures in

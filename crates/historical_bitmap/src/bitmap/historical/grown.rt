@@ -1,0 +1,285 @@
+//! The edited chunks of a batch, those that it appends in a run.
+
+ghost use Rattle.std.specs.Prelude.{◌≡◌, ℕ, ◌+◌, ◌*◌, ◌%◌, ◌^◌, ◌<◌, ◌≤◌, ◌&&◌, [], List, length, Option, Some, None, IfOk, IfSome, OnOk, OnErr, IsOk, IsSome, nat_eq, nat_le, nat_lt, true, false};
+ghost use Rattle.std.specs.List.Sorted.{IsStrictlySortedBy};
+ghost use Rattle.std.specs.Map.{keys_of, lookup};
+ghost use Rattle.std.specs.Option.{option_copied, option_map};
+ghost use Rattle.std.specs.Ordering.{nat_cmp};
+ghost use Rattle.bitmap_bytes.specs.Chunk.{chunk_bit, IsWidth};
+ghost use Rattle.bitmap_core.specs.PrunedBits.{chunk, truncated};
+ghost use Rattle.historical_bitmap.specs.Pending.{IsByteSetIn, IsNextMember, IsSetIn, Puts, PutsTwo, SetsIn};
+ghost use Rattle.historical_bitmap.specs.Run.{with_run};
+
+use crate::bitmap::historical::edited::{EditedChunks, fill_bit, first_chunk, known, replace_bit};
+use bitmap_core::bitmap::prunable::Prunable;
+use bitmap_core::chunk::join::join_byte;
+use std::alloc::{AllocError, Global};
+use std::collections::BTreeMap;
+use std::marker::Model;
+
+// Chunks by index. Those of one run of indices, which the batch appended, are found without a search; the others stand beside them.
+#[derive(Debug, Drop)]
+pub(crate) struct GrownChunks<const N: usize> {
+    others: EditedChunks<N>,
+    from: usize,
+    run: Vec<[u8; N]>,
+}
+
+impl<const N: usize> Model for GrownChunks<N> {
+    ghost use Rattle.std.specs.Prelude.{ℕ, List};
+    ghost use Rattle.historical_bitmap.specs.Run.{IsRun, with_run};
+
+    ghost Value = { List (ℕ × List ℕ) };
+
+    ghost view = { λ c. with_run c.from c.run.items c.others };
+
+    ghost invariant = { λ c. IsRun N c.others c.from c.run.items };
+}
+
+// Whether an index is one of a run of `count` indices.
+#[inline]
+fn is_in(from: usize, count: usize, index: usize) -> bool
+    ensures { result ≡ (nat_le from index && nat_lt index (from + count)) }
+{
+    from <= index && index - from < count
+}
+
+// Whether an index may be added behind a run of `count` indices, or begin one.
+fn is_next(from: usize, count: usize, index: usize) -> bool
+    ensures { result ≡ true → 0 < count → index ≡ from + count }
+{
+    count == 0 || from <= index && index - from == count
+}
+
+impl<const N: usize> GrownChunks<N> {
+    // No chunks. No memory.
+    pub(crate) fn new(alloc: Global) -> Self
+        requires width { IsWidth N }
+        ensures { result ≡ [] }
+    {
+        GrownChunks {
+            others: EditedChunks::new(alloc),
+            from: 0,
+            run: Vec::new(alloc),
+        }
+    }
+
+    // The chunk at an index, where there is one.
+    #[inline]
+    pub(crate) fn get(&self, index: usize) -> Option<&[u8; N]>
+        ensures value { option_copied result ≡ lookup (nat_eq index) self.now }
+        ensures sorted { IsStrictlySortedBy nat_cmp (keys_of self.now) }
+    {
+        self.others.order();
+        if is_in(self.from, self.run.len(), index) {
+            return Some(&self.run[index - self.from]);
+        }
+        self.others.get(index)
+    }
+
+    // Writes a bit of the chunk at an index, at first that of the current bitmap, cut to a length. Where a chunk stands there it takes no memory, and succeeds.
+    #[inline]
+    pub(crate) fn write_bit(
+        &mut self,
+        current: &Prunable<N>,
+        len: u64,
+        index: usize,
+        bit: u64,
+        value: bool,
+    ) -> Result<(), AllocError>
+        requires width { IsWidth N }
+        requires from { current.now.pruned ≤ index }
+        requires fits { 8 * N * index < 2 ^ 64 }
+        ensures ok { OnOk result ((bytes : List ℕ) × SetsIn N (chunk N (truncated N current.now len) index) self.old self.new index bit value bytes) }
+        ensures err { OnErr result (self.new ≡ self.old) }
+        ensures edited { IsSome (lookup (nat_eq index) self.old) → IsOk result }
+    {
+        if is_in(self.from, self.run.len(), index) {
+            let at = index - self.from;
+            let _ = replace_bit(&mut self.run[at], bit, value);
+            return Ok(());
+        }
+        self.others.write_bit(current, len, index, bit, value)
+    }
+
+    // The same of a bit that is appended, which is zero where the chunk stands: a chunk that is not there yet is put into the run.
+    #[inline]
+    pub(crate) fn push_bit(
+        &mut self,
+        current: &Prunable<N>,
+        len: u64,
+        index: usize,
+        bit: u64,
+        value: bool,
+    ) -> Result<(), AllocError>
+        requires width { IsWidth N }
+        requires from { current.now.pruned ≤ index }
+        requires fits { 8 * N * index < 2 ^ 64 }
+        requires zero { IfSome (lookup (nat_eq index) self.old) (λ chunk. chunk_bit N chunk bit ≡ false) }
+        ensures ok { OnOk result ((bytes : List ℕ) × SetsIn N (chunk N (truncated N current.now len) index) self.old self.new index bit value bytes) }
+        ensures err { OnErr result (self.new ≡ self.old) }
+        ensures edited { IsSome (lookup (nat_eq index) self.old) → IsOk result }
+    {
+        if is_in(self.from, self.run.len(), index) {
+            let at = index - self.from;
+            fill_bit(&mut self.run[at], bit, value);
+            return Ok(());
+        }
+        self.push_other(current, len, index, bit, value)
+    }
+
+    // The same where the chunk need not stand in the run.
+    #[inline(never)]
+    fn push_other(
+        &mut self,
+        current: &Prunable<N>,
+        len: u64,
+        index: usize,
+        bit: u64,
+        value: bool,
+    ) -> Result<(), AllocError>
+        requires width { IsWidth N }
+        requires from { current.now.pruned ≤ index }
+        requires fits { 8 * N * index < 2 ^ 64 }
+        ensures ok { OnOk result ((bytes : List ℕ) × SetsIn N (chunk N (truncated N current.now len) index) self.old self.new index bit value bytes) }
+        ensures err { OnErr result (self.new ≡ self.old) }
+        ensures edited { IsSome (lookup (nat_eq index) self.old) → IsOk result }
+    {
+        let mut bytes = match self.get(index) {
+            Some(bytes) => *bytes,
+            None => first_chunk(current, len, index),
+        };
+        let _ = replace_bit(&mut bytes, bit, value);
+        self.write(index, bytes)
+    }
+
+    // Replaces a bit of the chunk at an index, and answers the old one, where there is one. No memory.
+    #[inline]
+    pub(crate) fn replace_bit(&mut self, index: usize, bit: u64, value: bool) -> Option<bool>
+        requires width { IsWidth N }
+        ensures bit { result ≡ option_map (λ chunk. chunk_bit N chunk bit) (lookup (nat_eq index) self.old) }
+        ensures none { lookup (nat_eq index) self.old ≡ None → self.new ≡ self.old }
+        ensures some { IfSome (lookup (nat_eq index) self.old) (λ chunk. IsSetIn N self.old self.new index chunk bit value) }
+        ensures sorted { IsStrictlySortedBy nat_cmp (keys_of self.new) }
+    {
+        if is_in(self.from, self.run.len(), index) {
+            let at = index - self.from;
+            self.others.order();
+            return Some(replace_bit(&mut self.run[at], bit, value));
+        }
+        self.others.replace_bit(index, bit, value)
+    }
+
+    // Writes the bits of a byte to the chunk at an index from a bit on, of which it has eight, where it is at hand, and answers whether it is. No memory.
+    #[inline]
+    pub(crate) fn join_byte(&mut self, index: usize, bit: u64, byte: u8) -> bool
+        requires width { IsWidth N }
+        requires room { bit % (8 * N) + 8 ≤ 8 * N }
+        ensures written { result ≡ true → IsByteSetIn N self.old self.new index bit byte }
+        ensures other { result ≡ false → self.new ≡ self.old }
+    {
+        if is_in(self.from, self.run.len(), index) {
+            let at = index - self.from;
+            let chunk = &mut self.run[at];
+            join_byte(chunk, bit, byte);
+            known(chunk);
+            return true;
+        }
+        self.others.join_byte(index, bit, byte)
+    }
+
+    // Puts a chunk at an index: into the run, where it is the next one there. Where one stands there it takes no memory, and succeeds.
+    pub(crate) fn write(&mut self, index: usize, chunk: [u8; N]) -> Result<(), AllocError>
+        ensures ok { OnOk result (Puts self.old self.new index (Some chunk.entry)) }
+        ensures err { OnErr result (self.new ≡ self.old) }
+        ensures edited { IsSome (lookup (nat_eq index) self.old) → IsOk result }
+        ensures was_sorted { IsStrictlySortedBy nat_cmp (keys_of self.old) }
+        ensures sorted { IsStrictlySortedBy nat_cmp (keys_of self.new) }
+    {
+        self.others.order();
+        let count = self.run.len();
+        if is_in(self.from, count, index) {
+            let at = index - self.from;
+            self.run[at] = chunk;
+            return Ok(());
+        }
+        if self.others.get(index).is_some() || !is_next(self.from, count, index) {
+            return self.others.write(index, chunk);
+        }
+        self.run.push(chunk)?;
+        if count == 0 {
+            self.from = index;
+        }
+        Ok(())
+    }
+
+    // Puts two chunks at an index and the next one, past the first of which there is none: both or, refused, neither.
+    pub(crate) fn write_two(
+        &mut self,
+        index: usize,
+        first: [u8; N],
+        second: [u8; N],
+    ) -> Result<(), AllocError>
+        requires next { index + 1 < 2 ^ 64 }
+        requires last { (q : ℕ) → index < q → lookup (nat_eq q) self.old ≡ None }
+        ensures ok { OnOk result (PutsTwo self.old self.new index first.entry second.entry) }
+        ensures err { OnErr result (self.new ≡ self.old) }
+    {
+        self.write(index + 1, second)?;
+        if self.write(index, first).is_err() {
+            let _ = self.remove(index + 1);
+            return Err(AllocError);
+        }
+        Ok(())
+    }
+
+    // Takes the chunk at an index out, past which there is none. No memory.
+    pub(crate) fn remove(&mut self, index: usize) -> Option<[u8; N]>
+        requires last { (q : ℕ) → index < q → lookup (nat_eq q) self.old ≡ None }
+        ensures value { result ≡ lookup (nat_eq index) self.old }
+        ensures removed { Puts self.old self.new index None }
+        ensures sorted { IsStrictlySortedBy nat_cmp (keys_of self.new) }
+    {
+        if is_in(self.from, self.run.len(), index) {
+            self.others.order();
+            return self.run.pop();
+        }
+        self.others.remove(index)
+    }
+
+    // The first index from `from` on at which there is a chunk.
+    pub(crate) fn next_from(&self, from: usize) -> Option<usize>
+        ensures { IsNextMember (keys_of self.now) from result }
+    {
+        let other = self.others.next_from(from);
+        let first = from.max(self.from);
+        if first - self.from >= self.run.len() {
+            return other;
+        }
+        match other {
+            Some(index) if index < first => Some(index),
+            _ => Some(first),
+        }
+    }
+
+    // The same chunks once more. Takes memory for them.
+    pub(crate) fn duplicate(&self) -> Result<Self, AllocError>
+        ensures { IfOk result (λ copy. copy ≡ self.now) }
+    {
+        Ok(GrownChunks {
+            others: self.others.duplicate()?,
+            from: self.from,
+            run: self.run.clone()?,
+        })
+    }
+
+    // The chunks as a map, and those of the run with their first index. No memory.
+    pub(crate) fn into_parts(self) -> (BTreeMap<usize, [u8; N]>, usize, Vec<[u8; N]>)
+        ensures entries { with_run result.1 result.2.items result.0.entries ≡ self.entry }
+        ensures apart { (q : ℕ) → result.1 ≤ q → q < result.1 + length result.2.items → lookup (nat_eq q) result.0.entries ≡ None }
+        ensures sorted { IsStrictlySortedBy nat_cmp (keys_of self.entry) }
+    {
+        self.others.order();
+        (self.others.into_map(), self.from, self.run)
+    }
+}
