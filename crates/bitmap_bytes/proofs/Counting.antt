@@ -5,3 +5,4 @@ pub mod Tests
 pub mod ByteRanges
 pub mod Words
 pub mod Blocks
+pub mod Parts

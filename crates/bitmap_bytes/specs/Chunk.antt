@@ -1,6 +1,6 @@
 -- The width of a chunk, and its bits.
-use Rattle.std.specs.Prelude.{◌≡◌, ℕ, cond, ◌+◌, ◌-◌, ◌*◌, ◌/◌, ◌%◌, ◌^◌, ◌<◌, ◌≤◌, ◌⊎◌, Bool, false, List, length, map, ◌==◌, slice_index, slice_index_or}
-use Rattle.std.specs.List.{range_with_len, sum_by}
+use Rattle.std.specs.Prelude.{◌≡◌, ℕ, cond, not, if◌then◌else◌, ◌+◌, ◌-◌, ◌*◌, ◌/◌, ◌%◌, ◌^◌, ◌<◌, ◌≤◌, ◌⊎◌, Bool, true, false, List, length, map, ◌==◌, slice_index, slice_index_or}
+use Rattle.std.specs.List.{count_by, range_with_len, sum_by}
 use Rattle.std.specs.Int.{bit_at}
 
 -- a chunk may have n bytes: one or more, and so few that 64 bits count its bits
@@ -59,3 +59,20 @@ pub record IsByteWritten (n : ℕ) (old new : List ℕ) (i byte : ℕ) : Type 0 
 pub record IsByteJoined (n : ℕ) (old new : List ℕ) (i byte : ℕ) : Type 0 where
   pub here : (j : ℕ) → i % (8 * n) ≤ j % (8 * n) → j % (8 * n) < i % (8 * n) + 8 → chunk_bit n new j ≡ (bit_at byte (j % (8 * n) - i % (8 * n)) == 1)
   pub others : (j : ℕ) → (j % (8 * n) < i % (8 * n)) ⊎ (i % (8 * n) + 8 ≤ j % (8 * n)) → chunk_bit n new j ≡ chunk_bit n old j
+
+-- whether a bit is wanted: a set bit if `wanted` is true, and a bit that is not set if it is false
+abbrev pub is_wanted : Bool → Bool → Bool
+is_wanted wanted bit = if wanted then bit else not bit
+
+-- k is the last place below `to` that passes the test
+pub record IsLastBelow (test : ℕ → Bool) (to k : ℕ) : Type 0 where
+  pub below : k < to
+  pub passes : test k ≡ true
+  pub none_after : (i : ℕ) → k < i → i < to → test i ≡ false
+
+-- p is a place at or above `from` and below `to` that passes the test, and k of those before it pass
+pub record IsNth (test : ℕ → Bool) (from to k p : ℕ) : Type 0 where
+  pub above : from ≤ p
+  pub below : p < to
+  pub passes : test p ≡ true
+  pub rank : count_by test (range_with_len from (p - from)) ≡ k

@@ -17,3 +17,9 @@ next_word n k = k + (if nat_lt (k % (8 * n) + 64) (8 * n) then 64 else 8 * n - k
 -- a word at base has no bit at or past the end
 abbrev pub IsCut : ℕ → ℕ → ℕ → Type 0
 IsCut base word end = (i : ℕ) → i < 64 → end ≤ base + i → (bit_at word i == 1) ≡ false
+
+-- a word at base has the bits of f at `at` and after it and below `to`, and no others
+pub record IsPart (f : ℕ → Bool) (base word at to : ℕ) : Type 0 where
+  pub inside : (i : ℕ) → i < 64 → at ≤ base + i → base + i < to → (bit_at word i == 1) ≡ f (base + i)
+  pub before : (i : ℕ) → i < 64 → base + i < at → (bit_at word i == 1) ≡ false
+  pub past : (i : ℕ) → i < 64 → to ≤ base + i → (bit_at word i == 1) ≡ false

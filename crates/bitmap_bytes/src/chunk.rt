@@ -24,6 +24,7 @@ ghost use Rattle.bitmap_bytes.specs.Chunk.{byte_of as byte_from_bits, chunk_bit,
 pub mod facts;
 pub mod join;
 pub mod load;
+pub mod range;
 pub mod whole;
 pub mod words;
 

@@ -6,3 +6,5 @@ pub mod Pruned
 pub mod Meanings
 pub mod Texts
 pub mod Examples
+pub mod Searches
+pub mod Found

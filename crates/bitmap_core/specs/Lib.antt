@@ -2,5 +2,6 @@ pub mod Fed
 pub mod PrunedBits
 pub mod Text
 pub mod Meaning
+pub mod Searches
 pub mod Spelling
 pub mod Reading

@@ -1,8 +1,8 @@
 -- What a bitmap is to its readers. A chunk has n bytes.
-use Rattle.std.specs.Prelude.{◌≡◌, ℕ, ◌+◌, ◌-◌, ◌*◌, ◌/◌, ◌^◌, ◌<◌, ◌≤◌, min, max, Bool, true, false, List, ◌++◌, length, slice_index_or, ◌==◌, nat_lt, if◌then◌else◌}
+use Rattle.std.specs.Prelude.{◌≡◌, ℕ, ◌+◌, ◌-◌, ◌*◌, ◌/◌, ◌^◌, ◌<◌, ◌≤◌, min, max, Bool, true, false, not, List, ◌++◌, length, slice_index_or, ◌==◌, nat_lt, if◌then◌else◌}
 use Rattle.std.specs.Int.{bit_at as digit_at}
 use Rattle.std.specs.List.{filter, range_with_len}
-use Rattle.bitmap_bytes.specs.Chunk.{chunk_bit, IsWidth}
+use Rattle.bitmap_bytes.specs.Chunk.{chunk_bit, is_wanted, IsWidth}
 use Rattle.bitmap_bytes.specs.Words.{starts_word, word_start, next_word, IsCut}
 use Rattle.bitmap_core.specs.PrunedBits.{PrunedBits, bit_len, bit_at}
 
@@ -46,6 +46,18 @@ ones_between bit lo hi = filter bit (range_with_len lo (hi - lo))
 -- the retained positions from a up to b whose bit is true
 abbrev pub ones : ℕ → Meaning → ℕ → ℕ → List ℕ
 ones n m a b = ones_between m.bit (max a (8 * n * m.pruned)) (min b m.len)
+
+-- the positions from lo up to hi whose bit is false
+abbrev pub zeros_between : (ℕ → Bool) → ℕ → ℕ → List ℕ
+zeros_between bit lo hi = filter (λ k. not (bit k)) (range_with_len lo (hi - lo))
+
+-- the retained positions from a up to b whose bit is false
+abbrev pub zeros : ℕ → Meaning → ℕ → ℕ → List ℕ
+zeros n m a b = zeros_between m.bit (max a (8 * n * m.pruned)) (min b m.len)
+
+-- the bitmap itself if `wanted` is true, and the bitmap with each bit inverted if it is false
+abbrev pub seen_as : Bool → Meaning → Meaning
+seen_as wanted m = record { pruned = m.pruned; len = m.len; bit = λ k. is_wanted wanted (m.bit k) }
 
 -- how many words meet lo up to hi
 abbrev pub words_between : ℕ → ℕ → ℕ → ℕ

@@ -257,3 +257,141 @@ fn each_range(rt: HostRuntime) {
     check_ranges::<32>(&rt, rt.alloc(), 7);
     check_ranges::<64>(&rt, rt.alloc(), 13);
 }
+
+#[test]
+fn searches_do_not_read_bits_past_the_length(rt: HostRuntime) {
+    equal(&rt, Five.next_one(4), Some(4));
+    equal(&rt, Five.next_one(5), None);
+    equal(&rt, Five.next_zero(0), None);
+    equal(&rt, Five.prev_one(100), Some(4));
+    equal(&rt, Five.prev_zero(100), None);
+    equal(&rt, Five.count_ones_range(0..100), 5);
+    equal(&rt, Five.select_one(5), None);
+    expect(&rt, Five.zeros_iter_range(0..100).next().is_none());
+}
+
+#[test]
+fn searches_do_not_read_bits_past_a_short_word(rt: HostRuntime) {
+    let map = Counting::new(70);
+    equal(&rt, map.next_zero(64), None);
+    equal(&rt, map.prev_one(u64::MAX), Some(69));
+    equal(&rt, map.count_ones_range(64..u64::MAX), 6);
+    equal(&rt, map.select_one(69), Some(69));
+    equal(&rt, map.select_one(70), None);
+}
+
+#[test]
+fn searches_up_to_the_greatest(rt: HostRuntime) {
+    equal(&rt, Top.next_one(0), Some(18446744073709551608));
+    equal(&rt, Top.next_zero(0), None);
+    equal(&rt, Top.prev_one(u64::MAX), Some(18446744073709551614));
+    equal(&rt, Top.prev_zero(u64::MAX), None);
+    equal(&rt, Top.count_ones_range(0..u64::MAX), 7);
+    equal(&rt, Top.select_one(6), Some(18446744073709551614));
+    equal(&rt, Top.select_one(7), None);
+}
+
+// What one of the searches of a bitmap of 144 set bits asks for: at most so many chunks, and the length once.
+fn check_questions(rt: &impl Abort, search: u64, chunk_calls: u64) {
+    let map = Counting::new(144);
+    let found = match search {
+        0 => map.next_one(143) == Some(143),
+        1 => map.next_zero(0).is_none(),
+        2 => map.prev_one(144) == Some(143),
+        3 => map.prev_zero(144).is_none(),
+        4 => map.count_ones_range(0..u64::MAX) == 144,
+        5 => map.count_ones_range(64..72) == 8,
+        6 => map.select_one(143) == Some(143),
+        _ => map.select_one(144).is_none(),
+    };
+    expect_at(rt, search, found);
+    expect_at(rt, search, map.chunk_calls.get() <= chunk_calls);
+    expect_at(rt, search, map.len_calls.get() <= 1);
+}
+
+#[test]
+fn few_questions_of_searches(rt: HostRuntime) {
+    for (search, chunk_calls) in [
+        (0, 1),
+        (1, 2),
+        (2, 1),
+        (3, 2),
+        (4, 2),
+        (5, 1),
+        (6, 2),
+        (7, 2),
+    ] {
+        check_questions(&rt, search, chunk_calls);
+    }
+}
+
+// What reading each bit of a range finds: the number of set bits, the first and the last of them, and of the others.
+#[derive(Clone, Copy)]
+struct Seen {
+    count: u64,
+    ones: (Option<u64>, Option<u64>),
+    zeros: (Option<u64>, Option<u64>),
+}
+
+fn look<B: Readable<N>, const N: usize>(map: &B, start: u64, end: u64) -> Seen {
+    let mut seen = Seen {
+        count: 0,
+        ones: (None, None),
+        zeros: (None, None),
+    };
+    let len = map.len();
+    for position in start.max(map.pruned_bits())..end.min(len) {
+        if map.get_bit(position) {
+            seen.count = seen.count.wrapping_add(1);
+            seen.ones = (seen.ones.0.or(Some(position)), Some(position));
+        } else {
+            seen.zeros = (seen.zeros.0.or(Some(position)), Some(position));
+        }
+    }
+    seen
+}
+
+// Whether the searches and the count find in a range what reading each bit finds.
+fn searches_agree<B: Readable<N>, const N: usize>(map: &B, start: u64, end: u64) -> bool {
+    let counted = map.count_ones_range(start..end) == look(map, start, end).count;
+    let after = look(map, start, map.len());
+    let next = map.next_one(start) == after.ones.0 && map.next_zero(start) == after.zeros.0;
+    let before = look(map, 0, end);
+    let previous = map.prev_one(end) == before.ones.1 && map.prev_zero(end) == before.zeros.1;
+    let selected = before.count == 0
+        || map.select_one(before.count.wrapping_sub(1)) == before.ones.1;
+    counted && next && previous && selected
+}
+
+fn check_searches<const N: usize>(rt: &impl Abort, alloc: Global, stride: usize)
+    requires positive { 0 < N }
+    requires fits { 8 * N < 2 ^ 64 }
+{
+    expect(rt, N <= 64 && stride > 0);
+    let width = 8 * N as u64;
+    let len = 2 * width + 2;
+    let mut dense = BitMap::<N>::new(alloc);
+    for i in 0..len {
+        expect(rt, dense.len() < len);
+        ok(rt, dense.push(i * i % 11 < 4));
+    }
+    let mut pruned = Prunable::<N>::new(alloc);
+    extend_from_bitmap(rt, &mut pruned, &dense);
+    prune_to_bit(rt, &mut pruned, width);
+    for start in (0..len + 3).step_by(stride) {
+        for end in (0..len + 3).step_by(stride) {
+            expect_at(rt, (start, end, N), searches_agree(&dense, start, end));
+            expect_at(rt, (start, end, N), searches_agree(&pruned, start, end));
+        }
+    }
+}
+
+#[test]
+fn each_search(rt: HostRuntime) {
+    check_searches::<1>(&rt, rt.alloc(), 1);
+    check_searches::<3>(&rt, rt.alloc(), 1);
+    check_searches::<7>(&rt, rt.alloc(), 3);
+    check_searches::<8>(&rt, rt.alloc(), 3);
+    check_searches::<9>(&rt, rt.alloc(), 5);
+    check_searches::<32>(&rt, rt.alloc(), 23);
+}

@@ -1,13 +1,14 @@
 -- The bits of a word of a chunk, masked, and without its lowest one.
-use Rattle.std.proofs.Common.{◌≡◌, ◌≢◌, ℕ, ◌+◌, ◌-◌, ◌*◌, ◌/◌, ◌%◌, ◌^◌, ◌<◌, ◌≤◌, eqb, List, get_or, drop, min, ap, sym, ◌∙◌, inl, inr, arith}
-use Rattle.std.specs.Int.{bit_at, w64, trailing_zeros}
+use Rattle.std.proofs.Common.{◌≡◌, ◌≢◌, ℕ, suc, ◌+◌, ◌-◌, ◌*◌, ◌/◌, ◌%◌, ◌^◌, ◌<◌, ◌≤◌, eqb, not, List, get_or, drop, min, ap, sym, ◌∙◌, inl, inr, arith}
+use Rattle.std.specs.Int.{bit_at, w64, leading_zeros, trailing_zeros}
 use Rattle.std.specs.Prelude.{bit_and}
-use Rattle.std.proofs.lemmas.Nat.{mod_below, div-add-mod', pow_pos}
-use Rattle.std.proofs.lemmas.Nat.Bits.{bit_at-trailing_zeros, bit_at-pow_same, bit_at-pow_other, same_from_bits_below, bit_at_cat_low, bit_at_cat_high, bit_at_and, bit_at-lt, bit_at_ones_above, ones_shl, bit_at_mask_inside, bit_at_mask_below}
+use Rattle.std.proofs.lemmas.Nat.{mod_below, div-add-mod', pow_pos, leading_top}
+use Rattle.std.proofs.lemmas.Nat.Bits.{bit_at-trailing_zeros, bit_at-pow_same, bit_at-pow_other, same_from_bits_below, bit_at_cat_low, bit_at_cat_high, bit_at_and, bit_at_not, bit_at_above, bit_at-lt, bit_at_ones_above, ones_shl, bit_at_mask_inside, bit_at_mask_below}
 use Rattle.std.proofs.lemmas.List.{get_or-drop}
 use Rattle.std.proofs.Math.Pow.{pow-add, pow-lt}
-use Rattle.std.proofs.Math.Nat.{mod-eq_of_lt}
+use Rattle.std.proofs.Math.Nat.{mod-eq_of_lt, div-eq_of_lt-le, pow-succ'}
 use Rattle.std.proofs.lemmas.Bool.{cases_eq, cases_lt}
+use Rattle.std.proofs.lemmas.Bool.Decides.{nat_tests}
 use Rattle.bitmap_bytes.specs.Chunk.{chunk_bit}
 
 -- ---- a word of a chunk
@@ -91,3 +92,26 @@ module _ (word place : ℕ) (set : bit_at word place ≡ 1) (below : (t : ℕ) �
     | inl s ↦ let e = below t s in omega (arith, bit_at_and word (word - 1) t)
     | inr s ↦ let e = less_one_bit t (omega arith) in omega (arith, bit_at_and word (word - 1) t)
   ]
+
+-- ---- a word inverted
+
+pub inverted_bit : (word t : ℕ) → word < 2 ^ 64 → t < 64 → eqb (bit_at (2 ^ 64 - 1 - word) t) 1 ≡ not (eqb (bit_at word t) 1)
+inverted_bit word t h s =
+    let e : bit_at (2 ^ 64 - 1 - word) t ≡ 1 - bit_at word t = bit_at_not w64 word t h s in
+    let l = bit_at-lt word t in
+    grind (arith, nat_tests)
+
+-- ---- the highest bit of a word
+
+-- the highest one of a word
+pub highest_one : (word : ℕ) → 0 < word → word < 2 ^ 64
+    → (leading_zeros w64 word < 64) × (bit_at word (63 - leading_zeros w64 word) ≡ 1) × ((t : ℕ) → 63 - leading_zeros w64 word < t → bit_at word t ≡ 0)
+highest_one word h f =
+    let top = leading_top 64 word h f in
+    let at : 63 - leading_zeros w64 word ≡ top.0 = omega (arith, top.1) in
+    let q : word / 2 ^ top.0 ≡ 1 = div-eq_of_lt-le (2 ^ top.0) {m = word} (omega (arith, top.2)) (omega (arith, top.3, pow-succ' 2 top.0)) in
+    let one : bit_at word top.0 ≡ 1 = ap (λ x. x % 2) q in (
+      omega (arith, top.1),
+      ap (λ x. bit_at word x) at ∙ one,
+      λ t s. bit_at_above word (suc top.0) t top.3 (omega arith),
+    )

@@ -1,8 +1,8 @@
 //! Words of 64 bits out of a chunk. The lowest bit of a word is its first.
 
-ghost use Rattle.std.specs.Prelude.{◌≡◌, ◌≢◌, ℕ, ◌+◌, ◌*◌, ◌/◌, ◌%◌, ◌^◌, ◌<◌, ◌≤◌, ◌==◌, true, false, length, slice_index_or, MatchOption};
+ghost use Rattle.std.specs.Prelude.{◌≡◌, ◌≢◌, ℕ, ◌+◌, ◌*◌, ◌/◌, ◌%◌, ◌^◌, ◌<◌, ◌≤◌, ◌==◌, true, false, length, slice_index_or, count_ones, MatchOption};
 ghost use Rattle.std.specs.Int.{bit_at};
-ghost use Rattle.bitmap_bytes.specs.Chunk.{chunk_bit, IsWidth};
+ghost use Rattle.bitmap_bytes.specs.Chunk.{chunk_bit, is_wanted, IsNth, IsWidth};
 ghost use Rattle.bitmap_bytes.specs.Words.{IsCut, next_word, starts_word, word_start};
 
 // The 64 bits of a chunk from byte `byte` on, which is at most `N`, with zeros past the end of the chunk.
@@ -101,4 +101,47 @@ pub fn word_below<const N: usize>(chunk: &[u8; N], base: u64, end: u64) -> u64
 {
     let byte = (base % (8 * N as u64) / 8) as usize;
     low_bits(word_at(chunk, byte), end - base)
+}
+
+/// Loads the word that `word_below` loads. If `wanted` is false, each bit of the chunk that is below `end` is inverted. Does not allocate.
+///
+/// `base` is the position in the whole bitmap at which the word begins, and `end` is a position after it.
+pub fn wanted_below<const N: usize>(chunk: &[u8; N], base: u64, end: u64, wanted: bool) -> u64
+    requires width { IsWidth N }
+    requires start { starts_word N base ≡ true }
+    requires below { base < end }
+    ensures inside { (i : ℕ) → i < 64 → base + i < end → base % (8 * N) + i < 8 * N → (bit_at result i == 1) ≡ is_wanted wanted (chunk_bit N chunk.now (base % (8 * N) + i)) }
+    ensures past_chunk { (i : ℕ) → i < 64 → 8 * N ≤ base % (8 * N) + i → (bit_at result i == 1) ≡ false }
+    ensures past_end { IsCut base result end }
+{
+    let word = word_below(chunk, base, end);
+    if wanted {
+        return word;
+    }
+    let width = 8 * N as u64;
+    low_bits(!word, (end - base).min(width - base % width))
+}
+
+/// Returns the place of the highest set bit of a word that is not 0. Does not allocate.
+pub fn highest(word: u64) -> u64
+    requires { 0 < word }
+    ensures within { result < 64 }
+    ensures set { (bit_at word result == 1) ≡ true }
+    ensures highest { (t : ℕ) → result < t → (bit_at word t == 1) ≡ false }
+{
+    63 - word.leading_zeros() as u64
+}
+
+/// Returns the place of the set bit of a word that has `k` set bits below it. Does not allocate.
+///
+/// The word has more than `k` set bits.
+pub fn nth_one(word: u64, k: u64) -> u64
+    requires { k < count_ones word }
+    ensures { IsNth (λ t. bit_at word t == 1) 0 64 k result }
+{
+    let mut rest = word;
+    for _ in 0..k {
+        take_lowest(&mut rest);
+    }
+    take_lowest(&mut rest)
 }

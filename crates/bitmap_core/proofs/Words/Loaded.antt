@@ -4,26 +4,26 @@ use Rattle.std.proofs.lemmas.Bool.{cases_lt, cases_eq}
 use Rattle.std.proofs.lemmas.List.{append-nil}
 use Rattle.std.proofs.lemmas.Nat.{div-add-mod'}
 use Rattle.bitmap_bytes.specs.Words.{starts_word, next_word, word_start, IsCut}
-use Rattle.bitmap_core.specs.Meaning.{Meaning, ShowsChunk, word_bit, ones_between, left_from}
+use Rattle.bitmap_core.specs.Meaning.{Meaning, ShowsChunk, seen_as, word_bit, ones_between, left_from}
 use Rattle.std.specs.Int.{bit_at}
-use Rattle.bitmap_bytes.specs.Chunk.{chunk_bit}
+use Rattle.bitmap_bytes.specs.Chunk.{chunk_bit, is_wanted}
 use Rattle.bitmap_bytes.proofs.Bytes.Bits.{bit_of_zero_byte}
 use Rattle.bitmap_core.proofs.Lists.SetPositions.{ones_between-append, ones_between-same, ones_between-false, ones_between-none, ones_between-first}
 use Rattle.bitmap_bytes.proofs.Words.Starts.{Follows, follows}
 
 -- ---- a word that was loaded
 
--- the word at base has the bits of the bytes from lo up to end, and no others
-pub record IsLoaded (n base lo end : ℕ) (bytes : List ℕ) (word : ℕ) : Type 0 where
+-- the word at base has the wanted bits of the bytes from lo up to end, and no others
+pub record IsLoaded (n base lo end : ℕ) (wanted : Bool) (bytes : List ℕ) (word : ℕ) : Type 0 where
   pub inside : (i : ℕ) → i < 64 → lo ≤ base + i → base + i < end → base % (8 * n) + i < 8 * n
-      → eqb (bit_at word i) 1 ≡ chunk_bit n bytes (base % (8 * n) + i)
+      → eqb (bit_at word i) 1 ≡ is_wanted wanted (chunk_bit n bytes (base % (8 * n) + i))
   pub before : (i : ℕ) → i < 64 → base + i < lo → eqb (bit_at word i) 1 ≡ false
   pub past_chunk : (i : ℕ) → i < 64 → 8 * n ≤ base % (8 * n) + i → eqb (bit_at word i) 1 ≡ false
   pub past_end : (i : ℕ) → i < 64 → end ≤ base + i → eqb (bit_at word i) 1 ≡ false
 
-module _ (n : ℕ) (m : Meaning) (base lo end : ℕ) (bytes : List ℕ) (word : ℕ)
+module _ (n : ℕ) (m : Meaning) (base lo end : ℕ) (wanted : Bool) (bytes : List ℕ) (word : ℕ)
     (p : 0 < n) (start : starts_word n base ≡ true) (from : base ≤ lo) (to : lo < end) (len : end ≤ m.len)
-    (near : lo < next_word n base) (shown : ShowsChunk n m (base / (8 * n)) bytes) (loaded : IsLoaded n base lo end bytes word) where
+    (near : lo < next_word n base) (shown : ShowsChunk n m (base / (8 * n)) bytes) (loaded : IsLoaded n base lo end wanted bytes word) where
   abbrev next : ℕ
   next = next_word n base
 
@@ -33,15 +33,15 @@ module _ (n : ℕ) (m : Meaning) (base lo end : ℕ) (bytes : List ℕ) (word : 
   f : Follows n base next
   f = follows n base p start
 
-  same : (k : ℕ) → lo ≤ k → k < top → word_bit base word k ≡ m.bit k
+  same : (k : ℕ) → lo ≤ k → k < top → word_bit base word k ≡ (seen_as wanted m).bit k
   same k a b =
       let fo = f in
       let l : k - base < 64 = omega (arith, fo.near) in
       let e : base + (k - base) ≡ k = omega arith in
       let d : 8 * n * (base / (8 * n)) + (base % (8 * n) + (k - base)) ≡ k = omega (arith, div-add-mod' base (8 * n)) in
       loaded.inside (k - base) l (omega arith) (omega arith) (omega (arith, fo.in_chunk))
-      ∙ shown (base % (8 * n) + (k - base)) (omega (arith, fo.in_chunk)) (omega arith)
-      ∙ ap m.bit d
+      ∙ ap (is_wanted wanted) (shown (base % (8 * n) + (k - base)) (omega (arith, fo.in_chunk)) (omega arith))
+      ∙ ap (seen_as wanted m).bit d
 
   past : (k : ℕ) → top ≤ k → k < base + 64 → base ≤ k → word_bit base word k ≡ false
   past k a b c =
@@ -51,7 +51,7 @@ module _ (n : ℕ) (m : Meaning) (base lo end : ℕ) (bytes : List ℕ) (word : 
       (λ (ge : end ≤ k). loaded.past_end (k - base) (omega arith) (omega arith))
       (cases_lt k end)
 
-  in_word : ones_between (word_bit base word) base (base + 64) ≡ ones_between m.bit lo top
+  in_word : ones_between (word_bit base word) base (base + 64) ≡ ones_between (seen_as wanted m).bit lo top
   in_word =
       let fo = f in
       let w : ℕ → Bool = word_bit base word in
@@ -63,19 +63,19 @@ module _ (n : ℕ) (m : Meaning) (base lo end : ℕ) (bytes : List ℕ) (word : 
       let two : ones_between w lo (base + 64) ≡ ones_between w lo top ++ ones_between w top (base + 64) =
       ones_between-append w lo top (base + 64) c d in
       let none2 : ones_between w top (base + 64) ≡ [] = ones_between-false w top (base + 64) (λ k a b. past k a b (omega arith)) in
-      let three : ones_between w lo top ≡ ones_between m.bit lo top = ones_between-same w m.bit lo top same in
-      rw (one, none, two, none2, three) (append-nil (ones_between m.bit lo top))
+      let three : ones_between w lo top ≡ ones_between (seen_as wanted m).bit lo top = ones_between-same w (seen_as wanted m).bit lo top same in
+      rw (one, none, two, none2, three) (append-nil (ones_between (seen_as wanted m).bit lo top))
 
   -- what is left after the load is what was left before it
-  pub left_loaded : left_from n m base word end ≡ ones_between m.bit lo end
+  pub left_loaded : left_from n (seen_as wanted m) base word end ≡ ones_between (seen_as wanted m).bit lo end
   left_loaded =
-      let w : ones_between (word_bit base word) base (base + 64) ≡ ones_between m.bit lo top = in_word in
+      let w : ones_between (word_bit base word) base (base + 64) ≡ ones_between (seen_as wanted m).bit lo top = in_word in
       ⊎_elim
-      (λ (lt : next < end). let e : top ≡ next = omega arith in rw (w, e) (sym (ones_between-append m.bit lo next end (omega arith) (omega arith))))
+      (λ (lt : next < end). let e : top ≡ next = omega arith in rw (w, e) (sym (ones_between-append (seen_as wanted m).bit lo next end (omega arith) (omega arith))))
       (λ (ge : end ≤ next).
       let e : top ≡ end = omega arith in
-      let none : ones_between m.bit next end ≡ [] = ones_between-none m.bit next end ge in
-      rw (w, e, none) (append-nil (ones_between m.bit lo end)))
+      let none : ones_between (seen_as wanted m).bit next end ≡ [] = ones_between-none (seen_as wanted m).bit next end ge in
+      rw (w, e, none) (append-nil (ones_between (seen_as wanted m).bit lo end)))
       (cases_lt next end)
 
 -- ---- a word with no bit left
@@ -109,14 +109,14 @@ pub masked_cut : (word masked k base end : ℕ) → IsMasked word masked k → I
 masked_cut word masked k base end m c i h a = masked_false word masked k i m h (c i h a)
 
 -- the first word without its bits before the range
-pub first_loaded : (n first end : ℕ) (bytes : List ℕ) (word masked : ℕ) → 0 < n →
+pub first_loaded : (n first end : ℕ) (wanted : Bool) (bytes : List ℕ) (word masked : ℕ) → 0 < n →
     ((i : ℕ) → i < 64 → word_start n first + i < end → word_start n first % (8 * n) + i < 8 * n
-    → eqb (bit_at word i) 1 ≡ chunk_bit n bytes (word_start n first % (8 * n) + i)) →
+    → eqb (bit_at word i) 1 ≡ is_wanted wanted (chunk_bit n bytes (word_start n first % (8 * n) + i))) →
     ((i : ℕ) → i < 64 → 8 * n ≤ word_start n first % (8 * n) + i → eqb (bit_at word i) 1 ≡ false) →
     IsCut (word_start n first) word end →
     IsMasked word masked (first - word_start n first) →
-    IsLoaded n (word_start n first) first end bytes masked
-first_loaded n first end bytes word masked p inside past_chunk past_end m =
+    IsLoaded n (word_start n first) first end wanted bytes masked
+first_loaded n first end wanted bytes word masked p inside past_chunk past_end m =
     let k : ℕ = first - word_start n first in
     let l : first % (8 * n) ≤ first = omega (arith, div-add-mod' first (8 * n)) in
     record {

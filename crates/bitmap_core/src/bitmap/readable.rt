@@ -19,8 +19,12 @@ mod dense;
 pub mod loads;
 mod ones;
 mod prunable;
+mod search;
+pub mod searches;
 
 pub use crate::bitmap::readable::ones::OnesIter;
+use crate::bitmap::readable::ones::first_from;
+use crate::bitmap::readable::search::{count_ones, last_below, nth_one};
 use crate::chunk;
 use std::ops::Range;
 
@@ -33,7 +37,7 @@ use std::ops::Range;
 /// It promises that `N` is at least 1, that `8N` and the length fit `u64`, and that no more is pruned than the length.
 /// The answers are of the same bitmap as long as the value is borrowed.
 /// The bits of a chunk at or past the length may be any: no reader looks at them.
-/// The other five functions follow, and cannot be replaced. They take no memory of their own.
+/// The other functions follow, and cannot be replaced. They take no memory of their own.
 /// Over `BitMap` and `Prunable` no function takes any.
 ///
 /// A caller for any `N` asks for `len()` before it goes over set positions: that tells its proof how large `N` may be.
@@ -75,7 +79,8 @@ use std::ops::Range;
 /// }
 /// ```
 pub trait Readable<const N: usize> {
-    ghost use Rattle.bitmap_core.specs.Meaning.{Meaning, IsLawful, IsRetained, IsRetainedChunk, ShowsChunk, ones, words};
+    ghost use Rattle.bitmap_core.specs.Meaning.{Meaning, IsLawful, IsRetained, IsRetainedChunk, ShowsChunk, ones, zeros, words};
+    ghost use Rattle.bitmap_core.specs.Searches.{next_one, next_zero, prev_one, prev_zero, ones_count, select_one};
 
     /// The bitmap that the value holds.
     ghost meaning: { Self → Meaning };
@@ -143,7 +148,7 @@ pub trait Readable<const N: usize> {
         ensures loads { result.loads ≤ result.words }
         ensures bound { length result.left < 2 ^ 64 }
     {
-        OnesIter::over(self, range)
+        OnesIter::over(self, self.len(), range, true)
     }
 
     /// The set positions among the retained ones from `pos` on, ascending. It asks as `ones_iter_range` does.
@@ -157,5 +162,91 @@ pub trait Readable<const N: usize> {
         ensures bound { length result.left < 2 ^ 64 }
     {
         self.ones_iter_range(pos..u64::MAX)
+    }
+
+    /// Returns an iterator over the positions among the retained ones in `range` whose bit is not set, ascending.
+    ///
+    /// An empty range has none, nor has a range that ends before it starts. The length is asked for once, here, and each chunk at most once.
+    final fn zeros_iter_range(&self, range: Range<u64>) -> OnesIter<'_, Self, N>
+    where
+        Self: Sized,
+        ensures positions { result.left ≡ zeros N (meaning self.now) range.start range.end }
+        ensures lawful { IsLawful N (meaning self.now) }
+        ensures words { result.words ≡ words N (meaning self.now) range.start range.end }
+        ensures loads { result.loads ≤ result.words }
+        ensures bound { length result.left < 2 ^ 64 }
+    {
+        OnesIter::over(self, self.len(), range, false)
+    }
+
+    /// Returns the least retained position at or above `from` whose bit is set, or `None` if there is none.
+    ///
+    /// The length is asked for once, and each chunk at most once. Does not allocate.
+    final fn next_one(&self, from: u64) -> Option<u64>
+    where
+        Self: Sized,
+        ensures { result ≡ next_one N (meaning self.now) from }
+    {
+        first_from(self, self.len(), from, true)
+    }
+
+    /// Returns the least retained position at or above `from` whose bit is not set, or `None` if there is none.
+    ///
+    /// It asks for what `next_one` asks for. Does not allocate.
+    final fn next_zero(&self, from: u64) -> Option<u64>
+    where
+        Self: Sized,
+        ensures { result ≡ next_zero N (meaning self.now) from }
+    {
+        first_from(self, self.len(), from, false)
+    }
+
+    /// Returns the greatest retained position below `end` whose bit is set, or `None` if there is none.
+    ///
+    /// The length is asked for once, and each chunk at most once. Does not allocate.
+    final fn prev_one(&self, end: u64) -> Option<u64>
+    where
+        Self: Sized,
+        ensures { result ≡ prev_one N (meaning self.now) end }
+    {
+        let end = end.min(self.len());
+        last_below(self, end, true)
+    }
+
+    /// Returns the greatest retained position below `end` whose bit is not set, or `None` if there is none.
+    ///
+    /// It asks for what `prev_one` asks for. Does not allocate.
+    final fn prev_zero(&self, end: u64) -> Option<u64>
+    where
+        Self: Sized,
+        ensures { result ≡ prev_zero N (meaning self.now) end }
+    {
+        let end = end.min(self.len());
+        last_below(self, end, false)
+    }
+
+    /// Returns the number of retained positions in `range` whose bit is set.
+    ///
+    /// An empty range has none, nor has a range that ends before it starts. The length is asked for once, and each chunk that the range meets once. Does not allocate.
+    final fn count_ones_range(&self, range: Range<u64>) -> u64
+    where
+        Self: Sized,
+        ensures { result ≡ ones_count N (meaning self.now) range.start range.end }
+    {
+        let end = range.end.min(self.len());
+        let first = range.start.max(self.pruned_bits());
+        count_ones(self, first, end)
+    }
+
+    /// Returns the retained position whose bit is set and that has `k` such positions below it, or `None` if there are at most `k`.
+    ///
+    /// The length is asked for once, and each chunk at most once. Does not allocate.
+    final fn select_one(&self, k: u64) -> Option<u64>
+    where
+        Self: Sized,
+        ensures { result ≡ select_one N (meaning self.now) k }
+    {
+        let len = self.len();
+        nth_one(self, self.pruned_bits(), len, k)
     }
 }

@@ -1,26 +1,29 @@
-//! The set positions of a range of any bitmap, by words of 64 bits.
+//! The positions of a range of any bitmap whose bit is set, or is not set, by words of 64 bits.
 
 ghost use Rattle.std.specs.Prelude.{◌≡◌, ◌≢◌, ℕ, ◌+◌, ◌*◌, ◌/◌, ◌%◌, ◌^◌, ◌<◌, ◌≤◌, ◌==◌, true, false, [], length, MatchBool};
 ghost use Rattle.std.specs.Int.{bit_at};
 ghost use Rattle.std.specs.Iterator.{YieldsFirst, item_count};
-ghost use Rattle.bitmap_bytes.specs.Chunk.{chunk_bit, IsWidth};
+ghost use Rattle.bitmap_bytes.specs.Chunk.{chunk_bit, is_wanted, IsWidth};
 ghost use Rattle.bitmap_bytes.specs.Words.{starts_word, next_word, IsCut};
-ghost use Rattle.bitmap_core.specs.Meaning.{left_from, IsScan, ones, ones_between, words, IsLawful, IsRetained, ShowsChunk};
+ghost use Rattle.bitmap_core.specs.Meaning.{left_from, IsScan, ones, ones_between, seen_as, words, IsLawful, IsRetained, ShowsChunk};
+ghost use Rattle.bitmap_core.specs.Searches.{first};
 
 use crate::bitmap::readable::Readable;
-use crate::chunk::load::{following_word, high_bits, take_lowest, word_base, word_below};
+use crate::chunk::load::{following_word, high_bits, take_lowest, wanted_below, word_base};
 use crate::chunk::{chunk_index, chunk_width};
 use std::marker::Model;
 use std::ops::Range;
 
-/// The set positions of a range, ascending, each once. It goes by words of 64 bits, and loads each at most once.
+/// The positions of a range whose bit is set, ascending, each once. The iterator of `zeros_iter_range` yields those whose bit is not set.
 ///
-/// After the last position it answers `None`, then and ever after. It takes no memory of its own.
+/// It goes by words of 64 bits, and loads each at most once. After the last position it always returns `None`. Does not allocate.
 #[derive(Drop)]
 pub struct OnesIter<'a, B: Readable<N>, const N: usize> {
     readable: &'a B,
     // The end of the range, at most the length.
     end: u64,
+    // Whether the set positions are wanted, and not the others.
+    wanted: bool,
     cursor: Cursor<N>,
 }
 
@@ -39,12 +42,12 @@ struct Cursor<const N: usize> {
 }
 
 impl<'a, B: Readable<N>, const N: usize> Model for OnesIter<'a, B, N> {
-    ghost use Rattle.bitmap_core.specs.Meaning.{IsIterating, Scan, left_from, words_between};
+    ghost use Rattle.bitmap_core.specs.Meaning.{IsIterating, Scan, left_from, seen_as, words_between};
 
     ghost Value = { Scan };
 
     ghost view = { λ s. record {
-      left = left_from N (B.meaning s.readable.now) s.cursor.base s.cursor.word s.end;
+      left = left_from N (seen_as s.wanted (B.meaning s.readable.now)) s.cursor.base s.cursor.word s.end;
       loads = s.cursor.loads;
       words = words_between N s.cursor.first s.end;
     } };
@@ -52,31 +55,42 @@ impl<'a, B: Readable<N>, const N: usize> Model for OnesIter<'a, B, N> {
     ghost invariant = { λ s. IsIterating N (B.meaning s.readable.now) s.cursor.base s.cursor.word s.end s.cursor.chunk s.cursor.loads s.cursor.first };
 }
 
-// The word at `base` of its chunk, with zeros from the end of the chunk and from `end` on. Each call counts as one load.
-fn load_word<const N: usize>(chunk: &[u8; N], base: u64, end: u64, loads: &mut u64) -> u64
+// The wanted bits of the word at `base` of its chunk, with zeros from the end of the chunk and from `end` on. Each call counts as one load.
+fn load_word<const N: usize>(
+    chunk: &[u8; N],
+    base: u64,
+    end: u64,
+    wanted: bool,
+    loads: &mut u64,
+) -> u64
     requires width { IsWidth N }
     requires start { starts_word N base ≡ true }
     requires below { base < end }
     requires room { loads.old + 1 < 2 ^ 64 }
-    ensures inside { (i : ℕ) → i < 64 → base + i < end → base % (8 * N) + i < 8 * N → (bit_at result i == 1) ≡ chunk_bit N chunk.now (base % (8 * N) + i) }
+    ensures inside { (i : ℕ) → i < 64 → base + i < end → base % (8 * N) + i < 8 * N → (bit_at result i == 1) ≡ is_wanted wanted (chunk_bit N chunk.now (base % (8 * N) + i)) }
     ensures past_chunk { (i : ℕ) → i < 64 → 8 * N ≤ base % (8 * N) + i → (bit_at result i == 1) ≡ false }
     ensures past_end { IsCut base result end }
     ensures counted { loads.new ≡ loads.old + 1 }
 {
     *loads += 1;
-    word_below(chunk, base, end)
+    wanted_below(chunk, base, end, wanted)
 }
 
 // Moves on to the next word with a bit that is not given yet, if there is one.
-fn advance<B: Readable<N>, const N: usize>(readable: &B, end: u64, cursor: &mut Cursor<N>) -> bool
+fn advance<B: Readable<N>, const N: usize>(
+    readable: &B,
+    end: u64,
+    wanted: bool,
+    cursor: &mut Cursor<N>,
+) -> bool
     requires scan { IsScan N (B.meaning readable.now) cursor.old.base end cursor.old.chunk cursor.old.loads cursor.old.first }
     requires cut { IsCut cursor.old.base cursor.old.word end }
     ensures scan { IsScan N (B.meaning readable.now) cursor.new.base end cursor.new.chunk cursor.new.loads cursor.new.first }
     ensures cut { IsCut cursor.new.base cursor.new.word end }
     ensures first { cursor.new.first ≡ cursor.old.first }
     ensures counted { cursor.old.loads ≤ cursor.new.loads }
-    ensures left { left_from N (B.meaning readable.now) cursor.new.base cursor.new.word end ≡ left_from N (B.meaning readable.now) cursor.old.base cursor.old.word end }
-    ensures found { MatchBool result (0 < cursor.new.word) (left_from N (B.meaning readable.now) cursor.new.base cursor.new.word end ≡ []) }
+    ensures left { left_from N (seen_as wanted (B.meaning readable.now)) cursor.new.base cursor.new.word end ≡ left_from N (seen_as wanted (B.meaning readable.now)) cursor.old.base cursor.old.word end }
+    ensures found { MatchBool result (0 < cursor.new.word) (left_from N (seen_as wanted (B.meaning readable.now)) cursor.new.base cursor.new.word end ≡ []) }
 {
     while cursor.word == 0 {
         let Some(next) = following_word::<N>(cursor.base) else {
@@ -85,7 +99,7 @@ fn advance<B: Readable<N>, const N: usize>(readable: &B, end: u64, cursor: &mut 
         if next >= end {
             return false;
         }
-        load_next(readable, end, next, cursor);
+        load_next(readable, end, wanted, next, cursor);
     }
     true
 }
@@ -107,6 +121,7 @@ fn turn_chunk<B: Readable<N>, const N: usize>(readable: &B, base: u64, chunk: &m
 fn load_next<B: Readable<N>, const N: usize>(
     readable: &B,
     end: u64,
+    wanted: bool,
     next: u64,
     cursor: &mut Cursor<N>,
 )
@@ -118,28 +133,30 @@ fn load_next<B: Readable<N>, const N: usize>(
     ensures first { cursor.new.first ≡ cursor.old.first }
     ensures base { cursor.new.base ≡ next }
     ensures counted { cursor.new.loads ≡ cursor.old.loads + 1 }
-    ensures left { left_from N (B.meaning readable.now) cursor.new.base cursor.new.word end ≡ ones_between (B.meaning readable.now).bit next end }
+    ensures left { left_from N (seen_as wanted (B.meaning readable.now)) cursor.new.base cursor.new.word end ≡ ones_between (seen_as wanted (B.meaning readable.now)).bit next end }
 {
     turn_chunk(readable, next, &mut cursor.chunk);
     cursor.base = next;
-    cursor.word = load_word(&cursor.chunk, next, end, &mut cursor.loads);
+    cursor.word = load_word(&cursor.chunk, next, end, wanted, &mut cursor.loads);
 }
 
 impl<'a, B: Readable<N>, const N: usize> OnesIter<'a, B, N> {
-    // The set positions in a range. It asks for the length once, and for the first chunk.
-    pub(crate) fn over(readable: &'a B, range: Range<u64>) -> Self
-        ensures positions { result.left ≡ ones N (B.meaning readable.now) range.start range.end }
-        ensures lawful { IsLawful N (B.meaning readable.now) }
+    // The wanted positions in a range of a bitmap of length `len`. It asks for the first chunk.
+    pub(crate) fn over(readable: &'a B, len: u64, range: Range<u64>, wanted: bool) -> Self
+        requires lawful { IsLawful N (B.meaning readable.now) }
+        requires len { len ≡ (B.meaning readable.now).len }
+        ensures positions { result.left ≡ ones N (seen_as wanted (B.meaning readable.now)) range.start range.end }
         ensures words { result.words ≡ words N (B.meaning readable.now) range.start range.end }
         ensures loads { result.loads ≤ result.words }
         ensures bound { length result.left < 2 ^ 64 }
     {
-        let end = range.end.min(readable.len());
+        let end = range.end.min(len);
         let position = range.start.max(readable.pruned_bits());
         if position >= end {
             return OnesIter {
                 readable,
                 end,
+                wanted,
                 cursor: Cursor {
                     first: position,
                     base: end,
@@ -152,10 +169,11 @@ impl<'a, B: Readable<N>, const N: usize> OnesIter<'a, B, N> {
         let base = word_base::<N>(position);
         let chunk = readable.get_chunk(chunk_index::<N>(position));
         let mut loads = 0;
-        let word = load_word(&chunk, base, end, &mut loads);
+        let word = load_word(&chunk, base, end, wanted, &mut loads);
         OnesIter {
             readable,
             end,
+            wanted,
             cursor: Cursor {
                 first: position,
                 base,
@@ -172,7 +190,7 @@ impl<'a, B: Readable<N>, const N: usize> OnesIter<'a, B, N> {
         ensures grows { self.old.loads ≤ self.new.loads }
         ensures range { self.new.words ≡ self.old.words }
     {
-        if !advance(self.readable, self.end, &mut self.cursor) {
+        if !advance(self.readable, self.end, self.wanted, &mut self.cursor) {
             return None;
         }
         let place = take_lowest(&mut self.cursor.word);
@@ -185,6 +203,21 @@ impl<'a, B: Readable<N>, const N: usize> OnesIter<'a, B, N> {
     {
         let _ = &self.end;
     }
+}
+
+// The first wanted position from `from` on of a bitmap of length `len`.
+pub(crate) fn first_from<B: Readable<N>, const N: usize>(
+    readable: &B,
+    len: u64,
+    from: u64,
+    wanted: bool,
+) -> Option<u64>
+    requires lawful { IsLawful N (B.meaning readable.now) }
+    requires len { len ≡ (B.meaning readable.now).len }
+    ensures { result ≡ first (ones N (seen_as wanted (B.meaning readable.now)) from (B.meaning readable.now).len) }
+{
+    let mut positions = OnesIter::over(readable, len, from..len, wanted);
+    positions.step()
 }
 
 impl<'a, B: Readable<N>, const N: usize> Iterator for OnesIter<'a, B, N> {

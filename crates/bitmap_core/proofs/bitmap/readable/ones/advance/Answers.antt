@@ -1,17 +1,18 @@
 use Rattle.std.proofs.Common.{◌∙◌, arith}
+use Rattle.bitmap_core.specs.Meaning.{seen_as}
 use Rattle.bitmap_core.proofs.Words.Loaded.{left_none, left_moved}
 use Rattle.bitmap_core.proofs.bitmap.readable.ones.advance.Goals as goal
 
 pub returns-in_default-clause-found : goal.returns-in_default-clause-found
 returns-in_default-clause-found g c =
     let loop = c.loop-cursor in
-    left_none _ (g.B.Readable.meaning c.args.readable.now) loop.cursor.base loop.cursor.word c.args.end c.loop-cursor-test.true
+    left_none _ (seen_as c.args.wanted (g.B.Readable.meaning c.args.readable.now)) loop.cursor.base loop.cursor.word c.args.end c.loop-cursor-test.true
     (omega (arith, c.in_default.ensures, c.ranges.end.fits))
 
 pub returns-then-next-end-clause-found : goal.returns-then-next-end-clause-found
 returns-then-next-end-clause-found g c =
     let loop = c.loop-cursor in
-    left_none _ (g.B.Readable.meaning c.args.readable.now) loop.cursor.base loop.cursor.word c.args.end c.loop-cursor-test.true
+    left_none _ (seen_as c.args.wanted (g.B.Readable.meaning c.args.readable.now)) loop.cursor.base loop.cursor.word c.args.end c.loop-cursor-test.true
     (omega (arith, c.in-Some.ensures, c.if-next-end.true))
 
 pub loop-cursor-preserved : goal.loop-cursor-preserved
@@ -24,5 +25,5 @@ loop-cursor-preserved g c =
       counted = omega (arith, c.load_next.ensures.counted, loop.invariant.counted);
       left =
           left_moved _
-          (g.B.Readable.meaning c.args.readable.now) loop.cursor.base loop.cursor.word c.args.end c.in-Some.next _ _ c.loop-cursor-test.true c.in-Some.ensures c.load_next.ensures.left loop.invariant.left;
+          (seen_as c.args.wanted (g.B.Readable.meaning c.args.readable.now)) loop.cursor.base loop.cursor.word c.args.end c.in-Some.next _ _ c.loop-cursor-test.true c.in-Some.ensures c.load_next.ensures.left loop.invariant.left;
     }

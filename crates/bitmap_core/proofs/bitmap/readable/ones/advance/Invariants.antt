@@ -1,6 +1,6 @@
 use Rattle.std.proofs.Common.{◌-◌, ◌≡◌, ◌≤◌}
 use Rattle.bitmap_bytes.specs.Words.{IsCut}
-use Rattle.bitmap_core.specs.Meaning.{Meaning, IsScan, left_from}
+use Rattle.bitmap_core.specs.Meaning.{Meaning, IsScan, left_from, seen_as}
 use Rattle.bitmap_core.proofs.bitmap.readable.ones.advance.Given as goal
 
 abbrev pub invariant-loop-cursor : goal.invariant-loop-cursor
@@ -11,7 +11,7 @@ invariant-loop-cursor g l =
       cut : IsCut l.cursor.base l.cursor.word l.end;
       first : l.cursor.first ≡ l.initial.cursor.first;
       counted : l.initial.cursor.loads ≤ l.cursor.loads;
-      left : left_from g.row.N m l.cursor.base l.cursor.word l.end ≡ left_from g.row.N m l.initial.cursor.base l.initial.cursor.word l.end;
+      left : left_from g.row.N (seen_as l.wanted m) l.cursor.base l.cursor.word l.end ≡ left_from g.row.N (seen_as l.wanted m) l.initial.cursor.base l.initial.cursor.word l.end;
     }
 
 abbrev pub decreases-loop-cursor : goal.decreases-loop-cursor

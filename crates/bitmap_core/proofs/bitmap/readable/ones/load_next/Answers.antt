@@ -21,7 +21,7 @@ returns-clause-scan g c =
 pub returns-clause-left : goal.returns-clause-left
 returns-clause-left g c =
     let s = step c.requires.scan c.requires.next c.requires.inside c.ranges.end.fits in
-    left_loaded g.row.N (g.B.Readable.meaning c.args.readable.now) c.args.next c.args.next c.args.end c.turn_chunk.new.chunk c.load_word-cursor.result
+    left_loaded g.row.N (g.B.Readable.meaning c.args.readable.now) c.args.next c.args.next c.args.end c.args.wanted c.turn_chunk.new.chunk c.load_word-cursor.result
     c.requires.scan.lawful.width.positive s.starts (omega arith) c.requires.inside c.requires.scan.within s.near c.turn_chunk.ensures.shown
     (record {
       inside = λ i h a. c.load_word-cursor.ensures.inside i h;

@@ -1,6 +1,6 @@
 use Rattle.std.proofs.Common.{ℕ, ◌-◌, ◌*◌, ◌/◌, min, max, sym, ◌∙◌, ap, arith, refl}
 use Rattle.bitmap_bytes.specs.Words.{word_start}
-use Rattle.bitmap_core.specs.Meaning.{Meaning, ShowsChunk}
+use Rattle.bitmap_core.specs.Meaning.{Meaning, ShowsChunk, seen_as}
 use Rattle.bitmap_core.proofs.Lists.SetPositions.{ones_between-none, ones_between-at, ones_fit}
 use Rattle.bitmap_bytes.proofs.Words.Starts.{start_of, start_near, start_chunk, end_near}
 use Rattle.bitmap_core.proofs.Words.Loaded.{IsMasked, masked_cut, left_none, left_loaded, first_loaded}
@@ -11,18 +11,18 @@ use Rattle.bitmap_core.proofs.bitmap.readable.ones.OnesIter.over.Goals.{After-hi
 
 pub returns-then-position-end-clause-positions : goal.returns-then-position-end-clause-positions
 returns-then-position-end-clause-positions g c =
-    let m : Meaning = g.B.Readable.meaning c.args.readable.now in
-    let p = c.len.ensures.lawful.width.positive in
+    let m : Meaning = seen_as c.args.wanted (g.B.Readable.meaning c.args.readable.now) in
+    let p = c.requires.lawful.width.positive in
     left_none g.row.N m c.min-end.result 0 c.min-end.result refl (omega (arith, end_near g.row.N c.min-end.result p))
     ∙ sym (ones_between-none m.bit (max c.args.range.start (8 * g.row.N * m.pruned)) (min c.args.range.end m.len)
-    (omega (arith, c.if-position-end.true, c.max-position.ensures, c.min-end.ensures, c.pruned_bits.ensures, c.len.ensures.value)))
+    (omega (arith, c.if-position-end.true, c.max-position.ensures, c.min-end.ensures, c.pruned_bits.ensures, c.requires.len)))
 
 pub load_word-word-requires : goal.load_word-word-requires
 load_word-word-requires g c =
-    let p = c.len.ensures.lawful.width.positive in
+    let p = c.requires.lawful.width.positive in
     let below = c.if-position-end.false in (
       omega arith,
-      (c.len.ensures.lawful.width, rw c.word_base-base.ensures (start_of g.row.N c.max-position.result p, (omega (arith, below), omega arith))),
+      (c.requires.lawful.width, rw c.word_base-base.ensures (start_of g.row.N c.max-position.result p, (omega (arith, below), omega arith))),
     )
 
 masked : (g : Over) (c : After-high_bits g)
@@ -38,33 +38,33 @@ pub invariant_of-result-2 : goal.invariant_of-result-2
 invariant_of-result-2 g c =
     let m : Meaning = g.B.Readable.meaning c.args.readable.now in
     rw (c.word_base-base.ensures, c.load_word-word.ensures.counted) (record {
-      scan = first_scan g.row.N m c.max-position.result c.min-end.result c.get_chunk-chunk.result c.len.ensures.lawful
-          (omega (arith, c.len.ensures.value)) c.if-position-end.false (omega (arith, c.pruned_bits.ensures)) (shown g c);
+      scan = first_scan g.row.N m c.max-position.result c.min-end.result c.get_chunk-chunk.result c.requires.lawful
+          (omega (arith, c.requires.len)) c.if-position-end.false (omega (arith, c.pruned_bits.ensures)) (shown g c);
       cut = masked_cut _ _ _ _ _ (masked g c) (rw c.word_base-base.ensures at c.load_word-word.ensures.past_end);
     })
 
 pub returns-clause-positions : goal.returns-clause-positions
 returns-clause-positions g c =
     let m : Meaning = g.B.Readable.meaning c.args.readable.now in
-    let p = c.len.ensures.lawful.width.positive in
-    rw c.word_base-base.ensures (left_loaded _ m (word_start _ _) c.max-position.result c.min-end.result c.get_chunk-chunk.result c.high_bits.result
-    p (start_of _ _ p) (omega arith) c.if-position-end.false (omega (arith, c.len.ensures.value)) (start_near _ _ p)
+    let p = c.requires.lawful.width.positive in
+    rw c.word_base-base.ensures (left_loaded _ m (word_start _ _) c.max-position.result c.min-end.result c.args.wanted c.get_chunk-chunk.result c.high_bits.result
+    p (start_of _ _ p) (omega arith) c.if-position-end.false (omega (arith, c.requires.len)) (start_near _ _ p)
     (rw (start_chunk g.row.N c.max-position.result p) (shown g c))
-    (first_loaded g.row.N c.max-position.result c.min-end.result c.get_chunk-chunk.result c.load_word-word.result c.high_bits.result p
+    (first_loaded g.row.N c.max-position.result c.min-end.result c.args.wanted c.get_chunk-chunk.result c.load_word-word.result c.high_bits.result p
     (rw c.word_base-base.ensures at c.load_word-word.ensures.inside) (rw c.word_base-base.ensures at c.load_word-word.ensures.past_chunk)
     (rw c.word_base-base.ensures at c.load_word-word.ensures.past_end) (masked g c)))
-    ∙ ones_between-at m.bit c.max-position.result (max c.args.range.start (8 * g.row.N * m.pruned)) c.min-end.result (min c.args.range.end m.len)
+    ∙ ones_between-at (seen_as c.args.wanted m).bit c.max-position.result (max c.args.range.start (8 * g.row.N * m.pruned)) c.min-end.result (min c.args.range.end m.len)
     (c.max-position.ensures ∙ ap (λ (k : ℕ). max c.args.range.start k) c.pruned_bits.ensures)
-    (c.min-end.ensures ∙ ap (λ (k : ℕ). min c.args.range.end k) c.len.ensures.value)
+    (c.min-end.ensures ∙ ap (λ (k : ℕ). min c.args.range.end k) c.requires.len)
 
 pub returns-clause-loads : goal.returns-clause-loads
 returns-clause-loads g c =
-    rw c.load_word-word.ensures.counted (omega (arith, counted_first _ _ _ c.len.ensures.lawful.width.positive c.if-position-end.false))
+    rw c.load_word-word.ensures.counted (omega (arith, counted_first _ _ _ c.requires.lawful.width.positive c.if-position-end.false))
 
 pub returns-then-position-end-clause-bound : goal.returns-then-position-end-clause-bound
 returns-then-position-end-clause-bound g c =
-    rw (returns-then-position-end-clause-positions g c) (ones_fit _ _ c.args.range.start c.args.range.end c.len.ensures.lawful.len_fits)
+    rw (returns-then-position-end-clause-positions g c) (ones_fit _ _ c.args.range.start c.args.range.end c.requires.lawful.len_fits)
 
 pub returns-clause-bound : goal.returns-clause-bound
 returns-clause-bound g c =
-    rw (returns-clause-positions g c) (ones_fit _ _ c.args.range.start c.args.range.end c.len.ensures.lawful.len_fits)
+    rw (returns-clause-positions g c) (ones_fit _ _ c.args.range.start c.args.range.end c.requires.lawful.len_fits)

@@ -1,5 +1,5 @@
 use Rattle.std.proofs.Common.{◌≡◌, ◌+◌, ◌∷◌, ap}
-use Rattle.bitmap_core.specs.Meaning.{Scan, left_from}
+use Rattle.bitmap_core.specs.Meaning.{Scan, left_from, seen_as}
 use Rattle.bitmap_core.proofs.Words.Loaded.{IsLowestTaken, left_taken}
 use Rattle.bitmap_core.proofs.bitmap.readable.ones.OnesIter.step.Goals as goal
 use Rattle.bitmap_core.proofs.bitmap.readable.ones.OnesIter.step.Given.{Over}
@@ -8,14 +8,14 @@ use Rattle.bitmap_core.proofs.bitmap.readable.ones.OnesIter.step.Goals.{After-ta
 first : (g : Over) (c : After-take_lowest-place g) →
     c.args.self.now.left
     ≡ (c.advance.new.cursor.base + c.take_lowest-place.result)
-    ∷ left_from g.row.N (g.B.Readable.meaning c.self.inside.readable.now) c.advance.new.cursor.base c.take_lowest-place.new.word c.self.inside.end
+    ∷ left_from g.row.N (seen_as c.self.inside.wanted (g.B.Readable.meaning c.self.inside.readable.now)) c.advance.new.cursor.base c.take_lowest-place.new.word c.self.inside.end
 first g c =
     let e = c.take_lowest-place.ensures in
     let t : IsLowestTaken c.advance.new.cursor.word c.take_lowest-place.new.word c.take_lowest-place.result =
     record { within = e.within; set = e.set; lowest = e.lowest; cleared = e.cleared; others = e.others } in
     left_taken c.advance.new.cursor.word c.take_lowest-place.new.word c.take_lowest-place.result t g.row.N
-    (g.B.Readable.meaning c.self.inside.readable.now) c.advance.new.cursor.base c.self.inside.end
-    (left_from g.row.N (g.B.Readable.meaning c.self.inside.readable.now) c.self.inside.cursor.base c.self.inside.cursor.word c.self.inside.end)
+    (seen_as c.self.inside.wanted (g.B.Readable.meaning c.self.inside.readable.now)) c.advance.new.cursor.base c.self.inside.end
+    (left_from g.row.N (seen_as c.self.inside.wanted (g.B.Readable.meaning c.self.inside.readable.now)) c.self.inside.cursor.base c.self.inside.cursor.word c.self.inside.end)
     c.args.self.now.left c.advance.ensures.left (ap (λ (s : Scan). s.left) c.self.view_is)
 
 pub returns-clause-steps : goal.returns-clause-steps

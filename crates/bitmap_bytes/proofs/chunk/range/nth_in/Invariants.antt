@@ -1,0 +1,14 @@
+use Rattle.std.proofs.Common.{◌≡◌, ◌+◌, ◌-◌, ◌≤◌, max}
+use Rattle.bitmap_bytes.specs.Chunk.{chunk_bit}
+use Rattle.bitmap_bytes.proofs.Counting.Ones.{ones_from}
+use Rattle.bitmap_bytes.proofs.chunk.range.nth_in.Given as goal
+
+abbrev pub invariant-loop-at : goal.invariant-loop-at
+invariant-loop-at g l = record {
+  low : l.from ≤ l.at;
+  high : l.at ≤ max l.from l.to;
+  counted : l.left + ones_from (chunk_bit g.row.N l.chunk) l.from (l.at - l.from) ≡ l.k;
+}
+
+abbrev pub decreases-loop-at : goal.decreases-loop-at
+decreases-loop-at g l = l.to - l.at

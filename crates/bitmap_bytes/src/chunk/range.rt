@@ -1,0 +1,99 @@
+//! Counts and searches in a range of the bits of one chunk, by words of 64 bits.
+
+ghost use Rattle.std.specs.Prelude.{◌≡◌, ℕ, ◌+◌, ◌-◌, ◌*◌, ◌%◌, ◌^◌, ◌<◌, ◌≤◌, false, min, MatchOption};
+ghost use Rattle.std.specs.List.{count_by, range_with_len};
+ghost use Rattle.bitmap_bytes.specs.Chunk.{chunk_bit, is_wanted, IsLastBelow, IsNth, IsWidth};
+ghost use Rattle.bitmap_bytes.specs.Words.{IsPart};
+
+use crate::chunk::load::{high_bits, highest, nth_one, wanted_below, word_below};
+use crate::chunk::words::count_ones;
+
+/// Returns the number of set bits of a chunk from bit `from` on and below bit `to`, which is at most `8N`. Does not allocate.
+///
+/// If `from` is not below `to`, the number is 0. A whole chunk is counted as fast as `words::count_ones` counts its bytes.
+pub fn ones_in<const N: usize>(chunk: &[u8; N], from: u64, to: u64) -> u64
+    requires width { IsWidth N }
+    requires within { to ≤ 8 * N }
+    ensures { result ≡ count_by (chunk_bit N chunk.now) (range_with_len from (to - from)) }
+{
+    if from == 0 && to == 8 * N as u64 {
+        return all_ones(chunk);
+    }
+    some_ones(chunk, from, to)
+}
+
+// The number of set bits of a whole chunk.
+fn all_ones<const N: usize>(chunk: &[u8; N]) -> u64
+    requires width { IsWidth N }
+    ensures { result ≡ count_by (chunk_bit N chunk.now) (range_with_len 0 (8 * N)) }
+{
+    count_ones(&chunk[..])
+}
+
+// The number of set bits of a part of a chunk, one word per turn.
+fn some_ones<const N: usize>(chunk: &[u8; N], from: u64, to: u64) -> u64
+    requires width { IsWidth N }
+    requires within { to ≤ 8 * N }
+    ensures { result ≡ count_by (chunk_bit N chunk.now) (range_with_len from (to - from)) }
+{
+    let mut total = 0;
+    let mut at = from;
+    while at < to {
+        total += part_word(chunk, at, to).count_ones() as u64;
+        at += (64 - at % 64).min(to - at);
+    }
+    total
+}
+
+// The bits from bit `at` on and below bit `to` in the word that has bit `at`.
+fn part_word<const N: usize>(chunk: &[u8; N], at: u64, to: u64) -> u64
+    requires width { IsWidth N }
+    requires below { at < to }
+    requires within { to ≤ 8 * N }
+    ensures { IsPart (chunk_bit N chunk.now) (at - at % 64) result at to }
+{
+    let place = at % 64;
+    high_bits(word_below(chunk, at - place, to), place)
+}
+
+/// Returns the set bit of a chunk from bit `from` on and below bit `to`, which is at most `8N`, that has `k` set bits between `from` and itself.
+///
+/// Returns `None` if the range has at most `k` set bits. Does not allocate.
+pub fn nth_in<const N: usize>(chunk: &[u8; N], from: u64, to: u64, k: u64) -> Option<u64>
+    requires width { IsWidth N }
+    requires within { to ≤ 8 * N }
+    ensures { MatchOption result (count_by (chunk_bit N chunk.now) (range_with_len from (to - from)) ≤ k) (IsNth (chunk_bit N chunk.now) from to k) }
+{
+    let mut left = k;
+    let mut at = from;
+    while at < to {
+        let word = part_word(chunk, at, to);
+        let count = word.count_ones() as u64;
+        if left < count {
+            return Some(at - at % 64 + nth_one(word, left));
+        }
+        left -= count;
+        at += (64 - at % 64).min(to - at);
+    }
+    None
+}
+
+/// Returns the greatest bit of a chunk below bit `to`, which is at most `8N`, that is set, or, if `wanted` is false, that is not set. Does not allocate.
+///
+/// Returns `None` if there is no such bit.
+pub fn last_in<const N: usize>(chunk: &[u8; N], to: u64, wanted: bool) -> Option<u64>
+    requires width { IsWidth N }
+    requires within { to ≤ 8 * N }
+    ensures { MatchOption result ((i : ℕ) → i < to → is_wanted wanted (chunk_bit N chunk.now i) ≡ false) (λ k. IsLastBelow (λ i. is_wanted wanted (chunk_bit N chunk.now i)) to k) }
+{
+    let mut top = to;
+    while top > 0 {
+        let base = top - 1 - (top - 1) % 64;
+        let word = wanted_below(chunk, base, top, wanted);
+        if word != 0 {
+            return Some(base + highest(word));
+        }
+        top = base;
+    }
+    None
+}

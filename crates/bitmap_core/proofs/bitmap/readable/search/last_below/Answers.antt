@@ -1,0 +1,36 @@
+use Rattle.std.proofs.Common.{sym, arith}
+use Rattle.bitmap_core.specs.Meaning.{seen_as}
+use Rattle.bitmap_core.proofs.Searches.{none_below, found_below, base_retained, get_last, last_none}
+use Rattle.bitmap_core.proofs.bitmap.readable.search.last_below.Goals as goal
+
+pub returns-in-Some : goal.returns-in-Some
+returns-in-Some g c =
+    let m = g.B.Readable.meaning c.args.readable.now in
+    let p = c.requires.lawful.width.positive in
+    let loop = c.loop-top.invariant in
+    let some = c.loop-top-test.true in
+    let shown = rw c.chunk_index.ensures at c.get_chunk-chunk.ensures in
+    let low = base_retained g.row.N m c.args.wanted c.loop-top.top c.args.end c.get_chunk-chunk.result p (omega arith) loop.high c.requires.within shown loop.none
+    (omega (arith, c.pruned_bits-first.ensures)) in
+    sym (get_last (seen_as c.args.wanted m).bit _ c.args.end _ (omega (arith, low))
+    (found_below g.row.N m c.args.wanted c.loop-top.top c.args.end c.get_chunk-chunk.result p (omega arith) loop.high c.requires.within shown loop.none
+    c.in-Some.bit c.in-Some.ensures))
+
+pub loop-top-preserved : goal.loop-top-preserved
+loop-top-preserved g c =
+    let m = g.B.Readable.meaning c.args.readable.now in
+    let p = c.requires.lawful.width.positive in
+    let loop = c.loop-top.invariant in
+    let some = c.loop-top-test.true in
+    let shown = rw c.chunk_index.ensures at c.get_chunk-chunk.ensures in
+    record {
+      high = omega (arith, loop.high);
+      none =
+          none_below g.row.N m c.args.wanted c.loop-top.top c.args.end c.get_chunk-chunk.result p (omega arith) loop.high c.requires.within shown loop.none
+          c.in_default.ensures;
+    }
+
+pub returns : goal.returns
+returns g c =
+    let m = g.B.Readable.meaning c.args.readable.now in
+    sym (last_none (seen_as c.args.wanted m).bit _ c.args.end c.loop-top.top (omega (arith, c.pruned_bits-first.ensures, c.loop-top-test.false)) c.loop-top.invariant.none)
