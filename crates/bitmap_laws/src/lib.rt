@@ -22,6 +22,7 @@
 
 pub mod batches;
 pub mod bitwise;
+pub mod changes;
 pub mod codec;
 pub mod commits;
 pub mod going_back;

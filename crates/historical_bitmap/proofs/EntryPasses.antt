@@ -58,7 +58,7 @@ value_at {N = N} (x ∷ xs) zero e is = ap (λ (y : ℕ × ChunkDiff N). (y.0, d
 value_at (x ∷ xs) (suc i) e is = value_at xs i e is
 
 -- the key at a place
-key_at : {N : ℕ} (xs : List (ℕ × ChunkDiff N)) (i : ℕ) (e : ℕ × ChunkDiff N) → i < length xs → e ≡ get_or xs i e → get_or (keys_of (entry_values xs)) i 0 ≡ e.0
+pub key_at : {N : ℕ} (xs : List (ℕ × ChunkDiff N)) (i : ℕ) (e : ℕ × ChunkDiff N) → i < length xs → e ≡ get_or xs i e → get_or (keys_of (entry_values xs)) i 0 ≡ e.0
 key_at [] i e l is = absurd (omega (arith, l))
 key_at (x ∷ xs) zero e l is = ap (λ y. y.0) (sym is)
 key_at (x ∷ xs) (suc i) e l is = key_at xs i e (omega arith) is
@@ -66,7 +66,7 @@ key_at (x ∷ xs) (suc i) e l is = key_at xs i e (omega arith) is
 pub values_len : {N : ℕ} (xs : List (ℕ × ChunkDiff N)) → length (entry_values xs) ≡ length xs
 values_len xs = length-map xs _
 
-keys_len : {N : ℕ} (xs : List (ℕ × ChunkDiff N)) → length (keys_of (entry_values xs)) ≡ length xs
+pub keys_len : {N : ℕ} (xs : List (ℕ × ChunkDiff N)) → length (keys_of (entry_values xs)) ≡ length xs
 keys_len xs = length-map (entry_values xs) _ ∙ values_len xs
 
 module _ {N : ℕ} (xs : List (ℕ × ChunkDiff N)) (i : ℕ) (e : ℕ × ChunkDiff N) (within : i < length xs) (is : e ≡ get_or xs i e) where

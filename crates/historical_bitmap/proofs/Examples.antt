@@ -8,3 +8,4 @@ pub mod MixedBatch
 pub mod Views
 pub mod Applied
 pub mod HeldEntries
+pub mod Changes

@@ -69,6 +69,10 @@ numbers_from m (e ∷ es) = elim (cases_lt e.0 m) [
   | inr l ↦ rw (le-leb m e.0 l) (ap (λ numbers. e.0 ∷ numbers) (numbers_from m es))
 ]
 
+-- the numbers past one rise
+pub rise_past : {X : Type 0} (m : ℕ) (es : List (ℕ × X)) → RiseInNumber es → RiseInNumber (past_number m es)
+rise_past m es rise = rw (numbers_from (suc m) es) (IsStrictlySortedBy-filter nat_cmp (nat_le (suc m)) (keys_of es) rise)
+
 up_to_from : (m : ℕ) (numbers : List ℕ) (last : Option ℕ) → AreUpTo numbers last → AreUpTo (filter (nat_le m) numbers) last
 up_to_from m numbers None h = rw h refl
 up_to_from m numbers (Some last) h = (h.0, All-filter (nat_le m) (λ k. k ≤ last) numbers h.1)

@@ -24,4 +24,8 @@ pub mod PendingNext
 pub mod PendingWrites
 pub mod DirtyEdits
 pub mod NewCommits
+pub mod ChangedChunks
+pub mod NextChanges
+pub mod PendingChanges
+pub mod ChangeLaws
 pub mod Examples

@@ -135,7 +135,7 @@ split_at_number m (c ∷ cs) h =
     ]
 
 -- what was left by the last commit up to a number, seen from what the last of all left
-undone_rewound : (n m : ℕ) (cs : List (ℕ × Reverse)) (b : PrunedBits) → RiseInNumber cs → undone n (up_to_number m cs) (undone n (past_number m cs) b) ≡ undone n cs b
+pub undone_rewound : (n m : ℕ) (cs : List (ℕ × Reverse)) (b : PrunedBits) → RiseInNumber cs → undone n (up_to_number m cs) (undone n (past_number m cs) b) ≡ undone n cs b
 undone_rewound n m cs b h = sym (undone_append n (up_to_number m cs) (past_number m cs) b) ∙ ap (λ ds. undone n ds b) (sym (split_at_number m cs h))
 
 -- gone back to a number, the states up to it stay

@@ -85,6 +85,17 @@ old_of_marked n b l i pos high = rw (le-ltb i l.pruned high) (elim (cases_lt (8 
       clear = λ k e past. ap (λ j. chunk_bit n (chunk n b j) k) (sym e) ∙ (bit_in_chunk n b k pos ∙ bit_past n b k past);
     }
 
+-- a chunk that the record does not name is not edited
+unnamed_unedited : (n : ℕ) (b : PrunedBits) (l : Layer) (r : Reverse) → ReversesLayer n b l r → (i : ℕ) → lookup (nat_eq i) r.entries ≡ None → edited_chunk l i ≡ None
+unnamed_unedited n b l r h i none = elim (cases_Bool (is_member nat_eq (layer_marks n b l) i)) [
+  | inl e ↦ let some : lookup (nat_eq i) r.entries ≡ Some (diff_of n b l i) = h.entries i ∙ rw e refl in absurd (false≢true (sym (ap is_some none) ∙ ap is_some some))
+  | inr e ↦ not_edited (edited_chunk l i) refl e
+]
+  where
+    not_edited : (o : Option (List ℕ)) → edited_chunk l i ≡ o → is_member nat_eq (layer_marks n b l) i ≡ false → o ≡ None
+    not_edited None f e = refl
+    not_edited (Some bytes) f e = absurd (false≢true (sym e ∙ mark n b l i (inl (ap is_some f))))
+
 pub layer_can_undo : (n : ℕ) (b : PrunedBits) (l : Layer) (r : Reverse) → 0 < n → LayerFits n b l → ReversesLayer n b l r → CanUndo n r (pending_bits n b l)
 layer_can_undo n b l r pos fits h = record {
   rises = rw h.pruned fits.rises;
@@ -101,6 +112,11 @@ layer_can_undo n b l r pos fits h = record {
       let has : HasBit n b k = (rw h.pruned at low, rw h.len at high) in
       let led = (layer_leads_back n b l r pos fits h).chunks (k / (8 * n)) (has_chunk n b k pos has) in
       ((rw none at led) k refl has).0;
+  unnamed = λ k has none.
+      let inside : k < l.len = omega (arith, has.1, pending_len n b l pos fits) in
+      let front = mul-le (8 * n) b.pruned (8 * n) l.pruned (omega arith) fits.rises in
+      let there = fits.covered k has.0 inside (unnamed_unedited n b l r h (k / (8 * n)) none) in
+      (rw h.pruned (omega (arith, has.0, front)), rw h.len there);
   sorted = h.sorted;
 }
 

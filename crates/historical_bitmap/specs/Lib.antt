@@ -3,7 +3,9 @@ pub mod Record
 pub mod Stored
 pub mod Undo
 pub mod History
+pub mod Changes
 pub mod Pending
+pub mod Compared
 pub mod Held
 pub mod Run
 pub mod View

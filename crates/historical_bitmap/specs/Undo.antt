@@ -1,9 +1,9 @@
 -- A record undone step by step. A chunk has n bytes.
-use Rattle.std.specs.Prelude.{◌≡◌, ℕ, ◌*◌, ◌/◌, ◌<◌, ◌≤◌, false, List, [], ◌∷◌, map, if◌then◌else◌, nat_lt, nat_le, ◌&&◌, Option, Some, None, MatchOption, option_to_list, unwrap_or, IsSome}
+use Rattle.std.specs.Prelude.{◌≡◌, ℕ, ◌*◌, ◌/◌, ◌<◌, ◌≤◌, false, List, [], ◌∷◌, map, if◌then◌else◌, nat_eq, nat_lt, nat_le, ◌&&◌, Option, Some, None, MatchOption, option_to_list, unwrap_or, IsSome}
 use Rattle.std.specs.List.{filter, flat_map}
 use Rattle.std.specs.List.Sorted.{IsStrictlySortedBy}
 use Rattle.std.specs.Ordering.{nat_cmp}
-use Rattle.std.specs.Map.{keys_of}
+use Rattle.std.specs.Map.{keys_of, lookup}
 use Rattle.bitmap_bytes.specs.Chunk.{chunk_bit}
 use Rattle.bitmap_core.specs.PrunedBits.{PrunedBits, bit_len, HasBit, truncated, extended, unpruned, with_chunk}
 use Rattle.historical_bitmap.specs.Edits.{from_to}
@@ -40,11 +40,12 @@ pub record IsOldChunk (n : ℕ) (len : ℕ) (i : ℕ) (bytes : List ℕ) : Type 
   pub high : 8 * n * i < len
   pub clear : (k : ℕ) → k / (8 * n) ≡ i → len ≤ k → chunk_bit n bytes k ≡ false
 
--- a record can be undone: it keeps the bytes of each chunk that the commit pruned, the other bytes that it keeps may be put in place, and of a chunk of which it keeps none all bits stand in newer
+-- a record can be undone: it keeps the bytes of each chunk that the commit pruned, the other bytes that it keeps may be put in place, of a chunk of which it keeps none all bits stand in newer, and of a chunk that it does not name each bit in newer was retained before
 pub record CanUndo (n : ℕ) (r : Reverse) (newer : PrunedBits) : Type 0 where
   pub rises : r.pruned ≤ newer.pruned
   pub fits : 8 * n * r.pruned ≤ r.len
   pub pruned : (i : ℕ) → r.pruned ≤ i → i < newer.pruned → IsSome (kept r i)
   pub others : (i : ℕ) → newer.pruned ≤ i → MatchOption (kept r i) (Unit {0}) (IsOldChunk n r.len i)
   pub unkept : (k : ℕ) → 8 * n * r.pruned ≤ k → k < r.len → kept r (k / (8 * n)) ≡ None → HasBit n newer k
+  pub unnamed : (k : ℕ) → HasBit n newer k → lookup (nat_eq (k / (8 * n))) r.entries ≡ None → (8 * n * r.pruned ≤ k) × (k < r.len)
   pub sorted : IsStrictlySortedBy nat_cmp (keys_of r.entries)

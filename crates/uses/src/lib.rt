@@ -7,6 +7,7 @@ pub mod any_bitmap;
 pub mod byte_forms;
 #[cfg(test)]
 mod checks;
+pub mod chunks_to_send;
 pub mod free_slots;
 pub mod kept_bits;
 pub mod loops;

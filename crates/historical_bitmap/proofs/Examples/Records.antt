@@ -52,6 +52,7 @@ shorter_can = record {
   pruned = λ i low high. absurd (omega (arith, low, high));
   others = λ i low. other i;
   unkept = λ k low high none. absurd (none_unkept k high none);
+  unnamed = λ k has none. (omega arith, omega (arith, has.1));
   sorted = first_two;
 }
   where
@@ -86,6 +87,10 @@ bits_past_the_end_cannot can = absurd (false≢true (sym ((can.others 0 (omega a
 cut_off_cannot : CanUndo 1 (record { len = 12; pruned = 0; entries = [] }) shorter → ⊥
 cut_off_cannot can = omega (arith, (can.unkept 11 (omega arith) (omega arith) refl).1)
 
+-- nor one that does not name a chunk that the commit made
+made_unnamed_cannot : CanUndo 1 (record { len = 8; pruned = 0; entries = [] }) (record { pruned = 0; bits = replicate 16 true }) → ⊥
+made_unnamed_cannot can = omega (arith, (can.unnamed 8 (omega arith, omega arith) refl).1)
+
 -- a pruned chunk whose byte is kept comes back, and of the chunk behind it the bits stand
 behind_one_can : CanUndo 1 from_behind_one behind_one
 unfolding IsStrictlySortedBy
@@ -95,6 +100,7 @@ behind_one_can = record {
   pruned = λ i low high. let first : i ≡ 0 = omega (arith, high) in rw first refl;
   others = λ i low. rw (ne_eqb i 0 (λ e. omega (arith, low, e))) tt;
   unkept = λ k low high none. elim (cases_eq (k / 8) 0) [ inl a ↦ let e = rw a at none in cc | inr b ↦ (omega (arith, b), omega (arith, high)) ];
+  unnamed = λ k has none. (omega arith, omega (arith, has.1));
   sorted = (tt, tt);
 }
 
@@ -106,6 +112,7 @@ appended_and_pruned_can = record {
   pruned = λ i low high. elim (cases_eq i 0) [ inl a ↦ rw a refl | inr b ↦ let second : i ≡ 1 = omega (arith, high, b) in rw second refl ];
   others = λ i low. rw (ne_eqb i 0 (λ e. omega (arith, low, e)), ne_eqb i 1 (λ e. omega (arith, low, e))) tt;
   unkept = λ k low high none. let first : k / 8 ≡ 0 = omega (arith, high) in let e = rw first at none in cc;
+  unnamed = λ k has none. absurd (omega (arith, has.0, has.1));
   sorted = first_two;
 }
 
@@ -137,6 +144,7 @@ both_can = (pushed, (cut, tt))
       pruned = λ i low high. absurd (omega (arith, low, high));
       others = λ i low. elim (cases_eq i 1) [ inl a ↦ rw a tt | inr b ↦ rw (ne_eqb i 1 b) tt ];
       unkept = λ k low high none. (omega arith, omega (arith, high));
+      unnamed = λ k has none. elim (cases_eq (k / 8) 1) [ inl a ↦ let e = rw a at none in cc | inr b ↦ (omega arith, omega (arith, has.1, b)) ];
       sorted = (tt, tt);
     }
 
@@ -159,6 +167,7 @@ both_can = (pushed, (cut, tt))
         | inl a ↦ let e = rw a at none in cc
         | inr b ↦ let second : k / 8 ≡ 1 = omega (arith, high, b) in let e = rw second at none in cc
       ];
+      unnamed = λ k has none. (omega arith, omega (arith, has.1));
       sorted = first_two;
     }
 

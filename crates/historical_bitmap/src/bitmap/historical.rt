@@ -3,6 +3,7 @@
 mod apply;
 mod at;
 mod batch;
+mod changes;
 mod clean;
 mod commits;
 mod dirty;
@@ -11,15 +12,18 @@ mod edited;
 pub mod error;
 mod grown;
 mod pending;
+mod pending_changes;
 mod record;
 mod state;
 mod undo;
 
 pub use crate::bitmap::historical::at::AtCommit;
+pub use crate::bitmap::historical::changes::ChangedChunks;
 pub use crate::bitmap::historical::commits::{Commits, Numbers};
 pub use crate::bitmap::historical::edit::{Edit, Lent};
 pub use crate::bitmap::historical::error::{ApplyError, Error, RewindError};
 pub use crate::bitmap::historical::pending::Dirty;
+pub use crate::bitmap::historical::pending_changes::PendingChanges;
 use crate::bitmap::historical::record::CommitDiff;
 pub use crate::bitmap::historical::state::{Clean, State};
 use bitmap_core::bitmap::Prunable;

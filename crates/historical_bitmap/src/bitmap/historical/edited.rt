@@ -84,7 +84,7 @@ pub(crate) fn fill_bit<const N: usize>(chunk: &mut [u8; N], bit: u64, value: boo
 }
 
 // Clears the bits of a chunk from bit `from` on.
-fn cut<const N: usize>(bytes: &mut [u8; N], from: u64)
+pub(crate) fn cut<const N: usize>(bytes: &mut [u8; N], from: u64)
     requires width { IsWidth N }
     ensures known { IsChunk N bytes.new }
     ensures bits { (k : ℕ) → chunk_bit N bytes.new k ≡ (if nat_lt (k % (8 * N)) from then chunk_bit N bytes.old k else false) }

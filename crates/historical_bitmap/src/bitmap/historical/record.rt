@@ -5,6 +5,7 @@ ghost use Rattle.std.specs.List.Sorted.{IsStrictlySortedBy};
 ghost use Rattle.std.specs.Map.{keys_of, lookup};
 ghost use Rattle.std.specs.Ordering.{nat_cmp};
 ghost use Rattle.bitmap_bytes.specs.Chunk.{IsWidth};
+ghost use Rattle.historical_bitmap.specs.Pending.{IsNextMember};
 ghost use Rattle.historical_bitmap.specs.Record.{bytes_of, kept, kept_bytes};
 ghost use Rattle.historical_bitmap.specs.Stored.{diff_value, entry_values};
 ghost use Rattle.historical_bitmap.specs.Undo.{kept_between, pruned_chunks};
@@ -119,6 +120,14 @@ impl<const N: usize> CommitDiff<N> {
         find(&self.chunk_diffs, chunk)?.old_bytes()
     }
 
+    // The first chunk from `from` on that the record names, by a search in the ascending entries. No memory.
+    pub(crate) fn next_from(&self, from: usize) -> Option<usize>
+        requires { IsStrictlySortedBy nat_cmp (keys_of self.now.entries) }
+        ensures { IsNextMember (keys_of self.now.entries) from result }
+    {
+        next_entry(&self.chunk_diffs, from)
+    }
+
     // The old bytes of the chunks that the commit pruned, in order, where it left so many pruned. Takes memory once, for these.
     pub(crate) fn pruned_bytes(&self, pruned: usize) -> Result<Vec<[u8; N]>, AllocError>
         requires sorted { IsStrictlySortedBy nat_cmp (keys_of self.now.entries) }
@@ -151,6 +160,29 @@ fn find<const N: usize>(entries: &[(usize, ChunkDiff<N>)], chunk: usize) -> Opti
         } else {
             end = middle;
         }
+    }
+    None
+}
+
+// The chunk of the first of some ascending entries from chunk `from` on.
+fn next_entry<const N: usize>(entries: &[(usize, ChunkDiff<N>)], from: usize) -> Option<usize>
+    requires { IsStrictlySortedBy nat_cmp (keys_of (entry_values entries.now)) }
+    ensures { IsNextMember (keys_of (entry_values entries.now)) from result }
+{
+    let mut start = 0;
+    let mut end = entries.len();
+    while start < end {
+        let middle = start + (end - start) / 2;
+        let entry = &entries[middle];
+        if entry.0 < from {
+            start = middle + 1;
+        } else {
+            end = middle;
+        }
+    }
+    if start < entries.len() {
+        let entry = &entries[start];
+        return Some(entry.0);
     }
     None
 }

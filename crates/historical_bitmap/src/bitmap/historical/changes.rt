@@ -1,0 +1,176 @@
+//! The chunks in which two states of a historical bitmap differ.
+
+ghost use Rattle.std.specs.Prelude.{◌≡◌, ℕ, ◌+◌, ◌*◌, ◌++◌, ◌^◌, ◌<◌, ◌≤◌, List, length, IfSome};
+ghost use Rattle.std.specs.Iterator.{YieldsFirst, item_count};
+ghost use Rattle.historical_bitmap.specs.Changes.{changed_between, retained_bytes as retained_bytes_of};
+ghost use Rattle.historical_bitmap.specs.Compared.{between_numbers, IsComparing, IsNextChange, named_chunks};
+ghost use Rattle.historical_bitmap.specs.History.{EntriesRise};
+ghost use Rattle.historical_bitmap.specs.Pending.{IsNextMember};
+ghost use Rattle.historical_bitmap.specs.View.{history_of};
+
+use crate::bitmap::historical::at::AtCommit;
+use crate::bitmap::historical::edited::cut;
+use crate::bitmap::historical::record::CommitDiff;
+use crate::bitmap::historical::{BitMap, Clean};
+use bitmap_core::bitmap::Readable;
+use bitmap_core::chunk::{chunk_count, chunk_width};
+use std::collections::BTreeMap;
+use std::marker::Model;
+use std::ops::Bound;
+
+/// The indices of the chunks that differ between two kept states, ascending, each once.
+///
+/// A call of `next` asks each record of the commits between the two states for its first entry from an index on, by a binary search,
+/// and reads the chunk in both states, until they differ. After the last index it returns `None`, then and ever after. Does not allocate.
+#[derive(Drop)]
+pub struct ChangedChunks<'a, const N: usize> {
+    commits: &'a BTreeMap<u64, CommitDiff<N>>,
+    from: u64,
+    to: u64,
+    older: AtCommit<'a, N>,
+    newer: AtCommit<'a, N>,
+    // The first index that is not passed yet.
+    next: usize,
+    // The number of chunks of the longer state.
+    end: usize,
+}
+
+impl<'a, const N: usize> Model for ChangedChunks<'a, N> {
+    ghost use Rattle.std.specs.Prelude.{List, ℕ};
+    ghost use Rattle.historical_bitmap.specs.Changes.{changed_from};
+    ghost use Rattle.historical_bitmap.specs.Compared.{IsComparing};
+
+    ghost Value = { List ℕ };
+
+    ghost view = { λ c. changed_from N c.older c.newer c.next c.end };
+
+    ghost invariant = { λ c. IsComparing N c.from c.to c.commits.now.entries c.older c.newer c.end };
+}
+
+// The lesser of two numbers, if there are both.
+fn least(left: Option<usize>, right: Option<usize>) -> Option<usize>
+    ensures { (from : ℕ) (xs ys : List ℕ) → IsNextMember xs from left → IsNextMember ys from right → IsNextMember (xs ++ ys) from result }
+{
+    match (left, right) {
+        (None, None) => None,
+        (Some(i), None) => Some(i),
+        (None, Some(j)) => Some(j),
+        (Some(i), Some(j)) => { if i <= j { Some(i) } else { Some(j) } }
+    }
+}
+
+// The first chunk from `first` on that a record past one number, up to another, names.
+fn next_named<const N: usize>(
+    commits: &BTreeMap<u64, CommitDiff<N>>,
+    from: u64,
+    to: u64,
+    first: usize,
+) -> Option<usize>
+    requires order { from ≤ to }
+    requires rise { EntriesRise (between_numbers from to commits.now.entries) }
+    ensures { IsNextMember (named_chunks (between_numbers from to commits.now.entries)) first result }
+{
+    let mut next = None;
+    let between = (Bound::Excluded(from), Bound::Included(to));
+    for (_, record) in commits.range(between) {
+        next = least(next, record.next_from(first));
+    }
+    next
+}
+
+impl<'a, const N: usize> AtCommit<'a, N> {
+    // The bytes of a chunk, if it is retained. Its bits past the length are zero. Does not allocate.
+    pub(crate) fn retained_bytes(&self, chunk: usize) -> Option<[u8; N]>
+        requires { 8 * N * chunk < 2 ^ 64 }
+        ensures { result ≡ retained_bytes_of N self.now chunk }
+    {
+        let len = self.len();
+        let start = chunk_width::<N>() * chunk as u64;
+        if chunk < self.pruned_chunks() || start >= len {
+            return None;
+        }
+        let mut bytes = self.get_chunk(chunk);
+        cut(&mut bytes, len - start);
+        Some(bytes)
+    }
+}
+
+// The first chunk from `first` on and before `end` in which two states differ.
+fn next_changed<const N: usize>(
+    commits: &BTreeMap<u64, CommitDiff<N>>,
+    from: u64,
+    to: u64,
+    older: &AtCommit<'_, N>,
+    newer: &AtCommit<'_, N>,
+    first: usize,
+    end: usize,
+) -> Option<usize>
+    requires { IsComparing N from to commits.now.entries older.now newer.now end }
+    ensures { IsNextChange N older.now newer.now first end result }
+{
+    let mut at = first;
+    while let Some(chunk) = next_named(commits, from, to, at) {
+        if chunk >= end {
+            return None;
+        }
+        if older.retained_bytes(chunk) != newer.retained_bytes(chunk) {
+            return Some(chunk);
+        }
+        at = chunk + 1;
+    }
+    None
+}
+
+impl<const N: usize> BitMap<N, Clean> {
+    /// The indices of the chunks that differ between the states committed under two numbers, ascending, each once:
+    /// the chunks retained in one state and not in the other, and those retained in both with other bytes. Bits past the length count as zero.
+    ///
+    /// Returns `None` unless both numbers are kept and `from` is at most `to`. Does not allocate.
+    ///
+    /// Only chunks that a record past `from`, up to `to`, names are read.
+    pub fn changed_chunks(&self, from: u64, to: u64) -> Option<ChangedChunks<'_, N>>
+        ensures value { result ≡ changed_between N (history_of N self.now) from to }
+        ensures bound { IfSome result (λ changes. length changes < 2 ^ 64) }
+    {
+        if to < from {
+            return None;
+        }
+        let older = self.at(from)?;
+        let newer = self.at(to)?;
+        let end = chunk_count::<N>(older.len()).max(chunk_count::<N>(newer.len()));
+        Some(ChangedChunks {
+            commits: &self.commits,
+            from,
+            to,
+            older,
+            newer,
+            next: 0,
+            end,
+        })
+    }
+}
+
+impl<'a, const N: usize> Iterator for ChangedChunks<'a, N> {
+    type Item = usize;
+
+    ghost next_gives = { YieldsFirst (λ s. s) };
+
+    ghost remaining = { item_count (λ s. s) };
+
+    fn next(&mut self) -> Option<usize> {
+        let found = next_changed(
+            self.commits,
+            self.from,
+            self.to,
+            &self.older,
+            &self.newer,
+            self.next,
+            self.end,
+        );
+        match found {
+            Some(chunk) => self.next = chunk + 1,
+            None => self.next = self.end,
+        }
+        found
+    }
+}
