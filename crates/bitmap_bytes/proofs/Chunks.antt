@@ -1,8 +1,8 @@
--- Chunks of bytes: where a bit stands in them, what edits do to their bits, and what bytes they are.
+-- Chunks of bytes: in which chunk a bit is, how edits change the bits, and which bytes the chunks are.
 pub mod Bits
 pub mod AsBytes
 pub mod Lists
 pub mod OfBytes
-pub mod Front
+pub mod Concatenated
 pub mod Places
 pub mod Packed

@@ -1,13 +1,15 @@
-//! The bits of one chunk, a `[u8; N]`. Masks and bytes are touched here and nowhere else.
+//! The bits of one chunk, a byte array `[u8; N]`.
 //!
-//! A chunk has `8N` bits. Bit `i` stands in byte `i / 8` of it, at place `i mod 8`, the lowest place first.
-//! A position in a whole bitmap can be given as it is: it names bit `bit mod 8N`.
-//! `N` is at least 1, and `8N` fits `u64`. Each function asks for as much of that as it needs.
+//! A chunk has `8N` bits. Bit `i` is bit `i mod 8` of byte `i / 8`, counted from the least significant bit.
+//! A parameter `bit` may also be a position in a whole bitmap: the function then uses bit `bit mod 8N` of the chunk.
+//! `N` is at least 1, and `8N` fits `u64`. Each function requires only the part of this condition that it uses.
+//!
+//! No function of this module or its submodules allocates.
 //!
 //! ```
 //! use bitmap_bytes::chunk;
 //!
-//! /// The chunk 8, 0, 0, 0, and whether its bit 3 is set, which it is.
+//! /// Returns the chunk `[8, 0, 0, 0]`, and whether its bit 3 is set: true.
 //! pub fn marked() -> ([u8; 4], bool) {
 //!     let mut marks = [0; 4];
 //!     chunk::set_bit(&mut marks, 3, true);
@@ -21,14 +23,20 @@ ghost use Rattle.std.specs.List.{list_any, range_with_len};
 ghost use Rattle.std.specs.Int.{bit_at, div_ceil};
 ghost use Rattle.bitmap_bytes.specs.Chunk.{byte_of as byte_from_bits, chunk_bit, IsBitWritten, IsByteWritten, IsWidth};
 
+#[doc(hidden)]
 pub mod facts;
+#[doc(hidden)]
 pub mod join;
+#[doc(hidden)]
 pub mod load;
 pub mod range;
 pub mod whole;
+#[doc(hidden)]
 pub mod words;
 
-/// The width of a chunk in bits, `8N`. No memory.
+/// Returns the width of a chunk in bits, `8N`.
+///
+/// `8N` fits `u64`. Does not allocate; constant time.
 pub fn chunk_width<const N: usize>() -> u64
     requires { 8 * N < 2 ^ 64 }
     ensures { result ≡ 8 * N }
@@ -36,7 +44,9 @@ pub fn chunk_width<const N: usize>() -> u64
     8 * (N as u64)
 }
 
-/// The index of the chunk of a whole bitmap in which bit `bit` stands: `bit / 8N`. No memory.
+/// Returns the index of the chunk that contains bit `bit` of a whole bitmap: `bit / 8N`.
+///
+/// `N` is at least 1, and `8N` fits `u64`. Does not allocate; constant time.
 pub fn chunk_index<const N: usize>(bit: u64) -> usize
     requires width { IsWidth N }
     ensures { result ≡ bit / (8 * N) }
@@ -44,7 +54,9 @@ pub fn chunk_index<const N: usize>(bit: u64) -> usize
     (bit / chunk_width::<N>()) as usize
 }
 
-/// The number of chunks that `len` bits fill, the last one perhaps in part. No memory.
+/// Returns the number of chunks that `len` bits fill, including a partly used last chunk.
+///
+/// `N` is at least 1, and `8N` fits `u64`. Does not allocate; constant time.
 pub fn chunk_count<const N: usize>(len: u64) -> usize
     requires width { IsWidth N }
     ensures { result ≡ div_ceil len (8 * N) }
@@ -52,7 +64,9 @@ pub fn chunk_count<const N: usize>(len: u64) -> usize
     len.div_ceil(chunk_width::<N>()) as usize
 }
 
-/// The index of the byte in which bit `bit mod 8N` of a chunk stands. No memory.
+/// Returns the index of the byte of a chunk that contains bit `bit mod 8N`.
+///
+/// `N` is at least 1. Does not allocate; constant time.
 pub fn byte_index<const N: usize>(bit: u64) -> usize
     requires { 0 < N }
     ensures value { result ≡ bit / 8 % N }
@@ -61,7 +75,9 @@ pub fn byte_index<const N: usize>(bit: u64) -> usize
     ((bit / 8) % (N as u64)) as usize
 }
 
-/// The mask of a bit in its byte: `1 << (bit mod 8)`. No memory.
+/// Returns the mask of bit `bit` in its byte: 2 to the power `bit mod 8`.
+///
+/// Does not allocate; constant time.
 pub fn bit_mask(bit: u64) -> u8
     ensures value { result ≡ 2 ^ (bit % 8) }
     ensures fits { result < 256 }
@@ -69,14 +85,16 @@ pub fn bit_mask(bit: u64) -> u8
     1 << (bit % 8)
 }
 
-// The mask of the bits below a bit in its byte.
+// The mask of the bits below bit `bit` in its byte.
 fn low_mask(bit: u64) -> u8
     ensures { result ≡ 2 ^ (bit % 8) - 1 }
 {
     (1 << (bit % 8)) - 1
 }
 
-/// Bit `bit mod 8N` of a chunk. No memory.
+/// Returns bit `bit mod 8N` of a chunk.
+///
+/// `N` is at least 1. Does not allocate; constant time.
 pub fn get_bit<const N: usize>(chunk: &[u8; N], bit: u64) -> bool
     requires { 0 < N }
     ensures { result ≡ chunk_bit N chunk.now bit }
@@ -84,7 +102,9 @@ pub fn get_bit<const N: usize>(chunk: &[u8; N], bit: u64) -> bool
     (chunk[byte_index::<N>(bit)] & bit_mask(bit)) != 0
 }
 
-/// Writes bit `bit mod 8N` of a chunk, and no other. No memory.
+/// Sets bit `bit mod 8N` of a chunk to `value`. The other bits do not change.
+///
+/// `N` is at least 1, and `8N` fits `u64`. Does not allocate; constant time.
 pub fn set_bit<const N: usize>(chunk: &mut [u8; N], bit: u64, value: bool)
     requires width { IsWidth N }
     ensures { IsBitWritten N chunk.old chunk.new bit value }
@@ -98,7 +118,9 @@ pub fn set_bit<const N: usize>(chunk: &mut [u8; N], bit: u64, value: bool)
     }
 }
 
-/// Writes the whole byte in which bit `bit mod 8N` of a chunk stands, and no other. No memory.
+/// Replaces the byte of a chunk that contains bit `bit mod 8N`. The other bytes do not change.
+///
+/// `N` is at least 1. Does not allocate; constant time.
 pub fn set_byte<const N: usize>(chunk: &mut [u8; N], bit: u64, byte: u8)
     requires { 0 < N }
     ensures { IsByteWritten N chunk.old chunk.new bit byte }
@@ -106,7 +128,9 @@ pub fn set_byte<const N: usize>(chunk: &mut [u8; N], bit: u64, byte: u8)
     chunk[byte_index::<N>(bit)] = byte;
 }
 
-/// Inverts bit `bit mod 8N` of a chunk, and no other. No memory.
+/// Inverts bit `bit mod 8N` of a chunk. The other bits do not change.
+///
+/// `N` is at least 1, and `8N` fits `u64`. Does not allocate; constant time.
 pub fn flip_bit<const N: usize>(chunk: &mut [u8; N], bit: u64)
     requires width { IsWidth N }
     ensures { IsBitWritten N chunk.old chunk.new bit (not (chunk_bit N chunk.old bit)) }
@@ -114,7 +138,17 @@ pub fn flip_bit<const N: usize>(chunk: &mut [u8; N], bit: u64)
     chunk[byte_index::<N>(bit)] ^= bit_mask(bit);
 }
 
-/// Clears the bits of a chunk from bit `from` on, which is below `8N`. No memory.
+/// Clears the bits of a chunk at and above bit `from`.
+///
+/// `from` is below `8N`. `N` is at least 1, and `8N` fits `u64`.
+///
+/// # Memory
+///
+/// Does not allocate.
+///
+/// # Complexity
+///
+/// Linear in the bytes of the chunk from the one that contains bit `from` on.
 pub fn clear_from<const N: usize>(chunk: &mut [u8; N], from: u64)
     requires width { IsWidth N }
     requires within { from < 8 * N }
@@ -128,15 +162,26 @@ pub fn clear_from<const N: usize>(chunk: &mut [u8; N], from: u64)
     }
 }
 
-/// Whether a bit of a chunk from bit `from` on is set. From `8N` on none is. No memory.
+/// Returns whether a bit of a chunk at or above bit `from` is set.
+///
+/// `8N` fits `u64`. If `from` is `8N` or more, there is no such bit, and the result is false.
+///
+/// # Memory
+///
+/// Does not allocate.
+///
+/// # Complexity
+///
+/// At most linear in the bytes of the chunk from the one that contains bit `from` on.
 pub fn is_set_from<const N: usize>(chunk: &[u8; N], from: u64) -> bool
     requires { 8 * N < 2 ^ 64 }
     ensures { result ≡ list_any (chunk_bit N chunk.now) (range_with_len from (8 * N - from)) }
 {
+    // Not `chunk_width`: the goal of the proof would name its result and not `8N`.
     !words::is_unset(chunk, from, 8 * (N as u64))
 }
 
-// The byte of up to eight booleans, the first one lowest, with zeros above them.
+// The byte of at most eight booleans, the first one as its lowest bit, with zeros above them.
 fn byte_of(bools: &[bool]) -> u8
     requires { length bools.now ≤ 8 }
     ensures { (t : ℕ) → (bit_at result t == 1) ≡ slice_index_or bools.now t false }
@@ -148,7 +193,17 @@ fn byte_of(bools: &[bool]) -> u8
     byte
 }
 
-/// The chunk of the first `8N` booleans, with zeros where there are fewer. No memory.
+/// Returns the chunk whose bits are the first `8N` booleans, with zeros if there are fewer.
+///
+/// `N` is at least 1, and `8N` fits `u64`.
+///
+/// # Memory
+///
+/// Does not allocate.
+///
+/// # Complexity
+///
+/// Linear in the bits of a chunk.
 pub fn from_bools<const N: usize>(bools: &[bool]) -> [u8; N]
     requires width { IsWidth N }
     ensures { (i : ℕ) → i < 8 * N → chunk_bit N result i ≡ slice_index_or bools.now i false }
@@ -162,11 +217,21 @@ pub fn from_bools<const N: usize>(bools: &[bool]) -> [u8; N]
     chunk
 }
 
-/// Appends the first `count` bits of a chunk, at most `8N`, to booleans that have room for them. No memory.
+/// Appends the first `count` bits of a chunk to a vector of booleans that has capacity for them.
+///
+/// `count` is at most `8N`. `N` is at least 1, and `8N` fits `u64`. The capacity of the vector does not change.
+///
+/// # Memory
+///
+/// Does not allocate.
+///
+/// # Complexity
+///
+/// Linear in `count`.
 pub fn append_bools<const N: usize>(chunk: &[u8; N], count: u64, bools: &mut Vec<bool>)
     requires width { IsWidth N }
     requires within { count ≤ 8 * N }
-    requires room { vec_len bools.old + count ≤ vec_capacity bools.old }
+    requires space { vec_len bools.old + count ≤ vec_capacity bools.old }
     ensures items { bools.new.items ≡ bools.old.items ++ map (chunk_bit N chunk.now) (range_with_len 0 count) }
     ensures len { vec_len bools.new ≡ vec_len bools.old + count }
     ensures capacity { vec_capacity bools.new ≡ vec_capacity bools.old }

@@ -1,6 +1,6 @@
-//! The bytes beneath a bitmap: the bits of one chunk, a `[u8; N]`.
+//! Operations on the bits of one chunk, a byte array `[u8; N]`.
 //!
-//! `chunk` has what the layers above do with a single chunk, or with a run of bytes that joins, counts or tests like one. `bitmap_core` names it again.
+//! This crate is the lowest layer of the bitmaps. The crate `bitmap_core` builds on it and re-exports its module `chunk`.
 #![tactic(auto)]
 
 pub mod chunk;

@@ -1,4 +1,4 @@
--- Runs of chunks: alike, whole, combined, and with a byte written.
+-- Runs of chunks: equal, whole, combined, and with a byte written.
 pub mod Equal
 pub mod Whole
 pub mod Combined

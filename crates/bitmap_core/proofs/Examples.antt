@@ -5,6 +5,6 @@ pub mod ManyChunks
 pub mod Pruned
 pub mod Readers
 pub mod Searches
-pub mod Spellings
-pub mod Faults
+pub mod Encodings
+pub mod DecodeErrors
 pub mod Texts

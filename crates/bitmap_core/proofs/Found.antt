@@ -1,4 +1,4 @@
--- What the items of the list of positions say of the bits.
+-- The list of positions of a range, and the bits at them.
 use Rattle.std.proofs.Common.{◌≡◌, ℕ, zero, suc, ◌+◌, ◌-◌, ◌*◌, ◌<◌, ◌≤◌, min, max, Bool, true, false, not, cond, List, [], ◌∷◌, length, Option, Some, None, MatchOption, ◌⊎◌, inl, inr, refl, subst, sym, ap, ◌∙◌, arith}
 use Rattle.std.specs.List.{count_by, filter, range_with_len, slice_get}
 use Rattle.std.proofs.lemmas.Bool.{cases_lt}
@@ -11,9 +11,9 @@ use Rattle.bitmap_core.specs.Meaning.{Meaning, IsRetained, ones, ones_between, s
 use Rattle.bitmap_core.specs.Searches.{first, last, HasNoNext, HasNoPrevious, IsNext, IsPrevious}
 use Rattle.bitmap_core.proofs.Searches.{length-ones, get_nth}
 
--- ---- what an item of the list says
+-- ---- items of the list
 
--- an item that is not the first
+-- an item after the first
 nth_after : (bit : ℕ → Bool) (lo n k p count : ℕ) → IsNth bit (lo + 1) (lo + 1 + n) k p → cond (bit lo) 1 0 ≡ count → IsNth bit lo (lo + suc n) (count + k) p
 nth_after bit lo n k p count nth e =
     let above = nth.above in
@@ -54,7 +54,7 @@ nth_of_run bit lo zero k p e = absurd (none-some p e)
 nth_of_run bit lo (suc n) k p e =
     nth_step bit lo n (filter bit (range_with_len (lo + 1) n)) (λ j q f. nth_of_run bit (lo + 1) n j q f) (bit lo) refl k p e
 
--- item k of the positions is the one that k others precede
+-- item k is the position with k others before it
 pub nth_of_get : (bit : ℕ → Bool) (lo hi k p : ℕ) → slice_get (ones_between bit lo hi) k ≡ Some p → IsNth bit lo hi k p
 nth_of_get bit lo hi k p e =
     let r = nth_of_run bit lo (hi - lo) k p e in
@@ -66,7 +66,7 @@ clear_step : (b : Bool) (rest : ℕ) → cond b 1 0 + rest ≡ 0 → (b ≡ fals
 clear_step true rest e = absurd (omega arith)
 clear_step false rest e = (refl, omega arith)
 
--- where none counts, none passes
+-- if no position counts, the list is empty
 clear_of_none : (f : ℕ → Bool) (a k : ℕ) → ones_from f a k ≡ 0 → (i : ℕ) → a ≤ i → i < a + k → f i ≡ false
 clear_of_none f a zero e i h s = absurd (omega arith)
 clear_of_none f a (suc k) e i h s =
@@ -76,11 +76,11 @@ clear_of_none f a (suc k) e i h s =
       | inr ge ↦ (let d : i ≡ a = omega arith in ap f d ∙ c.0)
     ]
 
--- before the first item none passes
+-- no position before the first item counts
 pub none_before : (bit : ℕ → Bool) (lo hi p : ℕ) → IsNth bit lo hi 0 p → (k : ℕ) → lo ≤ k → k < p → bit k ≡ false
 none_before bit lo hi p nth k h s = clear_of_none bit lo (p - lo) (sym (count_range bit lo (p - lo)) ∙ nth.rank) k h (omega arith)
 
--- after the last item none passes
+-- no position after the last item counts
 pub none_after : (bit : ℕ → Bool) (lo hi p : ℕ) → IsNth bit lo hi (length (ones_between bit lo hi) - 1) p → (k : ℕ) → p < k → k < hi → bit k ≡ false
 none_after bit lo hi p nth k h s =
     let above = nth.above in
@@ -93,7 +93,7 @@ none_after bit lo hi p nth k h s =
     let rank = sym (count_range bit lo (p - lo)) ∙ nth.rank in
     clear_of_none bit (p + 1) (hi - (p + 1)) (omega arith) k (omega arith) (omega arith)
 
--- where there is no item at k, there are no more than k
+-- if there is no item k, the list has at most k items
 pub none_of_get : (bit : ℕ → Bool) (lo hi k : ℕ) → slice_get (ones_between bit lo hi) k ≡ None → length (ones_between bit lo hi) ≤ k
 none_of_get bit lo hi k e = elim (slice_get_cases (ones_between bit lo hi) k).1 [
   | inl x ↦ absurd (none-some x.0 (sym e ∙ x.2))
@@ -155,9 +155,9 @@ pub first_item : (items rest : List ℕ) (r : Option ℕ) → MatchOption r ((it
 first_item items rest None e = ap first (sym e.0)
 first_item items rest (Some x) e = ap first (sym e)
 
--- ---- positions by the number of those below them
+-- ---- positions by the number of positions below them
 
--- a position that is found by its number
+-- a position found by its number
 pub selected : (n : ℕ) (m : Meaning) (k p below : ℕ) → Some p ≡ slice_get (ones n m 0 m.len) k → below ≡ length (ones n m 0 p)
     → IsRetained n m p × (m.bit p ≡ true) × (below ≡ k)
 selected n m k p below e b =
@@ -174,7 +174,7 @@ selected n m k p below e b =
 pub not_selected : (n : ℕ) (m : Meaning) (k : ℕ) → None ≡ slice_get (ones n m 0 m.len) k → length (ones n m 0 m.len) ≤ k
 not_selected n m k e = none_of_get m.bit (max 0 (8 * n * m.pruned)) (min m.len m.len) k (sym e)
 
--- a set position is the one with as many below it as there are
+-- a set position is found by the number of set positions below it
 pub selected_again : (n : ℕ) (m : Meaning) (p below : ℕ) → IsRetained n m p → m.bit p ≡ true → below ≡ length (ones n m 0 p)
     → slice_get (ones n m 0 m.len) below ≡ Some p
 selected_again n m p below r e b =
@@ -189,7 +189,7 @@ selected_again n m p below r e b =
 
 -- ---- a range in two parts
 
--- two lower ends that differ only where the range is empty
+-- two lower ends that differ only if the range is empty
 same_part : (f : ℕ → Bool) (lo c hi : ℕ) → (lo ≡ c) ⊎ ((hi ≤ lo) × (hi ≤ c)) → ones_from f lo (hi - lo) ≡ ones_from f c (hi - c)
 same_part f lo c hi (inl e) = ap (λ x. ones_from f x (hi - x)) e
 same_part f lo c hi (inr e) =

@@ -4,7 +4,7 @@ pub mod Counting
 pub mod Words
 pub mod Pruned
 pub mod Meanings
-pub mod Texts
+pub mod Codec
 pub mod Examples
 pub mod Searches
 pub mod Found

@@ -1,4 +1,4 @@
--- Lists of bits and of positions, and what edits of the chunks do to them.
+-- Lists of bits and of positions, and the effect of edits of the chunks on them.
 pub mod Edits
 pub mod WholeBits
 pub mod BitByBit

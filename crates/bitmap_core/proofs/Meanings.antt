@@ -1,3 +1,3 @@
--- What a bitmap is to its readers.
+-- The meanings of bitmaps, as readers see them.
 pub mod Pruned
 pub mod Plain

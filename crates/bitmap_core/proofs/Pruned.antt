@@ -1,4 +1,4 @@
--- Bitmaps with a pruned front.
+-- Bitmaps with a pruned prefix.
 pub mod Positions
 pub mod Edits
-pub mod Texts
+pub mod Codec

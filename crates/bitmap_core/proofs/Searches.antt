@@ -15,7 +15,7 @@ use Rattle.bitmap_core.proofs.Lists.SetPositions.{ones_between-append, ones_betw
 
 -- ---- positions in the list
 
--- how many there are, as a count
+-- the length of the list, as a count
 pub length-ones : (bit : ℕ → Bool) (lo hi : ℕ) → length (ones_between bit lo hi) ≡ ones_from bit lo (hi - lo)
 length-ones bit lo hi = length-filter bit (range_with_len lo (hi - lo)) ∙ count_range bit lo (hi - lo)
 
@@ -23,13 +23,13 @@ get_seam : (xs : List ℕ) (y : ℕ) (ys : List ℕ) → slice_get (xs ++ y ∷ 
 get_seam [] y ys = refl
 get_seam (x ∷ xs) y ys = get_seam xs y ys
 
--- a position splits the list
+-- the list is split at a position
 split_at : (bit : ℕ → Bool) (lo p hi : ℕ) → lo ≤ p → p < hi → bit p ≡ true
     → ones_between bit lo hi ≡ ones_between bit lo p ++ p ∷ ones_between bit (p + 1) hi
 split_at bit lo p hi h s e =
     ones_between-append bit lo p hi h (omega arith) ∙ ap (λ (l : List ℕ). ones_between bit lo p ++ l) (ones_between-hit bit p hi s e)
 
--- the position that k others precede is item k
+-- the position with k others before it is item k
 pub get_nth : (bit : ℕ → Bool) (lo hi k p : ℕ) → IsNth bit lo hi k p → slice_get (ones_between bit lo hi) k ≡ Some p
 get_nth bit lo hi k p nth =
     let e : k ≡ length (ones_between bit lo p) = sym (length-filter bit (range_with_len lo (p - lo)) ∙ nth.rank) in
@@ -37,7 +37,7 @@ get_nth bit lo hi k p nth =
     ∙ ap (slice_get (ones_between bit lo p ++ p ∷ ones_between bit (p + 1) hi)) e
     ∙ get_seam (ones_between bit lo p) p (ones_between bit (p + 1) hi)
 
--- where no more than k are there, there is no item k
+-- if the list has at most k items, there is no item k
 pub get_none : (bit : ℕ → Bool) (lo hi k : ℕ) → ones_from bit lo (hi - lo) ≤ k → slice_get (ones_between bit lo hi) k ≡ None
 get_none bit lo hi k h = slice_get_past (ones_between bit lo hi) k (omega (arith, length-ones bit lo hi))
 
@@ -72,7 +72,7 @@ shown_from n m at step bytes shown within len t h =
     let d : 8 * n * (at / (8 * n)) + (at % (8 * n) + t) ≡ at + t = omega (arith, div-add-mod' at (8 * n)) in
     shown (at % (8 * n) + t) (omega arith) (omega (arith, d)) ∙ ap m.bit d
 
--- a turn of a loop over chunks: `step` positions from `at` on, as far as the chunk of `at` and the range go
+-- one iteration of a loop over chunks: `step` positions from `at` on, up to the end of its chunk or of the range
 pub record IsTurn (n : ℕ) (m : Meaning) (first at end step : ℕ) (bytes : List ℕ) : Type 0 where
   pub positive : 0 < n
   pub low : first ≤ at
@@ -91,7 +91,7 @@ module _ (n : ℕ) (m : Meaning) (first at end step : ℕ) (bytes : List ℕ) (t
   same : (t : ℕ) → t < step → chunk_bit n bytes (at % (8 * n) + t) ≡ m.bit (at + t)
   same = shown_from n m at step bytes turn.shown in_chunk in_len
 
-  -- the positions before one of the turn
+  -- the positions before a position of the iteration
   before : (t : ℕ) → t ≤ step → ones_from m.bit first (at + t - first) ≡ ones_from m.bit first (at - first) + ones_from (chunk_bit n bytes) (at % (8 * n)) t
   before t h =
       let l = turn.low in
@@ -102,7 +102,7 @@ module _ (n : ℕ) (m : Meaning) (first at end step : ℕ) (bytes : List ℕ) (t
       let r = ap (ones_from m.bit first) d ∙ ones_from_add m.bit first (at - first) t ∙ ap (λ x. ones_from m.bit first (at - first) + ones_from m.bit x t) a in
       omega arith
 
-  -- one more chunk counted
+  -- the count after one more chunk
   pub count_more : (count : ℕ) → count ≡ count_by (chunk_bit n bytes) (range_with_len (at % (8 * n)) (at % (8 * n) + step - at % (8 * n)))
       → ones_from m.bit first (at + step - first) ≡ ones_from m.bit first (at - first) + count
   count_more count e =
@@ -136,7 +136,7 @@ module _ (n : ℕ) (m : Meaning) (first at end step : ℕ) (bytes : List ℕ) (t
 
 -- ---- a chunk of a bitmap, backwards
 
--- a chunk with a retained position begins with one
+-- a chunk with a retained position begins with a retained position
 chunk_start : (n p k : ℕ) → 0 < n → 8 * n * p ≤ k → 8 * n * p ≤ k - k % (8 * n)
 chunk_start n p k h l =
     let b : k % (8 * n) < 8 * n = mod_below k (8 * n) (omega arith) in

@@ -1,3 +1,3 @@
--- Words of a bitmap: what a loaded one holds, and the scan over them.
+-- Words of a bitmap: loaded words, and the scan over them.
 pub mod Scan
 pub mod Loaded

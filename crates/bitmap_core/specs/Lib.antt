@@ -3,5 +3,5 @@ pub mod PrunedBits
 pub mod Text
 pub mod Meaning
 pub mod Searches
-pub mod Spelling
-pub mod Reading
+pub mod Encoding
+pub mod Decoding

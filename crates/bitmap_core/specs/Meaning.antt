@@ -1,4 +1,4 @@
--- What a bitmap is to its readers. A chunk has n bytes.
+-- A bitmap as the trait `Readable` describes it. A chunk has n bytes.
 use Rattle.std.specs.Prelude.{◌≡◌, ℕ, ◌+◌, ◌-◌, ◌*◌, ◌/◌, ◌^◌, ◌<◌, ◌≤◌, min, max, Bool, true, false, not, List, ◌++◌, length, slice_index_or, ◌==◌, nat_lt, if◌then◌else◌}
 use Rattle.std.specs.Int.{bit_at as digit_at}
 use Rattle.std.specs.List.{filter, range_with_len}
@@ -6,21 +6,21 @@ use Rattle.bitmap_bytes.specs.Chunk.{chunk_bit, is_wanted, IsWidth}
 use Rattle.bitmap_bytes.specs.Words.{starts_word, word_start, next_word, IsCut}
 use Rattle.bitmap_core.specs.PrunedBits.{PrunedBits, bit_len, bit_at}
 
--- how many chunks are pruned at the front, how many bits there are (the pruned ones counted), and the bit at each position
+-- a bitmap: its number of pruned chunks, its length in bits (pruned bits included), and the bit at each position
 pub record Meaning : Type 0 where
   pub pruned : ℕ
   pub len : ℕ
   pub bit : ℕ → Bool
 
--- a list of bits, as a bitmap with nothing pruned
+-- a list of bits, as a bitmap in which nothing is pruned
 abbrev pub plain_meaning : List Bool → Meaning
 plain_meaning v = record { pruned = 0; len = length v; bit = λ k. slice_index_or v k false }
 
--- a bitmap that may have a pruned front
+-- a bitmap with a pruned prefix, by its pruned count, its length and the bit at each position
 abbrev pub pruned_meaning : ℕ → PrunedBits → Meaning
 pruned_meaning n b = record { pruned = b.pruned; len = bit_len n b; bit = bit_at n b }
 
--- what holds of every bitmap
+-- what holds of every bitmap: its width is allowed, its pruned bits are within its length, and its counts fit 64 bits
 pub record IsLawful (n : ℕ) (m : Meaning) : Type 0 where
   pub width : IsWidth n
   pub pruned_within : 8 * n * m.pruned ≤ m.len
@@ -31,7 +31,7 @@ pub record IsLawful (n : ℕ) (m : Meaning) : Type 0 where
 abbrev pub IsRetainedChunk : ℕ → Meaning → ℕ → Type 0
 IsRetainedChunk n m c = (m.pruned ≤ c) × (8 * n * c < m.len)
 
--- position k has a retained bit
+-- position k is retained
 abbrev pub IsRetained : ℕ → Meaning → ℕ → Type 0
 IsRetained n m k = (8 * n * m.pruned ≤ k) × (k < m.len)
 
@@ -39,49 +39,49 @@ IsRetained n m k = (8 * n * m.pruned ≤ k) × (k < m.len)
 abbrev pub ShowsChunk : ℕ → Meaning → ℕ → List ℕ → Type 0
 ShowsChunk n m c bytes = (k : ℕ) → k < 8 * n → 8 * n * c + k < m.len → chunk_bit n bytes k ≡ m.bit (8 * n * c + k)
 
--- the positions from lo up to hi whose bit is true
+-- the positions from lo up to hi, hi excluded, whose bit is true, in ascending order
 abbrev pub ones_between : (ℕ → Bool) → ℕ → ℕ → List ℕ
 ones_between bit lo hi = filter bit (range_with_len lo (hi - lo))
 
--- the retained positions from a up to b whose bit is true
+-- the retained positions from a up to b, b excluded, whose bit is true, in ascending order
 abbrev pub ones : ℕ → Meaning → ℕ → ℕ → List ℕ
 ones n m a b = ones_between m.bit (max a (8 * n * m.pruned)) (min b m.len)
 
--- the positions from lo up to hi whose bit is false
+-- the positions from lo up to hi, hi excluded, whose bit is false, in ascending order
 abbrev pub zeros_between : (ℕ → Bool) → ℕ → ℕ → List ℕ
 zeros_between bit lo hi = filter (λ k. not (bit k)) (range_with_len lo (hi - lo))
 
--- the retained positions from a up to b whose bit is false
+-- the retained positions from a up to b, b excluded, whose bit is false, in ascending order
 abbrev pub zeros : ℕ → Meaning → ℕ → ℕ → List ℕ
 zeros n m a b = zeros_between m.bit (max a (8 * n * m.pruned)) (min b m.len)
 
--- the bitmap itself if `wanted` is true, and the bitmap with each bit inverted if it is false
+-- the bitmap itself if `wanted` is true, and the bitmap with each bit inverted if `wanted` is false
 abbrev pub seen_as : Bool → Meaning → Meaning
 seen_as wanted m = record { pruned = m.pruned; len = m.len; bit = λ k. is_wanted wanted (m.bit k) }
 
--- how many words meet lo up to hi
+-- the number of words that have a position from lo up to hi, hi excluded
 abbrev pub words_between : ℕ → ℕ → ℕ → ℕ
 words_between n lo hi = if nat_lt lo hi then length (ones_between (starts_word n) (word_start n lo) hi) else 0
 
--- how many words meet the retained positions from a up to b
+-- the number of words that have a retained position from a up to b, b excluded
 abbrev pub words : ℕ → Meaning → ℕ → ℕ → ℕ
 words n m a b = words_between n (max a (8 * n * m.pruned)) (min b m.len)
 
--- an iterator over set positions: those that are left, the words that were loaded, and how many words meet its range
+-- the value of an iterator over set positions: the positions left, the number of words loaded, and the number of words of its range
 pub record Scan : Type 0 where
   pub left : List ℕ
   pub loads : ℕ
   pub words : ℕ
 
--- the bits of a word that begins at base, by position
+-- the bit at position k in a word that begins at base
 abbrev pub word_bit : ℕ → ℕ → ℕ → Bool
 word_bit base word k = digit_at word (k - base) == 1
 
--- the set positions in a word at base, and then those in the bitmap from the next word on
+-- the set positions in a word at base, followed by those of the bitmap from the next word on
 abbrev pub left_from : ℕ → Meaning → ℕ → ℕ → ℕ → List ℕ
 left_from n m base word end = ones_between (word_bit base word) base (base + 64) ++ ones_between m.bit (next_word n base) end
 
--- what holds of the fields of an iterator
+-- what holds of the cursor of an iterator: it is at a word of a retained chunk, which it has, and it counts each word once
 pub record IsScan (n : ℕ) (m : Meaning) (base : ℕ) (end : ℕ) (chunk : List ℕ) (loads : ℕ) (first : ℕ) : Type 0 where
   pub lawful : IsLawful n m
   pub within : end ≤ m.len
@@ -90,7 +90,7 @@ pub record IsScan (n : ℕ) (m : Meaning) (base : ℕ) (end : ℕ) (chunk : List
   pub shown : base < end → ShowsChunk n m (base / (8 * n)) chunk
   pub counted : loads + length (ones_between (starts_word n) (base + 1) end) ≡ words_between n first end
 
--- what holds of an iterator: its fields are as they should be, and its word has no bit at or past the end
+-- what holds of an iterator: its cursor is right, and its word has no set bit at or past the end
 pub record IsIterating (n : ℕ) (m : Meaning) (base word end : ℕ) (chunk : List ℕ) (loads first : ℕ) : Type 0 where
   pub scan : IsScan n m base end chunk loads first
   pub cut : IsCut base word end

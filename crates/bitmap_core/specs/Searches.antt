@@ -11,27 +11,27 @@ first positions = slice_get positions 0
 abbrev pub last : List ℕ → Option ℕ
 last positions = slice_get positions (length positions - 1)
 
--- the least retained position at or above `from` whose bit is set
+-- the least retained position at or above `from` whose bit is set, if there is one
 abbrev pub next_one : ℕ → Meaning → ℕ → Option ℕ
 next_one n m from = first (ones n m from m.len)
 
--- the least retained position at or above `from` whose bit is not set
+-- the least retained position at or above `from` whose bit is not set, if there is one
 abbrev pub next_zero : ℕ → Meaning → ℕ → Option ℕ
 next_zero n m from = first (zeros n m from m.len)
 
--- the greatest retained position below `end` whose bit is set
+-- the greatest retained position below `end` whose bit is set, if there is one
 abbrev pub prev_one : ℕ → Meaning → ℕ → Option ℕ
 prev_one n m end = last (ones n m 0 end)
 
--- the greatest retained position below `end` whose bit is not set
+-- the greatest retained position below `end` whose bit is not set, if there is one
 abbrev pub prev_zero : ℕ → Meaning → ℕ → Option ℕ
 prev_zero n m end = last (zeros n m 0 end)
 
--- the number of retained positions from a up to b whose bit is set
+-- the number of retained positions from a up to b, b excluded, whose bit is set
 abbrev pub ones_count : ℕ → Meaning → ℕ → ℕ → ℕ
 ones_count n m a b = length (ones n m a b)
 
--- the retained position whose bit is set and that has k such positions below it
+-- the retained position whose bit is set and that has k such positions below it, if there is one
 abbrev pub select_one : ℕ → Meaning → ℕ → Option ℕ
 select_one n m k = slice_get (ones n m 0 m.len) k
 

@@ -1,10 +1,12 @@
-//! Dense bitmaps. Beneath them stand bitmaps with a pruned front, what both are to their readers, and their byte forms.
+//! Dense bitmaps: every bit from position 0 to the length is stored.
+//!
+//! The submodule `prunable` has bitmaps with a pruned prefix, `readable` has the trait of all bitmaps, and `codec` has their byte encodings.
 //!
 //! ```
 //! use bitmap_core::bitmap::{BitMap, DEFAULT_CHUNK_SIZE};
 //! use std::alloc::{AllocError, Global};
 //!
-//! /// The slots that are taken, which are 3, 64 and 100.
+//! /// Returns the slots that are taken: 3, 64 and 100.
 //! pub fn taken_slots(alloc: Global) -> Result<Vec<u64>, AllocError> {
 //!     let mut taken = BitMap::<DEFAULT_CHUNK_SIZE>::zeroes(alloc, 100)?;
 //!     taken.set(3, true);
@@ -18,18 +20,18 @@ ghost use Rattle.std.specs.Prelude.{◌≡◌, ℕ, Bool, List, ◌+◌, ◌-◌
 ghost use Rattle.std.specs.List.{count_by, filter, list_all, range_with_len, slice_range, zip};
 ghost use Rattle.std.proofs.Math.Bool.{xor};
 ghost use Rattle.bitmap_core.specs.Meaning.{words_between};
-ghost use Rattle.bitmap_core.specs.Spelling.{spelling};
+ghost use Rattle.bitmap_core.specs.Encoding.{encoding};
 ghost use Rattle.std.specs.Int.{div_ceil};
 ghost use Rattle.bitmap_bytes.specs.Chunk.{chunk_bit, chunk_bits, IsWidth};
 
 pub mod codec;
 mod debug;
 mod deque;
-mod front;
 mod iter;
 mod ops;
 pub mod prunable;
 pub mod readable;
+mod whole_chunks;
 
 pub use crate::bitmap::iter::Iterator;
 pub use crate::bitmap::prunable::Prunable;
@@ -42,14 +44,17 @@ use std::collections::VecDeque;
 use std::marker::Model;
 use std::ops::Range;
 
-/// The chunk size in bytes that fits most users. It is nobody's default: the width is always written.
+/// A chunk size in bytes that suits most uses. It is not a default: the type of a bitmap always names its chunk size.
 pub const DEFAULT_CHUNK_SIZE: usize = 8;
 
-/// A list of bits, packed into chunks of `N` bytes. Positions and lengths count bits.
+/// A list of bits that is packed into chunks of `N` bytes. Positions and lengths count bits.
 ///
-/// The length is at most `u64::MAX`. A chunk is held for every `8N` bits begun.
-/// Bit `i` stands in byte `(i / 8) mod N` of chunk `i / 8N`, the lowest place of a byte first. Past the length a chunk is zero.
-/// Whole chunks are read by the trait `Readable`.
+/// The length is at most `u64::MAX`. The number of chunks is the length divided by `8N`, rounded up.
+/// Bit `i` is bit `i mod 8` of byte `(i / 8) mod N` of chunk `i / 8N`, counted from the least significant bit.
+/// The bits of the last chunk past the length are zero.
+/// The trait `Readable` has the calls that read whole chunks and search for positions.
+///
+/// The head of the module has an example.
 #[derive(Drop)]
 pub struct BitMap<const N: usize> {
     chunks: VecDeque<[u8; N]>,
@@ -68,18 +73,18 @@ impl<const N: usize> Model for BitMap<N> {
 }
 
 impl<const N: usize> BitMap<N> {
-    /// The width of a chunk in bits, `8N`. Nothing is promised of it where that passes `u64`, and no bitmap is so wide.
+    /// The width of a chunk in bits, `8N`. The value is meaningful only if `8N` fits `u64`, as it does for every bitmap.
     pub const CHUNK_SIZE_BITS: u64 = (N as u64).wrapping_mul(8);
 
-    /// A chunk of zeros: `N` bytes of 0.
+    /// A chunk whose bits are all false: `N` bytes of 0.
     pub const EMPTY_CHUNK: [u8; N] = [0; N];
 
-    /// A chunk of ones: `N` bytes of 255.
+    /// A chunk whose bits are all true: `N` bytes of 255.
     pub const FULL_CHUNK: [u8; N] = [u8::MAX; N];
 
-    /* Making */
-
-    /// An empty bitmap. `N` is at least 1, and `8N` fits `u64`. No memory.
+    /// Returns an empty bitmap.
+    ///
+    /// `N` is at least 1, and `8N` fits `u64`. Does not allocate; constant time.
     pub fn new(alloc: Global) -> Self
         requires width { IsWidth N }
         ensures { result ≡ [] }
@@ -90,7 +95,9 @@ impl<const N: usize> BitMap<N> {
         }
     }
 
-    /// The same as `new`, on the same conditions.
+    /// Returns an empty bitmap, as `new` does.
+    ///
+    /// `N` is at least 1, and `8N` fits `u64`. Does not allocate; constant time.
     pub fn default(alloc: Global) -> Self
         requires width { IsWidth N }
         ensures { result ≡ [] }
@@ -98,9 +105,22 @@ impl<const N: usize> BitMap<N> {
         Self::new(alloc)
     }
 
-    /// An empty bitmap with room for the chunks of `size` bits. A test alone shows that pushes up to there take no memory.
+    /// Returns an empty bitmap with capacity for the chunks of `size` bits.
     ///
-    /// Takes memory once, for these chunks, and errs where that is refused. No bits take none.
+    /// `N` is at least 1, and `8N` fits `u64`.
+    /// Tests show that pushes up to `size` bits then do not allocate. No contract states it.
+    ///
+    /// # Errors
+    ///
+    /// Returns `AllocError` if the allocation fails. If `size` is 0, it succeeds.
+    ///
+    /// # Memory
+    ///
+    /// Allocates at most once, space for the chunks of `size` bits.
+    ///
+    /// # Complexity
+    ///
+    /// Constant.
     pub fn with_capacity(alloc: Global, size: u64) -> Result<Self, AllocError>
         requires width { IsWidth N }
         ensures ok { IfOk result (λ b. b ≡ []) }
@@ -110,9 +130,21 @@ impl<const N: usize> BitMap<N> {
         Ok(BitMap { chunks, len: 0 })
     }
 
-    /// `size` bits that are all false.
+    /// Returns a bitmap of `size` bits that are all false.
     ///
-    /// Takes memory once, for the chunks of `size` bits, and errs where that is refused. No bits take none.
+    /// `N` is at least 1, and `8N` fits `u64`.
+    ///
+    /// # Errors
+    ///
+    /// Returns `AllocError` if the allocation fails. If `size` is 0, it succeeds.
+    ///
+    /// # Memory
+    ///
+    /// Allocates at most once, space for the chunks of `size` bits.
+    ///
+    /// # Complexity
+    ///
+    /// Linear in the chunks of `size` bits.
     pub fn zeroes(alloc: Global, size: u64) -> Result<Self, AllocError>
         requires width { IsWidth N }
         ensures ok { IfOk result (λ b. b ≡ replicate size false) }
@@ -123,9 +155,21 @@ impl<const N: usize> BitMap<N> {
         Ok(map)
     }
 
-    /// `size` bits that are all true.
+    /// Returns a bitmap of `size` bits that are all true.
     ///
-    /// Takes memory once, for the chunks of `size` bits, and errs where that is refused. No bits take none.
+    /// `N` is at least 1, and `8N` fits `u64`.
+    ///
+    /// # Errors
+    ///
+    /// Returns `AllocError` if the allocation fails. If `size` is 0, it succeeds.
+    ///
+    /// # Memory
+    ///
+    /// Allocates at most once, space for the chunks of `size` bits.
+    ///
+    /// # Complexity
+    ///
+    /// Linear in the chunks of `size` bits.
     pub fn ones(alloc: Global, size: u64) -> Result<Self, AllocError>
         requires width { IsWidth N }
         ensures ok { IfOk result (λ b. b ≡ replicate size true) }
@@ -137,9 +181,21 @@ impl<const N: usize> BitMap<N> {
         Ok(BitMap { chunks, len: size })
     }
 
-    /// The bits that are given, in order.
+    /// Returns a bitmap of the given bits, in order.
     ///
-    /// Takes memory once, for their chunks, and errs where that is refused. No bits take none.
+    /// `N` is at least 1, and `8N` fits `u64`.
+    ///
+    /// # Errors
+    ///
+    /// Returns `AllocError` if the allocation fails. If `bools` is empty, it succeeds.
+    ///
+    /// # Memory
+    ///
+    /// Allocates at most once, space for the chunks of the bits.
+    ///
+    /// # Complexity
+    ///
+    /// Linear in the bits.
     pub fn from_bools(alloc: Global, bools: &[bool]) -> Result<Self, AllocError>
         requires width { IsWidth N }
         ensures ok { IfOk result (λ b. b ≡ bools.now) }
@@ -151,9 +207,9 @@ impl<const N: usize> BitMap<N> {
         })
     }
 
-    /* Reading */
-
-    /// The number of bits. No memory.
+    /// Returns the number of bits.
+    ///
+    /// Does not allocate; constant time.
     pub fn len(&self) -> u64
         ensures value { result ≡ length self.now }
         ensures width { IsWidth N }
@@ -162,34 +218,41 @@ impl<const N: usize> BitMap<N> {
         self.len
     }
 
-    /// Whether there is no bit. No memory.
+    /// Returns whether the bitmap has no bit.
+    ///
+    /// Does not allocate; constant time.
     pub fn is_empty(&self) -> bool
         ensures { result ≡ (length self.now == 0) }
     {
         self.len() == 0
     }
 
-    /// Whether the length is a multiple of `8N`, as 0 is. No memory.
+    /// Returns whether the length is a multiple of `8N`. A length of 0 is.
+    ///
+    /// Does not allocate; constant time.
     pub fn is_chunk_aligned(&self) -> bool
         ensures { result ≡ (length self.now % (8 * N) == 0) }
     {
         self.len % chunk_width::<N>() == 0
     }
 
-    /// How many bytes the byte form of a bitmap of `bits` bits has: eight for the length, and its chunks. A shorter bitmap has no more.
+    /// Returns the size in bytes of the encoding of a bitmap of `bits` bits: eight bytes for the length, and its chunks.
     ///
-    /// `N` is at least 1, `8N` fits `u64`, and the answer fits `usize`. No memory.
+    /// No bitmap of fewer bits has a longer encoding. `N` is at least 1, `8N` fits `u64`, and the result fits `usize`.
+    /// Does not allocate; constant time.
     pub fn max_encode_size(bits: u64) -> usize
         requires width { IsWidth N }
-        requires room { div_ceil bits (8 * N) * N + 8 < 2 ^ 64 }
+        requires space { div_ceil bits (8 * N) * N + 8 < 2 ^ 64 }
         ensures value { result ≡ div_ceil bits (8 * N) * N + 8 }
-        ensures reached { (v : List Bool) → length v ≡ bits → length (spelling N v) ≡ result }
-        ensures most { (v : List Bool) → length v ≤ bits → length (spelling N v) ≤ result }
+        ensures reached { (v : List Bool) → length v ≡ bits → length (encoding N v) ≡ result }
+        ensures most { (v : List Bool) → length v ≤ bits → length (encoding N v) ≤ result }
     {
         chunk_count::<N>(bits) * N + 8
     }
 
-    /// The bit at a position below the length. No memory.
+    /// Returns the bit at position `bit`, which is below the length.
+    ///
+    /// Does not allocate; constant time.
     pub fn get(&self, bit: u64) -> bool
         requires { bit < length self.now }
         ensures { result ≡ slice_index_or self.now bit false }
@@ -197,9 +260,9 @@ impl<const N: usize> BitMap<N> {
         deque::get_bit(&self.chunks, bit)
     }
 
-    /// Bit `bit mod 8N` of a chunk, so the bit at position `bit` where the chunk is that of the position.
+    /// Returns bit `bit mod 8N` of a chunk. If the chunk is that of position `bit`, this is the bit at that position.
     ///
-    /// `N` is at least 1. No memory.
+    /// `N` is at least 1. Does not allocate; constant time.
     pub fn get_bit_from_chunk(chunk: &[u8; N], bit: u64) -> bool
         requires positive { 0 < N }
         ensures { result ≡ chunk_bit N chunk.now bit }
@@ -207,9 +270,19 @@ impl<const N: usize> BitMap<N> {
         chunk::get_bit(chunk, bit)
     }
 
-    /// The bits in order, one boolean each.
+    /// Returns the bits in order, one boolean per bit.
     ///
-    /// Takes memory once, for the booleans, from the bitmap's allocator, and errs where that is refused. No bits take none.
+    /// # Errors
+    ///
+    /// Returns `AllocError` if the allocation fails. If the bitmap is empty, it succeeds.
+    ///
+    /// # Memory
+    ///
+    /// Allocates at most once, space for one boolean per bit, from the allocator of the bitmap.
+    ///
+    /// # Complexity
+    ///
+    /// Linear in the length.
     pub fn to_bools(&self) -> Result<Vec<bool>, AllocError>
         ensures ok { IfOk result (λ v. v.items ≡ self.now) }
         ensures none { length self.now ≡ 0 → IsOk result }
@@ -220,7 +293,15 @@ impl<const N: usize> BitMap<N> {
         Ok(bools)
     }
 
-    /// The number of bits that are true. No memory.
+    /// Returns the number of bits that are true.
+    ///
+    /// # Memory
+    ///
+    /// Does not allocate.
+    ///
+    /// # Complexity
+    ///
+    /// Linear in the words (64 bits) of the bitmap.
     pub fn count_ones(&self) -> u64
         ensures { result ≡ count_by (λ b. b) self.now }
     {
@@ -228,16 +309,32 @@ impl<const N: usize> BitMap<N> {
         deque::count_ones(&self.chunks)
     }
 
-    /// The number of bits that are false. No memory.
+    /// Returns the number of bits that are false.
+    ///
+    /// # Memory
+    ///
+    /// Does not allocate.
+    ///
+    /// # Complexity
+    ///
+    /// Linear in the words (64 bits) of the bitmap.
     pub fn count_zeros(&self) -> u64
         ensures { result ≡ count_by not self.now }
     {
         self.len() - self.count_ones()
     }
 
-    /// Whether no bit of a range of positions is set. The end of the range, which is not in it, is at most the length. No memory.
+    /// Returns whether no bit at a position in `range` is set. The end of the range is excluded, and at most the length.
     ///
-    /// An empty range has none, and so has one that ends before it starts: the answer is true.
+    /// If the range is empty or ends before it starts, the result is true.
+    ///
+    /// # Memory
+    ///
+    /// Does not allocate.
+    ///
+    /// # Complexity
+    ///
+    /// At most linear in the words (64 bits) of the range.
     pub fn is_unset(&self, range: Range<u64>) -> bool
         requires { range.end ≤ length self.now }
         ensures { result ≡ list_all not (slice_range self.now range.start range.end) }
@@ -246,9 +343,19 @@ impl<const N: usize> BitMap<N> {
         deque::is_unset(&self.chunks, range.start, range.end)
     }
 
-    /// The positions of the bits that are set, ascending, from position 0 on. No memory.
+    /// Returns an iterator over the positions whose bit is set, in ascending order from position 0 on.
+    ///
+    /// # Memory
+    ///
+    /// Does not allocate, and neither does the iterator.
+    ///
+    /// # Complexity
+    ///
+    /// Constant. The whole iteration is linear in the words of the bitmap plus the positions returned.
+    /// A word is 64 bits of one chunk, or fewer at the end of a chunk.
     pub fn ones_iter(&self) -> OnesIter<'_, BitMap<N>, N>
         ensures positions { result.left ≡ filter (λ k. slice_index_or self.now k false) (range_with_len 0 (length self.now)) }
+        ensures width { IsWidth N }
         ensures words { result.words ≡ words_between N 0 (length self.now) }
         ensures loads { result.loads ≤ result.words }
         ensures bound { length result.left < 2 ^ 64 }
@@ -256,12 +363,19 @@ impl<const N: usize> BitMap<N> {
         self.ones_iter_range(0..self.len())
     }
 
-    /* Growing */
-
     /// Appends a bit. The length is below `u64::MAX`.
     ///
-    /// Where the length is a multiple of `8N` it needs room for one chunk more, and takes memory where there is none.
-    /// Elsewhere it takes none, and succeeds. Refused, the bitmap is as it was.
+    /// # Errors
+    ///
+    /// Returns `AllocError` if an allocation fails; the bitmap is unchanged. If the length is not a multiple of `8N`, it succeeds.
+    ///
+    /// # Memory
+    ///
+    /// Allocates only if the length is a multiple of `8N` and there is no capacity for another chunk.
+    ///
+    /// # Complexity
+    ///
+    /// Amortized constant.
     #[inline]
     pub fn push(&mut self, bit: bool) -> Result<(), AllocError>
         requires { length self.old + 1 < 2 ^ 64 }
@@ -270,7 +384,7 @@ impl<const N: usize> BitMap<N> {
         ensures partial { ¬ (length self.old % (8 * N) ≡ 0) → IsOk result }
     {
         let len = self.len;
-        deque::make_room(&mut self.chunks, len)?;
+        deque::make_space(&mut self.chunks, len)?;
         if bit {
             deque::set_bit(&mut self.chunks, len, true);
         }
@@ -278,12 +392,22 @@ impl<const N: usize> BitMap<N> {
         Ok(())
     }
 
-    /// Appends the bits of a chunk to a bitmap whose length is a multiple of `8N`, with room for `8N` more in `u64`.
+    /// Appends the `8N` bits of a chunk. The length is a multiple of `8N`, and the new length fits `u64`.
     ///
-    /// It needs room for the chunk, and takes memory where there is none. Refused, the bitmap is as it was.
+    /// # Errors
+    ///
+    /// Returns `AllocError` if an allocation fails; the bitmap is unchanged.
+    ///
+    /// # Memory
+    ///
+    /// Allocates only if there is no capacity for another chunk.
+    ///
+    /// # Complexity
+    ///
+    /// Amortized constant: one chunk is copied.
     pub fn push_chunk(&mut self, chunk: &[u8; N]) -> Result<(), AllocError>
         requires aligned { length self.old % (8 * N) ≡ 0 }
-        requires room { length self.old + 8 * N < 2 ^ 64 }
+        requires space { length self.old + 8 * N < 2 ^ 64 }
         ensures ok { OnOk result (self.new ≡ self.old ++ chunk_bits N chunk.now) }
         ensures err { OnErr result (self.new ≡ self.old) }
     {
@@ -293,14 +417,23 @@ impl<const N: usize> BitMap<N> {
         Ok(())
     }
 
-    /// Appends false bits up to a length of `n` bits. A bitmap of `n` bits or more stays as it is.
+    /// Appends false bits up to a length of `n` bits. If the bitmap has `n` bits or more, it is unchanged.
     ///
-    /// Takes memory at most once, for the chunks that are missing. Where none is, it takes none and succeeds.
-    /// Refused, the bitmap is as it was.
+    /// # Errors
+    ///
+    /// Returns `AllocError` if the allocation fails; the bitmap is unchanged. If no chunk is missing, it succeeds.
+    ///
+    /// # Memory
+    ///
+    /// Allocates at most once, and only if there is no capacity for the missing chunks.
+    ///
+    /// # Complexity
+    ///
+    /// Amortized linear in the chunks that are appended.
     pub fn extend_to(&mut self, n: u64) -> Result<(), AllocError>
         ensures ok { OnOk result (self.new ≡ self.old ++ replicate (n - length self.old) false) }
         ensures err { OnErr result (self.new ≡ self.old) }
-        ensures roomy { n ≤ 8 * N * div_ceil (length self.old) (8 * N) → IsOk result }
+        ensures has_capacity { n ≤ 8 * N * div_ceil (length self.old) (8 * N) → IsOk result }
     {
         let len = self.len;
         if len < n {
@@ -312,16 +445,25 @@ impl<const N: usize> BitMap<N> {
 
     /// Appends the bits of another bitmap, in order. Its chunks may have another width. The sum of the lengths fits `u64`.
     ///
-    /// Takes memory at most once, for the chunks that are missing. Where none is, it takes none and succeeds.
-    /// Refused, the bitmap is as it was.
+    /// # Errors
+    ///
+    /// Returns `AllocError` if the allocation fails; the bitmap is unchanged. If no chunk is missing, it succeeds.
+    ///
+    /// # Memory
+    ///
+    /// Allocates at most once, and only if there is no capacity for the missing chunks.
+    ///
+    /// # Complexity
+    ///
+    /// Amortized linear in the bytes of the appended chunks. Most of them are written in words of 64 bits if `N` is 8 or more.
     pub fn extend_from_bitmap<const M: usize>(
         &mut self,
         other: &BitMap<M>,
     ) -> Result<(), AllocError>
-        requires room { length self.old + length other.now < 2 ^ 64 }
+        requires space { length self.old + length other.now < 2 ^ 64 }
         ensures ok { OnOk result (self.new ≡ self.old ++ other.now) }
         ensures err { OnErr result (self.new ≡ self.old) }
-        ensures roomy { length self.old + length other.now ≤ 8 * N * div_ceil (length self.old) (8 * N) → IsOk result }
+        ensures has_capacity { length self.old + length other.now ≤ 8 * N * div_ceil (length self.old) (8 * N) → IsOk result }
     {
         let len = self.len;
         let total = len + other.len();
@@ -331,9 +473,9 @@ impl<const N: usize> BitMap<N> {
         Ok(())
     }
 
-    /* Shrinking */
-
-    /// Removes and answers the last bit of a bitmap that is not empty. No memory.
+    /// Removes the last bit of a bitmap that is not empty, and returns it.
+    ///
+    /// Does not allocate; constant time.
     pub fn pop(&mut self) -> bool
         requires { 0 < length self.old }
         ensures { self.old ≡ self.new ++ result ∷ [] }
@@ -341,12 +483,20 @@ impl<const N: usize> BitMap<N> {
         let last = self.len - 1;
         let bit = deque::get_bit(&self.chunks, last);
         deque::set_bit(&mut self.chunks, last, false);
-        deque::drop_room(&mut self.chunks, last);
+        deque::drop_space(&mut self.chunks, last);
         self.len = last;
         bit
     }
 
-    /// Keeps the first `n` bits. `n` is at most the length. No memory.
+    /// Shortens the bitmap to its first `n` bits. `n` is at most the length.
+    ///
+    /// # Memory
+    ///
+    /// Does not allocate.
+    ///
+    /// # Complexity
+    ///
+    /// At most linear in the chunks that are removed.
     pub fn truncate(&mut self, n: u64)
         requires { n ≤ length self.old }
         ensures { self.new ≡ take n self.old }
@@ -355,9 +505,9 @@ impl<const N: usize> BitMap<N> {
         self.len = n;
     }
 
-    /* Editing */
-
-    /// Replaces the bit at a position below the length. No memory.
+    /// Sets the bit at position `bit` to `value`. `bit` is below the length.
+    ///
+    /// Does not allocate; constant time.
     pub fn set(&mut self, bit: u64, value: bool)
         requires { bit < length self.old }
         ensures { self.new ≡ slice_set self.old bit value }
@@ -365,7 +515,9 @@ impl<const N: usize> BitMap<N> {
         deque::set_bit(&mut self.chunks, bit, value);
     }
 
-    /// Inverts the bit at a position below the length. No memory.
+    /// Inverts the bit at position `bit`, which is below the length.
+    ///
+    /// Does not allocate; constant time.
     pub fn flip(&mut self, bit: u64)
         requires { bit < length self.old }
         ensures { self.new ≡ slice_set self.old bit (not (slice_index_or self.old bit false)) }
@@ -373,7 +525,15 @@ impl<const N: usize> BitMap<N> {
         deque::flip_bit(&mut self.chunks, bit);
     }
 
-    /// Inverts every bit. No memory.
+    /// Inverts every bit.
+    ///
+    /// # Memory
+    ///
+    /// Does not allocate.
+    ///
+    /// # Complexity
+    ///
+    /// Linear in the chunks.
     pub fn flip_all(&mut self)
         ensures { self.new ≡ map not self.old }
     {
@@ -382,7 +542,15 @@ impl<const N: usize> BitMap<N> {
         deque::clear_tail(&mut self.chunks, len);
     }
 
-    /// Writes one value to every bit. No memory.
+    /// Sets every bit to `value`.
+    ///
+    /// # Memory
+    ///
+    /// Does not allocate.
+    ///
+    /// # Complexity
+    ///
+    /// Linear in the chunks.
     pub fn set_all(&mut self, value: bool)
         ensures { self.new ≡ replicate (length self.old) value }
     {
@@ -391,7 +559,7 @@ impl<const N: usize> BitMap<N> {
         deque::clear_tail(&mut self.chunks, len);
     }
 
-    // Combines each bit with the other of its position.
+    // Combines each bit with the bit of `other` at the same position.
     fn combine<B: Bitwise>(&mut self, other: &BitMap<N>)
         requires { length self.old ≡ length other.now }
         ensures { self.new ≡ map (λ p. B.gives p.0 p.1) (zip self.old other.now) }
@@ -399,7 +567,15 @@ impl<const N: usize> BitMap<N> {
         deque::combine::<B, N>(&mut self.chunks, &other.chunks);
     }
 
-    /// Leaves a bit set where it is set in both bitmaps, which have the same length. The other one is not changed. No memory.
+    /// Sets each bit to the conjunction of itself and the bit of `other` at the same position. The lengths are equal.
+    ///
+    /// # Memory
+    ///
+    /// Does not allocate.
+    ///
+    /// # Complexity
+    ///
+    /// Linear in the chunks.
     pub fn and(&mut self, other: &BitMap<N>)
         requires { length self.old ≡ length other.now }
         ensures { self.new ≡ map (λ p. p.0 && p.1) (zip self.old other.now) }
@@ -407,7 +583,15 @@ impl<const N: usize> BitMap<N> {
         self.combine::<And>(other);
     }
 
-    /// Sets a bit where it is set in either bitmap; they have the same length. The other one is not changed. No memory.
+    /// Sets each bit to the disjunction of itself and the bit of `other` at the same position. The lengths are equal.
+    ///
+    /// # Memory
+    ///
+    /// Does not allocate.
+    ///
+    /// # Complexity
+    ///
+    /// Linear in the chunks.
     pub fn or(&mut self, other: &BitMap<N>)
         requires { length self.old ≡ length other.now }
         ensures { self.new ≡ map (λ p. p.0 || p.1) (zip self.old other.now) }
@@ -415,7 +599,15 @@ impl<const N: usize> BitMap<N> {
         self.combine::<Or>(other);
     }
 
-    /// Leaves a bit set where the two bitmaps, which have the same length, differ. The other one is not changed. No memory.
+    /// Sets each bit to whether it differs from the bit of `other` at the same position. The lengths are equal.
+    ///
+    /// # Memory
+    ///
+    /// Does not allocate.
+    ///
+    /// # Complexity
+    ///
+    /// Linear in the chunks.
     pub fn xor(&mut self, other: &BitMap<N>)
         requires { length self.old ≡ length other.now }
         ensures { self.new ≡ map (λ p. xor p.0 p.1) (zip self.old other.now) }
@@ -427,7 +619,19 @@ impl<const N: usize> BitMap<N> {
 impl<const N: usize> Clone for BitMap<N> {
     ghost is_clone = { λ a b. b ≡ a };
 
-    /// An equal bitmap. Takes memory for its chunks, and errs where that is refused.
+    /// Returns an equal bitmap.
+    ///
+    /// # Errors
+    ///
+    /// Returns `AllocError` if the allocation fails.
+    ///
+    /// # Memory
+    ///
+    /// Allocates space for the chunks, from the allocator of the bitmap.
+    ///
+    /// # Complexity
+    ///
+    /// Linear in the chunks.
     fn clone(&self) -> Result<Self, AllocError> {
         Ok(BitMap {
             chunks: self.chunks.clone()?,

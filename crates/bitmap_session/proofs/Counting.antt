@@ -9,7 +9,7 @@ use Rattle.std.specs.Prelude.{true, false, nat_eq, ◌||◌}
 use Rattle.std.specs.Set.{is_member, unique_keys, distinct_count}
 use Rattle.historical_bitmap.specs.Edits.{IsWithin}
 
--- what stands in the list once more changes no membership
+-- adding a number that is already in the list changes no membership
 again : (xs : List ℕ) (x q : ℕ) → is_member nat_eq xs x ≡ true → is_member nat_eq (x ∷ xs) q ≡ is_member nat_eq xs q
 again xs x q h = elim (cases_eq q x) [
   | inl e ↦ rw (eq-eqb q x e, e) (sym h)
@@ -40,7 +40,7 @@ unique_distinct (x ∷ xs) = elim (cases_Bool (is_member nat_eq xs x)) [
       rw e (IsDistinct-cons nat_eq x (unique_keys nat_eq xs) others (unique_distinct xs))
 ]
 
--- a set within another has at most as many
+-- a subset has at most as many distinct numbers
 pub count_within : (marks touched : List ℕ) → IsWithin marks touched → distinct_count nat_eq marks ≤ distinct_count nat_eq touched
 count_within marks touched within =
     length-le_from_is_member nat_eq_equiv (unique_keys nat_eq marks) (unique_keys nat_eq touched)

@@ -1,4 +1,4 @@
--- The kept numbers rise in each machine that a run reaches.
+-- The kept numbers are strictly ascending in every machine that a run reaches.
 use Rattle.std.proofs.Common.{◌≡◌, ℕ, ◌-◌, ◌<◌, ◌≤◌, List, [], ◌∷◌, Bool, Option, Some, None, refl, sym, ap, ◌∙◌, inl, inr, arith, length}
 use Rattle.std.specs.Prelude.{nat_le, slice_get, suc}
 use Rattle.std.specs.List.{All, filter}
@@ -12,18 +12,18 @@ use Rattle.std.proofs.lemmas.List.Kept.{IsStrictlySortedBy-filter}
 use Rattle.std.proofs.lemmas.Map.Keys.{sorted_head, sorted_tail}
 use Rattle.bitmap_core.specs.PrunedBits.{PrunedBits}
 use Rattle.historical_bitmap.specs.History.{latest, RiseInNumber}
-use Rattle.historical_bitmap.proofs.OldStates.{below}
-use Rattle.historical_bitmap.proofs.PendingRecords.{keys_push, sorted_push}
+use Rattle.historical_bitmap.proofs.History.PastStates.{below}
+use Rattle.historical_bitmap.proofs.Pending.Record.{keys_push, sorted_push}
 use Rattle.bitmap_session.specs.declared.command.Command.{Command}
-use Rattle.bitmap_session.specs.Answers.{Answer}
+use Rattle.bitmap_session.specs.Replies.{ReplyValue}
 use Rattle.bitmap_session.specs.Laws.{IsGreatestOf, IsReached, NumbersRise}
 use Rattle.bitmap_session.specs.Machine.{Machine, Run, State, first_machine}
-use Rattle.bitmap_session.proofs.Moves.{Moves, Stays, Starts, Keeps, GoesBack, Drops, Clears, IsAbove, moves}
+use Rattle.bitmap_session.proofs.Moves.{Moves, Stays, Starts, Keeps, Rewinds, Drops, Clears, IsAbove, moves}
 
 abbrev pub History : Type 0
 History = List (ℕ × PrunedBits)
 
--- the numbers of what stays are those that stay
+-- filtering a history by number filters its numbers
 pub keys_where : (p : ℕ → Bool) (es : History) → keys_of (filter (λ e. p e.0) es) ≡ filter p (keys_of es)
 keys_where p [] = refl
 keys_where p (e ∷ es) = elim (cases_Bool (p e.0)) [
@@ -38,7 +38,7 @@ none_above m (k ∷ ks) = elim (cases_lt m k) [
   | inr l ↦ rw (le-leb k m l) (All-cons (λ j. j ≤ m) k (filter (λ j. nat_le j m) ks) l (none_above m ks))
 ]
 
--- a number above the last one is above all that are kept
+-- a number above the last number is above all kept numbers
 pub all_below : (last : Option ℕ) (ks : List ℕ) (number : ℕ) → IsAbove last number → IsGreatestOf last ks → All (λ k. k < number) ks
 all_below None ks number a g = rw g (All-nil (λ k. k < number))
 all_below (Some last) ks number a g = All-weaker (λ k. k ≤ last) (λ k. k < number) (λ k l. omega (arith, l, a)) ks g
@@ -55,7 +55,7 @@ sorted_none : IsStrictlySortedBy nat_cmp []
 unfolding IsStrictlySortedBy
 sorted_none = tt
 
--- kept numbers that rise, up to the last one
+-- the kept numbers are strictly ascending, and none is above the last number
 abbrev pub Rise : History → Option ℕ → Type 0
 Rise history last = RiseInNumber history × IsGreatestOf last (keys_of history)
 
@@ -69,7 +69,7 @@ keeps_rising {s} (Keeps number bitmap a e f) r =
       sorted_push (keys_of s.history) number r.0 under,
       All-append (λ k. k ≤ number) (keys_of s.history) (number ∷ []) at_most (All-cons (λ k. k ≤ number) number [] (omega arith) (All-nil (λ k. k ≤ number))),
     )
-keeps_rising {s} (GoesBack number e f) r =
+keeps_rising {s} (Rewinds number e f) r =
     rw (e, f, keys_where (λ k. nat_le k number) s.history) (
       IsStrictlySortedBy-filter nat_cmp (λ k. nat_le k number) (keys_of s.history) r.0,
       none_above number (keys_of s.history),
@@ -81,22 +81,22 @@ keeps_rising {s} (Drops number e f) r =
     )
 keeps_rising {s} (Clears e f) r = rw (e, f) (sorted_none, of_none s.last)
 
--- to the end of a run
-runs_rising : (N : ℕ) (old new : Machine) (commands : List (Command N)) (answers : List Answer)
-    → Run N old commands answers new
+-- a run preserves this
+runs_rising : (N : ℕ) (old new : Machine) (commands : List (Command N)) (replies : List ReplyValue)
+    → Run N old commands replies new
     → Rise old.state.history old.state.last
     → Rise new.state.history new.state.last
 runs_rising N old new [] [] run r = rw run r
-runs_rising N old new (command ∷ commands) (answer ∷ answers) run r =
-    runs_rising N run.0 new commands answers run.2 (keeps_rising (moves N old command answer run.0 run.1) r)
-runs_rising N old new [] (answer ∷ answers) run r = absurd run
+runs_rising N old new (command ∷ commands) (reply ∷ replies) run r =
+    runs_rising N run.0 new commands replies run.2 (keeps_rising (moves N old command reply run.0 run.1) r)
+runs_rising N old new [] (reply ∷ replies) run r = absurd run
 runs_rising N old new (command ∷ commands) [] run r = absurd run
 
--- from the first machine on
+-- they are so in every machine that a run from the first machine reaches
 pub reached_rise : (N : ℕ) (m : Machine) → IsReached N m → Rise m.state.history m.state.last
 reached_rise N m reached = runs_rising N first_machine m reached.0 reached.1.0 reached.1.1 (sorted_none, refl)
 
--- the latest is that of what follows the first
+-- the latest number of two or more commits is the latest of those after the first
 latest-cons : (e f : ℕ × PrunedBits) (es : History) → latest (e ∷ f ∷ es) ≡ latest (f ∷ es)
 latest-cons e f es =
     let a : length (e ∷ f ∷ es) - 1 ≡ suc (length es) = omega arith in
@@ -110,7 +110,7 @@ one_more first second (Some last) ks l g =
     let second_within : second ≤ last = All-head (λ k. k ≤ last) second ks g in
     All-cons (λ k. k ≤ last) first (second ∷ ks) (omega arith) g
 
--- where the numbers rise, the latest is the greatest
+-- if the numbers are ascending, the latest is the greatest
 latest_greatest : (es : History) → RiseInNumber es → IsGreatestOf (latest es) (keys_of es)
 latest_greatest [] rise = refl
 latest_greatest (e ∷ []) rise = All-cons (λ k. k ≤ e.0) e.0 [] (omega arith) (All-nil (λ k. k ≤ e.0))

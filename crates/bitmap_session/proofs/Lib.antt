@@ -4,5 +4,5 @@ pub mod Runs
 pub mod Steps
 pub mod Moves
 pub mod KeptNumbers
-pub mod GoingBack
+pub mod Rewinding
 pub mod Examples

@@ -1,12 +1,13 @@
--- What a session does by its own marks, a machine that it agrees with may do by its touched chunks.
+-- A machine that agrees with a session can take each step of the session.
 use Rattle.std.proofs.Common.{◌≡◌, ℕ, ◌≤◌, List, [], ◌∷◌, ◌++◌, Bool, true, false, Option, Some, None, refl, ap, subst, inl, inr, arith}
 use Rattle.std.specs.Prelude.{◌&&◌, MatchOption, IsTrue, ◌⊎◌, ◌||◌, nat_eq, if◌then◌else◌}
 use Rattle.std.specs.Set.{is_member}
 use Rattle.bitmap_session.specs.declared.command.Command.{Command}
+use Rattle.historical_bitmap.specs.Cost.{most_cost}
 use Rattle.historical_bitmap.specs.Edits.{IsWithin}
-use Rattle.bitmap_session.specs.Answers.{Answer, Refusal}
-use Rattle.bitmap_session.specs.Answers.Refusal.{NoMemory}
-use Rattle.bitmap_session.specs.Machine.{Machine, State, Agrees, StepTo, Step, Accepts, Refuses, after, most_cost, refusal_of, takes_memory, is_dirty, state_after, touches}
+use Rattle.bitmap_session.specs.Replies.{ReplyValue, Refusal}
+use Rattle.bitmap_session.specs.Replies.Refusal.{NoMemory}
+use Rattle.bitmap_session.specs.Machine.{Machine, State, Agrees, StepTo, Step, Accepts, Refuses, after, refusal_of, allocates, is_dirty, shown, state_after, touches}
 use Rattle.bitmap_session.proofs.Counting.{count_within}
 
 or_assoc : (a b c : Bool) → (a || (b || c)) ≡ ((a || b) || c)
@@ -34,11 +35,11 @@ either : (b : Bool) (zs xs ys : List ℕ) → IsWithin xs ys → IsWithin (if b 
 either true zs xs ys w = within_both xs ys zs w
 either false zs xs ys w = λ q h. h
 
--- a state with the chunks that a batch has touched
+-- a machine by its state and its touched chunks
 abbrev at_touched : State → List ℕ → Machine
 at_touched s touched = record { state = s; touched = touched }
 
--- a command that both accept leaves them in agreement
+-- an accepted command leaves them in agreement
 agrees_after : (N : ℕ) (s : State) (marks touched : List ℕ) (command : Command N) (cost : ℕ) (new : Machine)
     → IsWithin marks touched
     → Agrees new (after N (at_touched s marks) command cost)
@@ -47,7 +48,7 @@ agrees_after N s marks touched command cost new w a =
     let both = either (is_dirty s && is_dirty (state_after N s command 0)) (touches N s command) marks touched w in
     record { same = a.same; within = λ k h. both k (a.within k h) }
 
--- so does a command that changes nothing
+-- a command that changes nothing leaves them in agreement
 agrees_still : (s : State) (marks touched : List ℕ) (new : Machine)
     → IsWithin marks touched
     → Agrees new (at_touched s marks)
@@ -57,45 +58,45 @@ agrees_still s marks touched new w a = record { same = a.same; within = λ k h. 
 abbrev Same : Machine → Machine → Type 0
 Same a b = a ≡ b
 
--- what a step is, by the refusal that holds
-abbrev Answers : (N : ℕ) → (Machine → Machine → Type 0) → Machine → Command N → Answer → Machine → Option Refusal → Type 0
-Answers N Is old command answer new refusal = MatchOption refusal
-    (Accepts N Is old command answer new ⊎ (IsTrue (takes_memory N old.state command) × Refuses N Is old NoMemory answer new))
-    (λ r. Refuses N Is old r answer new)
+-- a step, given the refusal that holds
+abbrev StepBy : (N : ℕ) → (Machine → Machine → Type 0) → Machine → Command N → ReplyValue → Machine → Option Refusal → Type 0
+StepBy N Is old command reply new refusal = MatchOption refusal
+    (Accepts N Is old command reply new ⊎ (IsTrue (allocates N old.state command) × Refuses N Is old NoMemory reply new))
+    (λ r. Refuses N Is old r reply new)
 
-by_refusal : (N : ℕ) (s : State) (marks touched : List ℕ) (command : Command N) (answer : Answer) (new : Machine) (r : Option Refusal)
+by_refusal : (N : ℕ) (s : State) (marks touched : List ℕ) (command : Command N) (reply : ReplyValue) (new : Machine) (r : Option Refusal)
     → IsWithin marks touched
-    → Answers N Agrees (at_touched s marks) command answer new r
-    → (next : Machine) × Agrees new next × Answers N Same (at_touched s touched) command answer next r
-by_refusal N s marks touched command answer new (Some refusal) w h =
+    → StepBy N Agrees (at_touched s marks) command reply new r
+    → (next : Machine) × Agrees new next × StepBy N Same (at_touched s touched) command reply next r
+by_refusal N s marks touched command reply new (Some refusal) w h =
     (at_touched s touched, agrees_still s marks touched new w h.1, (h.0, refl))
-by_refusal N s marks touched command answer new None w (inl h) =
+by_refusal N s marks touched command reply new None w (inl h) =
     let cost = h.1.0 in
-    let cheap : cost ≤ most_cost N (at_touched s touched) = omega (arith, h.1.1, count_within marks touched w) in
+    let cheap : cost ≤ most_cost N touched s.current (shown s) = omega (arith, h.1.1, count_within marks touched w) in
     let agrees = agrees_after N s marks touched command cost new w h.1.2 in
     (after N (at_touched s touched) command cost, agrees, inl (h.0, (cost, cheap, refl)))
-by_refusal N s marks touched command answer new None w (inr h) =
+by_refusal N s marks touched command reply new None w (inr h) =
     (at_touched s touched, agrees_still s marks touched new w h.1.1, inr (h.0, (h.1.0, refl)))
 
-simulated : (N : ℕ) (s : State) (marks touched : List ℕ) (command : Command N) (answer : Answer) (new : Machine)
+simulated : (N : ℕ) (s : State) (marks touched : List ℕ) (command : Command N) (reply : ReplyValue) (new : Machine)
     → IsWithin marks touched
-    → StepTo N Agrees (at_touched s marks) command answer new
-    → (next : Machine) × Agrees new next × Step N (at_touched s touched) command answer next
-simulated N s marks touched command answer new w step =
-    by_refusal N s marks touched command answer new (refusal_of N s command) w step
+    → StepTo N Agrees (at_touched s marks) command reply new
+    → (next : Machine) × Agrees new next × Step N (at_touched s touched) command reply next
+simulated N s marks touched command reply new w step =
+    by_refusal N s marks touched command reply new (refusal_of N s command) w step
 
--- a step from a machine is one from an equal machine
-pub step_from : (N : ℕ) (a b : Machine) (command : Command N) (answer : Answer) (new : Machine)
+-- a step from a machine is a step from an equal machine
+pub step_from : (N : ℕ) (a b : Machine) (command : Command N) (reply : ReplyValue) (new : Machine)
     → a ≡ b
-    → StepTo N Agrees a command answer new
-    → StepTo N Agrees b command answer new
-step_from N a b command answer new e step = subst (λ (m : Machine). StepTo N Agrees m command answer new) e step
+    → StepTo N Agrees a command reply new
+    → StepTo N Agrees b command reply new
+step_from N a b command reply new e step = subst (λ (m : Machine). StepTo N Agrees m command reply new) e step
 
--- a session's step is one of each machine that agrees with it
-pub simulates : (N : ℕ) (old new before : Machine) (command : Command N) (answer : Answer)
+-- a machine that agrees with a session can take the session's step
+pub simulates : (N : ℕ) (old new before : Machine) (command : Command N) (reply : ReplyValue)
     → Agrees old before
-    → StepTo N Agrees old command answer new
-    → (next : Machine) × Agrees new next × Step N before command answer next
-simulates N old new before command answer a step =
+    → StepTo N Agrees old command reply new
+    → (next : Machine) × Agrees new next × Step N before command reply next
+simulates N old new before command reply a step =
     let same : old ≡ at_touched before.state old.touched = ap (λ s. at_touched s old.touched) a.same in
-    simulated N before.state old.touched before.touched command answer new a.within (step_from N _ _ command answer new same step)
+    simulated N before.state old.touched before.touched command reply new a.within (step_from N _ _ command reply new same step)

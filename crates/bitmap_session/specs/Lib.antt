@@ -1,4 +1,4 @@
-pub mod Answers
+pub mod Replies
 pub mod Laws
 pub mod Machine
-pub mod Seen
+pub mod Abstraction

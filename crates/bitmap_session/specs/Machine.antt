@@ -1,4 +1,4 @@
--- The machine that keeps every committed bitmap whole, and what it replies.
+-- The abstract machine of a session: its states, its replies, its steps and its runs. It keeps every committed bitmap as a whole list of bits.
 use Rattle.std.specs.Prelude.{◌≡◌, ℕ, ◌+◌, ◌-◌, ◌*◌, ◌/◌, ◌%◌, ◌^◌, ◌≤◌, Bool, true, false, not, ◌==◌, ◌&&◌, ◌⊎◌, List, [], ◌∷◌, ◌++◌, length, Option, Some, None, nat_lt, nat_le, nat_eq, IsTrue, MatchOption, if◌then◌else◌, unwrap_or, is_some, option_and_then}
 use Rattle.std.specs.List.{sum_by}
 use Rattle.std.specs.Map.{keys_of}
@@ -7,17 +7,18 @@ use Rattle.std.specs.Set.{distinct_count}
 use Rattle.bitmap_bytes.specs.Chunk.{byte_bits, chunk_bits}
 use Rattle.bitmap_core.specs.PrunedBits.{PrunedBits, pruned_bits, bit_len, bit_at, chunk, last_bit}
 use Rattle.bitmap_core.specs.Meaning.{ones, pruned_meaning}
-use Rattle.bitmap_core.specs.Spelling.{pruned_spelling}
-use Rattle.bitmap_core.specs.Reading.{admits, is_past_64, pruned_fault, pruned_in}
+use Rattle.bitmap_core.specs.Encoding.{pruned_encoding}
+use Rattle.bitmap_core.specs.Decoding.{admits, is_past_64, pruned_error, pruned_in}
+use Rattle.historical_bitmap.specs.Cost.{most_cost}
 use Rattle.historical_bitmap.specs.Edits.{Edit, IsWithin, after_all, pushes, touched}
 use Rattle.historical_bitmap.specs.History.{earliest, from_number, kept_under, latest, up_to_number}
 use Rattle.bitmap_session.specs.declared.command.Command.{Command}
 use Rattle.bitmap_session.specs.declared.command.Command.TheVariants.{Start, Begin, Push, PushByte, PushChunk, Pop, Set, Prune, Commit, Abort, Rewind, Len, PrunedChunks, Get, Chunk, Ones, Encode, At, OnesAt, EncodeAt, Decode, Commits, Exists, Latest, Earliest, DropBefore, Clear, Entries}
-use Rattle.bitmap_session.specs.Answers.{Refusal, Answer}
-use Rattle.bitmap_session.specs.Answers.Answer.{Done, Bit, Number, Wide, Maybe, Positions, Bytes, Snapshot, Read, Refused}
-use Rattle.bitmap_session.specs.Answers.Refusal.{WrongMode, OutOfBounds, Pruned, TooLong, NoRetainedBit, ReservedCommitNumber, NonMonotonicCommit, PrunedChunksOverflow, Codec, NoSuchCommit, NoMemory}
+use Rattle.bitmap_session.specs.Replies.{Refusal, ReplyValue}
+use Rattle.bitmap_session.specs.Replies.ReplyValue.{Done, Bit, Number, Wide, Maybe, Positions, Bytes, Snapshot, Read, Refused}
+use Rattle.bitmap_session.specs.Replies.Refusal.{WrongMode, OutOfBounds, Pruned, TooLong, NoRetainedBit, ReservedCommitNumber, NonMonotonicCommit, PrunedChunksOverflow, Codec, NoSuchCommit, NoMemory}
 
--- the current bitmap, in dirty mode the pending one, what is kept under which number, what each kept number costs, and the number last committed or gone back to
+-- a state: the current bitmap, the pending bitmap if there is a batch, the kept bitmaps by number, the cost of each kept commit in entries, and the last number
 pub record State : Type 0 where
   pub current : PrunedBits
   pub pending : Option PrunedBits
@@ -25,32 +26,32 @@ pub record State : Type 0 where
   pub costs : List (ℕ × ℕ)
   pub last : Option ℕ
 
--- a state, with the chunks that the batch has touched
+-- a machine: a state and the chunks that the batch has touched
 pub record Machine : Type 0 where
   pub state : State
   pub touched : List ℕ
 
--- no bits behind so many pruned chunks, no batch, no commits, and no number committed
-abbrev pub anew : ℕ → State
-anew chunks = record { current = record { pruned = chunks; bits = [] }; pending = None; history = []; costs = []; last = None }
+-- the state with this many pruned chunks, no retained bits, no batch, no commits and no last number
+abbrev pub empty_state : ℕ → State
+empty_state chunks = record { current = record { pruned = chunks; bits = [] }; pending = None; history = []; costs = []; last = None }
 
--- the machine before the first command: nothing pruned, and nothing touched
+-- the machine before the first command: empty, with nothing pruned and nothing touched
 abbrev pub first_machine : Machine
-first_machine = record { state = anew 0; touched = [] }
+first_machine = record { state = empty_state 0; touched = [] }
 
--- edits are pending
+-- there is a batch
 abbrev pub is_dirty : State → Bool
 is_dirty s = is_some s.pending
 
--- what reads show: the pending bitmap in dirty mode, else the current one
+-- the visible bitmap: the pending bitmap in a batch, and otherwise the current bitmap
 abbrev pub shown : State → PrunedBits
 shown s = unwrap_or s.pending s.current
 
--- the state with another pending bitmap
+-- the state with this pending bitmap
 abbrev pub edited : State → PrunedBits → State
 edited s bitmap = record s { pending = Some bitmap }
 
--- the pending bitmap is current, and kept under the number, at the cost; the number is the last one
+-- the state after a commit: the visible bitmap is current and kept under the number at this cost, and the number is the last one
 abbrev pub committed : State → ℕ → ℕ → State
 committed s number cost = record {
   current = shown s;
@@ -60,7 +61,7 @@ committed s number cost = record {
   last = Some number;
 }
 
--- what is kept under the number is current again, the commits past it are gone, and it is the last one
+-- the state after a rewind: the bitmap kept under the number is current, later commits are dropped, and the number is the last one
 abbrev pub rewound : State → ℕ → State
 rewound s number = record {
   current = unwrap_or (kept_under s.history number) s.current;
@@ -70,138 +71,138 @@ rewound s number = record {
   last = Some number;
 }
 
--- only the commits from the number on are kept
+-- the state without the commits below the number
 abbrev pub dropped_before : State → ℕ → State
 dropped_before s number = record s { history = from_number number s.history; costs = from_number number s.costs }
 
--- the refusal, where the test holds
+-- the refusal if the test is true, and otherwise none
 abbrev pub when : Bool → Refusal → Option Refusal
 when test refusal = if test then Some refusal else None
 
--- the first refusal that is there
+-- the first refusal of a list of optional ones
 abbrev pub first : List (Option Refusal) → Option Refusal
 first [] = None
 first (refusal ∷ refusals) = option_or refusal (first refusals)
 
--- what the machine does at a command
+-- the rule of a command: what the machine does with it
 pub record Rule : Type 0 where
-  -- the refusals that hold, in order: the first one is the reply
+  -- the refusals that may hold, in order: the first one that holds is the reply
   pub refusals : List (Option Refusal)
-  -- the command may find no memory
-  pub takes_memory : Bool
-  -- where it is accepted, its reply
-  pub answer : Answer
-  -- the state that it leaves; a commit is kept at the cost
+  -- the command allocates, so it may be refused with NoMemory
+  pub allocates : Bool
+  -- the reply if the command is accepted
+  pub reply : ReplyValue
+  -- the state afterwards if the command is accepted, given the cost of a commit
   pub after : ℕ → State
-  -- the chunks that it touches
+  -- the chunks that the command touches
   pub touches : List ℕ
 
--- where there is no batch, the refusal of a command that wants one
+-- WrongMode if there is no batch: for a command that needs a batch
 abbrev pub wants_batch : State → Option Refusal
 wants_batch s = when (not (is_dirty s)) WrongMode
 
--- where there is one, the refusal of a command that wants none
+-- WrongMode if there is a batch: for a command outside batches
 abbrev pub wants_no_batch : State → Option Refusal
 wants_no_batch s = when (is_dirty s) WrongMode
 
--- where no bit is retained, the refusal of a command that drops one
+-- NoRetainedBit if the visible bitmap retains no bit: for a command that drops one
 abbrev pub wants_retained : State → Option Refusal
 wants_retained s = when (length (shown s).bits == 0) NoRetainedBit
 
--- the refusals of a number to commit under: it is the greatest of u64, or not above the last one
+-- the refusals of a commit number: it is the greatest number of u64, which is reserved, or it is not above the last number
 abbrev pub wants_number : State → ℕ → List (Option Refusal)
 wants_number s number =
     when (number == 2 ^ 64 - 1) ReservedCommitNumber
     ∷ option_and_then (λ previous. when (nat_le number previous) (NonMonotonicCommit previous number)) s.last
     ∷ []
 
--- a number is kept
+-- a commit is kept under the number
 abbrev pub is_kept : State → ℕ → Bool
 is_kept s number = is_some (kept_under s.history number)
 
--- where the number is not kept, the refusal of a command that goes back to it
+-- NoSuchCommit if no commit is kept under the number: for a rewind
 abbrev pub wants_kept : State → ℕ → Option Refusal
 wants_kept s number = when (not (is_kept s number)) NoSuchCommit
 
--- a command that reads
-abbrev pub reads : State → List (Option Refusal) → Bool → Answer → Rule
-reads s refusals takes_memory answer =
-    record { refusals = refusals; takes_memory = takes_memory; answer = answer; after = λ cost. s; touches = [] }
+-- the rule of a command that reads: it leaves the state unchanged
+abbrev pub reads : State → List (Option Refusal) → Bool → ReplyValue → Rule
+reads s refusals allocates reply =
+    record { refusals = refusals; allocates = allocates; reply = reply; after = λ cost. s; touches = [] }
 
--- a command that reads what is kept under a number, where it is kept
-abbrev pub reads_kept : State → ℕ → (Option PrunedBits → Answer) → Rule
-reads_kept s number answer = reads s (wants_no_batch s ∷ []) (is_kept s number) (answer (kept_under s.history number))
+-- the rule of a command that reads the bitmap at a commit, or finds none: it allocates only if the commit is kept
+abbrev pub reads_kept : State → ℕ → (Option PrunedBits → ReplyValue) → Rule
+reads_kept s number reply = reads s (wants_no_batch s ∷ []) (is_kept s number) (reply (kept_under s.history number))
 
--- a command that begins or ends a batch, drops commits or goes back to one, or starts anew
-abbrev pub turns : List (Option Refusal) → Bool → Answer → (ℕ → State) → Rule
-turns refusals takes_memory answer after =
-    record { refusals = refusals; takes_memory = takes_memory; answer = answer; after = after; touches = [] }
+-- the rule of a command that touches no chunk: it starts, begins or ends a batch, rewinds, or drops commits
+abbrev pub sets_state : List (Option Refusal) → Bool → ReplyValue → (ℕ → State) → Rule
+sets_state refusals allocates reply after =
+    record { refusals = refusals; allocates = allocates; reply = reply; after = after; touches = [] }
 
--- A chunk has N bytes.
+-- The definitions from here on are for chunks of N bytes.
 module _ (N : ℕ) where
-  -- the chunk in which a position stands
+  -- the index of the chunk that contains a position
   abbrev pub chunk_index : ℕ → ℕ
   chunk_index position = position / (8 * N)
 
-  -- the length of what reads show
+  -- the length of the visible bitmap in bits
   abbrev pub shown_len : State → ℕ
   shown_len s = bit_len N (shown s)
 
-  -- the refusals of a position: it is at or past the length of what reads show, or it is pruned
+  -- the refusals of a position: it is not below the length of the visible bitmap, or it is pruned
   abbrev pub wants_bit : State → ℕ → List (Option Refusal)
   wants_bit s position =
       when (nat_le (shown_len s) position) OutOfBounds
       ∷ when (nat_lt position (pruned_bits N (shown s))) Pruned
       ∷ []
 
-  -- where a position is past the length, the refusal of a command that prunes up to it
+  -- OutOfBounds if the position is above the length: for a prune up to it
   abbrev pub wants_end : State → ℕ → Option Refusal
   wants_end s position = when (nat_lt (shown_len s) position) OutOfBounds
 
-  -- where so many bits more would take the length past u64, the refusal of a command that appends them
-  abbrev pub wants_room : State → ℕ → Option Refusal
-  wants_room s more = when (is_past_64 (shown_len s + more)) TooLong
+  -- TooLong if the length plus this many bits does not fit u64: for a command that appends them
+  abbrev pub wants_space : State → ℕ → Option Refusal
+  wants_space s more = when (is_past_64 (shown_len s + more)) TooLong
 
-  -- where the bits of so many chunks would pass u64, the refusal of a command that prunes them
+  -- PrunedChunksOverflow if the bits of this many chunks do not fit u64: for a start with them pruned
   abbrev pub wants_fitting : ℕ → Option Refusal
   wants_fitting chunks = when (is_past_64 (8 * N * chunks)) PrunedChunksOverflow
 
-  -- where the text has a fault, the refusal of it
+  -- the refusal of an input with a decode error
   abbrev pub wants_readable : (ℕ → Bool) → List ℕ → Option Refusal
-  wants_readable range text = option_map (λ fault. Codec (Some fault)) (pruned_fault N range text)
+  wants_readable range input = option_map (λ decode_error. Codec (Some decode_error)) (pruned_error N range input)
 
-  -- what a text without fault is read as: its bitmap, and how many bytes stand behind the spelling of it
-  abbrev pub decoded : List ℕ → Answer
-  decoded text = Read (pruned_in text) (length text - length (pruned_spelling N (pruned_in text)))
+  -- the reply to an input without a decode error: the bitmap, and the number of bytes after its encoding
+  abbrev pub decoded : List ℕ → ReplyValue
+  decoded input = Read (pruned_in input) (length input - length (pruned_encoding N (pruned_in input)))
 
-  -- a read of the text may answer so: by its fault, and where it has none by its value or for want of memory
-  abbrev pub IsDecoded : (ℕ → Bool) → List ℕ → Answer → Type 0
-  IsDecoded range text answer = MatchOption (pruned_fault N range text)
-      ((answer ≡ decoded text) ⊎ (answer ≡ Refused NoMemory))
-      (λ fault. answer ≡ Refused (Codec (Some fault)))
+  -- a possible reply to a decode of the input: its decode error if it has one, and otherwise its bitmap or NoMemory
+  abbrev pub IsDecoded : (ℕ → Bool) → List ℕ → ReplyValue → Type 0
+  IsDecoded range input reply = MatchOption (pruned_error N range input)
+      ((reply ≡ decoded input) ⊎ (reply ≡ Refused NoMemory))
+      (λ decode_error. reply ≡ Refused (Codec (Some decode_error)))
 
-  -- the set positions of a bitmap in a range
+  -- the set positions of a bitmap from one position up to another, ascending
   abbrev pub ones_of : ℕ → ℕ → PrunedBits → List ℕ
   ones_of from to bitmap = ones N (pruned_meaning N bitmap) from to
 
-  -- a command that edits the pending bitmap, and touches what its edits touch
-  abbrev pub edits : State → List (Option Refusal) → Bool → Answer → List Edit → Rule
-  edits s refusals takes_memory answer these = record {
+  -- the rule of a command that makes these edits of the pending bitmap, and touches the chunks that they touch
+  abbrev pub edits : State → List (Option Refusal) → Bool → ReplyValue → List Edit → Rule
+  edits s refusals allocates reply these = record {
     refusals = wants_batch s ∷ refusals;
-    takes_memory = takes_memory;
-    answer = answer;
+    allocates = allocates;
+    reply = reply;
     after = λ cost. edited s (after_all N (shown s) these);
     touches = touched N (shown s) these;
   }
 
-  -- a command that appends so many bits
+  -- the rule of a command that appends these bits, which are this many
   abbrev pub appends : State → ℕ → List Bool → Rule
-  appends s more bits = edits s (wants_room s more ∷ []) true Done (pushes bits)
+  appends s more bits = edits s (wants_space s more ∷ []) true Done (pushes bits)
 
-  -- what the machine does at each command
+  -- the rule of each command
   abbrev pub rule : State → Command N → Rule
-  rule s (Start chunks) = turns (wants_no_batch s ∷ wants_fitting chunks ∷ []) false Done (λ cost. anew chunks)
-  rule s Begin = turns (wants_no_batch s ∷ []) false Done (λ cost. edited s s.current)
+  rule s (Start chunks) = sets_state (wants_no_batch s ∷ wants_fitting chunks ∷ []) false Done (λ cost. empty_state chunks)
+  rule s Begin = sets_state (wants_no_batch s ∷ []) false Done (λ cost. edited s s.current)
   rule s (Push value) = appends s 1 (value ∷ [])
   rule s (PushByte byte) = appends s 8 (byte_bits byte)
   rule s (PushChunk bytes) = appends s (8 * N) (chunk_bits N bytes)
@@ -209,101 +210,93 @@ module _ (N : ℕ) where
   rule s (Set position value) = edits s (wants_bit s position) true Done (Edit.Set position value ∷ [])
   rule s (Prune position) =
       edits s (wants_end s position ∷ []) (nat_lt (shown s).pruned (chunk_index position)) Done (Edit.Prune position ∷ [])
-  rule s (Commit number) = turns (wants_batch s ∷ wants_number s number) true Done (λ cost. committed s number cost)
-  rule s Abort = turns (wants_batch s ∷ []) false Done (λ cost. record s { pending = None })
+  rule s (Commit number) = sets_state (wants_batch s ∷ wants_number s number) true Done (λ cost. committed s number cost)
+  rule s Abort = sets_state (wants_batch s ∷ []) false Done (λ cost. record s { pending = None })
   rule s (Rewind number) =
-      turns (wants_no_batch s ∷ wants_kept s number ∷ []) (is_kept s number) Done (λ cost. rewound s number)
+      sets_state (wants_no_batch s ∷ wants_kept s number ∷ []) (is_kept s number) Done (λ cost. rewound s number)
   rule s Len = reads s [] false (Number (shown_len s))
   rule s PrunedChunks = reads s [] false (Number (shown s).pruned)
   rule s (Get position) = reads s (wants_bit s position) false (Bit (bit_at N (shown s) position))
-  rule s (Chunk position) = reads s (wants_bit s position) false (Answer.Chunk (chunk N (shown s) (chunk_index position)))
+  rule s (Chunk position) = reads s (wants_bit s position) false (ReplyValue.Chunk (chunk N (shown s) (chunk_index position)))
   rule s (Ones from to) = reads s (wants_no_batch s ∷ []) true (Positions (Some (ones_of from to s.current)))
-  rule s Encode = reads s (wants_no_batch s ∷ []) true (Bytes (Some (pruned_spelling N s.current)))
+  rule s Encode = reads s (wants_no_batch s ∷ []) true (Bytes (Some (pruned_encoding N s.current)))
   rule s (At number) = reads_kept s number Snapshot
   rule s (OnesAt number from to) = reads_kept s number (λ kept. Positions (option_map (ones_of from to) kept))
-  rule s (EncodeAt number) = reads_kept s number (λ kept. Bytes (option_map (pruned_spelling N) kept))
-  rule s (Decode text range) = reads s (wants_readable (admits range) text.items ∷ []) true (decoded text.items)
+  rule s (EncodeAt number) = reads_kept s number (λ kept. Bytes (option_map (pruned_encoding N) kept))
+  rule s (Decode input range) = reads s (wants_readable (admits range) input.items ∷ []) true (decoded input.items)
   rule s Commits = reads s (wants_no_batch s ∷ []) true (Positions (Some (keys_of s.history)))
   rule s (Exists number) = reads s (wants_no_batch s ∷ []) false (Bit (is_kept s number))
   rule s Latest = reads s (wants_no_batch s ∷ []) false (Maybe (latest s.history))
   rule s Earliest = reads s (wants_no_batch s ∷ []) false (Maybe (earliest s.history))
   rule s (DropBefore number) =
       let kept = from_number number s.history in
-      turns (wants_no_batch s ∷ []) false (Number (length s.history - length kept)) (λ cost. dropped_before s number)
-  rule s Clear = turns (wants_no_batch s ∷ []) false Done (λ cost. record s { history = []; costs = [] })
+      sets_state (wants_no_batch s ∷ []) false (Number (length s.history - length kept)) (λ cost. dropped_before s number)
+  rule s Clear = sets_state (wants_no_batch s ∷ []) false Done (λ cost. record s { history = []; costs = [] })
   rule s Entries = reads s (wants_no_batch s ∷ []) false (Wide (sum_by (λ kept. kept.1) s.costs))
 
-  -- the first refusal that holds, in their order
+  -- the refusal of a command, if one holds
   abbrev pub refusal_of : State → Command N → Option Refusal
   refusal_of s command = first (rule s command).refusals
 
-  -- the command may find no memory
-  abbrev pub takes_memory : State → Command N → Bool
-  takes_memory s command = (rule s command).takes_memory
+  -- the command allocates, so it may be refused with NoMemory
+  abbrev pub allocates : State → Command N → Bool
+  allocates s command = (rule s command).allocates
 
-  -- what an accepted command replies
-  abbrev pub answer_of : State → Command N → Answer
-  answer_of s command = (rule s command).answer
+  -- the reply of an accepted command
+  abbrev pub reply_of : State → Command N → ReplyValue
+  reply_of s command = (rule s command).reply
 
-  -- the state that it leaves, a commit kept at the cost
+  -- the state after an accepted command, given the cost of a commit
   abbrev pub state_after : State → Command N → ℕ → State
   state_after s command = (rule s command).after
 
-  -- the chunks that it touches
+  -- the chunks that an accepted command touches
   abbrev pub touches : State → Command N → List ℕ
   touches s command = (rule s command).touches
 
-  -- a batch begins with nothing touched, and once it has ended nothing is
+  -- the touched chunks after an accepted command: they add up within a batch, and there are none at its begin and after its end
   abbrev pub touched_after : Machine → Command N → List ℕ
   touched_after m command =
       if is_dirty m.state && is_dirty (state_after m.state command 0) then m.touched ++ touches m.state command else []
 
-  -- the batch has popped down to whole chunks
-  abbrev pub popped_to_chunks : State → Bool
-  popped_to_chunks s = (shown_len s % (8 * N) == 0) && nat_lt (shown_len s) (bit_len N s.current)
-
-  -- the most that a commit may cost: one for each touched chunk, and one more where the batch has popped down to whole chunks
-  abbrev pub most_cost : Machine → ℕ
-  most_cost m = distinct_count nat_eq m.touched + (if popped_to_chunks m.state then 1 else 0)
-
-  -- the machine after an accepted command
+  -- the machine after an accepted command, given the cost of a commit
   abbrev pub after : Machine → Command N → ℕ → Machine
   after m command cost = record { state = state_after m.state command cost; touched = touched_after m command }
 
-  -- Steps, up to what Is takes for the same machine.
+  -- Steps up to Is, a relation that says when two machines count as the same.
   module _ (Is : Machine → Machine → Type 0) where
-    -- a command that no refusal holds of: its reply, and the machine after it; a commit costs what it likes, up to the most
-    abbrev pub Accepts : Machine → Command N → Answer → Machine → Type 0
-    Accepts old command answer new =
-        (answer ≡ answer_of old.state command) × ((cost : ℕ) × (cost ≤ most_cost old) × Is new (after old command cost))
+    -- the command is accepted: the reply and the machine are those of its rule, and a commit has any cost up to the most
+    abbrev pub Accepts : Machine → Command N → ReplyValue → Machine → Type 0
+    Accepts old command reply new =
+        (reply ≡ reply_of old.state command) × ((cost : ℕ) × (cost ≤ most_cost N old.touched old.state.current (shown old.state)) × Is new (after old command cost))
 
-    -- a refusal changes nothing
-    abbrev pub Refuses : Machine → Refusal → Answer → Machine → Type 0
-    Refuses old refusal answer new = (answer ≡ Refused refusal) × Is new old
+    -- the command is refused with this refusal, and the machine is unchanged
+    abbrev pub Refuses : Machine → Refusal → ReplyValue → Machine → Type 0
+    Refuses old refusal reply new = (reply ≡ Refused refusal) × Is new old
 
-    -- where a refusal holds it is the reply; else the command is accepted, or finds no memory where it may
-    abbrev pub StepTo : Machine → Command N → Answer → Machine → Type 0
-    StepTo old command answer new = MatchOption (refusal_of old.state command)
-        (Accepts old command answer new ⊎ (IsTrue (takes_memory old.state command) × Refuses old NoMemory answer new))
-        (λ refusal. Refuses old refusal answer new)
+    -- one step: if a refusal holds the command is refused with it; otherwise it is accepted, or, if it allocates, may be refused with NoMemory
+    abbrev pub StepTo : Machine → Command N → ReplyValue → Machine → Type 0
+    StepTo old command reply new = MatchOption (refusal_of old.state command)
+        (Accepts old command reply new ⊎ (IsTrue (allocates old.state command) × Refuses old NoMemory reply new))
+        (λ refusal. Refuses old refusal reply new)
 
-  -- from old, the machine may give this answer to the command and go on to new
-  abbrev pub Step : Machine → Command N → Answer → Machine → Type 0
-  Step old command answer new = StepTo (λ a b. a ≡ b) old command answer new
+  -- one step: from the machine old, the command may have this reply and lead to the machine new
+  abbrev pub Step : Machine → Command N → ReplyValue → Machine → Type 0
+  Step old command reply new = StepTo (λ a b. a ≡ b) old command reply new
 
-  -- the machine may give these answers to these commands, one step after another, and end in new
-  abbrev pub Run : Machine → List (Command N) → List Answer → Machine → Type 0
+  -- a run: from the machine old, the commands may have these replies, one each, and lead to the machine new
+  abbrev pub Run : Machine → List (Command N) → List ReplyValue → Machine → Type 0
   Run old [] [] new = new ≡ old
-  Run old (command ∷ commands) (answer ∷ answers) new = (mid : Machine) × Step old command answer mid × Run mid commands answers new
-  Run old [] (answer ∷ answers) new = ⊥
+  Run old (command ∷ commands) (reply ∷ replies) new = (mid : Machine) × Step old command reply mid × Run mid commands replies new
+  Run old [] (reply ∷ replies) new = ⊥
   Run old (command ∷ commands) [] new = ⊥
 
--- a session, seen as a machine by its own marks, agrees with one whose state is the same and that has touched at least as much
-pub record Agrees (seen machine : Machine) : Type 0 where
-  pub same : seen.state ≡ machine.state
-  pub within : IsWithin seen.touched machine.touched
+-- a session agrees with a machine: the states are the same, and the machine has touched each chunk that the session has marked
+pub record Agrees (session machine : Machine) : Type 0 where
+  pub same : session.state ≡ machine.state
+  pub within : IsWithin session.touched machine.touched
 
--- from every machine that agrees with old, a run over the commands with these answers ends in one that agrees with new
-abbrev pub RunsOn : (N : ℕ) → Machine → List (Command N) → List Answer → Machine → Type 0
-RunsOn N old commands answers new =
-    (before : Machine) → Agrees old before → (after : Machine) × Agrees new after × Run N before commands answers after
+-- from every machine that agrees with old there is a run of the commands, with these replies, to a machine that agrees with new
+abbrev pub RunsOn : (N : ℕ) → Machine → List (Command N) → List ReplyValue → Machine → Type 0
+RunsOn N old commands replies new =
+    (before : Machine) → Agrees old before → (after : Machine) × Agrees new after × Run N before commands replies after

@@ -1,69 +1,79 @@
-//! What a session is asked to do.
+//! The commands of a session.
 
 use bitmap_core::bitmap::codec::RangeCfg;
 
-/// What a session is asked to do. Positions count bits from 0, pruned ones included. A chunk has `N` bytes.
+/// A command of a session, with chunks of `N` bytes.
 ///
-/// `Push`, `PushByte`, `PushChunk`, `Pop`, `Set`, `Prune`, `Commit` and `Abort` want a batch; `Len`, `PrunedChunks`, `Get`, `Chunk` and
-/// `Decode` may stand in one or outside; the others want that there is none. `Refusal` says what else a command is refused for.
+/// Positions and lengths count bits from 0, pruned bits included. A range of positions includes its start and excludes its end.
+///
+/// A session is in a batch from `Begin` to the next `Commit` or `Abort` that it accepts. Each command has its mode:
+///
+/// | Commands | Mode |
+/// |---|---|
+/// | `Push`, `PushByte`, `PushChunk`, `Pop`, `Set`, `Prune`, `Commit`, `Abort` | in a batch |
+/// | `Len`, `PrunedChunks`, `Get`, `Chunk`, `Decode` | in a batch or outside |
+/// | all others | outside a batch |
+///
+/// In the wrong mode a command is refused with `WrongMode`. `Refusal` lists the other reasons. A refused command changes nothing.
+/// "The visible bitmap" below is the pending bitmap in a batch, and the current bitmap outside.
 #[derive(Drop, Debug)]
 pub enum Command<const N: usize> {
-    /// Starts anew: no bits behind so many pruned chunks, and no commits.
+    /// Replaces everything by a bitmap with this many pruned chunks, no retained bits and no commits; replies `Done`.
     Start(usize),
-    /// Begins a batch of edits on the current bitmap.
+    /// Begins a batch of edits on the current bitmap; replies `Done`.
     Begin,
-    /// Appends a bit to the pending bitmap.
+    /// Appends a bit to the pending bitmap; replies `Done`.
     Push(bool),
-    /// Appends the bits of a byte, the lowest first.
+    /// Appends the eight bits of a byte to the pending bitmap, the lowest bit first; replies `Done`.
     PushByte(u8),
-    /// Appends the bits of a chunk, the lowest bit of its first byte first.
+    /// Appends the `8N` bits of a chunk to the pending bitmap, the lowest bit of its first byte first; replies `Done`.
     PushChunk([u8; N]),
-    /// Removes and replies the last bit of the pending bitmap.
+    /// Removes the last bit of the pending bitmap and replies it as `Bit`.
     Pop,
-    /// Replaces the bit at a position of the pending bitmap.
+    /// Replaces the bit at an absolute position of the pending bitmap; replies `Done`.
     Set(u64, bool),
-    /// Prunes the chunks of the pending bitmap before the one of a position.
+    /// Prunes the chunks of the pending bitmap before the chunk of an absolute position; replies `Done`.
     Prune(u64),
-    /// Ends the batch: the pending bitmap is current, and kept under the number.
+    /// Ends the batch: makes the pending bitmap current and keeps it under the number; replies `Done`.
     Commit(u64),
-    /// Ends the batch and drops its edits.
+    /// Ends the batch and drops its edits; replies `Done`.
     Abort,
-    /// Goes back to the commit under the number: it is current again, and the commits past it are dropped.
+    /// Makes the bitmap committed under the number current again and drops the later commits; replies `Done`.
     Rewind(u64),
-    /// Replies the length in bits: of the pending bitmap in a batch, else of the current one.
+    /// Replies the length of the visible bitmap in bits as `Number`.
     Len,
-    /// Replies the number of pruned chunks, of the same bitmap as `Len`.
+    /// Replies the number of pruned chunks of the visible bitmap as `Number`.
     PrunedChunks,
-    /// Replies the bit at a position, of the same bitmap as `Len`.
+    /// Replies the bit at an absolute position of the visible bitmap as `Bit`.
     Get(u64),
-    /// Replies the chunk of a position, of the same bitmap as `Len`. Its bits past the length are zero.
+    /// Replies the chunk that contains an absolute position of the visible bitmap as `Chunk`; its bits past the length are zero.
     Chunk(u64),
-    /// Replies the set positions of the current bitmap, ascending: those from the first number up to the second, that one not included.
+    /// Replies the set positions of the current bitmap in a range, ascending, as `Positions`: `Ones(start, end)`.
     Ones(u64, u64),
-    /// Replies the bytes that spell the current bitmap.
+    /// Replies the encoding of the current bitmap as `Bytes`.
     Encode,
-    /// Replies the bitmap that was committed under the number, or that none is kept.
+    /// Replies the bitmap committed under the number as `Snapshot`, or none if that commit is not kept.
     At(u64),
-    /// Replies the set positions of the bitmap that was committed under the first number, as `Ones` does from the second
-    /// up to the third.
+    /// Replies the set positions of the bitmap committed under a number as `Ones` does, or none if that commit is not kept:
+    /// `OnesAt(number, start, end)`.
     OnesAt(u64, u64, u64),
-    /// Replies the bytes that spell the bitmap that was committed under the number.
+    /// Replies the encoding of the bitmap committed under the number as `Bytes`, or none if that commit is not kept.
     EncodeAt(u64),
-    /// Reads a bitmap from the front of the bytes, with so many retained bits as the range admits, and replies it and how
-    /// many bytes stand behind it. The session's own bitmaps stay as they are.
+    /// Decodes a bitmap from a prefix of the bytes, and replies it and the number of bytes after it as `Read`. The range limits
+    /// its number of retained bits. The bitmaps of the session do not change.
     Decode(Vec<u8>, RangeCfg),
-    /// Replies the kept commit numbers, ascending.
+    /// Replies the kept commit numbers, ascending, as `Positions`.
     Commits,
-    /// Replies whether a commit is kept under the number.
+    /// Replies whether a commit is kept under the number, as `Bit`.
     Exists(u64),
-    /// Replies the greatest kept commit number.
+    /// Replies the greatest kept commit number as `Maybe`.
     Latest,
-    /// Replies the least kept commit number.
+    /// Replies the least kept commit number as `Maybe`.
     Earliest,
-    /// Drops the commits below the number, and replies how many went.
+    /// Drops the commits below the number and replies how many it dropped as `Number`.
     DropBefore(u64),
-    /// Drops all commits.
+    /// Drops all commits; replies `Done`.
     Clear,
-    /// Replies how many reverse entries the kept commits cost together.
+    /// Replies the number of entries in the reverse records of all kept commits together, as `Wide`.
     Entries,
 }

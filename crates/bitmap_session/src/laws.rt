@@ -1,15 +1,24 @@
-//! Laws of the machine that a session is seen as. Each is the contract of a function, whose body has nothing to do.
+//! Laws of the abstract machine of `specs/Machine.antt`, which describes every session.
+//!
+//! Each law is the contract of a function with an empty body. A proof uses a law by calling its function.
 
-ghost use Rattle.bitmap_session.specs.Laws.{GoingBack, NumbersRise};
+ghost use Rattle.bitmap_session.specs.Laws.{Rewinding, NumbersRise};
 
-/// In each machine that a run reaches the kept numbers rise, the latest is the greatest of them, and none is above the
-/// number last committed or gone back to.
+/// States that the kept commit numbers are strictly ascending, in every machine that a run reaches.
+///
+/// The latest number is the greatest of them, and none is above the last number, which was committed or rewound to.
+///
+/// Does not allocate; constant time.
 pub fn kept_numbers_rise<const N: usize>()
     ensures { NumbersRise N }
 {}
 
-/// After a commit, a run through which its number stays kept, and an accepted return to it, the current bitmap is that
-/// of the commit, and the history is that of the commit less what was dropped since.
-pub fn going_back_restores<const N: usize>()
-    ensures { GoingBack N }
+/// States that a rewind to a commit restores the bitmap of that commit.
+///
+/// The commit is followed by a run during which its number stays kept, and then by an accepted `Rewind` to it. Afterwards the
+/// current bitmap is that of the commit, and the history is the one after the commit, less the commits dropped before the rewind.
+///
+/// Does not allocate; constant time.
+pub fn rewinding_restores<const N: usize>()
+    ensures { Rewinding N }
 {}

@@ -1,46 +1,50 @@
-//! What a session replies, and why it refuses.
+//! The replies of a session, and the reasons for which it refuses a command.
 
 use bitmap_core::bitmap::Prunable;
 use bitmap_core::bitmap::codec::CodecError;
 use historical_bitmap::bitmap::historical::{Error, RewindError};
 
-/// Why a command was refused: the first of these that holds, in this order. Refused, it has changed nothing.
+/// Why a command was refused.
+///
+/// If several reasons hold, the reply has the first of them in this order. A refused command has changed nothing.
 #[derive(Drop, Debug)]
 pub enum Refusal {
-    /// The command wants a batch and there is none, or the other way round.
+    /// The command needs a batch and there is none, or there is a batch and the command needs that there is none.
     WrongMode,
-    /// The position is at or past the length; of a `Prune`, past it.
+    /// The position is not below the length. For `Prune`: the position is above the length.
     OutOfBounds,
-    /// The position is before the first retained one.
+    /// The position is below the first retained position.
     Pruned,
-    /// The length in bits would pass `u64`.
+    /// The new length in bits does not fit `u64`.
     TooLong,
-    /// No bit is retained that could be popped.
+    /// There is no retained bit to pop.
     NoRetainedBit,
-    /// The number to commit under is `u64::MAX`, which is never kept.
+    /// The commit number is `u64::MAX`, which is reserved.
     ReservedCommitNumber,
-    /// The number to commit under is not above the last one.
+    /// The commit number is not above the last number.
     NonMonotonicCommit {
-        /// The number last committed or gone back to, whether it is still kept or not.
+        /// The last number: the one last committed or rewound to, whether its commit is still kept or not.
         previous: u64,
-        /// The number that was refused.
+        /// The number that was to be committed under.
         attempted: u64,
     },
-    /// The pruned bits would pass `u64`.
+    /// The number of pruned bits does not fit `u64`.
     PrunedChunksOverflow,
-    /// The bytes are not the form of a bitmap that the range admits. Never `CodecError::OutOfMemory`, which is `NoMemory`.
+    /// The bytes do not begin with an encoding of a bitmap that the range admits. Failed allocations are `NoMemory`, never `CodecError::OutOfMemory`.
     Codec(CodecError),
-    /// The number to go back to is not kept.
+    /// No commit is kept under the number to rewind to.
     NoSuchCommit,
-    /// There was not enough memory. Only `Push`, `PushByte`, `PushChunk`, `Set`, `Commit`, `Ones`, `Encode` and `Commits` may be
-    /// refused so, `Prune` where it drops a chunk, `Rewind`, `At`, `OnesAt` and `EncodeAt` of a kept number, and `Decode` of bytes
-    /// without a fault.
+    /// An allocation failed.
+    ///
+    /// Only these commands can be refused for it: `Push`, `PushByte`, `PushChunk`, `Set`, `Commit`, `Ones`, `Encode` and
+    /// `Commits`; `Prune` if it drops a chunk; `Rewind`, `At`, `OnesAt` and `EncodeAt` of a kept commit; and `Decode` of bytes
+    /// without a decode error.
     NoMemory,
 }
 
 impl From<Error> for Refusal {
     ghost use Rattle.std.specs.Prelude.{◌≡◌};
-    ghost use Rattle.bitmap_session.specs.Seen.{reason, reason_of};
+    ghost use Rattle.bitmap_session.specs.Abstraction.{reason, reason_of};
 
     ghost from_gives = { λ e r. reason r ≡ reason_of e };
 
@@ -62,7 +66,7 @@ impl From<Error> for Refusal {
 
 impl From<RewindError> for Refusal {
     ghost use Rattle.std.specs.Prelude.{◌≡◌};
-    ghost use Rattle.bitmap_session.specs.Seen.{reason, reason_of_rewind};
+    ghost use Rattle.bitmap_session.specs.Abstraction.{reason, reason_of_rewind};
 
     ghost from_gives = { λ e r. reason r ≡ reason_of_rewind e };
 
@@ -74,29 +78,29 @@ impl From<RewindError> for Refusal {
     }
 }
 
-/// What a session replies.
+/// A reply of a session: one per command.
 #[derive(Drop)]
 pub enum Reply<const N: usize> {
-    /// The command has been accepted, and has nothing to tell.
+    /// The command succeeded and has no result.
     Done,
-    /// A bit, or whether a number is kept.
+    /// A bit, or whether a commit is kept.
     Bit(bool),
-    /// A length in bits, a number of pruned chunks, or how many commits went.
+    /// A length in bits, a number of pruned chunks, or a number of dropped commits.
     Number(u64),
-    /// A number of entries of records: a sum of costs, which may pass `u64`.
+    /// A number of entries of reverse records. The sum may exceed `u64`.
     Wide(u128),
-    /// The bytes of a chunk.
+    /// The `N` bytes of a chunk.
     Chunk([u8; N]),
-    /// A commit number, where one is kept.
+    /// A commit number, or `None` if no commit is kept.
     Maybe(Option<u64>),
-    /// Set positions or kept numbers, ascending, or `None` where the number asked for is not kept.
+    /// Set positions or commit numbers, ascending. `None` if the commit in question is not kept.
     Positions(Option<Vec<u64>>),
-    /// The bytes that spell a bitmap, or `None` where the number is not kept.
+    /// The encoding of a bitmap. `None` if the commit in question is not kept.
     Bytes(Option<Vec<u8>>),
-    /// A kept bitmap, or `None` where the number is not kept.
+    /// The bitmap at a commit. `None` if the commit is not kept.
     Snapshot(Option<Prunable<N>>),
-    /// A bitmap that was read, and the number of bytes behind it.
+    /// A decoded bitmap, and the number of input bytes after its encoding.
     Read(Prunable<N>, usize),
-    /// The command has been refused, and has changed nothing.
+    /// The command was refused and has changed nothing.
     Refused(Refusal),
 }

@@ -1,11 +1,11 @@
--- Definitions computed on small values whose results were worked out by hand.
+-- Definitions of the specs, computed on small values whose results were worked out by hand.
 pub mod Batches
 pub mod Undos
 pub mod Records
 pub mod Histories
-pub mod Layers
+pub mod PendingBits
 pub mod MixedBatch
 pub mod Views
 pub mod Applied
-pub mod HeldEntries
+pub mod CachedEntries
 pub mod Changes

@@ -1,31 +1,19 @@
-pub mod Restored
-pub mod OldStates
-pub mod KeptCommits
-pub mod KeptUnder
-pub mod InPlace
-pub mod UndoSteps
-pub mod EntryPasses
-pub mod Counting
-pub mod Members
-pub mod TouchedChunks
-pub mod EditedMaps
-pub mod HeldChunks
-pub mod FilledBits
-pub mod RunChunks
-pub mod PendingEdits
-pub mod PendingEnds
-pub mod PendingMarks
-pub mod PendingChunks
-pub mod PendingRecords
-pub mod PendingApplied
-pub mod RunApplied
-pub mod PendingAppends
-pub mod PendingNext
-pub mod PendingWrites
-pub mod DirtyEdits
-pub mod NewCommits
-pub mod ChangedChunks
-pub mod NextChanges
-pub mod PendingChanges
-pub mod ChangeLaws
+-- Lemmas about historical bitmaps, by topic. The folders `bitmap` and `laws` prove the functions, from these lemmas.
+-- The argument that undoing the reverse records gives each past state, in the order in which to read it:
+-- 1. specs: Record defines a record and the bitmap before it, Undo its undo in steps, History the past states of kept commits.
+-- 2. Records.Restores, `before_is`: a record that leads from the newer bitmap to the older one gives the older one.
+-- 3. Records.UndoneInSteps, `steps_are`: a record undone in steps, as the code undoes it, gives the same bitmap.
+-- 4. Records.EntryPasses: the loops over the entries in those steps do what the specs say.
+-- 5. Pending.Record, `record_leads_back`, `record_can_undo`: the record that a commit makes leads from the pending bitmap to the current one, and can be undone.
+-- 6. History.PastStates, `snapshots_push`, `snapshots_from`, `snapshots_rewound`: a commit, a drop and a rewind leave the other past states unchanged.
+-- 7. History.AddedCommit, `kept_more`, `history_more`: a commit keeps the invariant, and appends its bitmap to the history.
+-- 8. History.KeptCommits, `found_under`, `last_undone`: the state under a kept number is the current bitmap with the later records undone, newest first.
+-- 9. History.InPlace, `found_in_place`: each bit of a past state is found without rebuilding it.
+-- 10. History.KeptUnder: which states are kept after a drop and after a rewind.
+pub mod Lists
+pub mod Records
+pub mod History
+pub mod EditedChunks
+pub mod Pending
+pub mod Changes
 pub mod Examples

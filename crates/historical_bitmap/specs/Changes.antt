@@ -1,4 +1,4 @@
--- What differs between two states of a bitmap, chunk by chunk. A chunk has n bytes.
+-- The chunks in which two states of a bitmap differ. A chunk has n bytes.
 use Rattle.std.specs.Prelude.{ℕ, ◌*◌, ◌/◌, max, not, ◌&&◌, Bool, List, Option, Some, None, if◌then◌else◌, nat_eq, nat_le, nat_lt}
 use Rattle.std.specs.Cmp.Lexicographic.{pointwise}
 use Rattle.std.specs.Int.{div_ceil}
@@ -8,21 +8,21 @@ use Rattle.std.specs.Set.{is_member}
 use Rattle.bitmap_core.specs.PrunedBits.{PrunedBits, bit_len, chunk, from_bits}
 use Rattle.historical_bitmap.specs.Edits.{from_to}
 use Rattle.historical_bitmap.specs.History.{kept_under}
-use Rattle.historical_bitmap.specs.Record.{bit_from}
+use Rattle.historical_bitmap.specs.Record.{bit_or_else}
 
--- the bytes of chunk i, if the chunk is retained; a bit past the length is zero
+-- the bytes of chunk i, if the chunk is retained; bits past the length are zero
 abbrev pub retained_bytes : ℕ → PrunedBits → ℕ → Option (List ℕ)
 retained_bytes n b i = if nat_le b.pruned i && nat_lt (8 * n * i) (bit_len n b) then Some (chunk n b i) else None
 
--- chunk i differs: it is retained in one state and not in the other, or its bytes are not the same
+-- whether chunk i differs: it is retained in only one of the two states, or its bytes differ
 abbrev pub differs : ℕ → PrunedBits → PrunedBits → ℕ → Bool
 differs n old new i = not (option_eq (pointwise nat_eq) (retained_bytes n old i) (retained_bytes n new i))
 
--- the number of chunks, pruned ones counted, the last one perhaps in part
+-- the number of chunks: pruned ones count, and so does an incomplete last one
 abbrev pub chunk_total : ℕ → PrunedBits → ℕ
 chunk_total n b = div_ceil (bit_len n b) (8 * n)
 
--- the indices from one up to another of the chunks that differ
+-- the indices of the chunks that differ, from `first` up to, but not including, `end`
 abbrev pub changed_from : ℕ → PrunedBits → PrunedBits → ℕ → ℕ → List ℕ
 changed_from n old new first end = filter (differs n old new) (from_to first end)
 
@@ -30,20 +30,20 @@ changed_from n old new first end = filter (differs n old new) (from_to first end
 abbrev pub changed : ℕ → PrunedBits → PrunedBits → List ℕ
 changed n old new = changed_from n old new 0 (max (chunk_total n old) (chunk_total n new))
 
--- the same, if there are both states
+-- the indices of the chunks that differ, if there are both states
 abbrev pub changed_if : ℕ → Option PrunedBits → Option PrunedBits → Option (List ℕ)
 changed_if n (Some old) (Some new) = Some (changed n old new)
 changed_if n (Some old) None = None
 changed_if n None new = None
 
--- the same between the states under two numbers, if both are kept and the first is at most the second
+-- the chunks that differ between the states under two numbers, if both are kept and the first is at most the second
 abbrev pub changed_between : ℕ → List (ℕ × PrunedBits) → ℕ → ℕ → Option (List ℕ)
 changed_between n history from to = if nat_le from to then changed_if n (kept_under history from) (kept_under history to) else None
 
--- the bytes of chunk i of the new state, if it is one of some chunks
+-- the bytes of chunk i of the new state, if i is in the list
 abbrev pub sent_bytes : ℕ → PrunedBits → List ℕ → ℕ → Option (List ℕ)
 sent_bytes n new sent i = if is_member nat_eq sent i then Some (chunk n new i) else None
 
--- the old state with the length, the pruned count and some chunks of the new one
+-- the first state with the length, the pruned count and the listed chunks of the second
 abbrev pub patched : ℕ → PrunedBits → PrunedBits → List ℕ → PrunedBits
-patched n old new sent = from_bits n new.pruned (bit_len n new) (λ k. bit_from n (sent_bytes n new sent (k / (8 * n))) old k)
+patched n old new sent = from_bits n new.pruned (bit_len n new) (λ k. bit_or_else n (sent_bytes n new sent (k / (8 * n))) old k)

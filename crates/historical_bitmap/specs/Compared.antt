@@ -1,4 +1,4 @@
--- Two kept states compared by the records between them. A chunk has n bytes.
+-- Two states compared by the records, or by the pending edits, that lie between them. A chunk has n bytes.
 use Rattle.std.specs.Prelude.{◌≡◌, ℕ, ◌+◌, ◌*◌, ◌^◌, ◌<◌, ◌≤◌, false, List, [], ◌∷◌, Option, MatchOption, nat_eq}
 use Rattle.std.specs.List.{flat_map}
 use Rattle.std.specs.Map.{keys_of}
@@ -7,33 +7,33 @@ use Rattle.bitmap_bytes.specs.Chunk.{IsWidth}
 use Rattle.bitmap_core.specs.PrunedBits.{PrunedBits}
 use Rattle.historical_bitmap.specs.Changes.{changed_from, differs}
 use Rattle.historical_bitmap.specs.History.{EntriesRise, past_number, up_to_number}
-use Rattle.historical_bitmap.specs.Pending.{Layer, LayerFits}
-use Rattle.historical_bitmap.specs.Record.{Reverse}
+use Rattle.historical_bitmap.specs.Pending.{PendingEdits, PendingFits}
+use Rattle.historical_bitmap.specs.Record.{ReverseRecord}
 
--- what is kept under the numbers past one number, up to another
+-- the entries of a history whose number is past one number and at most another
 abbrev pub between_numbers : {X : Type 0} → ℕ → ℕ → List (ℕ × X) → List (ℕ × X)
 between_numbers from to history = up_to_number to (past_number from history)
 
--- the chunks that some records name
-abbrev pub named_chunks : List (ℕ × Reverse) → List ℕ
+-- the chunks that some records have entries for
+abbrev pub named_chunks : List (ℕ × ReverseRecord) → List ℕ
 named_chunks commits = flat_map (λ commit. keys_of commit.1.entries) commits
 
--- two states are compared: each chunk before `end` has positions of 64 bits, and a chunk that differs is named by a record between the two numbers
-pub record IsComparing (n from to : ℕ) (commits : List (ℕ × Reverse)) (old new : PrunedBits) (end : ℕ) : Type 0 where
+-- two states can be compared: positions in chunks before `end` fit 64 bits, and each chunk that differs has an entry in a record between the two numbers
+pub record IsComparing (n from to : ℕ) (commits : List (ℕ × ReverseRecord)) (old new : PrunedBits) (end : ℕ) : Type 0 where
   pub width : IsWidth n
   pub order : from ≤ to
   pub rise : EntriesRise (between_numbers from to commits)
   pub unnamed : (i : ℕ) → is_member nat_eq (named_chunks (between_numbers from to commits)) i ≡ false → differs n old new i ≡ false
   pub small : (i : ℕ) → i < end → 8 * n * i < 2 ^ 64
 
--- the current and the pending bitmap are compared from an index on, which is not before the current pruned count
-pub record IsComparingPending (n : ℕ) (b : PrunedBits) (l : Layer) (next end : ℕ) : Type 0 where
+-- the current and the pending bitmap can be compared from index `next` on, which is at least the current pruned count
+pub record IsComparingPending (n : ℕ) (b : PrunedBits) (l : PendingEdits) (next end : ℕ) : Type 0 where
   pub width : IsWidth n
-  pub layer : LayerFits n b l
+  pub edits_fit : PendingFits n b l
   pub low : b.pruned ≤ next
   pub small : (i : ℕ) → i < end → 8 * n * i < 2 ^ 64
 
--- the first chunk that differs from one index up to another, if there is one
+-- the first chunk that differs, among those from `first` up to, but not including, `end`, if there is one
 abbrev pub IsNextChange : ℕ → PrunedBits → PrunedBits → ℕ → ℕ → Option ℕ → Type 0
 IsNextChange n old new first end next = MatchOption next
     (changed_from n old new first end ≡ [])

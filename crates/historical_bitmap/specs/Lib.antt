@@ -1,12 +1,25 @@
+-- Historical bitmaps: what their contracts say. The files are in the order in which to read them.
+-- Edits: the edits of a batch, and the chunks that they touch.
+-- Record, Stored: reverse records, and how the code stores them.
+-- Undo: a record undone in steps.
+-- History: kept commits, and the past states that their records give.
+-- Cost: how many entries a record may have.
+-- Changes: the chunks in which two states differ.
+-- Pending: pending edits, each edit of them, and the record that a commit makes.
+-- Compared, WriteCache, Run: conditions inside the code that compares states and stores edited chunks.
+-- View: a whole historical bitmap, as the contracts of its calls describe it.
+-- Batch: the result of a batch.
 pub mod Edits
 pub mod Record
 pub mod Stored
 pub mod Undo
 pub mod History
+pub mod Cost
 pub mod Changes
 pub mod Pending
 pub mod Compared
-pub mod Held
+pub mod WriteCache
 pub mod Run
 pub mod View
 pub mod Batch
+pub mod Lends

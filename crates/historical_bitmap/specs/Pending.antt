@@ -1,95 +1,95 @@
--- The edits that a batch has pending. A chunk has n bytes.
+-- The pending edits of a batch, and what each edit makes of them. A chunk has n bytes.
 use Rattle.std.specs.Prelude.{◌≡◌, ℕ, ◌+◌, ◌-◌, ◌*◌, ◌/◌, ◌%◌, ◌<◌, ◌≤◌, max, Bool, true, false, List, [], ◌++◌, length, map, if◌then◌else◌, ◌⊎◌, slice_index_or, nat_lt, nat_eq, Option, Some, None, MatchOption, unwrap_or}
 use Rattle.std.specs.List.{range_with_len}
 use Rattle.std.specs.List.Sorted.{IsStrictlySortedBy}
 use Rattle.std.specs.Map.{lookup, keys_of}
 use Rattle.std.specs.Ordering.{nat_cmp}
 use Rattle.std.specs.Set.{is_member}
-use Rattle.bitmap_bytes.specs.Chunk.{bit_in, chunk_bit, IsBitWritten, IsByteJoined}
+use Rattle.bitmap_bytes.specs.Chunk.{bytes_bit, chunk_bit, IsBitWritten, IsByteJoined}
 use Rattle.bitmap_core.specs.PrunedBits.{PrunedBits, bit_len, from_bits, chunk, truncated, pruned_to}
 use Rattle.historical_bitmap.specs.Edits.{Edit, from_to}
 use Rattle.historical_bitmap.specs.Edits.Edit.{Push, Pop, Set, Prune}
-use Rattle.historical_bitmap.specs.Record.{ChunkDiff, Reverse, bit_from}
+use Rattle.historical_bitmap.specs.Record.{ChunkDiff, ReverseRecord, bit_or_else}
 use Rattle.historical_bitmap.specs.Record.ChunkDiff.{Modified, Removed, Added, Pruned}
 use Rattle.historical_bitmap.specs.Undo.{resized, put_back}
 
--- the length and the pruned count that a batch will leave, its edited chunks by index, and the old bytes of the chunks that it prunes, in order
-pub record Layer : Type 0 where
+-- the pending edits of a batch: the length and the pruned count that it will leave, the edited chunks by index, and the captured chunks: the old bytes of those that it pruned, in order
+pub record PendingEdits : Type 0 where
   pub len : ℕ
   pub pruned : ℕ
   pub edited : List (ℕ × List ℕ)
   pub captured : List (List ℕ)
 
--- no edit is pending
-abbrev pub unedited : ℕ → PrunedBits → Layer
+-- no pending edits
+abbrev pub unedited : ℕ → PrunedBits → PendingEdits
 unedited n b = record { len = bit_len n b; pruned = b.pruned; edited = []; captured = [] }
 
--- the bytes of chunk i, where it is edited
-abbrev pub edited_chunk : Layer → ℕ → Option (List ℕ)
+-- the bytes of chunk i, if the chunk is edited
+abbrev pub edited_chunk : PendingEdits → ℕ → Option (List ℕ)
 edited_chunk l i = lookup (nat_eq i) l.edited
 
--- bit k: that of its chunk where it is edited, else that of the current bitmap
-abbrev pub layer_bit : ℕ → PrunedBits → Layer → ℕ → Bool
-layer_bit n b l k = bit_from n (edited_chunk l (k / (8 * n))) b k
+-- bit k with the pending edits: that of its chunk if the chunk is edited, else that of the current bitmap
+abbrev pub pending_bit : ℕ → PrunedBits → PendingEdits → ℕ → Bool
+pending_bit n b l k = bit_or_else n (edited_chunk l (k / (8 * n))) b k
 
--- the bitmap that a commit will leave
-abbrev pub pending_bits : ℕ → PrunedBits → Layer → PrunedBits
-pending_bits n b l = from_bits n l.pruned l.len (layer_bit n b l)
+-- the pending bitmap: the bitmap that a commit will leave
+abbrev pub pending_bits : ℕ → PrunedBits → PendingEdits → PrunedBits
+pending_bits n b l = from_bits n l.pruned l.len (pending_bit n b l)
 
--- the bytes of chunk i with the pending edits: of one that is not edited those of the current bitmap, cut to the pending length
-abbrev pub pending_chunk : ℕ → PrunedBits → Layer → ℕ → List ℕ
+-- the bytes of chunk i with the pending edits: those of the edited chunk, else those of the current bitmap cut to the pending length
+abbrev pub pending_chunk : ℕ → PrunedBits → PendingEdits → ℕ → List ℕ
 pending_chunk n b l i = unwrap_or (edited_chunk l i) (chunk n (truncated n b l.len) i)
 
--- the bytes that a prune captures of chunk i: those of the current bitmap, or, where it has none, those that the batch appended
-abbrev pub old_chunk : ℕ → PrunedBits → Layer → ℕ → List ℕ
+-- the bytes of chunk i that a prune captures: those of the current bitmap, or, if it lacks the chunk, those that the batch appended
+abbrev pub old_chunk : ℕ → PrunedBits → PendingEdits → ℕ → List ℕ
 old_chunk n b l i = if nat_lt (8 * n * i) (bit_len n b) then chunk n b i else pending_chunk n b l i
 
--- the chunks that the pending edits name: edited, cut off or pruned
-abbrev pub layer_marks : ℕ → PrunedBits → Layer → List ℕ
-layer_marks n b l = keys_of l.edited ++ map (λ k. k / (8 * n)) (from_to l.len (bit_len n b)) ++ from_to b.pruned l.pruned
+-- the marked chunks: those that the pending edits have edited, cut off or pruned
+abbrev pub marked_chunks : ℕ → PrunedBits → PendingEdits → List ℕ
+marked_chunks n b l = keys_of l.edited ++ map (λ k. k / (8 * n)) (from_to l.len (bit_len n b)) ++ from_to b.pruned l.pruned
 
--- the edited chunk i has n bytes, is retained, and its bits past the pending length are zero
-pub record IsEdited (n : ℕ) (b : PrunedBits) (l : Layer) (i : ℕ) (bytes : List ℕ) : Type 0 where
+-- an edited chunk i is right: it has n bytes and is not pruned in the current bitmap, it starts before the pending length, and its bits past that are zero
+pub record IsEdited (n : ℕ) (b : PrunedBits) (l : PendingEdits) (i : ℕ) (bytes : List ℕ) : Type 0 where
   pub low : b.pruned ≤ i
   pub high : 8 * n * i < l.len
   pub size : length bytes ≡ n
   pub clear : (k : ℕ) → k / (8 * n) ≡ i → l.len ≤ k → chunk_bit n bytes k ≡ false
 
--- the captured chunk i has n bytes, which are those of the current bitmap where it has that chunk
+-- a captured chunk i is right: it has n bytes, which are those of the current bitmap if it has the chunk
 pub record IsCaptured (n : ℕ) (b : PrunedBits) (i : ℕ) (bytes : List ℕ) : Type 0 where
   pub size : length bytes ≡ n
   pub old : 8 * n * i < bit_len n b → bytes ≡ chunk n b i
 
--- what holds of pending edits: a retained bit whose chunk is not edited is in the current bitmap, and edited and captured chunks are right
-pub record LayerFits (n : ℕ) (b : PrunedBits) (l : Layer) : Type 0 where
-  pub front : 8 * n * l.pruned ≤ l.len
+-- the invariant of pending edits: a retained bit of a chunk that is not edited is in the current bitmap, and edited and captured chunks are right
+pub record PendingFits (n : ℕ) (b : PrunedBits) (l : PendingEdits) : Type 0 where
+  pub prefix : 8 * n * l.pruned ≤ l.len
   pub rises : b.pruned ≤ l.pruned
   pub covered : (k : ℕ) → 8 * n * l.pruned ≤ k → k < l.len → edited_chunk l (k / (8 * n)) ≡ None → k < bit_len n b
   pub edited : (i : ℕ) → MatchOption (edited_chunk l i) (Unit {0}) (IsEdited n b l i)
   pub count : length l.captured ≡ l.pruned - b.pruned
   pub captured : (i : ℕ) → b.pruned ≤ i → i < l.pruned → IsCaptured n b i (slice_index_or l.captured (i - b.pruned) [])
 
--- n bytes, which are the old ones but that bit k is value
+-- the new bytes are n, and equal the old ones except that bit k is `value`
 pub record IsWritten (n : ℕ) (old : List ℕ) (k : ℕ) (value : Bool) (new : List ℕ) : Type 0 where
   pub size : length new ≡ n
   pub bits : IsBitWritten n old new k value
 
--- the new entries have o under i, and under other keys what the old ones have
+-- the new entries have o under i, and the old values under every other key
 abbrev pub Puts : {X : Type 0} → List (ℕ × X) → List (ℕ × X) → ℕ → Option X → Type 0
 Puts old new i o = (q : ℕ) → lookup (nat_eq q) new ≡ (if nat_eq q i then o else lookup (nat_eq q) old)
 
--- the new entries have bit k of the chunk under i as value, and else what the old ones have
+-- the new entries have the chunk under i with bit k set to `value`, and the old values under every other key
 pub record IsSetIn (n : ℕ) (old new : List (ℕ × List ℕ)) (i : ℕ) (chunk : List ℕ) (k : ℕ) (value : Bool) : Type 0 where
   pub bytes : List ℕ
   pub written : IsWritten n chunk k value bytes
   pub edited : Puts old new i (Some bytes)
 
--- the new entries have these bytes under i, which are its chunk's with bit k as value, or a first one's where there is none, and else what the old ones have
+-- the new entries have `bytes` under i: its old chunk, or `first` if there is none, with bit k set to `value`; other keys keep their values
 pub record SetsIn (n : ℕ) (first : List ℕ) (old new : List (ℕ × List ℕ)) (i k : ℕ) (value : Bool) (bytes : List ℕ) : Type 0 where
   pub written : IsWritten n (unwrap_or (lookup (nat_eq i) old) first) k value bytes
   pub edited : Puts old new i (Some bytes)
 
--- the new entries have the eight bits of byte from bit k of the chunk under i on, and else what the old ones have
+-- the new entries have the chunk under i with the eight bits of `byte` from bit k on; other keys keep their values
 pub record IsByteSetIn (n : ℕ) (old new : List (ℕ × List ℕ)) (i k byte : ℕ) : Type 0 where
   pub chunk : List ℕ
   pub found : lookup (nat_eq i) old ≡ Some chunk
@@ -98,12 +98,12 @@ pub record IsByteSetIn (n : ℕ) (old new : List (ℕ × List ℕ)) (i k byte : 
   pub written : IsByteJoined n chunk bytes k byte
   pub edited : Puts old new i (Some bytes)
 
--- the new entries have the first under i and the second under i + 1, and under other keys what the old ones have
+-- the new entries have `first` under i and `second` under i + 1; other keys keep their values
 abbrev pub PutsTwo : {X : Type 0} → List (ℕ × X) → List (ℕ × X) → ℕ → X → X → Type 0
 PutsTwo old new i first second = (q : ℕ) → lookup (nat_eq q) new ≡ (if nat_eq q i then Some first else if nat_eq q (i + 1) then Some second else lookup (nat_eq q) old)
 
--- m is l with bit k written in its chunk, and of length total
-pub record Writes (n : ℕ) (b : PrunedBits) (l : Layer) (k : ℕ) (value : Bool) (total : ℕ) (m : Layer) : Type 0 where
+-- m is l with bit k written in its chunk, and with length `total`
+pub record Writes (n : ℕ) (b : PrunedBits) (l : PendingEdits) (k : ℕ) (value : Bool) (total : ℕ) (m : PendingEdits) : Type 0 where
   pub len : m.len ≡ total
   pub pruned : m.pruned ≡ l.pruned
   pub captured : m.captured ≡ l.captured
@@ -111,14 +111,14 @@ pub record Writes (n : ℕ) (b : PrunedBits) (l : Layer) (k : ℕ) (value : Bool
   pub written : IsWritten n (pending_chunk n b l (k / (8 * n))) k value bytes
   pub edited : Puts l.edited m.edited (k / (8 * n)) (Some bytes)
 
--- what is left edited of the chunk of bit k where that bit goes: nothing where it was its first bit or it was not edited, else it with the bit cleared
-abbrev pub Clears : ℕ → Layer → ℕ → Option (List ℕ) → Type 0
+-- what remains of the edited chunk of bit k if that bit is dropped: nothing if the bit was its first or it was not edited, else the chunk with the bit cleared
+abbrev pub Clears : ℕ → PendingEdits → ℕ → Option (List ℕ) → Type 0
 Clears n l k left = MatchOption left
     ((k % (8 * n) ≡ 0) ⊎ (edited_chunk l (k / (8 * n)) ≡ None))
     (λ bytes. (0 < k % (8 * n)) × MatchOption (edited_chunk l (k / (8 * n))) ⊥ (λ old. IsWritten n old k false bytes))
 
 -- m is l without the last bit
-pub record Pops (n : ℕ) (l m : Layer) : Type 0 where
+pub record Pops (n : ℕ) (l m : PendingEdits) : Type 0 where
   pub len : m.len ≡ l.len - 1
   pub pruned : m.pruned ≡ l.pruned
   pub captured : m.captured ≡ l.captured
@@ -127,71 +127,71 @@ pub record Pops (n : ℕ) (l m : Layer) : Type 0 where
   pub edited : Puts l.edited m.edited ((l.len - 1) / (8 * n)) left
 
 -- m is l without the chunks before chunk q, whose old bytes are captured
-pub record Prunes (n : ℕ) (b : PrunedBits) (l : Layer) (q : ℕ) (m : Layer) : Type 0 where
+pub record Prunes (n : ℕ) (b : PrunedBits) (l : PendingEdits) (q : ℕ) (m : PendingEdits) : Type 0 where
   pub len : m.len ≡ l.len
   pub pruned : m.pruned ≡ max l.pruned q
   pub edited : m.edited ≡ l.edited
   pub captured : m.captured ≡ l.captured ++ map (old_chunk n b l) (from_to l.pruned q)
 
 -- m is l after an edit
-abbrev pub Follows : ℕ → PrunedBits → Layer → Edit → Layer → Type 0
+abbrev pub Follows : ℕ → PrunedBits → PendingEdits → Edit → PendingEdits → Type 0
 Follows n b l (Push value) m = Writes n b l l.len value (l.len + 1) m
 Follows n b l Pop m = Pops n l m
 Follows n b l (Set position value) m = Writes n b l position value l.len m
 Follows n b l (Prune position) m = Prunes n b l (position / (8 * n)) m
 
--- the bits of a run of bytes, in order
+-- the bits of a list of bytes, in order
 abbrev pub run_bits : List ℕ → List Bool
-run_bits bytes = map (bit_in bytes) (range_with_len 0 (8 * length bytes))
+run_bits bytes = map (bytes_bit bytes) (range_with_len 0 (8 * length bytes))
 
--- n bytes for chunk i: below the length its pending bits, then the appended values, then zeros
-pub record HasAppended (n : ℕ) (b : PrunedBits) (l : Layer) (values : List Bool) (i : ℕ) (bytes : List ℕ) : Type 0 where
+-- the n bytes of chunk i after an append: its pending bits below the length, then the appended values, then zeros
+pub record HasAppended (n : ℕ) (b : PrunedBits) (l : PendingEdits) (values : List Bool) (i : ℕ) (bytes : List ℕ) : Type 0 where
   pub size : length bytes ≡ n
   pub bits : (k : ℕ) → k / (8 * n) ≡ i → chunk_bit n bytes k ≡ (if nat_lt k l.len then chunk_bit n (pending_chunk n b l i) k else slice_index_or values (k - l.len) false)
 
 -- m is l with some values appended at once: the chunks that take some of them are edited, and no other
-pub record Appends (n : ℕ) (b : PrunedBits) (l : Layer) (values : List Bool) (m : Layer) : Type 0 where
+pub record Appends (n : ℕ) (b : PrunedBits) (l : PendingEdits) (values : List Bool) (m : PendingEdits) : Type 0 where
   pub len : m.len ≡ l.len + length values
   pub pruned : m.pruned ≡ l.pruned
   pub captured : m.captured ≡ l.captured
   pub taken : (i : ℕ) → l.len < 8 * n * i + 8 * n → 8 * n * i < l.len + length values → MatchOption (edited_chunk m i) ⊥ (HasAppended n b l values i)
   pub others : (i : ℕ) → (8 * n * i + 8 * n ≤ l.len) ⊎ (l.len + length values ≤ 8 * n * i) → edited_chunk m i ≡ edited_chunk l i
 
--- what a commit does to a chunk that the pending edits name, with its old bytes
-abbrev pub diff_of : ℕ → PrunedBits → Layer → ℕ → ChunkDiff
+-- the entry of a marked chunk in the record of a commit: what the commit does to the chunk, with its old bytes
+abbrev pub diff_of : ℕ → PrunedBits → PendingEdits → ℕ → ChunkDiff
 diff_of n b l i =
     if nat_lt i l.pruned then Pruned (slice_index_or l.captured (i - b.pruned) [])
     else if nat_lt (8 * n * i) (bit_len n b) then (if nat_lt (8 * n * i) l.len then Modified (chunk n b i) else Removed (chunk n b i))
     else Added
 
--- a record of the pending edits: one entry for each chunk that they name, strictly ascending, and no other
-pub record ReversesLayer (n : ℕ) (b : PrunedBits) (l : Layer) (r : Reverse) : Type 0 where
+-- r is the record of the pending edits: one entry per marked chunk, strictly ascending, and no other
+pub record IsRecordOf (n : ℕ) (b : PrunedBits) (l : PendingEdits) (r : ReverseRecord) : Type 0 where
   pub len : r.len ≡ bit_len n b
   pub pruned : r.pruned ≡ b.pruned
   pub sorted : IsStrictlySortedBy nat_cmp (keys_of r.entries)
-  pub entries : (i : ℕ) → lookup (nat_eq i) r.entries ≡ (if is_member nat_eq (layer_marks n b l) i then Some (diff_of n b l i) else None)
+  pub entries : (i : ℕ) → lookup (nat_eq i) r.entries ≡ (if is_member nat_eq (marked_chunks n b l) i then Some (diff_of n b l i) else None)
 
--- the first number from `from` on that is in xs, where there is one
+-- the least number of xs that is at least `from`, if there is one
 abbrev pub IsNextMember : List ℕ → ℕ → Option ℕ → Type 0
 IsNextMember xs from next = MatchOption next
     ((j : ℕ) → from ≤ j → is_member nat_eq xs j ≡ false)
     (λ i. (from ≤ i) × (is_member nat_eq xs i ≡ true) × ((j : ℕ) → from ≤ j → j < i → is_member nat_eq xs j ≡ false))
 
--- edited chunks, as entries that keep their bytes
+-- edited chunks as entries of a record that keep their bytes
 abbrev pub edits_of : List (ℕ × List ℕ) → List (ℕ × ChunkDiff)
 edits_of edited = map (λ e. (e.0, Modified e.1)) edited
 
--- the pending edits made in steps: the length, the edited chunks, the prune
-abbrev pub applied_in_steps : ℕ → PrunedBits → Layer → PrunedBits
+-- a bitmap with pending edits applied in steps: the length, then the edited chunks, then the prune
+abbrev pub applied_in_steps : ℕ → PrunedBits → PendingEdits → PrunedBits
 applied_in_steps n b l = pruned_to n (put_back n (resized n b l.len) (edits_of l.edited)) l.pruned
 
--- pending edits alone, with nothing captured
-abbrev pub layer_of : ℕ → ℕ → List (ℕ × List ℕ) → Layer
-layer_of len pruned edited = record { len = len; pruned = pruned; edited = edited; captured = [] }
+-- pending edits with no captured chunk
+abbrev pub uncaptured : ℕ → ℕ → List (ℕ × List ℕ) → PendingEdits
+uncaptured len pruned edited = record { len = len; pruned = pruned; edited = edited; captured = [] }
 
--- pending edits can be made in steps in a bitmap that is as long as they ask
-pub record CanApply (n : ℕ) (b : PrunedBits) (l : Layer) : Type 0 where
+-- pending edits can be applied in steps to a bitmap that is at least as long as they leave it
+pub record CanApply (n : ℕ) (b : PrunedBits) (l : PendingEdits) : Type 0 where
   pub long : l.len ≤ bit_len n b
-  pub front : 8 * n * l.pruned ≤ l.len
+  pub prefix : 8 * n * l.pruned ≤ l.len
   pub rises : b.pruned ≤ l.pruned
   pub edited : (i : ℕ) → MatchOption (edited_chunk l i) (Unit {0}) (IsEdited n b l i)

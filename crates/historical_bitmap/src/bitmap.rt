@@ -1,4 +1,4 @@
-//! Bitmaps: those of `bitmap_core`, under the same paths, and those that keep their history.
+//! Bitmaps: those of `bitmap_core`, re-exported, and bitmaps with a history of commits, in `historical`.
 
 pub mod historical;
 

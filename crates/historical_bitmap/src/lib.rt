@@ -1,4 +1,7 @@
-//! Bitmaps that keep their history: old states are restored from the newest one and small records.
+//! Bitmaps with a history of numbered commits: a past state is rebuilt from the current bitmap and small reverse records.
+//!
+//! Start with `bitmap::historical`. The laws of these bitmaps are in `laws`.
 #![tactic(auto)]
 
 pub mod bitmap;
+pub mod laws;

@@ -1,6 +1,6 @@
--- The widths that the program offers.
+-- The chunk widths that the program accepts.
 use Rattle.std.specs.Prelude.{◌≡◌, ℕ, ◌⊎◌}
 
--- one of the five, in bytes a chunk
+-- a width is one of the five, in bytes per chunk
 abbrev pub IsOfferedWidth : ℕ → Type 0
 IsOfferedWidth width = (width ≡ 1) ⊎ ((width ≡ 3) ⊎ ((width ≡ 4) ⊎ ((width ≡ 8) ⊎ (width ≡ 32))))

@@ -4,17 +4,19 @@
 mod print;
 mod program;
 mod script;
+#[cfg(test)]
+mod tests;
 
 use std::fs::File;
 use std::process::ExitCode;
 use std::{env, io};
 
-// The words after the program's name.
+// Returns the arguments after the program's name.
 fn read_words(rt: &HostRuntime) -> Result<Vec<String>, io::Error> {
     Ok(env::args(rt)?.skip(1).collect(rt.alloc())?)
 }
 
-// The status where the words cannot be read: words that are not text are wrong arguments too.
+// Returns the exit status if the arguments cannot be read. Arguments that are not UTF-8 count as wrong arguments.
 fn end_without_words(rt: &HostRuntime, error: io::Error) -> ExitCode {
     if error.kind() == io::ErrorKind::OutOfMemory {
         let _ = rt.eprintln(program::OUT_OF_MEMORY);

@@ -1,4 +1,4 @@
-//! The printed lines of replies.
+//! Printing of replies, one line each.
 
 use bitmap_core::bitmap::Prunable;
 use bitmap_core::bitmap::codec::CodecError;
@@ -34,7 +34,7 @@ fn write_refusal<W: Write>(out: &mut W, refusal: &Refusal) -> io::Result<()> {
     }
 }
 
-// The number of pruned chunks, and the retained bits in order, `-` where there are none.
+// Writes the number of pruned chunks, and the retained bits in order, or `-` if there are none.
 fn write_bitmap<const N: usize, W: Write>(out: &mut W, bitmap: &Prunable<N>) -> io::Result<()> {
     let chunks = bitmap.pruned_chunks();
     write!(out, "{chunks} ")?;
@@ -57,7 +57,7 @@ fn write_positions<W: Write>(out: &mut W, positions: &[u64]) -> io::Result<()> {
     writeln!(out)
 }
 
-// A word, and each byte as two hexadecimal digits.
+// Writes a word, and each byte as two hexadecimal digits.
 fn write_bytes<W: Write>(out: &mut W, word: &str, bytes: &[u8]) -> io::Result<()> {
     write!(out, "{word} ")?;
     for byte in bytes {
@@ -95,8 +95,20 @@ fn write_reply<const N: usize, W: Write>(out: &mut W, reply: &Reply<N>) -> io::R
     }
 }
 
-/// Prints one line for each reply, in order, through a buffer. Takes memory for the buffer alone; where there is none
-/// the error's kind is `OutOfMemory`, and nothing is printed. Any other error is the writer's.
+/// Prints one line per reply, in order, through a buffer.
+///
+/// # Errors
+///
+/// Returns an error of the kind `OutOfMemory` if the buffer cannot be allocated; then nothing has been printed. Returns the
+/// errors of the writer as they are.
+///
+/// # Memory
+///
+/// Allocates the buffer only.
+///
+/// # Complexity
+///
+/// Linear in the bytes of the output.
 pub fn write_replies<const N: usize, W: Write>(
     alloc: Global,
     replies: &[Reply<N>],

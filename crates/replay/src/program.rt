@@ -1,4 +1,4 @@
-//! The program: a script is read, checked and run, its replies are printed, and a fault is told.
+//! The program: reads a script, checks it, runs it and prints the replies, or reports an error.
 
 ghost use Rattle.std.specs.Prelude.{◌≡◌, length, IfSome, OnSome};
 ghost use Rattle.bitmap_bytes.specs.Chunk.{IsWidth};
@@ -13,50 +13,54 @@ use std::alloc::{AllocError, Global};
 use std::io;
 use std::io::{Read, Write};
 
-/// What is said of wrong arguments.
+/// The message for wrong arguments.
 pub const USAGE: &str = "replay: usage: replay WIDTH SCRIPT, WIDTH one of 1, 3, 4, 8, 32";
 
-/// What is said where memory is refused outside a command.
+/// The message for a failed allocation outside a command.
 pub const OUT_OF_MEMORY: &str = "replay: out of memory";
 
-/// The exit status where the arguments are wrong, or a line is not a command.
+/// The exit status if the arguments are wrong or a line is not a command.
 pub const WRONG_INPUT: u8 = 2;
 
-/// The exit status where a file cannot be read or written, or memory is refused outside a command.
+/// The exit status if a file cannot be read or written, or an allocation outside a command fails.
 pub const FAILED: u8 = 3;
 
-// Why a script was not run, or its replies not printed.
-enum Fault {
+// Why a script was not run, or its replies were not printed.
+enum ProgramError {
     CannotRead,
-    // The line, counted from 0.
+    // The index of the line, counted from 0.
     NotACommand(usize),
     OutOfMemory,
     CannotWrite,
 }
 
-impl From<AllocError> for Fault {
-    fn from(_error: AllocError) -> Fault {
-        Fault::OutOfMemory
+impl From<AllocError> for ProgramError {
+    fn from(_error: AllocError) -> ProgramError {
+        ProgramError::OutOfMemory
     }
 }
 
-// An error of a reader, or of what stands between it and the program.
-fn read_fault(error: io::Error) -> Fault {
+// Converts an error of the reader or of the buffer that is read into.
+fn read_error(error: io::Error) -> ProgramError {
     match error.kind() {
-        io::ErrorKind::OutOfMemory => Fault::OutOfMemory,
-        _ => Fault::CannotRead,
+        io::ErrorKind::OutOfMemory => ProgramError::OutOfMemory,
+        _ => ProgramError::CannotRead,
     }
 }
 
-// An error of the writer, or of the buffer before it.
-fn write_fault(error: io::Error) -> Fault {
+// Converts an error of the writer or of its buffer.
+fn write_error(error: io::Error) -> ProgramError {
     match error.kind() {
-        io::ErrorKind::OutOfMemory => Fault::OutOfMemory,
-        _ => Fault::CannotWrite,
+        io::ErrorKind::OutOfMemory => ProgramError::OutOfMemory,
+        _ => ProgramError::CannotWrite,
     }
 }
 
-/// The width in bytes a chunk, where there are exactly two words and the first is one of the five widths. No memory.
+/// Returns the chunk width in bytes if there are exactly two arguments and the first is one of the five widths.
+///
+/// The widths are 1, 3, 4, 8 and 32, in decimal. Returns `None` otherwise.
+///
+/// Does not allocate; constant time.
 pub fn read_width(args: &[String]) -> Option<u8>
     ensures width { IfSome result IsOfferedWidth }
     ensures words { OnSome result (length args.now ≡ 2) }
@@ -74,26 +78,32 @@ pub fn read_width(args: &[String]) -> Option<u8>
     }
 }
 
-fn read_all<R: Read + Drop>(alloc: Global, script: Result<R, io::Error>) -> Result<Vec<u8>, Fault> {
+fn read_all<R: Read + Drop>(
+    alloc: Global,
+    script: Result<R, io::Error>,
+) -> Result<Vec<u8>, ProgramError> {
     let mut text = Vec::new(alloc);
-    let mut reader = script.map_err(read_fault)?;
-    reader.read_to_end(&mut text).map_err(read_fault)?;
+    let mut reader = script.map_err(read_error)?;
+    reader.read_to_end(&mut text).map_err(read_error)?;
     Ok(text)
 }
 
-// Finds the first line that is no command, and takes no memory.
-fn check_lines<const N: usize>(text: &[u8]) -> Result<(), Fault>
+// Fails with the first line that is not a command. Does not allocate.
+fn check_lines<const N: usize>(text: &[u8]) -> Result<(), ProgramError>
     requires width { IsWidth N }
 {
     for (index, line) in text.split(|byte| *byte == b'\n').enumerate() {
         if !script::is_skipped(line) && Line::<N>::parse(line).is_none() {
-            return Err(Fault::NotACommand(index));
+            return Err(ProgramError::NotACommand(index));
         }
     }
     Ok(())
 }
 
-fn read_commands<const N: usize>(alloc: Global, text: &[u8]) -> Result<Vec<Command<N>>, Fault>
+fn read_commands<const N: usize>(
+    alloc: Global,
+    text: &[u8],
+) -> Result<Vec<Command<N>>, ProgramError>
     requires width { IsWidth N }
 {
     check_lines::<N>(text)?;
@@ -109,14 +119,18 @@ fn read_commands<const N: usize>(alloc: Global, text: &[u8]) -> Result<Vec<Comma
     Ok(commands)
 }
 
-fn run_at<const N: usize, W: Write>(alloc: Global, text: &[u8], out: &mut W) -> Result<(), Fault>
+fn run_at<const N: usize, W: Write>(
+    alloc: Global,
+    text: &[u8],
+    out: &mut W,
+) -> Result<(), ProgramError>
     requires width { IsWidth N }
 {
     let commands = read_commands::<N>(alloc, text)?;
     let mut session = Session::<N>::new(alloc);
     let mut replies = Vec::new(alloc);
     session.run(commands.as_slice(), &mut replies)?;
-    write_replies(alloc, replies.as_slice(), out).map_err(write_fault)
+    write_replies(alloc, replies.as_slice(), out).map_err(write_error)
 }
 
 fn run_width<R: Read + Drop, W: Write>(
@@ -124,7 +138,7 @@ fn run_width<R: Read + Drop, W: Write>(
     width: u8,
     script: Result<R, io::Error>,
     out: &mut W,
-) -> Result<(), Fault>
+) -> Result<(), ProgramError>
     requires offered { IsOfferedWidth width }
 {
     let text = read_all(alloc, script)?;
@@ -138,35 +152,49 @@ fn run_width<R: Read + Drop, W: Write>(
     }
 }
 
-// Says what went wrong, and answers the exit status.
-fn report<E: Write>(fault: Fault, err: &mut E) -> u8 {
-    match fault {
-        Fault::CannotRead => {
+// Prints the error, and returns the exit status.
+fn report<E: Write>(error: ProgramError, err: &mut E) -> u8 {
+    match error {
+        ProgramError::CannotRead => {
             let _ = writeln!(err, "replay: cannot read the script");
             FAILED
         }
-        Fault::NotACommand(index) => {
+        ProgramError::NotACommand(index) => {
             let line = index as u128 + 1;
             let _ = writeln!(err, "replay: line {line} is not a command");
             WRONG_INPUT
         }
-        Fault::OutOfMemory => {
+        ProgramError::OutOfMemory => {
             let _ = writeln!(err, "{OUT_OF_MEMORY}");
             FAILED
         }
-        Fault::CannotWrite => {
+        ProgramError::CannotWrite => {
             let _ = writeln!(err, "replay: cannot write");
             FAILED
         }
     }
 }
 
-/// Runs the script that opening a file answered, with chunks of `width` bytes; prints the replies to `out`, or one
-/// line on what went wrong to `err`; and answers the exit status. The width is one of the five.
+/// Runs a script with chunks of `width` bytes, and returns the exit status.
 ///
-/// The status is 0 after a run, refused commands included; 2 where a line is no command; and 3 where the script cannot be
-/// read, `out` cannot be written, or memory is refused outside a command. With 2 nothing is run, nor with 3 before the run,
-/// and nothing is printed to `out`. Takes memory for the script, its commands, their replies and the buffers, and what the commands take.
+/// `width` is one of the five widths. `script` is the opened script, or the error of opening it. The replies are printed to
+/// `out`. An error is printed to `err`, on one line.
+///
+/// | Status | Meaning |
+/// |---|---|
+/// | 0 | the script has run, which includes refused commands |
+/// | 2 | a line is not a command; nothing has run |
+/// | 3 | the script cannot be read, `out` cannot be written, or an allocation outside a command has failed |
+///
+/// If the error comes before the run, nothing is printed to `out`.
+///
+/// # Memory
+///
+/// Allocates the script, its commands, their replies and an output buffer. The commands allocate as `Session::run` says.
+///
+/// # Complexity
+///
+/// Linear in the bytes of the script and of the output, besides the run of the commands.
 pub fn run_script<R: Read + Drop, W: Write, E: Write>(
     alloc: Global,
     width: u8,
@@ -178,6 +206,6 @@ pub fn run_script<R: Read + Drop, W: Write, E: Write>(
 {
     match run_width(alloc, width, script, out) {
         Ok(()) => 0,
-        Err(fault) => report(fault, err),
+        Err(error) => report(error, err),
     }
 }

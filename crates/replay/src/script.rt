@@ -1,4 +1,4 @@
-//! The lines of a script.
+//! Parsing of scripts, line by line.
 
 ghost use Rattle.std.specs.Prelude.{◌<◌, IfSome};
 
@@ -6,7 +6,7 @@ use bitmap_core::bitmap::codec::RangeCfg;
 use bitmap_session::command::Command;
 use std::alloc::{AllocError, Global};
 
-// The value of a decimal digit.
+// Returns the value of a decimal digit.
 fn decimal_digit(byte: u8) -> Option<u8>
     ensures { IfSome result (λ digit. digit < 10) }
 {
@@ -16,7 +16,7 @@ fn decimal_digit(byte: u8) -> Option<u8>
     }
 }
 
-// A decimal number without sign or leading zeros.
+// Parses a decimal number without a sign or leading zeros.
 fn decimal(word: &[u8]) -> Option<u64> {
     if word.is_empty() || (word.len() > 1 && word[0] == b'0') {
         return None;
@@ -29,7 +29,7 @@ fn decimal(word: &[u8]) -> Option<u64> {
     Some(value)
 }
 
-// The value of a hexadecimal digit, of either case.
+// Returns the value of a hexadecimal digit of either case.
 fn hex_digit(byte: u8) -> Option<u8>
     ensures { IfSome result (λ digit. digit < 16) }
 {
@@ -41,12 +41,12 @@ fn hex_digit(byte: u8) -> Option<u8>
     }
 }
 
-// The byte that two hexadecimal digits name.
+// Returns the byte of two hexadecimal digits.
 fn hex_byte(digits: &[u8; 2]) -> Option<u8> {
     Some(hex_digit(digits[0])? * 16 + hex_digit(digits[1])?)
 }
 
-// The bytes that a word names, two digits each. `-` names no bytes.
+// Splits a word into pairs of hexadecimal digits, one pair per byte. `-` is the empty sequence.
 fn hex_bytes(word: &[u8]) -> Option<&[[u8; 2]]> {
     if word == b"-".as_slice() {
         return Some(&[]);
@@ -58,12 +58,12 @@ fn hex_bytes(word: &[u8]) -> Option<&[[u8; 2]]> {
     Some(bytes)
 }
 
-// A number of chunks.
+// Parses a number of chunks.
 fn count(word: &[u8]) -> Option<usize> {
     usize::try_from(decimal(word)?).ok()
 }
 
-// `0` or `1`.
+// Parses `0` or `1`.
 fn bit(word: &[u8]) -> Option<bool> {
     match word {
         b"0" => Some(false),
@@ -72,7 +72,7 @@ fn bit(word: &[u8]) -> Option<bool> {
     }
 }
 
-// One byte, of two hexadecimal digits.
+// Parses one byte of two hexadecimal digits.
 fn byte(word: &[u8]) -> Option<u8> {
     match word {
         [high, low] => hex_byte(&[*high, *low]),
@@ -80,7 +80,7 @@ fn byte(word: &[u8]) -> Option<u8> {
     }
 }
 
-// The bytes of a chunk, two hexadecimal digits each.
+// Parses the bytes of a chunk, two hexadecimal digits each.
 fn chunk<const N: usize>(word: &[u8]) -> Option<[u8; N]> {
     let pairs = hex_bytes(word)?;
     if pairs.len() != N {
@@ -93,7 +93,7 @@ fn chunk<const N: usize>(word: &[u8]) -> Option<[u8; N]> {
     Some(bytes)
 }
 
-// The lengths that a word admits: its parts stand between colons.
+// Parses a range of lengths, whose parts are separated by colons.
 fn range(word: &[u8]) -> Option<RangeCfg> {
     let mut parts = word.split(|byte| *byte == b':');
     let name = parts.next()?;
@@ -109,7 +109,7 @@ fn range(word: &[u8]) -> Option<RangeCfg> {
     }
 }
 
-// The command of a name alone.
+// Returns the command of a name without arguments.
 fn alone<const N: usize>(name: &[u8]) -> Option<Command<N>> {
     Some(match name {
         b"begin" => Command::Begin,
@@ -127,7 +127,7 @@ fn alone<const N: usize>(name: &[u8]) -> Option<Command<N>> {
     })
 }
 
-// The command of a name and a decimal number.
+// Returns the command of a name and a decimal number.
 fn with_number<const N: usize>(name: &[u8], number: u64) -> Option<Command<N>> {
     Some(match name {
         b"prune" => Command::Prune(number),
@@ -143,7 +143,7 @@ fn with_number<const N: usize>(name: &[u8], number: u64) -> Option<Command<N>> {
     })
 }
 
-// The command of a name and a word.
+// Returns the command of a name and one argument.
 fn with_one<const N: usize>(name: &[u8], word: &[u8]) -> Option<Command<N>> {
     match name {
         b"start" => Some(Command::Start(count(word)?)),
@@ -154,7 +154,7 @@ fn with_one<const N: usize>(name: &[u8], word: &[u8]) -> Option<Command<N>> {
     }
 }
 
-// The command of a name and two words, `decode` left out.
+// Returns the command of a name and two arguments, other than `decode`.
 fn with_two<const N: usize>(name: &[u8], first: &[u8], second: &[u8]) -> Option<Command<N>> {
     Some(match name {
         b"set" => Command::Set(decimal(first)?, bit(second)?),
@@ -163,17 +163,25 @@ fn with_two<const N: usize>(name: &[u8], first: &[u8], second: &[u8]) -> Option<
     })
 }
 
-/// A line that names a command.
+/// A line that is a command.
 #[derive(Drop)]
 pub enum Line<'a, const N: usize> {
-    /// Any command but `Decode`.
+    /// Any command except `Decode`.
     Plain(Command<N>),
-    /// `Decode`: the bytes, still as pairs of hexadecimal digits of the script, and the range.
+    /// `Decode`: the bytes, as pairs of hexadecimal digits borrowed from the script, and the range.
     Decode(&'a [[u8; 2]], RangeCfg),
 }
 
 impl<'a, const N: usize> Line<'a, N> {
-    /// What a line names, its words separated by one space each. `None` where it names no command. No memory.
+    /// Parses a line, whose words are separated by one space each. Returns `None` if it is not a command.
+    ///
+    /// # Memory
+    ///
+    /// Does not allocate.
+    ///
+    /// # Complexity
+    ///
+    /// Linear in the bytes of the line.
     pub fn parse(line: &'a [u8]) -> Option<Self> {
         let mut words = line.split(|byte| *byte == b' ');
         let name = words.next()?;
@@ -192,7 +200,19 @@ impl<'a, const N: usize> Line<'a, N> {
         Some(Line::Plain(command))
     }
 
-    /// The command. Takes memory for the bytes to decode alone, and errs where that is refused.
+    /// Converts the line into its command.
+    ///
+    /// # Errors
+    ///
+    /// Returns `AllocError` if the bytes of a `Decode` cannot be allocated.
+    ///
+    /// # Memory
+    ///
+    /// Allocates the bytes of a `Decode`, and nothing for other commands.
+    ///
+    /// # Complexity
+    ///
+    /// Linear in those bytes; constant for other commands.
     pub fn into_command(self, alloc: Global) -> Result<Command<N>, AllocError> {
         match self {
             Line::Plain(command) => Ok(command),
@@ -204,7 +224,9 @@ impl<'a, const N: usize> Line<'a, N> {
     }
 }
 
-/// Whether a line is to be skipped: an empty one, or a comment, which begins with `#`. No memory.
+/// Returns whether a line is skipped: an empty line, or a comment, which begins with `#`.
+///
+/// Does not allocate; constant time.
 pub fn is_skipped(line: &[u8]) -> bool {
     line.is_empty() || line[0] == b'#'
 }

@@ -1,22 +1,20 @@
-//! Functions over any bitmap of any width: dense, with a pruned front, or a reader of one's own.
+//! Functions over any `Readable`: a dense bitmap, one with a pruned prefix, a past version, or a type of your own.
 
-ghost use Rattle.std.specs.Prelude.{◌≡◌, ◌↔◌, [], IsFalse};
-ghost use Rattle.bitmap_core.specs.Meaning.{ones};
+ghost use Rattle.std.specs.Prelude.{◌≡◌, nat_lt};
+ghost use Rattle.bitmap_core.specs.Searches.{ones_count};
 
 use bitmap_core::bitmap::Readable;
 
-/// Whether a bit is set among the retained positions from `from` up to `to`.
+/// Returns whether a bit is set among the retained positions from `from` up to `to`.
 pub fn is_any_set<B: Readable<N>, const N: usize>(bitmap: &B, from: u64, to: u64) -> bool
-    ensures { IsFalse result ↔ (ones N (B.meaning bitmap.now) from to ≡ []) }
+    ensures { result ≡ nat_lt 0 (ones_count N (B.meaning bitmap.now) from to) }
 {
-    // Tells the proof how large `N` may be.
-    let _ = bitmap.len();
-    bitmap.ones_iter_range(from..to).next().is_some()
+    bitmap.count_ones_range(from..to) > 0
 }
 
-/// The set positions from `from` on, added up, as far as the sum fits.
+/// Returns the sum of the set positions from `from` on, or `u64::MAX` if it passes that.
 pub fn position_sum<B: Readable<N>, const N: usize>(bitmap: &B, from: u64) -> u64 {
-    // Tells the proof how large `N` may be.
+    // The iterator holds a chunk. The contract of `len` gives the proof a bound on its size.
     let _ = bitmap.len();
     let mut sum: u64 = 0;
     for position in bitmap.ones_iter_from(from) {

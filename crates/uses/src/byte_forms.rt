@@ -1,17 +1,17 @@
-//! Bitmaps that are sent and received as bytes.
+//! Bitmaps that are encoded and decoded.
 
 use bitmap_core::bitmap::BitMap;
 use bitmap_core::bitmap::codec::{CodecError, RangeCfg, Read, Write};
 use std::alloc::{AllocError, Global};
 
-/// The bytes of a bitmap.
+/// Returns the encoding of a bitmap.
 pub fn sent(alloc: Global, map: &BitMap<4>) -> Result<Vec<u8>, AllocError> {
     let mut bytes = Vec::new(alloc);
     map.write(&mut bytes)?;
     Ok(bytes)
 }
 
-/// A bitmap of at most a thousand bits, and the number of bytes behind it.
+/// Reads a bitmap of at most 1000 bits, and returns it with the number of bytes after it.
 pub fn received(alloc: Global, bytes: &[u8]) -> Result<(BitMap<4>, usize), CodecError> {
     let mut from = bytes;
     let map = BitMap::<4>::read_cfg(alloc, &mut from, &RangeCfg::at_most(1000))?;

@@ -1,21 +1,21 @@
-//! What the tests ask of an answer.
+//! Assertions. Each is proved once here, and not again at each place that uses it.
 
 ghost use Rattle.std.specs.Prelude.{◌≡◌, Ok};
 
 use std::fmt::Debug;
 use std::process::Abort;
 
-/// What a call answered that was not refused.
-pub fn ok<T, E: Drop>(rt: &impl Abort, answer: Result<T, E>) -> T
-    ensures { answer ≡ Ok result }
+/// Returns the value of `returned`, and fails the test if it is an error.
+pub fn ok<T, E: Drop>(rt: &impl Abort, returned: Result<T, E>) -> T
+    ensures { returned ≡ Ok result }
 {
-    match answer {
+    match returned {
         Ok(value) => value,
-        Err(_) => panic!(rt; "it is refused"),
+        Err(_) => panic!(rt; "the call failed"),
     }
 }
 
-/// Ends the test where two values differ, and shows them. Here the assertion is proved once, and not at each place.
+/// Fails the test unless two values are equal, and prints both.
 pub fn equal<T: PartialEq + Debug + Drop>(rt: &impl Abort, left: T, right: T) {
     assert_eq!(rt; left, right);
 }

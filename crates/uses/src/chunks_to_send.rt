@@ -1,14 +1,13 @@
-//! What a copy of a bitmap needs to come from one version to another.
+//! The number of chunks that bring a copy of a bitmap from one version to another.
 
-ghost use Rattle.std.specs.Prelude.{◌≡◌, length, IfOk};
+ghost use Rattle.std.specs.Prelude.{◌≡◌, length};
 ghost use Rattle.std.specs.Option.{option_map};
-ghost use Rattle.historical_bitmap.specs.Changes.{changed, changed_between};
-ghost use Rattle.historical_bitmap.specs.View.{history_of, pending_of};
+ghost use Rattle.historical_bitmap.specs.Changes.{changed_between};
+ghost use Rattle.historical_bitmap.specs.View.{history_of};
 
-use historical_bitmap::bitmap::historical::{CleanBitMap, DirtyBitMap};
-use std::alloc::{AllocError, Global};
+use historical_bitmap::bitmap::historical::CleanBitMap;
 
-/// How many chunks a copy at one version needs to have another, if both versions are kept.
+/// Returns how many chunks differ between two versions, or `None` unless both are kept and `from` is at most `to`.
 pub fn chunks_to_send<const N: usize>(
     versions: &CleanBitMap<N>,
     from: u64,
@@ -20,59 +19,13 @@ pub fn chunks_to_send<const N: usize>(
     Some(changes.count())
 }
 
-/// The chunks that a batch would change.
-pub fn chunks_to_change<const N: usize>(
-    alloc: Global,
-    batch: &DirtyBitMap<N>,
-) -> Result<Vec<usize>, AllocError>
-    ensures { IfOk result (λ chunks. chunks.items ≡ changed N batch.now.current (pending_of N batch.now)) }
-{
-    batch.changed_chunks().collect(alloc)
-}
-
-/// Whether two kept versions are the same in a chunk.
-pub fn same_chunk<const N: usize>(
-    versions: &CleanBitMap<N>,
-    from: u64,
-    to: u64,
-    chunk: usize,
-) -> bool {
-    if let Some(changes) = versions.changed_chunks(from, to) {
-        for index in changes {
-            if index == chunk {
-                return false;
-            }
-        }
-    }
-    true
-}
-
 #[cfg(test)]
 mod tests {
     use super::*;
     use crate::checks::equal;
     use std::process::Abort;
 
-    // The chunks that differ are those wanted, in order.
-    fn expect_listed(
-        rt: &impl Abort,
-        alloc: Global,
-        versions: &CleanBitMap<1>,
-        from: u64,
-        to: u64,
-        wanted: &[usize],
-    ) {
-        let Some(changes) = versions.changed_chunks(from, to) else {
-            panic!(rt; "not kept");
-        };
-        let Ok(chunks) = changes.collect(alloc) else {
-            panic!(rt; "no memory");
-        };
-        let chunks: Vec<usize> = chunks;
-        assert!(rt; chunks.as_slice() == wanted, "from {from} to {to}");
-    }
-
-    // A byte more, under a number.
+    // Appends a byte and commits.
     fn with_byte(
         rt: &impl Abort,
         versions: CleanBitMap<1>,
@@ -84,48 +37,18 @@ mod tests {
         assert!(rt; edits.push_byte(byte).is_ok());
         match edits.commit(number) {
             Ok(versions) => versions,
-            Err(_) => panic!(rt; "version {number} is refused"),
-        }
-    }
-
-    // A bit set, under a number.
-    fn with_bit(
-        rt: &impl Abort,
-        versions: CleanBitMap<1>,
-        bit: u64,
-        value: bool,
-        number: u64,
-    ) -> CleanBitMap<1> {
-        let mut edits = versions.into_dirty();
-        assert!(rt; edits.pruned_chunks() == 0);
-        assert!(rt; bit < edits.len());
-        assert!(rt; edits.set_bit(bit, value).is_ok());
-        match edits.commit(number) {
-            Ok(versions) => versions,
-            Err(_) => panic!(rt; "version {number} is refused"),
+            Err(_) => panic!(rt; "commit {number} failed"),
         }
     }
 
     #[test]
-    fn lists_the_chunks_between_versions(rt: HostRuntime) {
-        let alloc = rt.alloc();
-        let versions = with_byte(&rt, CleanBitMap::new(alloc), 0x5d, 1);
+    fn counts_the_chunks_that_differ(rt: HostRuntime) {
+        let versions = with_byte(&rt, CleanBitMap::new(rt.alloc()), 0x5d, 1);
         let versions = with_byte(&rt, versions, 0x03, 2);
         let versions = with_byte(&rt, versions, 0x00, 4);
-        // It is set already.
-        let versions = with_bit(&rt, versions, 0, true, 5);
-        let versions = with_bit(&rt, versions, 9, false, 6);
-        let versions = with_bit(&rt, versions, 9, true, 9);
-        expect_listed(&rt, alloc, &versions, 1, 2, &[1]);
-        expect_listed(&rt, alloc, &versions, 1, 4, &[1, 2]);
-        expect_listed(&rt, alloc, &versions, 4, 5, &[]);
-        expect_listed(&rt, alloc, &versions, 5, 6, &[1]);
-        expect_listed(&rt, alloc, &versions, 5, 9, &[]);
-        expect_listed(&rt, alloc, &versions, 1, 9, &[1, 2]);
-        expect_listed(&rt, alloc, &versions, 9, 9, &[]);
-        equal(&rt, chunks_to_send(&versions, 9, 1), None);
+        equal(&rt, chunks_to_send(&versions, 1, 4), Some(2));
+        equal(&rt, chunks_to_send(&versions, 2, 2), Some(0));
+        equal(&rt, chunks_to_send(&versions, 4, 1), None);
         equal(&rt, chunks_to_send(&versions, 1, 3), None);
-        equal(&rt, chunks_to_send(&versions, 1, 6), Some(2));
-        equal(&rt, same_chunk(&versions, 1, 6, 0), true);
     }
 }

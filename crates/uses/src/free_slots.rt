@@ -1,16 +1,19 @@
-//! A map of slots, some of which are taken.
+//! A map of slots: a set bit is a slot that is taken.
 
-ghost use Rattle.std.specs.Prelude.{◌≡◌, true, false, IfSome, IfNone, slice_index_or, slice_set};
-ghost use Rattle.std.specs.List.{All};
+ghost use Rattle.std.specs.Prelude.{◌≡◌, true, false, IfSome, IfNone, slice_set};
+ghost use Rattle.bitmap_core.specs.Meaning.{plain_meaning};
+ghost use Rattle.bitmap_core.specs.Searches.{HasNoNext, IsNext};
 
 use bitmap_core::bitmap::BitMap;
+use bitmap_core::laws::searches::next_zero_is_least;
 
-/// Takes the first free slot, if there is one.
+/// Takes the first free slot, or returns `None` if all are taken.
 pub fn take_slot(slots: &mut BitMap<8>) -> Option<u64>
-    ensures taken { IfSome result (λ slot. (slice_index_or slots.old slot true ≡ false) × (slots.new ≡ slice_set slots.old slot true)) }
-    ensures full { IfNone result (All (λ taken. taken ≡ true) slots.old × (slots.new ≡ slots.old)) }
+    ensures first { IfSome result (λ slot. IsNext 8 (plain_meaning slots.old) false 0 slot) }
+    ensures taken { IfSome result (λ slot. slots.new ≡ slice_set slots.old slot true) }
+    ensures full { IfNone result (HasNoNext 8 (plain_meaning slots.old) false 0 × (slots.new ≡ slots.old)) }
 {
-    let slot = slots.iter().position(|taken| !taken)? as u64;
+    let slot = next_zero_is_least(slots, 0)?;
     slots.set(slot, true);
     Some(slot)
 }

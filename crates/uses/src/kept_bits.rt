@@ -1,4 +1,4 @@
-//! A batch that is given up after an edit.
+//! A batch that is aborted after an edit if the bitmap is full.
 
 ghost use Rattle.std.specs.Prelude.{◌≡◌, ◌+◌, ◌^◌, ◌<◌, ◌≤◌, IfErr, IfOk};
 ghost use Rattle.bitmap_core.specs.PrunedBits.{bit_len, pushed};
@@ -6,22 +6,22 @@ ghost use Rattle.bitmap_core.specs.PrunedBits.{bit_len, pushed};
 use historical_bitmap::bitmap::historical::{ApplyError, CleanBitMap};
 use std::alloc::AllocError;
 
-/// Why a bit is not kept.
+/// Why a bit was not kept.
 #[derive(Debug, PartialEq, Eq, Drop)]
 pub enum NotKept {
-    /// With it there were more than 32.
+    /// The bitmap has 32 bits already.
     Full,
-    /// There is no memory for it.
-    NoMemory,
+    /// An allocation failed.
+    OutOfMemory,
 }
 
 impl From<AllocError> for NotKept {
     fn from(_error: AllocError) -> NotKept {
-        NotKept::NoMemory
+        NotKept::OutOfMemory
     }
 }
 
-/// Appends a bit, and keeps the bitmap under a number while it has at most 32. Where it is not kept the bitmap is as it was.
+/// Appends a bit and commits, if there are at most 32 bits then. On an error the bitmap is returned unchanged.
 pub fn keep_bit(
     bitmap: CleanBitMap<4>,
     number: u64,
@@ -30,7 +30,7 @@ pub fn keep_bit(
     requires { bit_len 4 bitmap.current + 1 < 2 ^ 64 }
     ensures kept { IfOk result (λ b. b.current ≡ pushed bitmap.current bit) }
     ensures short { IfOk result (λ b. bit_len 4 b.current ≤ 32) }
-    ensures refused { IfErr result (λ e. e.0 ≡ bitmap) }
+    ensures unchanged { IfErr result (λ e. e.0 ≡ bitmap) }
 {
     bitmap.apply_batch(number, |batch| {
         batch.push(bit)?;

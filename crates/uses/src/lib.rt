@@ -1,24 +1,33 @@
-//! Callers of the bitmaps: each example of the documents, and other short uses, proved and run.
+//! Callers of the bitmaps: every example of the documents and doc comments, and other short uses. All are proved and tested.
 //!
-//! `tools/check_docs.sh` tells where an example and its document differ.
+//! `tools/check_docs.py` fails if an example and its document differ.
 #![tactic(auto)]
 
 pub mod any_bitmap;
+pub mod appended_version;
+pub mod bit_then;
 pub mod byte_forms;
+pub mod changed_chunks;
 #[cfg(test)]
 mod checks;
 pub mod chunks_to_send;
+pub mod exchange;
 pub mod free_slots;
+pub mod joint_bits;
 pub mod kept_bits;
+pub mod latest_events;
 pub mod loops;
-pub mod next_set;
-pub mod no_memory;
+pub mod next_around;
 pub mod old_version;
 pub mod one_byte;
 pub mod one_chunk;
+pub mod out_of_memory;
+pub mod quick_start;
 pub mod recent_log;
 pub mod restored;
+pub mod session;
 pub mod strangers;
 pub mod taken_slots;
 pub mod tried_push;
 pub mod two_bits;
+pub mod versions;

@@ -1,11 +1,11 @@
-//! Loops and chains over bits and over set positions of a dense bitmap.
+//! Loops and iterator chains over the bits and the set positions of a bitmap.
 
 ghost use Rattle.std.specs.Prelude.{◌≡◌, ◌↔◌, true, IsTrue};
 ghost use Rattle.std.specs.List.{All, count_by};
 
 use bitmap_core::bitmap::BitMap;
 
-/// The longest run of set bits.
+/// Returns the length of the longest run of set bits.
 pub fn longest_run<const N: usize>(bitmap: &BitMap<N>) -> u64 {
     let mut longest = 0;
     let mut run: u64 = 0;
@@ -16,7 +16,7 @@ pub fn longest_run<const N: usize>(bitmap: &BitMap<N>) -> u64 {
     longest
 }
 
-/// The widest step from one set position to the next.
+/// Returns the greatest distance from one set position to the next.
 pub fn widest_step(bitmap: &BitMap<8>) -> u64 {
     let mut widest = 0;
     let mut last = None;
@@ -29,14 +29,14 @@ pub fn widest_step(bitmap: &BitMap<8>) -> u64 {
     widest
 }
 
-/// Whether every bit is set.
+/// Returns whether every bit is set.
 pub fn is_all_set<const N: usize>(bitmap: &BitMap<N>) -> bool
     ensures { IsTrue result ↔ All (λ bit. bit ≡ true) bitmap.now }
 {
     bitmap.iter().all(|bit| bit)
 }
 
-/// The number of set bits.
+/// Returns the number of set bits.
 pub fn count_set<const N: usize>(bitmap: &BitMap<N>) -> usize
     ensures { result ≡ count_by (λ bit. bit) bitmap.now }
 {

@@ -1,4 +1,4 @@
-//! An old version of a bitmap, read in place.
+//! A past version of a bitmap, read in place.
 
 ghost use Rattle.std.specs.Prelude.{◌≡◌, length};
 ghost use Rattle.std.specs.Option.{option_map};
@@ -10,7 +10,7 @@ use historical_bitmap::bitmap::Readable;
 use historical_bitmap::bitmap::historical::CleanBitMap;
 use std::ops::Range;
 
-/// How many bits of a version are set in a range, where that version is kept.
+/// Returns how many bits of a version are set in a range, or `None` if that version is not kept.
 pub fn count_in_version<const N: usize>(
     versions: &CleanBitMap<N>,
     number: u64,
@@ -19,7 +19,6 @@ pub fn count_in_version<const N: usize>(
     ensures { result ≡ option_map (λ version. length (ones N (pruned_meaning N version) range.start range.end)) (kept_under (history_of N versions.now) number) }
 {
     let version = versions.at(number)?;
-    let _ = version.len();
     Some(version.ones_iter_range(range).count())
 }
 
@@ -29,7 +28,7 @@ mod tests {
     use crate::checks::equal;
     use std::process::Abort;
 
-    // The version of a byte more, under a number.
+    // Appends a byte and commits.
     fn with_byte(
         rt: &impl Abort,
         versions: CleanBitMap<8>,
@@ -41,7 +40,7 @@ mod tests {
         assert!(rt; edits.push_byte(byte).is_ok());
         match edits.commit(number) {
             Ok(versions) => versions,
-            Err(_) => panic!(rt; "version {number} is refused"),
+            Err(_) => panic!(rt; "commit {number} failed"),
         }
     }
 

@@ -1,4 +1,4 @@
-//! A type of one's own that is readable: eight bits in one chunk of one byte.
+//! A `Readable` type of your own: eight bits in one chunk of one byte.
 
 ghost use Rattle.std.specs.Prelude.{[], ◌∷◌};
 ghost use Rattle.bitmap_bytes.specs.Chunk.{chunk_bit};

@@ -2,7 +2,7 @@
 
 use bitmap_bytes::chunk;
 
-/// The chunk 8, 0, 0, 0, and whether its bit 3 is set, which it is.
+/// Returns the chunk `[8, 0, 0, 0]`, and whether its bit 3 is set: true.
 pub fn marked() -> ([u8; 4], bool) {
     let mut marks = [0; 4];
     chunk::set_bit(&mut marks, 3, true);

@@ -1,9 +1,9 @@
-//! A bitmap whose front is pruned.
+//! A bitmap with a pruned prefix.
 
 use bitmap_core::bitmap::Prunable;
 use std::alloc::{AllocError, Global};
 
-/// A log that has forgotten its first chunk. Its length is still 34, and its first retained position is 32.
+/// Returns a log whose first chunk is pruned. Its length is still 34, and its first retained position is 32.
 pub fn recent(alloc: Global) -> Result<Prunable<4>, AllocError> {
     let mut log = Prunable::<4>::new(alloc);
     log.push_chunk(&[1, 2, 3, 4])?;

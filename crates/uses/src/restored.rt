@@ -1,4 +1,4 @@
-//! Flags that are taken back to a checkpoint.
+//! Flags that are rewound to a checkpoint.
 
 ghost use Rattle.std.specs.Prelude.{◌≡◌, None, Some, Err, OnErr, OnOk};
 ghost use Rattle.historical_bitmap.specs.History.{kept_under};
@@ -7,7 +7,7 @@ ghost use Rattle.historical_bitmap.specs.declared.bitmap.historical.error.Rewind
 
 use historical_bitmap::bitmap::historical::{CleanBitMap, RewindError};
 
-/// Takes flags back to a checkpoint. Else they stay as they are, and it tells why.
+/// Rewinds flags to a checkpoint. On an error they are unchanged.
 pub fn restored(flags: CleanBitMap<8>, checkpoint: u64) -> (CleanBitMap<8>, Result<(), RewindError>)
     ensures back { OnOk result.1 (kept_under (history_of 8 flags) checkpoint ≡ Some result.0.current) }
     ensures stay { OnErr result.1 (result.0 ≡ flags) }

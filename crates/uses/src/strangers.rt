@@ -1,28 +1,28 @@
-//! Bitmaps that strangers send.
+//! Input from a stranger, and what is wrong with it.
 
 ghost use Rattle.std.specs.Prelude.{◌≡◌, ◌++◌, IfOk, OnErr};
-ghost use Rattle.bitmap_core.specs.Spelling.{spelling};
+ghost use Rattle.bitmap_core.specs.Encoding.{encoding};
 
 use bitmap_core::bitmap::BitMap;
 use bitmap_core::bitmap::codec::{CodecError, RangeCfg, Read};
 use std::alloc::Global;
 
-/// Why no bitmap was taken.
+/// Why no bitmap was accepted.
 #[derive(Debug, PartialEq, Eq, Drop)]
 pub enum Refusal {
-    /// More bytes have to come.
+    /// The bytes end too early: more have to come.
     Incomplete,
-    /// It has this many bits, which is too many.
+    /// The bitmap has this many bits, which is too many.
     TooLong(u64),
-    /// No honest sender writes such bytes.
+    /// The bytes are no encoding of a bitmap. The text says why.
     Broken(&'static str),
-    /// Nothing is wrong with the bytes: they may be tried again.
+    /// An allocation failed. The bytes can be tried again.
     NoMemory,
 }
 
-/// Takes a bitmap of at most 4096 bits from the front of the bytes, and leaves those behind it. Refused, it leaves all.
+/// Takes a bitmap of at most 4096 bits from the start of the bytes, and leaves those after it. On an error it leaves all bytes.
 pub fn accept(alloc: Global, bytes: &mut &[u8]) -> Result<BitMap<8>, Refusal>
-    ensures taken { IfOk result (λ map. bytes.old.now ≡ spelling 8 map ++ bytes.new.now) }
+    ensures taken { IfOk result (λ map. bytes.old.now ≡ encoding 8 map ++ bytes.new.now) }
     ensures refused { OnErr result (bytes.new ≡ bytes.old) }
 {
     match BitMap::read_cfg(alloc, bytes, &RangeCfg::at_most(4096)) {
@@ -40,7 +40,7 @@ mod tests {
     use crate::checks::equal;
 
     #[test]
-    fn tells_them_apart(rt: HostRuntime) {
+    fn returns_each_error(rt: HostRuntime) {
         let mut from = [0, 0, 0, 0, 0, 0, 0, 1, 1, 0, 0, 0, 0, 0, 0, 0, 9].as_slice();
         assert!(rt; accept(rt.alloc(), &mut from).is_ok());
         equal(&rt, from, [9].as_slice());

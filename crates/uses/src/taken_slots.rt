@@ -1,9 +1,9 @@
-//! A dense bitmap, made, edited and read.
+//! A dense bitmap is made, edited and read.
 
 use bitmap_core::bitmap::{BitMap, DEFAULT_CHUNK_SIZE};
 use std::alloc::{AllocError, Global};
 
-/// The slots that are taken, which are 3, 64 and 100.
+/// Returns the slots that are taken: 3, 64 and 100.
 pub fn taken_slots(alloc: Global) -> Result<Vec<u64>, AllocError> {
     let mut taken = BitMap::<DEFAULT_CHUNK_SIZE>::zeroes(alloc, 100)?;
     taken.set(3, true);

@@ -1,12 +1,12 @@
-//! A law that is rested on.
+//! A caller that uses a law.
 
 ghost use Rattle.std.specs.Prelude.{◌≡◌, ◌+◌, ◌^◌, ◌<◌, length};
 
 use bitmap_core::bitmap::BitMap;
-use bitmap_laws::whole::push_then_pop;
+use bitmap_core::laws::whole::push_then_pop;
 use std::alloc::AllocError;
 
-/// Changes nothing, by the law of `push_then_pop`.
+/// Leaves the bitmap as it was, by the law `push_then_pop`.
 pub fn tried<const N: usize>(bitmap: &mut BitMap<N>) -> Result<bool, AllocError>
     requires { length bitmap.old + 1 < 2 ^ 64 }
     ensures { bitmap.new ≡ bitmap.old }
@@ -20,7 +20,7 @@ mod tests {
     use crate::checks::equal;
 
     #[test]
-    fn answers_its_bit(rt: HostRuntime) -> Result<(), AllocError> {
+    fn returns_its_bit(rt: HostRuntime) -> Result<(), AllocError> {
         let mut bitmap = BitMap::<3>::zeroes(rt.alloc(), 24)?;
         assert!(rt; tried(&mut bitmap)?);
         equal(&rt, bitmap.len(), 24);

@@ -1,4 +1,4 @@
-//! A batch that is edited by a closure and committed.
+//! A batch that a closure edits, and that is then committed.
 
 ghost use Rattle.std.specs.Prelude.{◌≡◌, ◌+◌, ◌^◌, ◌<◌, ◌++◌, ◌∷◌, [], true, false, IfErr, IfOk, OnOk};
 ghost use Rattle.bitmap_core.specs.PrunedBits.{bit_len, pushed};
@@ -8,7 +8,7 @@ ghost use Rattle.historical_bitmap.specs.View.{history_of, pending_of};
 use historical_bitmap::bitmap::historical::{ApplyError, CleanBitMap};
 use std::alloc::AllocError;
 
-/// Appends two bits, and keeps the bitmap so made under a number. Refused, the bitmap is as it was.
+/// Appends two bits, and commits. After an error the bitmap is unchanged.
 pub fn append_two(
     bitmap: CleanBitMap<4>,
     number: u64,
@@ -41,7 +41,7 @@ mod tests {
         let bitmap = ok(&rt, append_two(CleanBitMap::new(rt.alloc()), 5));
         equal(&rt, (bitmap.len(), bitmap.latest_commit()), (2, Some(5)));
         let Err((same, _)) = append_two(bitmap, 5) else {
-            panic!(rt; "5 is kept twice");
+            panic!(rt; "5 is committed twice");
         };
         equal(&rt, (same.len(), same.latest_commit()), (2, Some(5)));
     }

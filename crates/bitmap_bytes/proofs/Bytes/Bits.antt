@@ -5,18 +5,18 @@ use Rattle.std.proofs.lemmas.Nat.Bits.{and_pow, bit_at-lt, bit_at_or, bit_at_and
 use Rattle.std.proofs.Math.Bool.{xor}
 use Rattle.std.proofs.lemmas.Bool.Decides.{nat_tests}
 
--- what the code tests of a byte is its bit
+-- the expression that the code tests is the bit of the byte
 pub bit_test : (b k : ℕ) → not (eqb (bit_and b (2 ^ k)) 0) ≡ eqb (bit_at b k) 1
 bit_test b k = let e = and_pow b k in let l = bit_at-lt b k in grind (arith, nat_tests)
 
--- a bit set, and the others
+-- a bit that is set, and the other bits
 pub bit_or_here : (b k : ℕ) → bit_at (bit_or b (2 ^ k)) k ≡ 1
 bit_or_here b k = let e = bit_at_or b (2 ^ k) k in let p = bit_at-pow_same k in let l = bit_at-lt b k in grind arith
 
 pub bit_or_other : (b k i : ℕ) → i ≢ k → bit_at (bit_or b (2 ^ k)) i ≡ bit_at b i
 bit_or_other b k i h = let e = bit_at_or b (2 ^ k) i in let p = bit_at-pow_other k i h in grind arith
 
--- a bit cleared, and the others
+-- a bit that is cleared, and the other bits
 pub bit_clear_here : (b k : ℕ) → k < 8 → 2 ^ k < 256 → bit_at (bit_and b (255 - 2 ^ k)) k ≡ 0
 bit_clear_here b k h s =
     let e = bit_at_and b (255 - 2 ^ k) k in
@@ -32,7 +32,7 @@ bit_clear_other b k i h s d =
     let l = bit_at-lt b i in
     grind arith
 
--- a bit flipped, and the others
+-- a bit that is flipped, and the other bits
 pub bit_flip_here : (b k : ℕ) → eqb (bit_at (bit_xor b (2 ^ k)) k) 1 ≡ not (eqb (bit_at b k) 1)
 bit_flip_here b k = let e = bit_at_xor b (2 ^ k) k in let p = bit_at-pow_same k in let l = bit_at-lt b k in grind (arith, nat_tests)
 
@@ -55,14 +55,14 @@ flip_bit a k h s =
     let l = bit_at-lt a k in
     grind (arith, nat_tests)
 
--- the lowest m bits kept, and the others cut
+-- the lowest m bits are kept, and the others are zero
 pub low_bit_below : (a m k : ℕ) → k < m → bit_at (bit_and a (2 ^ m - 1)) k ≡ bit_at a k
 low_bit_below a m k h = let e = bit_at_and a (2 ^ m - 1) k in let o = bit_at_ones m k h in let l = bit_at-lt a k in grind arith
 
 pub low_bit_above : (a m k : ℕ) → m ≤ k → bit_at (bit_and a (2 ^ m - 1)) k ≡ 0
 low_bit_above a m k h = let e = bit_at_and a (2 ^ m - 1) k in let o = bit_at_ones_above m k h in grind arith
 
--- digits that are one at once are equal
+-- two binary digits are equal if each is one whenever the other is
 pub bit_same : (a b : ℕ) → a < 2 → b < 2 → eqb a 1 ≡ eqb b 1 → a ≡ b
 bit_same a b h s e = grind (arith, nat_tests)
 

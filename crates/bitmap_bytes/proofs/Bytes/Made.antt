@@ -15,7 +15,7 @@ value_of_digit d h = elim (cases_eq d 1) [
   | inr ne ↦ rw (ne_eqb d 1 ne) (omega (arith, ne))
 ]
 
--- a byte is the one with its own bits
+-- a byte is the one that is made of its own bits
 pub byte_is : (x : ℕ) → x < 256 → byte_of (λ t. eqb (bit_at x t) 1) ≡ x
 byte_is x h =
     omega (
@@ -82,7 +82,7 @@ pub digit_is : (x : Bool) → eqb (bit_value x) 1 ≡ x
 digit_is true = refl
 digit_is false = refl
 
--- the digits of a number of eight digits are those
+-- the digits of a number that is made of eight digits
 module _ (digit : ℕ → ℕ) (below : (t : ℕ) → digit t < 2) where
   abbrev eight : ℕ
   eight =
@@ -99,11 +99,11 @@ module _ (digit : ℕ → ℕ) (below : (t : ℕ) → digit t < 2) where
   digit_of (suc (suc (suc (suc (suc (suc (suc zero))))))) h = let e : eight / 128 % 2 ≡ digit 7 = omega (arith, below) in e
   digit_of (suc (suc (suc (suc (suc (suc (suc (suc t)))))))) h = absurd (omega arith)
 
--- the bits of a byte made of bits are those
+-- the bits of a byte that is made of bits
 pub byte_bit : (bit : ℕ → Bool) (t : ℕ) → t < 8 → bit_at (byte_of bit) t ≡ bit_value (bit t)
 byte_bit bit t h = digit_of (λ k. bit_value (bit k)) (λ k. digit_below (bit k)) t h
 
--- the bits of the bytes that bits make are those
+-- the bits of the bytes that are made of bits
 pub chunk_bit_of_bytes : (n : ℕ) (bit : ℕ → Bool) (i : ℕ) → 0 < n → i < 8 * n
     → chunk_bit n (map (λ j. byte_of (λ t. bit (8 * j + t))) (range_with_len 0 n)) i ≡ bit i
 chunk_bit_of_bytes n bit i p h =

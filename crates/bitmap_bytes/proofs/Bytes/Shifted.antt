@@ -8,22 +8,22 @@ use Rattle.std.proofs.lemmas.Nat.{pow-add, pow_pos, mod_below}
 use Rattle.std.proofs.lemmas.Nat.Bits.{bit_at_or, bit_at-zero, bit_at_above, bit_at_cat_low, bit_at_cat_high}
 use Rattle.std.proofs.lemmas.List.{get_or_append_left, get_or-append_right, get_or-drop, length-drop, take_all, get_or-set_same, get_or-set_other, length-set}
 use Rattle.std.proofs.lemmas.Bool.{cases_eq, cases_lt}
-use Rattle.bitmap_bytes.specs.Chunk.{chunk_bit, bit_in, IsByteJoined}
-use Rattle.bitmap_bytes.specs.Bits.{bit_of, IsChunkCount}
+use Rattle.bitmap_bytes.specs.Chunk.{chunk_bit, bytes_bit, IsByteJoined}
+use Rattle.bitmap_bytes.specs.Bits.{chunks_bit, IsChunkCount}
 use Rattle.bitmap_bytes.proofs.Bytes.Bits.{low_bit_below, low_bit_above}
 use Rattle.bitmap_bytes.proofs.Chunks.Places.{full_len}
 use Rattle.bitmap_bytes.proofs.Chunks.Bits.{mod_parts}
-use Rattle.bitmap_bytes.proofs.Chunks.Lists.{bit_of-set_here, bit_of-push_here}
+use Rattle.bitmap_bytes.proofs.Chunks.Lists.{chunks_bit-set_here, chunks_bit-push_here}
 
 -- ---- shifted bytes
 
--- a number shifted down
+-- the bits of a number that is shifted down
 pub bit_at_shr : (x k i : ℕ) → bit_at (x / 2 ^ k) i ≡ bit_at x (i + k)
 bit_at_shr x k i =
     let e : k + i ≡ i + k = omega arith in
     ap (λ y. y % 2) (div-div-eq-div-mul x (2 ^ k) (2 ^ i) ∙ ap (λ w. x / w) (sym (pow-add 2 k i)) ∙ ap (λ m. x / 2 ^ m) e)
 
--- a number cut to w bits
+-- the bits of a number modulo 2 ^ w
 pub bit_at_mod : (w x i : ℕ) → i < w → bit_at (x % 2 ^ w) i ≡ bit_at x i
 bit_at_mod w x i h =
     let e : x / 2 ^ w * 2 ^ w + x % 2 ^ w ≡ x = ap (λ y. y + x % 2 ^ w) (mul_comm (x / 2 ^ w) (2 ^ w)) ∙ div-add-mod x (2 ^ w) in
@@ -44,7 +44,7 @@ one_shl s h =
     let e : 1 * 2 ^ s ≡ 2 ^ s = omega arith in
     ap (λ x. x % 256) e ∙ mod-eq_of_lt {n = 2 ^ s} {m = 256} (pow-lt {i = s} {j = 8} h)
 
--- a number of w bits joined from two: where the low one ends, the high one goes on
+-- a number of w bits joined from two: the bits of the high one follow those of the low one
 pub joined_low : (w low high s t : ℕ) → s < w → t + s < w
     → bit_at (bit_or (low / 2 ^ s) (high * 2 ^ (w - 1 - s) % 2 ^ w * 2 ^ 1 % 2 ^ w)) t ≡ bit_at low (t + s)
 joined_low w low high s t h u =
@@ -70,7 +70,7 @@ joined_high w low high s t b h u v =
     ∙ ap (λ i. bit_at high i) e in
     o ∙ ap (λ x. max (bit_at (low / 2 ^ s) t) x) z ∙ ap (λ x. max x (bit_at high (t + s - w))) l ∙ omega arith
 
--- a byte of which the low bits are kept and the others are those of the next one
+-- a byte whose low bits are kept and whose other bits are those of the next byte
 pub opened_low : (kept next s t : ℕ) → s < 8 → t < s → bit_at (bit_or (bit_and kept (1 * 2 ^ s % 256 - 1)) (next * 2 ^ s % 256)) t ≡ bit_at kept t
 opened_low kept next s t h w =
     let o = bit_at_or (bit_and kept (2 ^ s - 1)) (next * 2 ^ s % 256) t in
@@ -91,7 +91,7 @@ opened_high kept next s t u h w =
 -- bit t of a byte joined from bytes at and at + 1 of a run
 pub joined_bit : (run : List ℕ) (at s b t : ℕ) → s < 8 → t < 8 → (t + s < 8 → bit_at b t ≡ bit_at (get_or run at 0) (t + s))
     → (8 ≤ t + s → bit_at b t ≡ bit_at (get_or run (at + 1) 0) (t + s - 8))
-    → eqb (bit_at b t) 1 ≡ bit_in run (8 * at + s + t)
+    → eqb (bit_at b t) 1 ≡ bytes_bit run (8 * at + s + t)
 joined_bit run at s b t h w low high = elim (cases_lt (t + s) 8) [
   | inl u ↦
       let q : at ≡ (8 * at + s + t) / 8 = omega arith in
@@ -108,21 +108,21 @@ joined_bit run at s b t h w low high = elim (cases_lt (t + s) 8) [
 ]
 
 -- the bits of a run from byte at on
-pub bit_in-rest : (run : List ℕ) (at i : ℕ) → bit_in (take (length run - at) (drop at run)) i ≡ bit_in run (8 * at + i)
-bit_in-rest run at i =
+pub bytes_bit-rest : (run : List ℕ) (at i : ℕ) → bytes_bit (take (length run - at) (drop at run)) i ≡ bytes_bit run (8 * at + i)
+bytes_bit-rest run at i =
     let q : at + i / 8 ≡ (8 * at + i) / 8 = omega arith in
     let r : i % 8 ≡ (8 * at + i) % 8 = omega arith in
-    ap (λ l. bit_in l i) (take_all (length run - at) (drop at run) (omega (arith, length-drop {A = ℕ} at run)))
+    ap (λ l. bytes_bit l i) (take_all (length run - at) (drop at run) (omega (arith, length-drop {A = ℕ} at run)))
     ∙ ap (λ x. eqb (bit_at x (i % 8)) 1) (get_or-drop at run (i / 8) 0)
     ∙ ap (λ k. eqb (bit_at (get_or run k 0) (i % 8)) 1) q
     ∙ ap (λ k. eqb (bit_at (get_or run ((8 * at + i) / 8) 0) k) 1) r
 
--- the bits of two runs, one behind the other
-pub bit_in-left : (front back : List ℕ) (i : ℕ) → i / 8 < length front → bit_in (front ++ back) i ≡ bit_in front i
-bit_in-left front back i h = ap (λ x. eqb (bit_at x (i % 8)) 1) (get_or_append_left front back 0 (i / 8) h)
+-- the bits of two runs, one after the other
+pub bytes_bit-left : (front back : List ℕ) (i : ℕ) → i / 8 < length front → bytes_bit (front ++ back) i ≡ bytes_bit front i
+bytes_bit-left front back i h = ap (λ x. eqb (bit_at x (i % 8)) 1) (get_or_append_left front back 0 (i / 8) h)
 
-pub bit_in-right : (front back : List ℕ) (i : ℕ) → bit_in (front ++ back) (8 * length front + i) ≡ bit_in back i
-bit_in-right front back i =
+pub bytes_bit-right : (front back : List ℕ) (i : ℕ) → bytes_bit (front ++ back) (8 * length front + i) ≡ bytes_bit back i
+bytes_bit-right front back i =
     let q : (8 * length front + i) / 8 - length front ≡ i / 8 = omega arith in
     let r : (8 * length front + i) % 8 ≡ i % 8 = omega arith in
     let past = get_or-append_right front back (length front) ((8 * length front + i) / 8) 0 refl (omega arith) in
@@ -131,23 +131,23 @@ bit_in-right front back i =
 
 -- ---- chunks filled from a run
 
--- a chunk whose bytes past the first ones are filled from a run, and the bytes before them kept
+-- a chunk whose first bytes are kept, and whose other bytes are filled from a run
 pub filled_bits : (n from bit : ℕ) (run chunk : List ℕ) → 0 < n
-    → ((k t : ℕ) → from ≤ k → k < n → t < 8 → eqb (bit_at (get_or chunk k 0) t) 1 ≡ bit_in run (bit + (8 * (k - from) + t)))
+    → ((k t : ℕ) → from ≤ k → k < n → t < 8 → eqb (bit_at (get_or chunk k 0) t) 1 ≡ bytes_bit run (bit + (8 * (k - from) + t)))
     → (i : ℕ) → 8 * from ≤ i % (8 * n)
-    → chunk_bit n chunk i ≡ bit_in run (bit + (i % (8 * n) - 8 * from))
+    → chunk_bit n chunk i ≡ bytes_bit run (bit + (i % (8 * n) - 8 * from))
 filled_bits n from bit run chunk p h i w =
     let m = mod_parts n i p in
     let r : i % 8 < 8 = mod_below i 8 (omega arith) in
     let e : bit + (8 * (i / 8 % n - from) + i % 8) ≡ bit + (i % (8 * n) - 8 * from) = omega arith in
-    h (i / 8 % n) (i % 8) (omega arith) (mod_below (i / 8) n p) r ∙ ap (bit_in run) e
+    h (i / 8 % n) (i % 8) (omega arith) (mod_below (i / 8) n p) r ∙ ap (bytes_bit run) e
 
 pub kept_bits : (n from : ℕ) (old new : List ℕ) → 0 < n → ((k : ℕ) → k < from → get_or new k 0 ≡ get_or old k 0) → (i : ℕ)
     → i % (8 * n) < 8 * from
     → chunk_bit n new i ≡ chunk_bit n old i
 kept_bits n from old new p h i w = let m = mod_parts n i p in ap (λ x. eqb (bit_at x (i % 8)) 1) (h (i / 8 % n) (omega arith))
 
--- the open byte, and the bytes past it
+-- the byte that is partly used, and the bytes after it
 pub opened_kept : (n len : ℕ) (old mid new : List ℕ) (b : ℕ) → 0 < n → length old ≡ n → mid ≡ set old (len / 8 % n) b
     → ((t : ℕ) → t < len % 8 → bit_at b t ≡ bit_at (get_or old (len / 8 % n) 0) t)
     → ((i : ℕ) → i % (8 * n) < 8 * (len / 8 % n + 1) → chunk_bit n new i ≡ chunk_bit n mid i) → (i : ℕ)
@@ -169,9 +169,9 @@ opened_kept n len old mid new b p l e low kept i h =
 pub opened_joined : (n len : ℕ) (run old mid new : List ℕ) (b : ℕ) → 0 < n → length old ≡ n → mid ≡ set old (len / 8 % n) b
     → ((t : ℕ) → t < 8 → len % 8 ≤ t → bit_at b t ≡ bit_at (get_or run 0 0) (t - len % 8))
     → ((i : ℕ) → i % (8 * n) < 8 * (len / 8 % n + 1) → chunk_bit n new i ≡ chunk_bit n mid i)
-    → ((i : ℕ) → 8 * (len / 8 % n + 1) ≤ i % (8 * n) → chunk_bit n new i ≡ bit_in run (8 - len % 8 + (i % (8 * n) - 8 * (len / 8 % n + 1))))
+    → ((i : ℕ) → 8 * (len / 8 % n + 1) ≤ i % (8 * n) → chunk_bit n new i ≡ bytes_bit run (8 - len % 8 + (i % (8 * n) - 8 * (len / 8 % n + 1))))
     → (i : ℕ) → len % (8 * n) ≤ i % (8 * n)
-    → chunk_bit n new i ≡ bit_in run (i % (8 * n) - len % (8 * n))
+    → chunk_bit n new i ≡ bytes_bit run (i % (8 * n) - len % (8 * n))
 opened_joined n len run old mid new b p l e high kept filled i h =
     let m = mod_parts n i p in
     let d = mod_parts n len p in
@@ -192,13 +192,13 @@ opened_joined n len run old mid new b p l e high kept filled i h =
           ∙ ap (λ k. eqb (bit_at (get_or run k 0) ((i % (8 * n) - len % (8 * n)) % 8)) 1) z
       | inr u ↦
           let y : 8 - len % 8 + (i % (8 * n) - 8 * (len / 8 % n + 1)) ≡ i % (8 * n) - len % (8 * n) = omega arith in
-          filled i u ∙ ap (bit_in run) y
+          filled i u ∙ ap (bytes_bit run) y
     ]
 
 -- ---- a byte joined to a chunk
 
--- its byte of bit i keeps the bits below and takes the low ones, the next one takes the others and keeps those above
-module _ (n i byte : ℕ) (old new : List ℕ) (pos : 0 < n) (room : i % (8 * n) + 8 ≤ 8 * n)
+-- the byte of bit i keeps its low bits and gets those of the new byte; the next byte gets the others and keeps its high bits
+module _ (n i byte : ℕ) (old new : List ℕ) (pos : 0 < n) (space : i % (8 * n) + 8 ≤ 8 * n)
     (low : (t : ℕ) → t < i % 8 → bit_at (get_or new (i / 8 % n) 0) t ≡ bit_at (get_or old (i / 8 % n) 0) t)
     (begun : (t : ℕ) → t < 8 → i % 8 ≤ t → bit_at (get_or new (i / 8 % n) 0) t ≡ bit_at byte (t - i % 8))
     (ended : (t : ℕ) → t < i % 8 → bit_at (get_or new (i / 8 % n + 1) 0) t ≡ bit_at byte (t + (8 - i % 8)))
@@ -241,11 +241,11 @@ module _ (n i byte : ℕ) (old new : List ℕ) (pos : 0 < n) (room : i % (8 * n)
   pub byte_joined : IsByteJoined n old new i byte
   byte_joined = record { here = joined_here_at; others = joined_elsewhere }
 
--- where the byte goes into the next one there is one
+-- if the new byte extends into the next byte of the chunk, there is one
 pub next_byte : (n i : ℕ) → 0 < n → i % (8 * n) + 8 ≤ 8 * n → 0 < i % 8 → i / 8 % n + 1 < n
-next_byte n i pos room h = omega (arith, mod_parts n i pos)
+next_byte n i pos space h = omega (arith, mod_parts n i pos)
 
-module _ (n i byte : ℕ) (old : List ℕ) (a : ℕ) (pos : 0 < n) (size : length old ≡ n) (room : i % (8 * n) + 8 ≤ 8 * n)
+module _ (n i byte : ℕ) (old : List ℕ) (a : ℕ) (pos : 0 < n) (size : length old ≡ n) (space : i % (8 * n) + 8 ≤ 8 * n)
     (low : (t : ℕ) → t < i % 8 → bit_at a t ≡ bit_at (get_or old (i / 8 % n) 0) t)
     (high : (t : ℕ) → t < 8 → i % 8 ≤ t → bit_at a t ≡ bit_at byte (t - i % 8)) where
   within : i / 8 % n < length old
@@ -254,16 +254,16 @@ module _ (n i byte : ℕ) (old : List ℕ) (a : ℕ) (pos : 0 < n) (size : lengt
   at_byte : get_or (set old (i / 8 % n) a) (i / 8 % n) 0 ≡ a
   at_byte = get_or-set_same old (i / 8 % n) a 0 within
 
-  -- at a multiple of 8 it is the byte there
+  -- at a multiple of 8 the new byte replaces a whole byte
   pub joins_one : i % 8 ≡ 0 → IsByteJoined n old (set old (i / 8 % n) a) i byte
-  joins_one even = byte_joined n i byte old (set old (i / 8 % n) a) pos room
+  joins_one even = byte_joined n i byte old (set old (i / 8 % n) a) pos space
       (λ t h. ap (λ x. bit_at x t) at_byte ∙ low t h)
       (λ t h w. ap (λ x. bit_at x t) at_byte ∙ high t h w)
       (λ t h. absurd (omega (arith, h, even)))
       (λ t h w. ap (λ x. bit_at x t) (get_or-set_other old (i / 8 % n) (i / 8 % n + 1) a 0 (λ e. omega (arith, e))))
       (λ k ne nx. get_or-set_other old (i / 8 % n) k a 0 ne)
 
-  -- elsewhere the next byte takes the rest of it
+  -- otherwise the next byte gets the rest of it
   pub joins_two : (c : ℕ) → 0 < i % 8
       → ((t : ℕ) → t + (8 - i % 8) < 8 → bit_at c t ≡ bit_at byte (t + (8 - i % 8)))
       → ((t : ℕ) → t < 8 → 8 ≤ t + (8 - i % 8) → bit_at c t ≡ bit_at (get_or (set old (i / 8 % n) a) (i / 8 % n + 1) 0 / 2 ^ (i % 8)) (t + (8 - i % 8) - 8))
@@ -272,8 +272,8 @@ module _ (n i byte : ℕ) (old : List ℕ) (a : ℕ) (pos : 0 < n) (size : lengt
       let mid = set old (i / 8 % n) a in
       let other : get_or (set mid (i / 8 % n + 1) c) (i / 8 % n) 0 ≡ a = get_or-set_other mid (i / 8 % n + 1) (i / 8 % n) c 0 (λ e. omega (arith, e)) ∙ at_byte in
       let unchanged : get_or mid (i / 8 % n + 1) 0 ≡ get_or old (i / 8 % n + 1) 0 = get_or-set_other old (i / 8 % n) (i / 8 % n + 1) a 0 (λ e. omega (arith, e)) in
-      let same : get_or (set mid (i / 8 % n + 1) c) (i / 8 % n + 1) 0 ≡ c = get_or-set_same mid (i / 8 % n + 1) c 0 (omega (arith, length-set old (i / 8 % n) a, size, next_byte n i pos room some)) in
-      byte_joined n i byte old (set mid (i / 8 % n + 1) c) pos room
+      let same : get_or (set mid (i / 8 % n + 1) c) (i / 8 % n + 1) 0 ≡ c = get_or-set_same mid (i / 8 % n + 1) c 0 (omega (arith, length-set old (i / 8 % n) a, size, next_byte n i pos space some)) in
+      byte_joined n i byte old (set mid (i / 8 % n + 1) c) pos space
       (λ t h. ap (λ x. bit_at x t) other ∙ low t h)
       (λ t h w. ap (λ x. bit_at x t) other ∙ high t h w)
       (λ t h. ap (λ x. bit_at x t) same ∙ next t (omega arith))
@@ -282,11 +282,11 @@ module _ (n i byte : ℕ) (old : List ℕ) (a : ℕ) (pos : 0 < n) (size : lengt
 
 -- ---- chunks of a deque, the first written in part
 
--- the chunk that was open goes on with the run
+-- the chunk that was partly used continues with the run
 pub joined_here : (n : ℕ) (xs : List (List ℕ)) (len : ℕ) (run new : List ℕ) → 0 < n → len / (8 * n) < length xs
-    → ((i : ℕ) → len % (8 * n) ≤ i % (8 * n) → chunk_bit n new i ≡ bit_in run (i % (8 * n) - len % (8 * n))) → (i : ℕ) → len ≤ i
+    → ((i : ℕ) → len % (8 * n) ≤ i % (8 * n) → chunk_bit n new i ≡ bytes_bit run (i % (8 * n) - len % (8 * n))) → (i : ℕ) → len ≤ i
     → i / (8 * n) < len / (8 * n) + 1
-    → bit_of n (set xs (len / (8 * n)) new) i ≡ bit_in run (i - len)
+    → chunks_bit n (set xs (len / (8 * n)) new) i ≡ bytes_bit run (i - len)
 joined_here n xs len run new p w joined i h s =
     let d = div-add-mod len (8 * n) in
     let f = div-add-mod i (8 * n) in
@@ -295,30 +295,30 @@ joined_here n xs len run new p w joined i h s =
     let q : i / (8 * n) ≡ len / (8 * n) = omega arith in
     let m = ap (λ x. 8 * n * x) q in
     let e : i % (8 * n) - len % (8 * n) ≡ i - len = omega arith in
-    bit_of-set_here n xs (len / (8 * n)) new i w q ∙ joined i (omega arith) ∙ ap (bit_in run) e
+    chunks_bit-set_here n xs (len / (8 * n)) new i w q ∙ joined i (omega arith) ∙ ap (bytes_bit run) e
 
--- where no chunk is open, the chunks have no bit past the length
+-- if no chunk is partly used, the chunks have no bit past the length
 pub joined_full : (n : ℕ) (xs : List (List ℕ)) (len : ℕ) (run : List ℕ) → 0 < n → IsChunkCount n (length xs) len
     → len % (8 * n) ≡ 0 → (i : ℕ) → len ≤ i → i / (8 * n) < length xs
-    → bit_of n xs i ≡ bit_in run (i - len)
+    → chunks_bit n xs i ≡ bytes_bit run (i - len)
 joined_full n xs len run p c e i h s =
     let f = full_len n (length xs) len p c e in
     let up : length xs ≤ i / (8 * n) = (le-div_iff_mul-le {k = 8 * n} {x = length xs} {y = i} (omega arith)).1 (grind arith) in
     absurd (omega arith)
 
--- a whole chunk of the run pushed
+-- a whole chunk of the run is appended
 pub pushed_here : (n : ℕ) (xs : List (List ℕ)) (len : ℕ) (run new : List ℕ) → len ≤ 8 * n * length xs
-    → ((i : ℕ) → chunk_bit n new i ≡ bit_in run (8 * n * length xs - len + i % (8 * n))) → (i : ℕ) → i / (8 * n) ≡ length xs
-    → bit_of n (xs ++ new ∷ []) i ≡ bit_in run (i - len)
+    → ((i : ℕ) → chunk_bit n new i ≡ bytes_bit run (8 * n * length xs - len + i % (8 * n))) → (i : ℕ) → i / (8 * n) ≡ length xs
+    → chunks_bit n (xs ++ new ∷ []) i ≡ bytes_bit run (i - len)
 pushed_here n xs len run new w filled i e =
     let f = div-add-mod i (8 * n) in
     let m = ap (λ x. 8 * n * x) e in
     let g : 8 * n * length xs - len + i % (8 * n) ≡ i - len = omega arith in
-    bit_of-push_here n xs new i e ∙ filled i ∙ ap (bit_in run) g
+    chunks_bit-push_here n xs new i e ∙ filled i ∙ ap (bytes_bit run) g
 
 -- ---- chunks as a run of bytes
 
--- each has n bytes
+-- each chunk has n bytes
 abbrev AreWide : ℕ → List (List ℕ) → Type 0
 AreWide n xs = (i : ℕ) → i < length xs → length (get_or xs i []) ≡ n
 
@@ -335,9 +335,9 @@ flat_at n (x ∷ xs) h (suc c) j w =
     ∙ ap (λ k. get_or (flat_map (λ x. x) xs) k 0) e
     ∙ flat_at n xs (λ i s. h (suc i) (omega arith)) c j w
 
--- a bit of the run is that of the chunk
-pub bit_in-flat : (n : ℕ) (xs : List (List ℕ)) → 0 < n → AreWide n xs → (i : ℕ) → bit_in (flat_map (λ x. x) xs) i ≡ bit_of n xs i
-bit_in-flat n xs p h i =
+-- a bit of the run is the bit of its chunk
+pub bytes_bit-flat : (n : ℕ) (xs : List (List ℕ)) → 0 < n → AreWide n xs → (i : ℕ) → bytes_bit (flat_map (λ x. x) xs) i ≡ chunks_bit n xs i
+bytes_bit-flat n xs p h i =
     let d : i / 8 ≡ n * (i / 8 / n) + i / 8 % n = sym (div-add-mod (i / 8) n) in
     let q : i / 8 / n ≡ i / (8 * n) = div-div-eq-div-mul i 8 n in
     let at : get_or (flat_map (λ x. x) xs) (i / 8) 0 ≡ get_or (get_or xs (i / (8 * n)) []) (i / 8 % n) 0 =

@@ -1,4 +1,4 @@
--- Chunks as bytes, and what a hash is fed.
+-- Chunks as bytes, and what is fed to a hasher.
 use Rattle.std.proofs.Common.{◌≡◌, ℕ, ◌+◌, ◌*◌, ◌/◌, ◌%◌, ◌<◌, Bool, false, List, [], ◌++◌, length, get_or, map, eqb, sym, ap, ◌∙◌, inl, inr, arith}
 use Rattle.std.specs.Int.{bit_at, div_ceil}
 use Rattle.std.specs.List.{range_with_len}
@@ -8,7 +8,7 @@ use Rattle.std.proofs.lemmas.List.{get_or_read, get_or_default, get_or_past}
 use Rattle.std.proofs.lemmas.List.FromFn.{fill_by_all, length-map-range_with_len, get_or-map-range_with_len}
 use Rattle.std.proofs.lemmas.Bool.{cases_lt}
 use Rattle.bitmap_bytes.specs.Chunk.{chunk_bit, byte_of, chunk_of}
-use Rattle.bitmap_bytes.specs.Bits.{bit_of, bits, IsChunkCount, IsZeroFrom, AreChunks, chunk_count}
+use Rattle.bitmap_bytes.specs.Bits.{chunks_bit, bits, IsChunkCount, IsZeroFrom, AreChunks, chunk_count}
 use Rattle.bitmap_bytes.proofs.Chunks.Places.{IsChunkCount-ceil, count_unique}
 use Rattle.bitmap_bytes.proofs.Chunks.Bits.{chunk_bit-mod, mod_parts}
 use Rattle.bitmap_bytes.proofs.Lists.Bits.{get_or-bits, len_is}
@@ -54,7 +54,7 @@ chunk_is n xs len v i c p e z s r l h =
     let y : (8 * j + t) % (8 * n) ≡ (8 * n * i + 8 * j + t) % (8 * n) =
     mod-eq_of_lt {n = 8 * j + t} {m = 8 * n} at
     ∙ sym (ap (λ x. x % (8 * n)) m ∙ mod-mul-add i (8 * n) (8 * j + t) at) in
-    let b : chunk_bit n c (8 * j + t) ≡ bit_of n xs (8 * n * i + 8 * j + t) =
+    let b : chunk_bit n c (8 * j + t) ≡ chunks_bit n xs (8 * n * i + 8 * j + t) =
     chunk_bit-mod n c (8 * j + t) (8 * n * i + 8 * j + t) p y
     ∙ ap (λ x. chunk_bit n x (8 * n * i + 8 * j + t)) (get_or_read xs i c s r [] ∙ ap (λ x. get_or xs x []) (sym q)) in
     b ∙ elim (cases_lt (8 * n * i + 8 * j + t) len) [

@@ -10,7 +10,7 @@ use Rattle.std.proofs.lemmas.Bool.{cases_eq, cases_lt}
 use Rattle.bitmap_bytes.specs.Chunk.{chunk_bit}
 use Rattle.bitmap_bytes.proofs.Bytes.Bits.{bit_of_zero_byte, low_bit_below, low_bit_above, bit_same}
 
--- a place in a chunk is one in its byte
+-- a position in a chunk determines one in its byte
 pub mod_parts : (n i : ℕ) → 0 < n → i % (8 * n) ≡ (i / 8 % n) * 8 + i % 8
 mod_parts n i p = ap (λ w. i % w) (omega arith) ∙ mod-mul i {m = n} {c = 8} p (omega arith)
 
@@ -35,7 +35,7 @@ chunk_bit-set_other n chunk bit v p l h i d =
       | inr e ↦ ap (λ x. eqb (bit_at x (i % 8)) 1) (get_or-set_other chunk (bit / 8 % n) (i / 8 % n) v 0 e)
     ]
 
--- the bits below a place kept, and the others zero, where the byte there is masked and the bytes past it are zero
+-- if a byte is masked and those after it are zero, the bits below the position are kept and the others are zero
 pub cleared : (n : ℕ) (old new : List ℕ) (at : ℕ) → 0 < n → ((k : ℕ) → at / 8 < k → k < n → get_or new k 0 ≡ 0)
     → get_or new (at / 8) 0 ≡ bit_and (get_or old (at / 8) 0) (2 ^ (at % 8) - 1)
     → ((k : ℕ) → k < at / 8 → get_or new k 0 ≡ get_or old k 0) → (i : ℕ)
@@ -89,7 +89,7 @@ byte_from_bits n a b j s h g e =
     ∙ ap (λ x. eqb (bit_at (get_or b j 0) x) 1) r in
     bit_same _ _ (bit_at-lt _ t) (bit_at-lt _ t) same)
 
--- a chunk that repeats one byte whose bits are alike
+-- a chunk that repeats one byte whose bits are equal
 pub chunk_bit-fill : (n : ℕ) (v : ℕ) (b : Bool) (i : ℕ) → 0 < n → ((k : ℕ) → k < 8 → eqb (bit_at v k) 1 ≡ b)
     → chunk_bit n (replicate {A = ℕ} n v) i ≡ b
 chunk_bit-fill n v b i p h =

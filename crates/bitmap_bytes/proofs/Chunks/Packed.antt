@@ -9,10 +9,10 @@ use Rattle.std.proofs.lemmas.List.{get_or-set_same, get_or-set_other, get_or_rea
 use Rattle.std.proofs.lemmas.List.FromFn.{length-map-range_with_len, get_or-map-range_with_len, map-range_with_len_more}
 use Rattle.std.proofs.lemmas.Bool.{cases_eq, cases_lt}
 use Rattle.bitmap_bytes.specs.Chunk.{chunk_bit}
-use Rattle.bitmap_bytes.specs.Bits.{bit_of, bits, IsChunkCount}
+use Rattle.bitmap_bytes.specs.Bits.{chunks_bit, bits, IsChunkCount}
 use Rattle.bitmap_bytes.proofs.Bytes.Bits.{bit_test}
 use Rattle.bitmap_bytes.proofs.Chunks.Bits.{chunk_bit-mod}
-use Rattle.bitmap_bytes.proofs.Chunks.Lists.{bit_of-push_in, bit_of-push_here, IsZeroFrom-count}
+use Rattle.bitmap_bytes.proofs.Chunks.Lists.{chunks_bit-push_in, chunks_bit-push_here, IsZeroFrom-count}
 use Rattle.bitmap_bytes.proofs.Lists.Bits.{bits-none, bits_are, length-bits, get_or-bits}
 
 or_none : (byte r t k : ℕ) → r ≡ 0 → bit_at (bit_or byte (r * 2 ^ t % 256)) k ≡ bit_at byte k
@@ -84,14 +84,14 @@ bytes-more n chunk v j b from to p s l f g h d k w =
 pub chunks-more : (n : ℕ) (xs ys : List (List ℕ)) (c : List ℕ) (v : List Bool) (i from size : ℕ) → 0 < n → length xs ≡ i
     → from ≡ 8 * n * i → size ≡ min (8 * n) (length v - from)
     → ((t : ℕ) → t < 8 * n → chunk_bit n c t ≡ get_or (take size (drop from v)) t false)
-    → ((k : ℕ) → k < 8 * n * i → bit_of n xs k ≡ get_or v k false) → ys ≡ xs ++ c ∷ [] → (k : ℕ) → k < 8 * n * (i + 1)
-    → bit_of n ys k ≡ get_or v k false
+    → ((k : ℕ) → k < 8 * n * i → chunks_bit n xs k ≡ get_or v k false) → ys ≡ xs ++ c ∷ [] → (k : ℕ) → k < 8 * n * (i + 1)
+    → chunks_bit n ys k ≡ get_or v k false
 chunks-more n xs ys c v i from size p l f s h d e k w =
     let m = mul-add (8 * n) i 1 in
-    ap (λ x. bit_of n x k) e ∙ elim (cases_lt k from) [
+    ap (λ x. chunks_bit n x k) e ∙ elim (cases_lt k from) [
       | inl q ↦
           let a : k / (8 * n) < length xs = rw l ((div-lt_iff_lt-mul {k = 8 * n} {x = k} {y = i} (omega arith)).1 (grind arith)) in
-          bit_of-push_in n xs c k a ∙ d k (omega arith)
+          chunks_bit-push_in n xs c k a ∙ d k (omega arith)
       | inr q ↦
           let at : k ≡ i * (8 * n) + (k - from) = grind arith in
           let t : k - from < 8 * n = omega arith in
@@ -101,7 +101,7 @@ chunks-more n xs ys c v i from size p l f s h d e k w =
           ∙ mod-mul-add i (8 * n) (k - from) t
           ∙ sym (mod-eq_of_lt {n = k - from} {m = 8 * n} t) in
           let z : from + (k - from) ≡ k = omega arith in
-          bit_of-push_here n xs c k a
+          chunks_bit-push_here n xs c k a
           ∙ chunk_bit-mod n c k (k - from) p b
           ∙ h (k - from) t
           ∙ piece-bit v from size from (k - from) (λ y. (refl, omega arith)) (λ y. omega arith)
@@ -110,8 +110,8 @@ chunks-more n xs ys c v i from size p l f s h d e k w =
 
 -- chunks that hold booleans have no bit past them
 pub all-bits : (n : ℕ) (xs : List (List ℕ)) (v : List Bool) → 0 < n → length v ≤ 8 * n * length xs
-    → ((k : ℕ) → k < 8 * n * length xs → bit_of n xs k ≡ get_or v k false) → (k : ℕ)
-    → bit_of n xs k ≡ get_or v k false
+    → ((k : ℕ) → k < 8 * n * length xs → chunks_bit n xs k ≡ get_or v k false) → (k : ℕ)
+    → chunks_bit n xs k ≡ get_or v k false
 all-bits n xs v p l d k = elim (cases_lt k (8 * n * length xs)) [
   | inl h ↦ d k h
   | inr h ↦ IsZeroFrom-count n xs (8 * n * length xs) p (omega arith) k h ∙ sym (get_or_past v k false (omega arith))
@@ -165,7 +165,7 @@ bits-chunk n xs i c count p s r h =
 before_last : (n k len i : ℕ) → 0 < n → IsChunkCount n k len → i < k → 8 * n * i < len
 before_last n k len i p c h = grind arith
 
--- the bits of one more chunk, the last one perhaps in part
+-- the bits of one more chunk, which may be partly used if it is the last one
 pub bools-chunk : (n : ℕ) (xs : List (List ℕ)) (i : ℕ) (c : List ℕ) (len left count : ℕ) (old a b : List Bool) → 0 < n
     → IsChunkCount n (length xs) len → i < length xs → c ≡ get_or xs i c → left ≡ len - 8 * n * i → count ≡ min left (8 * n)
     → a ≡ old ++ bits n xs (len - left) → b ≡ a ++ map (chunk_bit n c) (range_with_len 0 count)
@@ -179,7 +179,7 @@ bools-chunk n xs i c len left count old a b p k s r l m f g =
     ∙ append_assoc old (bits n xs (8 * n * i)) (map (chunk_bit n c) (range_with_len 0 count))
     ∙ ap (λ x. old ++ x) (sym (bits-chunk n xs i c count p s r (omega arith)) ∙ ap (λ x. bits n xs x) (sym e))
 
--- nothing is appended of no bits
+-- no bits append nothing
 pub bools-none : (n : ℕ) (xs : List (List ℕ)) (len : ℕ) (old : List Bool) → old ≡ old ++ bits n xs (len - len)
 bools-none n xs len old =
     let e : len - len ≡ 0 = omega arith in

@@ -7,10 +7,10 @@ use Rattle.std.proofs.lemmas.Nat.{pow-add, and_le_l}
 use Rattle.std.proofs.lemmas.Nat.Bits.{bit_at-lt, bit_at_and, bit_at_mask_inside, bit_at_mask_below, bit_at_mask_above, ones_shr}
 use Rattle.std.proofs.lemmas.List.{get_or-take, length-take, length-drop}
 use Rattle.std.proofs.lemmas.Bool.Decides.{nat_tests}
-use Rattle.bitmap_bytes.specs.Chunk.{chunk_bits, bit_in}
+use Rattle.bitmap_bytes.specs.Chunk.{chunk_bits, bytes_bit}
 use Rattle.bitmap_bytes.proofs.Counting.Ones.{ones_from, ones_from_same}
 use Rattle.bitmap_bytes.proofs.Counting.Places.{ones_from_clear, ones_from_split, none_from, more_ones, ones_of_zero, ones_of_other, rest_zero, some_left, some_right}
-use Rattle.bitmap_bytes.proofs.Counting.Words.{bit_in-at, bit_in-drop, none_chunk, none_chunk_slice}
+use Rattle.bitmap_bytes.proofs.Counting.Words.{bytes_bit-at, bytes_bit-drop, none_chunk, none_chunk_slice}
 
 -- ---- a byte under a mask
 
@@ -42,7 +42,7 @@ masked_in b m k h = omega (arith, bit_at_and b m k, bit_at-lt b k)
 zero_ones : (n : ℕ) → eqb n 0 ≡ eqb (count_ones n) 0
 zero_ones n = let o = ones_of_other n in let z = ones_of_zero n in grind (arith, nat_tests)
 
--- the bits of a byte under a mask of the places from lo on and below hi
+-- the bits of a byte under a mask of the positions from lo up to hi, hi excluded
 masked_ones : (b lo hi w : ℕ) → b < 2 ^ w → lo ≤ hi → hi ≤ w
     → count_ones (bit_and b (2 ^ hi - 2 ^ lo)) ≡ ones_from (λ t. eqb (bit_at b t) 1) lo (hi - lo)
 masked_ones b lo hi w f h s =
@@ -81,11 +81,11 @@ none_masked b lo hi f h s =
 
 -- the bits of one byte
 range_byte : (xs : List ℕ) (j a s e : ℕ) → e ≤ 8 → a ≡ 8 * j + s
-    → ones_from (bit_in xs) a (e - s) ≡ ones_from (λ t. eqb (bit_at (get_or xs j 0) t) 1) s (e - s)
+    → ones_from (bytes_bit xs) a (e - s) ≡ ones_from (λ t. eqb (bit_at (get_or xs j 0) t) 1) s (e - s)
 range_byte xs j a s e h q =
-    ones_from_same (bit_in xs) (λ t. eqb (bit_at (get_or xs j 0) t) 1) a s (e - s) (λ t l.
+    ones_from_same (bytes_bit xs) (λ t. eqb (bit_at (get_or xs j 0) t) 1) a s (e - s) (λ t l.
     let r : a + t ≡ 8 * j + (s + t) = omega arith in
-    ap (bit_in xs) r ∙ bit_in-at xs j (s + t) (omega arith))
+    ap (bytes_bit xs) r ∙ bytes_bit-at xs j (s + t) (omega arith))
 
 pub none_in_byte : (xs : List ℕ) (from to : ℕ) → from < to → to ≤ 8 * length xs → from / 8 ≡ (to - 1) / 8
     → list_all (λ t. not (eqb (bit_at (get_or xs (from / 8) 0) t) 1)) (range_with_len (from % 8) ((to - 1) % 8 + 1 - from % 8))
@@ -94,43 +94,43 @@ none_in_byte xs from to h w q =
     let k : (to - 1) % 8 + 1 - from % 8 ≡ to - from = omega arith in
     none_from (λ t. eqb (bit_at (get_or xs (from / 8) 0) t) 1) (from % 8) ((to - 1) % 8 + 1 - from % 8)
     ∙ ap (λ x. eqb x 0)
-    (sym (range_byte xs (from / 8) from (from % 8) ((to - 1) % 8 + 1) (omega arith) (omega arith)) ∙ ap (λ m. ones_from (bit_in xs) from m) k)
+    (sym (range_byte xs (from / 8) from (from % 8) ((to - 1) % 8 + 1) (omega arith) (omega arith)) ∙ ap (λ m. ones_from (bytes_bit xs) from m) k)
     ∙ sym (none_chunk_slice (length xs) xs from to w)
 
--- whether no bit of a byte from place s on and below place e is set
+-- whether no bit of a byte from position s up to e, e excluded, is set
 abbrev none_in : ℕ → ℕ → ℕ → Bool
 none_in b s e = list_all (λ t. not (eqb (bit_at b t) 1)) (range_with_len s (e - s))
 
--- the bits of the bytes from byte i on and below byte j
+-- the bits of the bytes from byte i up to byte j, j excluded
 middle_ones : (xs : List ℕ) (i j : ℕ) → i ≤ j → j ≤ length xs
-    → ones_from (bit_in xs) (8 * i) (8 * j - 8 * i) ≡ ones_from (bit_in (slice_range xs i j)) 0 (8 * length (slice_range xs i j))
+    → ones_from (bytes_bit xs) (8 * i) (8 * j - 8 * i) ≡ ones_from (bytes_bit (slice_range xs i j)) 0 (8 * length (slice_range xs i j))
 middle_ones xs i j h w =
     let d = length-drop {A = ℕ} i xs in
     let t = length-take {A = ℕ} (j - i) (drop i xs) in
     let l : 8 * j - 8 * i ≡ 8 * length (slice_range xs i j) = omega arith in
-    ones_from_same (bit_in xs) (bit_in (slice_range xs i j)) (8 * i) 0 (8 * j - 8 * i) (λ t s.
+    ones_from_same (bytes_bit xs) (bytes_bit (slice_range xs i j)) (8 * i) 0 (8 * j - 8 * i) (λ t s.
     let r : 8 * i + t ≡ 8 * i + (0 + t) = omega arith in
-    ap (bit_in xs) r
-    ∙ sym (bit_in-drop i xs (0 + t))
+    ap (bytes_bit xs) r
+    ∙ sym (bytes_bit-drop i xs (0 + t))
     ∙ ap (λ b. eqb (bit_at b ((0 + t) % 8)) 1) (sym (get_or-take (j - i) (drop i xs) ((0 + t) / 8) 0 (omega arith))))
-    ∙ ap (λ m. ones_from (bit_in (slice_range xs i j)) 0 m) l
+    ∙ ap (λ m. ones_from (bytes_bit (slice_range xs i j)) 0 m) l
 
 -- a range over several bytes: its part of the first, its part of the last, and the bytes between
 range_parts : (xs : List ℕ) (from to : ℕ) → from < to → to ≤ 8 * length xs → (from / 8 ≡ (to - 1) / 8 → ⊥)
-    → ones_from (bit_in xs) from (to - from)
+    → ones_from (bytes_bit xs) from (to - from)
     ≡ ones_from (λ t. eqb (bit_at (get_or xs (from / 8) 0) t) 1) (from % 8) (8 - from % 8)
     + (ones_from (λ t. eqb (bit_at (get_or xs ((to - 1) / 8) 0) t) 1) 0 ((to - 1) % 8 + 1 - 0)
-    + ones_from (bit_in (slice_range xs (from / 8 + 1) ((to - 1) / 8))) 0 (8 * length (slice_range xs (from / 8 + 1) ((to - 1) / 8))))
+    + ones_from (bytes_bit (slice_range xs (from / 8 + 1) ((to - 1) / 8))) 0 (8 * length (slice_range xs (from / 8 + 1) ((to - 1) / 8))))
 range_parts xs from to h w d =
     let i : ℕ = from / 8 + 1 in
     let j : ℕ = (to - 1) / 8 in
     let o : i ≤ j = omega arith in
-    let a = ones_from_split (bit_in xs) from (8 * i) to (omega arith) (omega arith) in
-    let b = ones_from_split (bit_in xs) (8 * i) (8 * j) to (omega arith) (omega arith) in
+    let a = ones_from_split (bytes_bit xs) from (8 * i) to (omega arith) (omega arith) in
+    let b = ones_from_split (bytes_bit xs) (8 * i) (8 * j) to (omega arith) (omega arith) in
     let p : 8 * i - from ≡ 8 - from % 8 = omega arith in
     let q : to - 8 * j ≡ (to - 1) % 8 + 1 - 0 = omega arith in
-    let first = ap (λ m. ones_from (bit_in xs) from m) p ∙ range_byte xs (from / 8) from (from % 8) 8 (omega arith) (omega arith) in
-    let last = ap (λ m. ones_from (bit_in xs) (8 * j) m) q ∙ range_byte xs j (8 * j) 0 ((to - 1) % 8 + 1) (omega arith) (omega arith) in
+    let first = ap (λ m. ones_from (bytes_bit xs) from m) p ∙ range_byte xs (from / 8) from (from % 8) 8 (omega arith) (omega arith) in
+    let last = ap (λ m. ones_from (bytes_bit xs) (8 * j) m) q ∙ range_byte xs j (8 * j) 0 ((to - 1) % 8 + 1) (omega arith) (omega arith) in
     let mid = middle_ones xs i j o (omega arith) in
     omega arith
 

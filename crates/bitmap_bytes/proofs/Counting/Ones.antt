@@ -8,9 +8,9 @@ use Rattle.std.proofs.lemmas.Nat.{mod_below}
 use lib.Count.{ones_step, ones-le}
 use Rattle.std.proofs.lemmas.Bool.{cases_lt}
 use Rattle.std.proofs.lemmas.Bool.Decides.{nat_tests}
-use Rattle.bitmap_bytes.specs.Bits.{bit_of, bits}
+use Rattle.bitmap_bytes.specs.Bits.{chunks_bit, bits}
 
--- how many of the k places from a on pass f
+-- the number of the k positions from a on that pass f
 abbrev pub ones_from : (ℕ → Bool) → ℕ → ℕ → ℕ
 ones_from f a zero = 0
 ones_from f a (suc k) = cond (f a) 1 0 + ones_from f (a + 1) k
@@ -56,7 +56,7 @@ pub ones_from_le : (f : ℕ → Bool) (a k : ℕ) → ones_from f a k ≤ k
 ones_from_le f a zero = omega arith
 ones_from_le f a (suc k) = omega (arith, ones_from_le f (a + 1) k, cond_le (f a))
 
--- where no place from len on passes, no more than len do
+-- if no position from len on passes, at most len positions do
 pub ones_from_bound : (f : ℕ → Bool) (len m : ℕ) → ((t : ℕ) → len ≤ t → f t ≡ false) → ones_from f 0 m ≤ len
 ones_from_bound f len m h = elim (cases_lt len m) [
   | inl s ↦ (let e : len + (m - len) ≡ m = omega arith in
@@ -74,11 +74,11 @@ ones_from_all f len m s h =
     ∙ ones_from_add f 0 len (m - len)
     ∙ omega (arith, ones_from_none f (0 + len) (m - len) (λ t w. h t (omega arith)))
 
--- the ones of a number are those of its bits
+-- the number of ones of a number is the number of its set bits
 bit_worth : (m : ℕ) → m < 2 → m ≡ cond (eqb m 1) 1 0
 bit_worth m h = grind (arith, nat_tests)
 
--- the ones of a number are those of its places
+-- the number of ones of a number is the number of positions at which it has a one
 pub ones_bits : (n a k : ℕ) → n / 2 ^ a < 2 ^ k → count_ones (n / 2 ^ a) ≡ ones_from (λ t. eqb (bit_at n t) 1) a k
 ones_bits n a zero h = let l = ones-le 0 (n / 2 ^ a) h in omega arith
 ones_bits n a (suc k) h =
@@ -105,6 +105,6 @@ unfolding trues
 trues-map f a zero = refl
 trues-map f a (suc k) = trues_step (f a) (trues (map f (range_with_len (a + 1) k))) ∙ ap (λ x. cond (f a) 1 0 + x) (trues-map f (a + 1) k)
 
-pub count-bits : (n : ℕ) (chunks : List (List ℕ)) (len : ℕ) → count_by (λ b. b) (bits n chunks len) ≡ ones_from (bit_of n chunks) 0 len
+pub count-bits : (n : ℕ) (chunks : List (List ℕ)) (len : ℕ) → count_by (λ b. b) (bits n chunks len) ≡ ones_from (chunks_bit n chunks) 0 len
 unfolding bits trues
-count-bits n chunks len = sym (is_count_by trues (λ b. b) refl (λ _ _. refl) (bits n chunks len)) ∙ trues-map (bit_of n chunks) 0 len
+count-bits n chunks len = sym (is_count_by trues (λ b. b) refl (λ _ _. refl) (bits n chunks len)) ∙ trues-map (chunks_bit n chunks) 0 len

@@ -15,11 +15,11 @@ pub count_range : (f : ℕ → Bool) (a k : ℕ) → count_by f (range_with_len 
 count_range f a zero = refl
 count_range f a (suc k) = sum_by-cons (λ i. cond (f i) 1 0) a (range_with_len (a + 1) k) ∙ ap (λ x. cond (f a) 1 0 + x) (count_range f (a + 1) k)
 
--- the ones of a number of 64 bits
+-- the number of ones of a number of 64 bits
 pub ones_of_word : (w : ℕ) → w < 2 ^ 64 → count_ones w ≡ ones_from (λ t. eqb (bit_at w t) 1) 0 64
 ones_of_word w h = let z : w / 2 ^ 0 ≡ w = div-one w in ap count_ones (sym z) ∙ ones_bits w 0 64 (rw z h)
 
--- the bits of a part of a word, up to some place of it
+-- the bits of a part of a word, up to a position in it
 part_ones : (f : ℕ → Bool) (w base at to top : ℕ) → IsPart f base w at to → base ≤ at → at ≤ top → top ≤ to → top ≤ base + 64
     → ones_from (λ t. eqb (bit_at w t) 1) 0 (top - base) ≡ ones_from f at (top - at)
 part_ones f w base at to top part h s l m =
@@ -33,7 +33,7 @@ part_ones f w base at to top part h s l m =
     let all = ap (ones_from g 0) e ∙ ones_from_add g 0 (at - base) (top - at) in
     omega arith
 
--- the ones of a word that has the bits of f from `at` on and below `to`, and no others
+-- the number of ones of a word that has the bits of f from `at` up to `to`, `to` excluded, and no others
 pub counted_word : (f : ℕ → Bool) (w at to : ℕ) → w < 2 ^ 64 → at < to → IsPart f (at - at % 64) w at to
     → count_ones w ≡ ones_from f at (min (64 - at % 64) (to - at))
 counted_word f w at to h l part =
@@ -94,7 +94,7 @@ read_below n chunk wanted top word some within inside past =
       past = past;
     }
 
--- without a bit in the word none is true in its range
+-- if the word has no set bit, f is true nowhere in its range
 pub none_more : (f : ℕ → Bool) (word base top to : ℕ) → IsReadBelow f word base top → word ≡ 0
     → ((i : ℕ) → top ≤ i → i < to → f i ≡ false)
     → (i : ℕ) → base ≤ i → i < to → f i ≡ false
@@ -105,7 +105,7 @@ none_more f word base top to r z none i h s = elim (cases_lt i top) [
   | inr ge ↦ none i ge s
 ]
 
--- the highest bit of the word is the last place
+-- the highest set bit of the word is the last position that passes
 pub last_found : (f : ℕ → Bool) (word base top to place : ℕ) → IsReadBelow f word base top → top ≤ to
     → ((i : ℕ) → top ≤ i → i < to → f i ≡ false)
     → place < 64 → eqb (bit_at word place) 1 ≡ true → ((t : ℕ) → place < t → eqb (bit_at word t) 1 ≡ false)
@@ -139,14 +139,14 @@ more_part f from at to w total step h l m part s t =
     ap (ones_from f from) d ∙ ones_from_add f from (at - from) step ∙ ap (λ x. ones_from f from (at - from) + ones_from f x step) a in
     omega arith
 
--- a range that was counted to its end
+-- a range that is counted to its end
 pub whole_part : (f : ℕ → Bool) (from at to total : ℕ) → from ≤ at → at ≤ max from to → to ≤ at → total ≡ ones_from f from (at - from)
     → total ≡ count_by f (range_with_len from (to - from))
 whole_part f from at to total l h e t = let d : at - from ≡ to - from = omega arith in t ∙ ap (ones_from f from) d ∙ sym (count_range f from (to - from))
 
 -- ---- the lowest bits of a word taken
 
--- `rest` is the word without its lowest set bits, as many as `taken`
+-- `rest` is the word without its lowest `taken` set bits
 pub record IsTaken (word rest taken : ℕ) : Type 0 where
   pub low : ℕ
   pub within : low ≤ 64
@@ -157,7 +157,7 @@ pub record IsTaken (word rest taken : ℕ) : Type 0 where
 pub taken_none : (word : ℕ) → IsTaken word word 0
 taken_none word = record { low = 0; within = omega arith; none = λ t h. absurd (omega arith); same = λ t h s. refl; count = refl }
 
--- while fewer are taken than there are, one is left
+-- while fewer bits are taken than there are, one is left
 pub taken_some : (word rest taken : ℕ) → word < 2 ^ 64 → IsTaken word rest taken → taken < count_ones word → 0 < rest
 taken_some word rest taken fits r h = elim (cases_lt 0 rest) [
   | inl s ↦ s
@@ -172,7 +172,7 @@ taken_some word rest taken fits r h = elim (cases_lt 0 rest) [
       absurd (omega (arith, ones_of_word word fits, r.count)))
 ]
 
--- the lowest bit of what is left
+-- the lowest set bit of what is left
 module _ (word old taken place : ℕ) (r : IsTaken word old taken) (within : place < 64) (set : eqb (bit_at old place) 1 ≡ true)
     (lowest : (t : ℕ) → t < place → eqb (bit_at old t) 1 ≡ false) where
   at_or_above : r.low ≤ place
@@ -226,7 +226,7 @@ module _ (word old taken place : ℕ) (r : IsTaken word old taken) (within : pla
 
 -- ---- the k-th place of a range
 
--- a place of a word, where k - left places pass before the word
+-- a position in a word, if k - left positions before the word pass
 pub nth_found : (f : ℕ → Bool) (from at to w left k place : ℕ) → from ≤ at → at < to → IsPart f (at - at % 64) w at to
     → left + ones_from f from (at - from) ≡ k → IsNth (λ t. eqb (bit_at w t) 1) 0 64 left place
     → IsNth f from to k (at - at % 64 + place)

@@ -1,4 +1,4 @@
--- How many places pass a test, and whether none does.
+-- How many positions pass a test, and whether none does.
 use Rattle.std.proofs.Common.{◌≡◌, ℕ, suc, zero, count_ones, ◌+◌, ◌-◌, ◌*◌, ◌/◌, ◌^◌, ◌<◌, ◌≤◌, List, get_or, drop, eqb, cond, Bool, true, false, not, ◌&&◌, length, [], ◌∷◌, map, sym, ap, ◌∙◌, refl, inl, inr, arith}
 use Rattle.std.specs.Int.{bit_at}
 use Rattle.std.specs.List.{range_with_len, count_by, list_all, slice_range}
@@ -10,7 +10,7 @@ use Rattle.std.proofs.lemmas.List.FromFn.{length-map-range_with_len, get_or-map-
 use Rattle.std.proofs.lemmas.List.Sums.{sum_by-cons}
 use Rattle.std.proofs.lemmas.Bool.{cases_lt, eqb-true}
 use Rattle.std.proofs.lemmas.Bool.Decides.{nat_tests}
-use Rattle.bitmap_bytes.specs.Bits.{bit_of, bits, IsChunkCount, IsZeroFrom}
+use Rattle.bitmap_bytes.specs.Bits.{chunks_bit, bits, IsChunkCount, IsZeroFrom}
 use Rattle.bitmap_bytes.proofs.Lists.Bits.{get_or-bits, len_is}
 use Rattle.bitmap_bytes.proofs.Counting.Ones.{ones_from, ones_from_all, ones_from_add, ones_from_same, ones_from_none, ones_bits, count-bits}
 
@@ -20,11 +20,11 @@ ones_from_mono f m k h =
     let s = ap (λ x. ones_from f 0 x) (sym e) ∙ ones_from_add f 0 m (k - m) in
     omega arith
 
--- where no place passes, none counts
+-- if no position passes, the count is 0
 pub ones_from_clear : (f : ℕ → Bool) (a k : ℕ) → ((t : ℕ) → t < k → f (a + t) ≡ false) → ones_from f a k ≡ 0
 ones_from_clear f a k h = ones_from_same f (λ _. false) a 0 k h ∙ ones_from_none (λ _. false) 0 k (λ _ _. refl)
 
--- from a to c by way of b
+-- the count from a to c, by way of b
 pub ones_from_split : (f : ℕ → Bool) (a b c : ℕ) → a ≤ b → b ≤ c → ones_from f a (c - a) ≡ ones_from f a (b - a) + ones_from f b (c - b)
 ones_from_split f a b c h s =
     let e : c - a ≡ (b - a) + (c - b) = omega arith in
@@ -35,7 +35,7 @@ none_step : (b r : Bool) (n : ℕ) → r ≡ eqb n 0 → not b && r ≡ eqb (con
 none_step true r n e = grind (arith, nat_tests)
 none_step false r n e = e ∙ (let z : n ≡ 0 + n = omega arith in ap (λ x. eqb x 0) z)
 
--- whether no place passes, as a count
+-- whether no position passes, as a count
 pub none_from : (f : ℕ → Bool) (a k : ℕ) → list_all (λ t. not (f t)) (range_with_len a k) ≡ eqb (ones_from f a k) 0
 none_from f a zero = refl
 none_from f a (suc k) = none_step (f a) (list_all (λ t. not (f t)) (range_with_len (a + 1) k)) (ones_from f (a + 1) k) (none_from f (a + 1) k)
@@ -67,11 +67,11 @@ pub none_slice : (v : List Bool) (f : ℕ → Bool) (a b : ℕ) → b ≤ length
     → list_all not (slice_range v a b) ≡ eqb (ones_from f a (b - a)) 0
 none_slice v f a b l h = ap (λ x. list_all not x) (slice_is v f a b l h) ∙ none_map f a (b - a)
 
-pub none_bits : (n : ℕ) (chunks : List (List ℕ)) (len : ℕ) → list_all not (bits n chunks len) ≡ eqb (ones_from (bit_of n chunks) 0 len) 0
+pub none_bits : (n : ℕ) (chunks : List (List ℕ)) (len : ℕ) → list_all not (bits n chunks len) ≡ eqb (ones_from (chunks_bit n chunks) 0 len) 0
 unfolding bits
-none_bits n chunks len = none_map (bit_of n chunks) 0 len
+none_bits n chunks len = none_map (chunks_bit n chunks) 0 len
 
--- a place that passes is found
+-- if one of the first m positions passes, the count of more positions is not 0
 pub found : (f : ℕ → Bool) (m k : ℕ) → m ≤ k → 0 < ones_from f 0 m → eqb (ones_from f 0 k) 0 ≡ false
 found f m k h s = let o = ones_from_mono f m k h in grind (arith, nat_tests)
 
@@ -83,11 +83,11 @@ count_both : (v : List Bool) → count_by not v + count_by (λ b. b) v ≡ lengt
 count_both [] = refl
 count_both (b ∷ v) = omega (arith, sum_by-cons (λ b. cond (not b) 1 0) b v, sum_by-cons (λ b. cond b 1 0) b v, one_or_none b, count_both v)
 
--- the zeros of a list are what its ones leave
+-- the number of zeros of a list is its length less the number of its ones
 pub count-not : (v : List Bool) → count_by not v ≡ length v - count_by (λ b. b) v
 count-not v = omega (arith, count_both v)
 
--- the ones of a number, after the places before them
+-- the ones of a number, after the positions before them
 pub more_ones : (f : ℕ → Bool) (w a k : ℕ) → w < 2 ^ k → ((t : ℕ) → t < k → eqb (bit_at w t) 1 ≡ f (a + t))
     → ones_from f 0 a + count_ones w ≡ ones_from f 0 (a + k)
 more_ones f w a k h e =
@@ -99,7 +99,7 @@ more_ones f w a k h e =
     let r = ones_from_add f 0 a k ∙ ap (λ x. ones_from f 0 a + ones_from f x k) o in
     omega arith
 
--- whether a number is zero, by its ones
+-- a number is zero if and only if it has no ones
 pub ones_of_zero : (n : ℕ) → n ≡ 0 → count_ones n ≡ 0
 ones_of_zero n h = let p : n < 2 ^ 0 = omega arith in let l = ones-le 0 n p in omega arith
 
@@ -129,13 +129,13 @@ pub count-whole : (n : ℕ) (chunks : List (List ℕ)) (len : ℕ) (v : List Boo
     → count_by (λ b. b) (bits n chunks (8 * n * length chunks)) ≡ count_by (λ b. b) v
 count-whole n chunks len v e k z =
     count-bits n chunks (8 * n * length chunks)
-    ∙ ones_from_all (bit_of n chunks) len (8 * n * length chunks) k.0 z
+    ∙ ones_from_all (chunks_bit n chunks) len (8 * n * length chunks) k.0 z
     ∙ sym (count-bits n chunks len)
     ∙ ap (λ (x : List Bool). count_by (λ b. b) x) e
 
 pub none_range : (n : ℕ) (chunks : List (List ℕ)) (len : ℕ) (v : List Bool) (a b : ℕ) → bits n chunks len ≡ v → b ≤ length v
-    → list_all (λ i. not (bit_of n chunks i)) (range_with_len a (b - a)) ≡ list_all not (slice_range v a b)
+    → list_all (λ i. not (chunks_bit n chunks i)) (range_with_len a (b - a)) ≡ list_all not (slice_range v a b)
 none_range n chunks len v a b e h =
     let l = len_is n chunks len v e in
-    none_from (bit_of n chunks) a (b - a)
-    ∙ sym (none_slice v (bit_of n chunks) a b h (λ i s. ap (λ x. get_or x i false) (sym e) ∙ get_or-bits n chunks len i false (omega arith)))
+    none_from (chunks_bit n chunks) a (b - a)
+    ∙ sym (none_slice v (chunks_bit n chunks) a b h (λ i s. ap (λ x. get_or x i false) (sym e) ∙ get_or-bits n chunks len i false (omega arith)))

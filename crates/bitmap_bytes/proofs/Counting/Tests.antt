@@ -1,4 +1,4 @@
--- Whether some place of a range passes a test.
+-- Whether some position of a range passes a test.
 use Rattle.std.proofs.Common.{◌≡◌, ℕ, suc, zero, ◌+◌, ◌-◌, ◌*◌, ◌<◌, ◌≤◌, Bool, true, false, not, ◌&&◌, ◌||◌, List, refl, sym, ap, ◌∙◌, inl, inr, arith}
 use Rattle.std.specs.List.{range_with_len, list_any, list_all, slice_range}
 use Rattle.std.proofs.lemmas.Bool.{cases_eq}
@@ -6,7 +6,7 @@ use Rattle.std.proofs.lemmas.List.FromFn.{length-map-range_with_len, get_or-map-
 use Rattle.bitmap_bytes.specs.Chunk.{chunk_bit, chunk_bits}
 use Rattle.bitmap_bytes.proofs.Counting.Places.{none_from, none_slice}
 
--- where none passes, one of them does not
+-- if none passes, a given one does not
 pub any_range_at : (f : ℕ → Bool) (a m i : ℕ) → list_any f (range_with_len a m) ≡ false → a ≤ i → i < a + m → f i ≡ false
 any_range_at f a zero i e l h = absurd (omega arith)
 any_range_at f a (suc m) i e l h =
@@ -23,12 +23,12 @@ any_range_at f a (suc m) i e l h =
     or_second true c e = absurd cc
     or_second false c e = e
 
--- where each does not pass, none does
+-- if each one does not pass, none does
 pub any_range_none : (f : ℕ → Bool) (a m : ℕ) → ((i : ℕ) → a ≤ i → i < a + m → f i ≡ false) → list_any f (range_with_len a m) ≡ false
 any_range_none f a zero h = refl
 any_range_none f a (suc m) h = rw (h a (omega arith) (omega arith)) (any_range_none f (a + 1) m (λ i l s. h i (omega arith) (omega arith)))
 
--- tests that agree, from two places on
+-- tests that agree, from two positions on
 pub any_range-moved : (f g : ℕ → Bool) (a b m : ℕ) → ((j : ℕ) → j < m → f (a + j) ≡ g (b + j))
     → list_any f (range_with_len a m) ≡ list_any g (range_with_len b m)
 any_range-moved f g a b zero h = refl
@@ -47,7 +47,7 @@ pub any_range-same : (f g : ℕ → Bool) (a m : ℕ) → ((i : ℕ) → a ≤ i
     → list_any f (range_with_len a m) ≡ list_any g (range_with_len a m)
 any_range-same f g a m h = any_range-moved f g a a m (λ j s. h (a + j) (omega arith) (omega arith))
 
--- some place passes where not all fail
+-- some position passes if not all fail
 any_range-not : (f : ℕ → Bool) (a m : ℕ) → list_any f (range_with_len a m) ≡ not (list_all (λ t. not (f t)) (range_with_len a m))
 any_range-not f a zero = refl
 any_range-not f a (suc m) = step (f a) _ _ (any_range-not f (a + 1) m)
@@ -56,7 +56,7 @@ any_range-not f a (suc m) = step (f a) _ _ (any_range-not f (a + 1) m)
     step true r s e = refl
     step false r s e = e
 
--- a bit of a chunk in a range is set where not all of the range is clear
+-- a bit of a chunk in a range is set if not all bits of the range are zero
 pub some_chunk_slice : (n : ℕ) (c : List ℕ) (a b : ℕ) → b ≤ 8 * n
     → not (list_all not (slice_range (chunk_bits n c) a b)) ≡ list_any (chunk_bit n c) (range_with_len a (b - a))
 some_chunk_slice n c a b h =

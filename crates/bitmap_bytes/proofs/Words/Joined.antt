@@ -3,7 +3,7 @@ use Rattle.std.proofs.Common.{◌≡◌, ℕ, suc, zero, ◌+◌, ◌-◌, ◌*�
 use Rattle.std.specs.Int.{bit_at, byte_at, bytes_low_first, from_le_bytes, to_le_bytes}
 use Rattle.std.proofs.lemmas.List.{get_or-take, get_or-drop, get_or_past, length-take}
 use Rattle.std.proofs.lemmas.Bool.{cases_lt}
-use Rattle.bitmap_bytes.specs.Chunk.{bit_in}
+use Rattle.bitmap_bytes.specs.Chunk.{bytes_bit}
 use Rattle.bitmap_bytes.proofs.Words.OfBytes.{worth_pow, word_bit}
 use Rattle.bitmap_bytes.proofs.Bytes.Shifted.{bit_at_mod, bit_at_shr}
 
@@ -13,11 +13,11 @@ piece_fits bytes at h i = elim (cases_lt i 8) [
   | inr s ↦ rw (get_or_past (take 8 (drop at bytes)) i 0 (omega (arith, length-take {A = ℕ} 8 (drop at bytes)))) (omega arith)
 ]
 
--- bit t of the word that stands in a run at byte at, and on in the byte after it
+-- bit t of the word that begins in a run at byte at and continues in the byte after its eight bytes
 pub joined_word_bit : (run : List ℕ) (at s b t : ℕ) → ((i : ℕ) → get_or run i 0 < 256) → s < 8 → t < 64
     → (t + s < 64 → bit_at b t ≡ bit_at (from_le_bytes w64 (take 8 (drop at run))) (t + s))
     → (64 ≤ t + s → bit_at b t ≡ bit_at (get_or run (at + 8) 0) (t + s - 64))
-    → eqb (bit_at b t) 1 ≡ bit_in run (8 * at + s + t)
+    → eqb (bit_at b t) 1 ≡ bytes_bit run (8 * at + s + t)
 joined_word_bit run at s b t f h w low high = elim (cases_lt (t + s) 64) [
   | inl u ↦
       let c : (t + s) / 8 < 8 = omega arith in

@@ -1,4 +1,4 @@
--- The bits of a word of a chunk, masked, and without its lowest one.
+-- The bits of a word of a chunk, masked, and without its lowest set bit.
 use Rattle.std.proofs.Common.{◌≡◌, ◌≢◌, ℕ, suc, ◌+◌, ◌-◌, ◌*◌, ◌/◌, ◌%◌, ◌^◌, ◌<◌, ◌≤◌, eqb, not, List, get_or, drop, min, ap, sym, ◌∙◌, inl, inr, arith}
 use Rattle.std.specs.Int.{bit_at, w64, leading_zeros, trailing_zeros}
 use Rattle.std.specs.Prelude.{bit_and}
@@ -41,12 +41,12 @@ high_bit_cut word start t h a = omega (arith, high_mask word start t h, bit_at_m
 
 -- ---- the lowest bit of a word
 
--- the lowest one of a word
+-- the lowest set bit of a word
 pub lowest : (word : ℕ) → 0 < word → word < 2 ^ 64
     → (trailing_zeros w64 word < 64) × (bit_at word (trailing_zeros w64 word) ≡ 1) × ((t : ℕ) → t < trailing_zeros w64 word → bit_at word t ≡ 0)
 lowest word h f = bit_at-trailing_zeros w64 word h f
 
--- a word whose lowest set bit is at place, less 1
+-- a word less 1, if its lowest set bit is at index place
 module _ (word place : ℕ) (set : bit_at word place ≡ 1) (below : (t : ℕ) → t < place → bit_at word t ≡ 0) where
   abbrev p : ℕ
   p = 2 ^ (place + 1)
@@ -103,7 +103,7 @@ inverted_bit word t h s =
 
 -- ---- the highest bit of a word
 
--- the highest one of a word
+-- the highest set bit of a word
 pub highest_one : (word : ℕ) → 0 < word → word < 2 ^ 64
     → (leading_zeros w64 word < 64) × (bit_at word (63 - leading_zeros w64 word) ≡ 1) × ((t : ℕ) → 63 - leading_zeros w64 word < t → bit_at word t ≡ 0)
 highest_one word h f =

@@ -17,14 +17,14 @@ start_bytes n k h = let e = start_aligned n k h in omega arith
 
 -- the next word is in the chunk of k
 pub record Stays (w k next : ℕ) : Type 0 where
-  pub room : k % w + 64 < w
+  pub space : k % w + 64 < w
   pub is : next ≡ k + 64
   pub within : next % w ≡ k % w + 64
   pub chunk : next / w ≡ k / w
 
 -- the next word begins the next chunk
 pub record Leaves (w k next : ℕ) : Type 0 where
-  pub room : w ≤ k % w + 64
+  pub space : w ≤ k % w + 64
   pub is : next ≡ k + (w - k % w)
   pub within : next % w ≡ 0
   pub chunk : next / w ≡ k / w + 1
@@ -32,12 +32,12 @@ pub record Leaves (w k next : ℕ) : Type 0 where
 stays : (w k : ℕ) → 0 < w → k % w + 64 < w → Stays w k (k + 64)
 stays w k p h =
     let e : k + 64 ≡ k / w * w + (k % w + 64) = omega (arith, div-add-mod' k w) in
-    record { room = h; is = refl; within = rw e (mod-mul-add (k / w) w (k % w + 64) h); chunk = rw e (digits_div (k / w) h) }
+    record { space = h; is = refl; within = rw e (mod-mul-add (k / w) w (k % w + 64) h); chunk = rw e (digits_div (k / w) h) }
 
 leaves : (w k : ℕ) → 0 < w → w ≤ k % w + 64 → Leaves w k (k + (w - k % w))
 leaves w k p h =
     let e : k + (w - k % w) ≡ (k / w + 1) * w + 0 = omega (arith, div-add-mod' k w, mod_below k w p) in
-    record { room = h; is = refl; within = rw e (mod-mul-add (k / w + 1) w 0 p); chunk = rw e (digits_div (k / w + 1) p) }
+    record { space = h; is = refl; within = rw e (mod-mul-add (k / w + 1) w 0 p); chunk = rw e (digits_div (k / w + 1) p) }
 
 pub next_cases : (n k : ℕ) → 0 < n → Stays (8 * n) k (next_word n k) ⊎ Leaves (8 * n) k (next_word n k)
 next_cases n k p =
@@ -46,7 +46,7 @@ next_cases n k p =
     (λ (ge : 8 * n ≤ k % (8 * n) + 64). let e = le-ltb (k % (8 * n) + 64) (8 * n) ge in inr (rw e (leaves (8 * n) k (omega arith) ge)))
     (cases_lt (k % (8 * n) + 64) (8 * n))
 
--- the next word begins further on
+-- the next word begins at a greater position
 pub end_near : (n k : ℕ) → 0 < n → k < next_word n k
 end_near n k p =
     ⊎_elim
@@ -54,13 +54,13 @@ end_near n k p =
     (λ (s : Leaves (8 * n) k (next_word n k)). let r = s.is in let b = mod_below k (8 * n) (omega arith) in omega arith)
     (next_cases n k p)
 
--- what follows in both cases
+-- the consequences in both cases
 pub record Follows (n k next : ℕ) : Type 0 where
   pub after : k < next
   pub near : next ≤ k + 64
   pub in_chunk : next + k % (8 * n) ≤ k + 8 * n
   pub starts : starts_word n next ≡ true
-  -- past the word there is the end of the chunk
+  -- if the next word begins inside the 64 bits of this one, the chunk ends there
   pub past : (i : ℕ) → i < 64 → next ≤ k + i → 8 * n ≤ k % (8 * n) + i
 
 pub follows : (n k : ℕ) → 0 < n → starts_word n k ≡ true → Follows n k (next_word n k)
@@ -71,25 +71,25 @@ follows n k p h =
     (λ (s : Stays (8 * n) k (next_word n k)). record {
       after = let r = s.is in omega arith;
       near = let r = s.is in omega arith;
-      in_chunk = let r = s.is in let t = s.room in omega arith;
+      in_chunk = let r = s.is in let t = s.space in omega arith;
       starts = eq-eqb (next_word n k % (8 * n) % 64) 0 (rw s.within (omega arith));
       past = λ i l m. let r = s.is in omega arith;
     })
     (λ (s : Leaves (8 * n) k (next_word n k)). record {
       after = let r = s.is in omega arith;
-      near = let r = s.is in let t = s.room in omega arith;
+      near = let r = s.is in let t = s.space in omega arith;
       in_chunk = let r = s.is in omega arith;
       starts = eq-eqb (next_word n k % (8 * n) % 64) 0 (rw s.within refl);
       past = λ i l m. let r = s.is in omega arith;
     })
     (next_cases n k p)
 
--- no word begins inside of one that begins at k
+-- no word begins inside the word that begins at k
 pub inside_none : (n k next i : ℕ) → starts_word n k ≡ true → Follows n k next → k < i → i < next → starts_word n i ≡ false
 inside_none n k next i h f a b =
     let s = start_aligned n k h in
     let near = f.near in
-    let room = f.in_chunk in
+    let space = f.in_chunk in
     let e : i ≡ k / (8 * n) * (8 * n) + (k % (8 * n) + (i - k)) = omega (arith, div-add-mod' k (8 * n)) in
     let d : i % (8 * n) ≡ k % (8 * n) + (i - k) =
     ap (λ (x : ℕ). x % (8 * n)) e

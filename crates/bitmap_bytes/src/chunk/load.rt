@@ -1,9 +1,13 @@
-//! Words of 64 bits out of a chunk. The lowest bit of a word is its first.
+//! Words of 64 bits that are read from a chunk. The lowest bit of a word is its first.
+//!
+//! This module is for the layers above. The words of a chunk follow one another from the start of the chunk; the last one may be short.
 
 ghost use Rattle.std.specs.Prelude.{◌≡◌, ◌≢◌, ℕ, ◌+◌, ◌*◌, ◌/◌, ◌%◌, ◌^◌, ◌<◌, ◌≤◌, ◌==◌, true, false, length, slice_index_or, count_ones, MatchOption};
 ghost use Rattle.std.specs.Int.{bit_at};
 ghost use Rattle.bitmap_bytes.specs.Chunk.{chunk_bit, is_wanted, IsNth, IsWidth};
 ghost use Rattle.bitmap_bytes.specs.Words.{IsCut, next_word, starts_word, word_start};
+
+// The width is written as `8 * N`: for a call of `chunk_width`, the goals of the proofs name its result and not this value.
 
 // The 64 bits of a chunk from byte `byte` on, which is at most `N`, with zeros past the end of the chunk.
 fn word_at<const N: usize>(chunk: &[u8; N], byte: usize) -> u64
@@ -15,7 +19,7 @@ fn word_at<const N: usize>(chunk: &[u8; N], byte: usize) -> u64
     first_word(&bytes[byte..])
 }
 
-// The first eight bytes, with zeros where there are fewer.
+// The first eight bytes, with zeros if there are fewer.
 fn first_word(bytes: &[u8]) -> u64
     ensures { (t : ℕ) → t < 64 → bit_at result t ≡ bit_at (slice_index_or bytes.now (t / 8) 0) (t % 8) }
 {
@@ -37,7 +41,7 @@ fn short_word(bytes: &[u8]) -> u64
     u64::from_le_bytes(word)
 }
 
-// A word with zeros in place of its bits from `count` on: all of it where `count` is 64 or more.
+// A word without its bits from `count` on. If `count` is 64 or more, the whole word.
 fn low_bits(word: u64, count: u64) -> u64
     ensures kept { (t : ℕ) → t < 64 → t < count → (bit_at result t == 1) ≡ (bit_at word t == 1) }
     ensures cut { (t : ℕ) → t < 64 → count ≤ t → (bit_at result t == 1) ≡ false }
@@ -49,7 +53,9 @@ fn low_bits(word: u64, count: u64) -> u64
     }
 }
 
-/// A word with zeros in place of its bits below `start`, which is below 64. No memory.
+/// Returns a word with zeros in place of its bits below `start`, which is below 64.
+///
+/// Does not allocate; constant time.
 pub fn high_bits(word: u64, start: u64) -> u64
     requires { start < 64 }
     ensures kept { (t : ℕ) → t < 64 → start ≤ t → (bit_at result t == 1) ≡ (bit_at word t == 1) }
@@ -58,7 +64,9 @@ pub fn high_bits(word: u64, start: u64) -> u64
     word & (u64::MAX << start)
 }
 
-/// Clears the lowest set bit of a word that is not 0, and answers its place. No memory.
+/// Clears the lowest set bit of a word that is not 0, and returns the index of that bit.
+///
+/// Does not allocate; constant time.
 pub fn take_lowest(word: &mut u64) -> u64
     requires { 0 < word.old }
     ensures within { result < 64 }
@@ -72,7 +80,9 @@ pub fn take_lowest(word: &mut u64) -> u64
     old.trailing_zeros() as u64
 }
 
-/// Where the word begins that has a position of a whole bitmap: words stand side by side from the start of each chunk. No memory.
+/// Returns the position at which the word that contains position `position` begins. Both positions are in a whole bitmap.
+///
+/// `N` is at least 1, and `8N` fits `u64`. Does not allocate; constant time.
 pub fn word_base<const N: usize>(position: u64) -> u64
     requires width { IsWidth N }
     ensures { result ≡ word_start N position }
@@ -80,7 +90,9 @@ pub fn word_base<const N: usize>(position: u64) -> u64
     position - position % (8 * N as u64) % 64
 }
 
-/// Where the next word begins after one that begins at `base`, unless that is past `u64`. No memory.
+/// Returns the position at which the next word begins after the word at `base`, or `None` if that position does not fit `u64`.
+///
+/// Both positions are in a whole bitmap. `N` is at least 1, and `8N` fits `u64`. Does not allocate; constant time.
 pub fn following_word<const N: usize>(base: u64) -> Option<u64>
     requires width { IsWidth N }
     ensures { MatchOption result (2 ^ 64 ≤ next_word N base) (λ k. k ≡ next_word N base) }
@@ -90,7 +102,10 @@ pub fn following_word<const N: usize>(base: u64) -> Option<u64>
     base.checked_add(stride)
 }
 
-/// The word of a chunk that begins at position `base` of the whole bitmap, with zeros from the end of the chunk and from position `end` on. No memory.
+/// Loads the word of a chunk that begins at `base`, with zeros past the end of the chunk and at positions from `end` on.
+///
+/// `base` and `end` are positions in a whole bitmap. A word begins at `base`, and `base` is below `end`.
+/// `N` is at least 1, and `8N` fits `u64`. Does not allocate; constant time.
 pub fn word_below<const N: usize>(chunk: &[u8; N], base: u64, end: u64) -> u64
     requires width { IsWidth N }
     requires start { starts_word N base ≡ true }
@@ -103,9 +118,10 @@ pub fn word_below<const N: usize>(chunk: &[u8; N], base: u64, end: u64) -> u64
     low_bits(word_at(chunk, byte), end - base)
 }
 
-/// Loads the word that `word_below` loads. If `wanted` is false, each bit of the chunk that is below `end` is inverted. Does not allocate.
+/// Loads the word that `word_below` loads. If `wanted` is false, each bit of the chunk below `end` is inverted.
 ///
-/// `base` is the position in the whole bitmap at which the word begins, and `end` is a position after it.
+/// `base` and `end` are positions in a whole bitmap. A word begins at `base`, and `base` is below `end`.
+/// `N` is at least 1, and `8N` fits `u64`. Does not allocate; constant time.
 pub fn wanted_below<const N: usize>(chunk: &[u8; N], base: u64, end: u64, wanted: bool) -> u64
     requires width { IsWidth N }
     requires start { starts_word N base ≡ true }
@@ -122,7 +138,9 @@ pub fn wanted_below<const N: usize>(chunk: &[u8; N], base: u64, end: u64, wanted
     low_bits(!word, (end - base).min(width - base % width))
 }
 
-/// Returns the place of the highest set bit of a word that is not 0. Does not allocate.
+/// Returns the index of the highest set bit of a word that is not 0.
+///
+/// Does not allocate; constant time.
 pub fn highest(word: u64) -> u64
     requires { 0 < word }
     ensures within { result < 64 }
@@ -132,9 +150,15 @@ pub fn highest(word: u64) -> u64
     63 - word.leading_zeros() as u64
 }
 
-/// Returns the place of the set bit of a word that has `k` set bits below it. Does not allocate.
+/// Returns the index of the set bit of a word that has `k` set bits below it. The word has more than `k` set bits.
 ///
-/// The word has more than `k` set bits.
+/// # Memory
+///
+/// Does not allocate.
+///
+/// # Complexity
+///
+/// Linear in `k`, which is below 64.
 pub fn nth_one(word: u64, k: u64) -> u64
     requires { k < count_ones word }
     ensures { IsNth (λ t. bit_at word t == 1) 0 64 k result }

@@ -1,4 +1,18 @@
 //! Counts and searches in a range of the bits of one chunk, by words of 64 bits.
+//!
+//! `N` is at least 1, and `8N` fits `u64`. Indices of bits count from the start of the chunk.
+//!
+//! ```
+//! use bitmap_bytes::chunk::range;
+//! use bitmap_bytes::chunk::whole::{self, And};
+//!
+//! /// Returns the number of bits from bit 4 up to bit 20 that are set in both chunks.
+//! pub fn common_ones(a: &[u8; 3], b: &[u8; 3]) -> u64 {
+//!     let mut both = *a;
+//!     whole::combine::<And, 3>(&mut both, b);
+//!     range::ones_in(&both, 4, 20)
+//! }
+//! ```
 
 ghost use Rattle.std.specs.Prelude.{◌≡◌, ℕ, ◌+◌, ◌-◌, ◌*◌, ◌%◌, ◌^◌, ◌<◌, ◌≤◌, false, min, MatchOption};
 ghost use Rattle.std.specs.List.{count_by, range_with_len};
@@ -8,9 +22,19 @@ ghost use Rattle.bitmap_bytes.specs.Words.{IsPart};
 use crate::chunk::load::{high_bits, highest, nth_one, wanted_below, word_below};
 use crate::chunk::words::count_ones;
 
-/// Returns the number of set bits of a chunk from bit `from` on and below bit `to`, which is at most `8N`. Does not allocate.
+// The width is written as `8 * N`: for a call of `chunk_width`, the goals of the proofs name its result and not this value.
+
+/// Returns the number of set bits of a chunk at or above bit `from` and below bit `to`, which is at most `8N`.
 ///
-/// If `from` is not below `to`, the number is 0. A whole chunk is counted as fast as `words::count_ones` counts its bytes.
+/// If `from` is not below `to`, the number is 0.
+///
+/// # Memory
+///
+/// Does not allocate.
+///
+/// # Complexity
+///
+/// Linear in the words of the range. A whole chunk is counted as fast as `words::count_ones` counts its bytes.
 pub fn ones_in<const N: usize>(chunk: &[u8; N], from: u64, to: u64) -> u64
     requires width { IsWidth N }
     requires within { to ≤ 8 * N }
@@ -30,7 +54,7 @@ fn all_ones<const N: usize>(chunk: &[u8; N]) -> u64
     count_ones(&chunk[..])
 }
 
-// The number of set bits of a part of a chunk, one word per turn.
+// The number of set bits of a part of a chunk, one word per step.
 fn some_ones<const N: usize>(chunk: &[u8; N], from: u64, to: u64) -> u64
     requires width { IsWidth N }
     requires within { to ≤ 8 * N }
@@ -45,7 +69,7 @@ fn some_ones<const N: usize>(chunk: &[u8; N], from: u64, to: u64) -> u64
     total
 }
 
-// The bits from bit `at` on and below bit `to` in the word that has bit `at`.
+// The word that contains bit `at`, with zeros below bit `at` and from bit `to` on.
 fn part_word<const N: usize>(chunk: &[u8; N], at: u64, to: u64) -> u64
     requires width { IsWidth N }
     requires below { at < to }
@@ -56,9 +80,18 @@ fn part_word<const N: usize>(chunk: &[u8; N], at: u64, to: u64) -> u64
     high_bits(word_below(chunk, at - place, to), place)
 }
 
-/// Returns the set bit of a chunk from bit `from` on and below bit `to`, which is at most `8N`, that has `k` set bits between `from` and itself.
+/// Returns the set bit of a chunk in a range that has `k` set bits of the range below it.
 ///
-/// Returns `None` if the range has at most `k` set bits. Does not allocate.
+/// The range begins at bit `from` and ends before bit `to`, which is at most `8N`.
+/// Returns `None` if the range has at most `k` set bits.
+///
+/// # Memory
+///
+/// Does not allocate.
+///
+/// # Complexity
+///
+/// Linear in the words of the range up to the returned bit.
 pub fn nth_in<const N: usize>(chunk: &[u8; N], from: u64, to: u64, k: u64) -> Option<u64>
     requires width { IsWidth N }
     requires within { to ≤ 8 * N }
@@ -78,9 +111,17 @@ pub fn nth_in<const N: usize>(chunk: &[u8; N], from: u64, to: u64, k: u64) -> Op
     None
 }
 
-/// Returns the greatest bit of a chunk below bit `to`, which is at most `8N`, that is set, or, if `wanted` is false, that is not set. Does not allocate.
+/// Returns the greatest bit of a chunk below bit `to` that is set or, if `wanted` is false, that is not set.
 ///
-/// Returns `None` if there is no such bit.
+/// `to` is at most `8N`. Returns `None` if there is no such bit.
+///
+/// # Memory
+///
+/// Does not allocate.
+///
+/// # Complexity
+///
+/// Linear in the words from the returned bit up to `to`.
 pub fn last_in<const N: usize>(chunk: &[u8; N], to: u64, wanted: bool) -> Option<u64>
     requires width { IsWidth N }
     requires within { to ≤ 8 * N }

@@ -1,4 +1,6 @@
-//! Every bit of a chunk at once.
+//! Operations on every bit of a chunk.
+//!
+//! The head of the module `range` has an example.
 
 ghost use Rattle.std.specs.Prelude.{◌≡◌, ℕ, ◌<◌, Bool, false, not, ◌&&◌, ◌||◌, ◌==◌};
 ghost use Rattle.std.specs.Int.{bit_at};
@@ -9,7 +11,17 @@ ghost use Rattle.bitmap_bytes.specs.Combined.{xor_zeros};
 
 use crate::chunk::facts::fit;
 
-/// Inverts every bit of a chunk. No memory.
+/// Inverts every bit of a chunk.
+///
+/// `N` is at least 1.
+///
+/// # Memory
+///
+/// Does not allocate.
+///
+/// # Complexity
+///
+/// Linear in `N`.
 pub fn flip<const N: usize>(chunk: &mut [u8; N])
     requires { 0 < N }
     ensures { (i : ℕ) → chunk_bit N chunk.new i ≡ not (chunk_bit N chunk.old i) }
@@ -20,7 +32,17 @@ pub fn flip<const N: usize>(chunk: &mut [u8; N])
     }
 }
 
-/// Writes one value to every bit of a chunk. No memory.
+/// Sets every bit of a chunk to `value`.
+///
+/// `N` is at least 1.
+///
+/// # Memory
+///
+/// Does not allocate.
+///
+/// # Complexity
+///
+/// Linear in `N`.
 pub fn fill<const N: usize>(chunk: &mut [u8; N], value: bool)
     requires { 0 < N }
     ensures { (i : ℕ) → chunk_bit N chunk.new i ≡ value }
@@ -28,20 +50,22 @@ pub fn fill<const N: usize>(chunk: &mut [u8; N], value: bool)
     chunk.fill(if value { u8::MAX } else { 0 });
 }
 
-/// What two bits make of one another, for eight bits at a time. Two zeros make a zero.
+/// A function of two bits that is computed for eight bits at a time. Its value for two zeros is zero.
 pub trait Bitwise {
-    // What two bits make.
+    // The function of two bits.
     ghost gives: { Bool → Bool → Bool };
 
-    // Past the length of a bitmap both bits are zero, and have to stay so.
+    // Past the length of a bitmap both bits are zero, and must remain zero.
     ghost keeps_zeros: { gives false false ≡ false };
 
-    /// Combines each bit of a byte with that of its place in another. No memory.
+    /// Combines each bit of `a` with the same bit of `b`.
+    ///
+    /// Does not allocate; constant time.
     fn of_bytes(a: u8, b: u8) -> u8
         ensures { (k : ℕ) → (bit_at result k == 1) ≡ gives (bit_at a k == 1) (bit_at b k == 1) };
 }
 
-/// Set where both are set.
+/// The bit is set if both bits are set.
 pub struct And;
 
 impl Bitwise for And {
@@ -54,7 +78,7 @@ impl Bitwise for And {
     }
 }
 
-/// Set where either is set.
+/// The bit is set if at least one of the bits is set.
 pub struct Or;
 
 impl Bitwise for Or {
@@ -67,7 +91,7 @@ impl Bitwise for Or {
     }
 }
 
-/// Set where one is set and the other is not.
+/// The bit is set if exactly one of the bits is set.
 pub struct Xor;
 
 impl Bitwise for Xor {
@@ -80,7 +104,17 @@ impl Bitwise for Xor {
     }
 }
 
-/// Combines every bit of a chunk with that of its place in another, which is not changed. No memory.
+/// Combines every bit of `chunk` with the same bit of `other`.
+///
+/// `N` is at least 1.
+///
+/// # Memory
+///
+/// Does not allocate.
+///
+/// # Complexity
+///
+/// Linear in `N`.
 pub fn combine<B: Bitwise, const N: usize>(chunk: &mut [u8; N], other: &[u8; N])
     requires { 0 < N }
     ensures { (i : ℕ) → chunk_bit N chunk.new i ≡ B.gives (chunk_bit N chunk.old i) (chunk_bit N other.now i) }
@@ -88,7 +122,7 @@ pub fn combine<B: Bitwise, const N: usize>(chunk: &mut [u8; N], other: &[u8; N])
     if N < 8 {
         return combine_in_place::<B, N>(chunk, other);
     }
-    // Copies, so that no write can be taken for one to `other`: whole words are combined at once.
+    // Works on copies, so that the compiler knows that no write changes `other` and combines whole words at once.
     let other = *other;
     let mut combined = *chunk;
     combine_in_place::<B, N>(&mut combined, &other);

@@ -1,4 +1,6 @@
-//! Bits of any number of bytes, gone through in words of 64 bits. Bit `i` of a slice stands in byte `i / 8`, at place `i mod 8`.
+//! Counts and tests of the bits of a slice of bytes, by words of 64 bits.
+//!
+//! This module is for the layers above. Bit `i` of a slice is bit `i mod 8` of byte `i / 8`.
 
 ghost use Rattle.std.specs.Prelude.{◌≡◌, ℕ, ◌+◌, ◌-◌, ◌*◌, ◌^◌, ◌<◌, ◌≤◌, length, not, ◌==◌};
 ghost use Rattle.std.specs.Int.{bit_at};
@@ -8,7 +10,15 @@ ghost use Rattle.bitmap_bytes.specs.Bits.{bits};
 
 use crate::chunk::facts::all_known;
 
-/// The number of set bits in some bytes. It fits `u64`. No memory.
+/// Returns the number of set bits of `bytes`, which fits `u64`.
+///
+/// # Memory
+///
+/// Does not allocate.
+///
+/// # Complexity
+///
+/// Linear in the words of `bytes`.
 pub fn count_ones(bytes: &[u8]) -> u64
     requires { count_by (λ b. b) (chunk_bits (length bytes.now) bytes.now) < 2 ^ 64 }
     ensures { result ≡ count_by (λ b. b) (chunk_bits (length bytes.now) bytes.now) }
@@ -17,9 +27,17 @@ pub fn count_ones(bytes: &[u8]) -> u64
     block_ones(blocks) + end_ones(rest)
 }
 
-/// Whether no bit from `from` on and below `to` is set. `to` is at most the number of bits. No memory.
+/// Returns whether no bit at or above bit `from` and below bit `to` is set. `to` is at most the number of bits of `bytes`.
 ///
-/// Where `from` is not below `to` there is no such bit: the answer is true.
+/// If `from` is not below `to`, there is no such bit, and the result is true.
+///
+/// # Memory
+///
+/// Does not allocate.
+///
+/// # Complexity
+///
+/// At most linear in the words of the range.
 pub fn is_unset(bytes: &[u8], from: u64, to: u64) -> bool
     requires { to ≤ 8 * length bytes.now }
     ensures { result ≡ list_all not (slice_range (chunk_bits (length bytes.now) bytes.now) from to) }
@@ -38,7 +56,7 @@ pub fn is_unset(bytes: &[u8], from: u64, to: u64) -> bool
         && is_zero(&bytes[first + 1..last])
 }
 
-// Whether every byte is zero: 64 of them a turn, and of those that are left eight.
+// Whether every byte is zero: in blocks of 64 bytes, and the rest in words.
 fn is_zero(bytes: &[u8]) -> bool
     ensures { result ≡ list_all not (chunk_bits (length bytes.now) bytes.now) }
 {
@@ -46,7 +64,7 @@ fn is_zero(bytes: &[u8]) -> bool
     are_blocks_zero(blocks) && is_end_zero(rest)
 }
 
-// Whether every byte is zero, eight a turn.
+// Whether every byte is zero: in words, and the rest byte by byte.
 fn is_end_zero(bytes: &[u8]) -> bool
     ensures { result ≡ list_all not (chunk_bits (length bytes.now) bytes.now) }
 {
@@ -54,7 +72,7 @@ fn is_end_zero(bytes: &[u8]) -> bool
     are_blocks_zero(words) && are_bytes_zero(rest)
 }
 
-// The number of ones in some blocks. Their length is one that the compiler sees, so that a turn is eight words in a row.
+// The number of set bits of some blocks. The compiler knows the length of a block, so it unrolls the loop over its eight words.
 fn block_ones(blocks: &[[u8; 64]]) -> u64
     requires { count_by (λ b. b) (bits 64 blocks.now (8 * 64 * length blocks.now)) < 2 ^ 64 }
     ensures { result ≡ count_by (λ b. b) (bits 64 blocks.now (8 * 64 * length blocks.now)) }
@@ -66,7 +84,7 @@ fn block_ones(blocks: &[[u8; 64]]) -> u64
     total
 }
 
-// The number of ones in some bytes, eight a turn.
+// The number of set bits of some bytes: in words, and the rest byte by byte.
 fn end_ones(bytes: &[u8]) -> u64
     requires { count_by (λ b. b) (chunk_bits (length bytes.now) bytes.now) < 2 ^ 64 }
     ensures { result ≡ count_by (λ b. b) (chunk_bits (length bytes.now) bytes.now) }
@@ -75,7 +93,7 @@ fn end_ones(bytes: &[u8]) -> u64
     word_ones(words) + byte_ones(rest)
 }
 
-// The number of ones in some words.
+// The number of set bits of some words.
 fn word_ones(words: &[[u8; 8]]) -> u64
     requires { count_by (λ b. b) (bits 8 words.now (64 * length words.now)) < 2 ^ 64 }
     ensures { result ≡ count_by (λ b. b) (bits 8 words.now (64 * length words.now)) }
@@ -87,7 +105,7 @@ fn word_ones(words: &[[u8; 8]]) -> u64
     total
 }
 
-// The number of ones in some bytes, one by one.
+// The number of set bits of some bytes, byte by byte.
 fn byte_ones(bytes: &[u8]) -> u64
     requires { count_by (λ b. b) (chunk_bits (length bytes.now) bytes.now) < 2 ^ 64 }
     ensures { result ≡ count_by (λ b. b) (chunk_bits (length bytes.now) bytes.now) }
@@ -99,7 +117,7 @@ fn byte_ones(bytes: &[u8]) -> u64
     total
 }
 
-// Whether every byte of some blocks is zero, a block a turn.
+// Whether every byte of some blocks is zero, one block per step.
 fn are_blocks_zero<const M: usize>(blocks: &[[u8; M]]) -> bool
     requires { 0 < M }
     ensures { result ≡ list_all not (bits M blocks.now (8 * M * length blocks.now)) }
@@ -113,7 +131,7 @@ fn are_blocks_zero<const M: usize>(blocks: &[[u8; M]]) -> bool
     true
 }
 
-// Whether every byte is zero, one by one.
+// Whether every byte is zero, byte by byte.
 fn are_bytes_zero(bytes: &[u8]) -> bool
     ensures { result ≡ list_all not (chunk_bits (length bytes.now) bytes.now) }
 {
@@ -132,7 +150,7 @@ fn load(word: &[u8; 8]) -> u64
     u64::from_le_bytes(*word)
 }
 
-// Whether no bit of a byte from `from` on and below `to` is set.
+// Whether no bit of a byte at or above bit `from` and below bit `to` is set.
 fn is_byte_unset(byte: u8, from: u64, to: u64) -> bool
     requires some { from < to }
     requires within { to ≤ 8 }

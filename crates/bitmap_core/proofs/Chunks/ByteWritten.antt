@@ -8,10 +8,10 @@ use Rattle.std.proofs.lemmas.Bool.{cases_eq, cases_lt}
 use Rattle.bitmap_bytes.specs.Chunk.{chunk_bit, byte_bits, IsByteWritten}
 use Rattle.bitmap_bytes.specs.Bits.{bits, IsBytePut, IsChunkCount, IsZeroFrom}
 use Rattle.bitmap_bytes.proofs.Lists.Bits.{get_or-bits, bits_are, len_is}
-use Rattle.bitmap_bytes.proofs.Chunks.Lists.{bit_of-set_here, bit_of-set_other}
+use Rattle.bitmap_bytes.proofs.Chunks.Lists.{chunks_bit-set_here, chunks_bit-set_other}
 use Rattle.bitmap_bytes.proofs.Chunks.Places.{same_place}
 
--- bytes of one place in chunks of one index are one byte
+-- bytes at the same place of chunks with the same index are the same byte
 same_byte : (n i j : ℕ) → i / (8 * n) ≡ j / (8 * n) → i / 8 % n ≡ j / 8 % n → i / 8 ≡ j / 8
 same_byte n i j q r = same_place n (i / 8) (j / 8) (div-div-eq-div-mul i 8 n ∙ q ∙ sym (div-div-eq-div-mul j 8 n)) r
 
@@ -22,13 +22,13 @@ pub IsBytePut-chunk : (n : ℕ) (xs : List (List ℕ)) (i byte : ℕ) (old new :
     → old ≡ get_or xs (i / (8 * n)) old → IsByteWritten n old new i byte
     → IsBytePut n xs (set xs (i / (8 * n)) new) i byte
 IsBytePut-chunk n xs i byte old new w r h = record {
-  here = λ j e. bit_of-set_here n xs (i / (8 * n)) new j w (same_chunk n j i e) ∙ h.here j (ap (λ x. x % n) e);
+  here = λ j e. chunks_bit-set_here n xs (i / (8 * n)) new j w (same_chunk n j i e) ∙ h.here j (ap (λ x. x % n) e);
   others = λ j d. elim (cases_eq (j / (8 * n)) (i / (8 * n))) [
     | inl e ↦
-        bit_of-set_here n xs (i / (8 * n)) new j w e
+        chunks_bit-set_here n xs (i / (8 * n)) new j w e
         ∙ h.others j (λ q. d (same_byte n j i e q))
         ∙ ap (λ c. chunk_bit n c j) (get_or_read xs (i / (8 * n)) old w r [] ∙ ap (λ a. get_or xs a []) (sym e))
-    | inr e ↦ bit_of-set_other n xs (i / (8 * n)) new j e
+    | inr e ↦ chunks_bit-set_other n xs (i / (8 * n)) new j e
   ];
   count = length-set xs (i / (8 * n)) new;
 }

@@ -4,7 +4,7 @@ use Rattle.std.proofs.lemmas.Bool.{cases_lt}
 use Rattle.std.proofs.lemmas.List.{get_or-take, get_or-drop, length-take, length-drop}
 use Rattle.bitmap_bytes.specs.Chunk.{chunk_bit}
 
--- where the chunks before `from` are combined, and then those of a run from there on, all are up to the run's end
+-- if the chunks before `from` and those of a run from `from` on are combined, all chunks up to the run's end are
 pub combined_run : (n : ℕ) (f : Bool → Bool → Bool) (first old others run new : List (List ℕ)) (from : ℕ)
     → ((k : ℕ) → k < from → (t : ℕ) → chunk_bit n (get_or old k []) t ≡ f (chunk_bit n (get_or first k []) t) (chunk_bit n (get_or others k []) t))
     → ((k : ℕ) → from ≤ k → get_or old k [] ≡ get_or first k [])
@@ -21,7 +21,7 @@ combined_run n f first old others run new from done rest own bits below k h t = 
       ∙ ap (λ c. f (chunk_bit n (get_or first k []) t) (chunk_bit n c t)) (own (k - from) (omega arith) ∙ ap (λ x. get_or others x []) (sym e))
 ]
 
--- a run of others
+-- a run of other operands
 pub run_of : (others run : List (List ℕ)) (from m : ℕ) → run ≡ take m (drop from others) → (k : ℕ) → k < length run → get_or run k [] ≡ get_or others (from + k) []
 run_of others run from m e k h =
     ap (λ x. get_or x k []) e ∙ get_or-take m (drop from others) k [] (omega (arith, ap length e, length-take {A = List ℕ} m (drop from others))) ∙ get_or-drop from others k []

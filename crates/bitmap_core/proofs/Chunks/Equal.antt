@@ -1,4 +1,4 @@
--- Runs of chunks, and when two are the same.
+-- Equality of runs of chunks.
 use Rattle.std.proofs.Common.{◌≡◌, ℕ, suc, ◌<◌, Bool, List, [], ◌∷◌, ◌++◌, eqb, length, get_or, append_assoc, take, drop, refl, sym, ap, ◌∙◌, arith}
 use Rattle.std.specs.Bool.{Decides}
 use Rattle.std.specs.List.{flat_map}
@@ -6,13 +6,13 @@ use Rattle.std.specs.Cmp.Lexicographic.{pointwise, pointwise_decides}
 use Rattle.std.proofs.lemmas.Bool.Decides.{Decides-eqb}
 use Rattle.std.proofs.lemmas.List.{ext_get_or, get_or_default, take-append-drop}
 use Rattle.std.proofs.Math.Seq.{take-append_seam, drop-append_seam}
-use Rattle.bitmap_bytes.specs.Bits.{bit_of, AreChunks}
+use Rattle.bitmap_bytes.specs.Bits.{chunks_bit, AreChunks}
 use Rattle.bitmap_bytes.proofs.Chunks.Bits.{byte_from_bits}
 use Rattle.bitmap_bytes.proofs.Chunks.Lists.{chunk_from_bits}
 
--- chunks with the same bits are the same
+-- chunks with equal bits are equal
 chunks_from_bits : (n : ℕ) (xs ys : List (List ℕ)) → 0 < n → length xs ≡ length ys → AreChunks n xs → AreChunks n ys
-    → ((k : ℕ) → bit_of n xs k ≡ bit_of n ys k)
+    → ((k : ℕ) → chunks_bit n xs k ≡ chunks_bit n ys k)
     → xs ≡ ys
 chunks_from_bits n xs ys p l f g h =
     ext_get_or [] xs ys l (λ i s.
@@ -23,11 +23,11 @@ chunks_from_bits n xs ys p l f g h =
     byte_from_bits n a b j (omega (arith, (f i s).len)) ((f i s).bytes j) ((g i t).bytes j)
     (chunk_from_bits n xs ys i a b p s t (get_or_default xs i [] a s) (get_or_default ys i [] b t) h)))
 
--- a test of runs is one of their bits
+-- comparing runs is comparing their bits
 pub same_bits_decided : (n : ℕ) (r : Bool) (xs ys : List (List ℕ)) → 0 < n → length xs ≡ length ys → AreChunks n xs
     → AreChunks n ys → Decides r (xs ≡ ys)
-    → Decides r ((k : ℕ) → bit_of n xs k ≡ bit_of n ys k)
-same_bits_decided n r xs ys p l f g d = (λ q k. ap (λ zs. bit_of n zs k) (d.0 q), λ h. d.1 (chunks_from_bits n xs ys p l f g h))
+    → Decides r ((k : ℕ) → chunks_bit n xs k ≡ chunks_bit n ys k)
+same_bits_decided n r xs ys p l f g d = (λ q k. ap (λ zs. chunks_bit n zs k) (d.0 q), λ h. d.1 (chunks_from_bits n xs ys p l f g h))
 
 append_split : {A : Type 0} (fs gs xs ys : List A) → length fs ≡ length xs → fs ++ gs ≡ xs ++ ys → (fs ≡ xs) × (gs ≡ ys)
 append_split fs gs xs ys l e = (
@@ -35,7 +35,7 @@ append_split fs gs xs ys l e = (
   sym (drop-append_seam fs gs) ∙ ap (λ k. drop k (fs ++ gs)) l ∙ ap (λ zs. drop (length xs) zs) e ∙ drop-append_seam xs ys,
 )
 
--- chunks are the same where their bytes are
+-- chunks with equal bytes are equal
 chunks_from_bytes : (n : ℕ) (xs ys : List (List ℕ)) → length xs ≡ length ys → AreChunks n xs → AreChunks n ys
     → flat_map (λ x. x) xs ≡ flat_map (λ x. x) ys
     → xs ≡ ys
@@ -47,7 +47,7 @@ chunks_from_bytes n (x ∷ xs) (y ∷ ys) l f g e =
     ap (λ z. z ∷ xs) s.0
     ∙ ap (λ zs. y ∷ zs) (chunks_from_bytes n xs ys (omega arith) (λ i h. f (suc i) (omega arith)) (λ i h. g (suc i) (omega arith)) s.1)
 
--- chunks are the same where their bytes are
+-- chunks with equal bytes are equal
 pub bytes_decided : (n : ℕ) (r : Bool) (xs ys : List (List ℕ)) → length xs ≡ length ys → AreChunks n xs → AreChunks n ys
     → r ≡ pointwise eqb (flat_map (λ x. x) xs) (flat_map (λ x. x) ys)
     → Decides r (xs ≡ ys)
@@ -55,11 +55,11 @@ bytes_decided n r xs ys l f g e =
     let d = pointwise_decides Decides-eqb (flat_map (λ x. x) xs) (flat_map (λ x. x) ys) in
     (λ q. chunks_from_bytes n xs ys l f g (d.0 (sym e ∙ q)), λ q. e ∙ d.1 (ap (λ zs. flat_map (λ x. x) zs) q))
 
--- a list is its two parts
+-- a list is its two parts, one after the other
 pub parts_of : {A : Type 0} (xs low high : List A) (k : ℕ) → low ≡ take k xs → high ≡ drop k xs → xs ≡ low ++ high
 parts_of xs low high k e f = sym (ap (λ x. x ++ high) e ∙ ap (λ x. take k xs ++ x) f ∙ take-append-drop k xs)
 
--- three pieces of equal lengths make one run where they are the same
+-- two runs of three parts with equal lengths are equal if the parts are
 pub runs_same : {A : Type 0} (front back longer rest low high near far : List A) → longer ≡ low ++ high → back ≡ near ++ far
     → length front ≡ length low → length near ≡ length high → front ++ back ≡ longer ++ rest
     → (front ≡ low) × (near ≡ high) × (far ≡ rest)
@@ -79,10 +79,10 @@ runs_joined front back longer rest low high near far a b p q r =
     ∙ sym (append_assoc low high rest)
     ∙ ap (λ x. x ++ rest) (sym a)
 
--- a test of two runs is one of the lists that they make
+-- comparing two runs is comparing their lists
 pub lists_decided : {A : Type 0} (r : Bool) (xs ys us vs : List A) → us ≡ xs → vs ≡ ys → Decides r (us ≡ vs) → Decides r (xs ≡ ys)
 lists_decided r xs ys us vs e f d = (λ q. sym e ∙ d.0 q ∙ f, λ q. d.1 (e ∙ q ∙ sym f))
 
--- the same, with the lists turned round
+-- the same, with the lists exchanged
 pub lists_decided_back : {A : Type 0} (r : Bool) (xs ys us vs : List A) → us ≡ xs → vs ≡ ys → Decides r (vs ≡ us) → Decides r (xs ≡ ys)
 lists_decided_back r xs ys us vs e f d = (λ q. sym e ∙ sym (d.0 q) ∙ f, λ q. d.1 (f ∙ sym q ∙ sym e))

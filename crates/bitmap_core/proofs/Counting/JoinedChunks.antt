@@ -4,12 +4,12 @@ use Rattle.std.specs.List.{range_with_len, count_by, list_all, slice_range, flat
 use Rattle.std.proofs.Math.Nat.{mul-add}
 use Rattle.std.proofs.lemmas.List.{length-append}
 use Rattle.std.proofs.lemmas.Bool.{cases_lt}
-use Rattle.bitmap_bytes.specs.Chunk.{chunk_bits, bit_in}
-use Rattle.bitmap_bytes.specs.Bits.{bit_of, bits, AreChunks}
+use Rattle.bitmap_bytes.specs.Chunk.{chunk_bits, bytes_bit}
+use Rattle.bitmap_bytes.specs.Bits.{chunks_bit, bits, AreChunks}
 use Rattle.bitmap_bytes.proofs.Counting.Ones.{ones_from, ones_from_add, ones_from_same, ones_from_le, count-bits}
 use Rattle.bitmap_bytes.proofs.Counting.Places.{ones_from_split, none_from, rest_zero, some_left}
 use Rattle.bitmap_bytes.proofs.Counting.Words.{none_chunk_slice, count-chunk}
-use Rattle.bitmap_bytes.proofs.Bytes.Shifted.{bit_in-flat, bit_in-left, bit_in-right}
+use Rattle.bitmap_bytes.proofs.Bytes.Shifted.{bytes_bit-flat, bytes_bit-left, bytes_bit-right}
 
 flat-length : (n : ℕ) (chunks : List (List ℕ)) → AreChunks n chunks → length (flat_map (λ c. c) chunks) ≡ n * length chunks
 flat-length n [] h = omega arith
@@ -25,10 +25,10 @@ flat-length n (c ∷ chunks) h =
 -- the bits of a range of chunks are those of their bytes
 ones_of_chunks : (n : ℕ) (chunks : List (List ℕ)) (bytes : List ℕ) (a k : ℕ) → 0 < n → AreChunks n chunks
     → bytes ≡ flat_map (λ c. c) chunks → a + k ≤ 8 * n * length chunks
-    → ones_from (bit_of n chunks) a k ≡ ones_from (bit_in bytes) a k
+    → ones_from (chunks_bit n chunks) a k ≡ ones_from (bytes_bit bytes) a k
 ones_of_chunks n chunks bytes a k p h e l =
-    ones_from_same (bit_of n chunks) (bit_in bytes) a a k (λ t s.
-    sym (ap (λ x. bit_in x (a + t)) e ∙ bit_in-flat n chunks p (λ i l. (h i l).len) (a + t)))
+    ones_from_same (chunks_bit n chunks) (bytes_bit bytes) a a k (λ t s.
+    sym (ap (λ x. bytes_bit x (a + t)) e ∙ bytes_bit-flat n chunks p (λ i l. (h i l).len) (a + t)))
 
 joined-length : (n : ℕ) (chunks : List (List ℕ)) (a b : List ℕ) → AreChunks n chunks → a ++ b ≡ flat_map (λ c. c) chunks
     → 8 * n * length chunks ≡ 8 * length a + 8 * length b
@@ -37,48 +37,48 @@ joined-length n chunks a b h e =
     let m : 8 * n * length chunks ≡ 8 * (n * length chunks) = grind arith in
     omega arith
 
--- the ones of chunks are those of their bytes, in two pieces
+-- the ones of chunks are those of their bytes, which are in two slices
 pub count-pieces : (n : ℕ) (chunks : List (List ℕ)) (a b : List ℕ) → 0 < n → AreChunks n chunks → a ++ b ≡ flat_map (λ c. c) chunks
     → count_by (λ b. b) (bits n chunks (8 * n * length chunks))
     ≡ count_by (λ b. b) (chunk_bits (length a) a) + count_by (λ b. b) (chunk_bits (length b) b)
 count-pieces n chunks a b p h e =
     let l = joined-length n chunks a b h e in
     let o = ones_of_chunks n chunks (a ++ b) 0 (8 * n * length chunks) p h e (omega arith) in
-    let s = ap (λ k. ones_from (bit_in (a ++ b)) 0 k) l ∙ ones_from_add (bit_in (a ++ b)) 0 (8 * length a) (8 * length b) in
-    let left = ones_from_same (bit_in (a ++ b)) (bit_in a) 0 0 (8 * length a) (λ t w. bit_in-left a b (0 + t) (omega arith)) in
-    let right = ones_from_same (bit_in (a ++ b)) (bit_in b) (0 + 8 * length a) 0 (8 * length b) (λ t w.
-    (let q : 0 + 8 * length a + t ≡ 8 * length a + (0 + t) = omega arith in ap (bit_in (a ++ b)) q)
-    ∙ bit_in-right a b (0 + t)) in
+    let s = ap (λ k. ones_from (bytes_bit (a ++ b)) 0 k) l ∙ ones_from_add (bytes_bit (a ++ b)) 0 (8 * length a) (8 * length b) in
+    let left = ones_from_same (bytes_bit (a ++ b)) (bytes_bit a) 0 0 (8 * length a) (λ t w. bytes_bit-left a b (0 + t) (omega arith)) in
+    let right = ones_from_same (bytes_bit (a ++ b)) (bytes_bit b) (0 + 8 * length a) 0 (8 * length b) (λ t w.
+    (let q : 0 + 8 * length a + t ≡ 8 * length a + (0 + t) = omega arith in ap (bytes_bit (a ++ b)) q)
+    ∙ bytes_bit-right a b (0 + t)) in
     omega (arith, count-bits n chunks (8 * n * length chunks), count-chunk (length a) a, count-chunk (length b) b)
 
--- a range, cut at s: the part in the first piece and the part in the second
+-- a range cut at s: the part in the first slice and the part in the second
 range_cut : (a b : List ℕ) (from to s : ℕ) → s ≤ 8 * length a → (s < to → s ≡ 8 * length a)
-    → ones_from (bit_in (a ++ b)) from (to - from)
-    ≡ ones_from (bit_in a) (min from s) (min to s - min from s) + ones_from (bit_in b) (max from s - s) (max to s - s - (max from s - s))
+    → ones_from (bytes_bit (a ++ b)) from (to - from)
+    ≡ ones_from (bytes_bit a) (min from s) (min to s - min from s) + ones_from (bytes_bit b) (max from s - s) (max to s - s - (max from s - s))
 range_cut a b from to s l h = elim (cases_lt to from) [
   | inl o ↦
       omega (
         arith,
-        ones_from_le (bit_in (a ++ b)) from (to - from),
-        ones_from_le (bit_in a) (min from s) (min to s - min from s),
-        ones_from_le (bit_in b) (max from s - s) (max to s - s - (max from s - s)),
+        ones_from_le (bytes_bit (a ++ b)) from (to - from),
+        ones_from_le (bytes_bit a) (min from s) (min to s - min from s),
+        ones_from_le (bytes_bit b) (max from s - s) (max to s - s - (max from s - s)),
       )
   | inr o ↦
       let m : ℕ = max from (min to s) in
-      let cut = ones_from_split (bit_in (a ++ b)) from m to (omega arith) (omega arith) in
+      let cut = ones_from_split (bytes_bit (a ++ b)) from m to (omega arith) (omega arith) in
       let j : m - from ≡ min to s - min from s = omega arith in
       let k : to - m ≡ max to s - s - (max from s - s) = omega arith in
-      let left = ones_from_same (bit_in (a ++ b)) (bit_in a) from (min from s) (m - from) (λ t w.
+      let left = ones_from_same (bytes_bit (a ++ b)) (bytes_bit a) from (min from s) (m - from) (λ t w.
       let q : from + t ≡ min from s + t = omega arith in
-      ap (bit_in (a ++ b)) q ∙ bit_in-left a b (min from s + t) (omega arith)) ∙ ap (λ x. ones_from (bit_in a) (min from s) x) j in
-      let right = ones_from_same (bit_in (a ++ b)) (bit_in b) m (max from s - s) (to - m) (λ t w.
+      ap (bytes_bit (a ++ b)) q ∙ bytes_bit-left a b (min from s + t) (omega arith)) ∙ ap (λ x. ones_from (bytes_bit a) (min from s) x) j in
+      let right = ones_from_same (bytes_bit (a ++ b)) (bytes_bit b) m (max from s - s) (to - m) (λ t w.
       let e : s ≡ 8 * length a = h (omega arith) in
       let q : m + t ≡ 8 * length a + (max from s - s + t) = omega arith in
-      ap (bit_in (a ++ b)) q ∙ bit_in-right a b (max from s - s + t)) ∙ ap (λ x. ones_from (bit_in b) (max from s - s) x) k in
+      ap (bytes_bit (a ++ b)) q ∙ bytes_bit-right a b (max from s - s + t)) ∙ ap (λ x. ones_from (bytes_bit b) (max from s - s) x) k in
       omega arith
 ]
 
--- chunks whose bytes are a and b, and the place in bits where b begins, or 2 ^ 64 - 1 where that is less
+-- chunks whose bytes are a and then b; b begins at this position in bits, or at 2 ^ 64 - 1 if that is less
 pub record IsCut (n : ℕ) (chunks : List (List ℕ)) (a b : List ℕ) (s to : ℕ) : Type 0 where
   pub positive : 0 < n
   pub wide : AreChunks n chunks
@@ -102,8 +102,8 @@ cut_within n chunks a b s to c =
     (omega arith, omega arith)
 
 cut_ones : (n : ℕ) (chunks : List (List ℕ)) (a b : List ℕ) (s from to : ℕ) → IsCut n chunks a b s to
-    → ones_from (bit_of n chunks) from (to - from)
-    ≡ ones_from (bit_in a) (min from s) (min to s - min from s) + ones_from (bit_in b) (max from s - s) (max to s - s - (max from s - s))
+    → ones_from (chunks_bit n chunks) from (to - from)
+    ≡ ones_from (bytes_bit a) (min from s) (min to s - min from s) + ones_from (bytes_bit b) (max from s - s) (max to s - s - (max from s - s))
 cut_ones n chunks a b s from to c =
     let p = c.place in
     let w = c.within in
@@ -112,31 +112,31 @@ cut_ones n chunks a b s from to c =
       | inl o ↦
           omega (
             arith,
-            ones_from_le (bit_of n chunks) from (to - from),
-            ones_from_le (bit_in a) (min from s) (min to s - min from s),
-            ones_from_le (bit_in b) (max from s - s) (max to s - s - (max from s - s)),
+            ones_from_le (chunks_bit n chunks) from (to - from),
+            ones_from_le (bytes_bit a) (min from s) (min to s - min from s),
+            ones_from_le (bytes_bit b) (max from s - s) (max to s - s - (max from s - s)),
           )
       | inr o ↦
           ones_of_chunks n chunks (a ++ b) from (to - from) c.positive c.wide c.bytes (omega arith)
           ∙ range_cut a b from to s (omega arith) (λ h. omega arith)
     ]
 
--- where no bit of the first part is set, the second part decides
+-- if no bit of the first part is set, the second part decides
 pub none_right : (n : ℕ) (chunks : List (List ℕ)) (a b : List ℕ) (s from to : ℕ) → IsCut n chunks a b s to
     → list_all not (slice_range (chunk_bits (length a) a) (min from s) (min to s)) ≡ true
     → list_all not (slice_range (chunk_bits (length b) b) (max from s - s) (max to s - s))
-    ≡ list_all (λ i. not (bit_of n chunks i)) (range_with_len from (to - from))
+    ≡ list_all (λ i. not (chunks_bit n chunks i)) (range_with_len from (to - from))
 none_right n chunks a b s from to c h =
     let w = cut_within n chunks a b s to c in
     none_chunk_slice (length b) b (max from s - s) (max to s - s) w.1
     ∙ rest_zero _ _ _ (cut_ones n chunks a b s from to c) (sym (none_chunk_slice (length a) a (min from s) (min to s) w.0) ∙ h)
-    ∙ sym (none_from (bit_of n chunks) from (to - from))
+    ∙ sym (none_from (chunks_bit n chunks) from (to - from))
 
--- where a bit of the first part is set, one is
+-- if a bit of the first part is set, a bit of the whole is
 pub some_in_left : (n : ℕ) (chunks : List (List ℕ)) (a b : List ℕ) (s from to : ℕ) → IsCut n chunks a b s to
     → list_all not (slice_range (chunk_bits (length a) a) (min from s) (min to s)) ≡ false
-    → list_all (λ i. not (bit_of n chunks i)) (range_with_len from (to - from)) ≡ false
+    → list_all (λ i. not (chunks_bit n chunks i)) (range_with_len from (to - from)) ≡ false
 some_in_left n chunks a b s from to c h =
     let w = cut_within n chunks a b s to c in
-    none_from (bit_of n chunks) from (to - from)
+    none_from (chunks_bit n chunks) from (to - from)
     ∙ some_left _ _ _ (cut_ones n chunks a b s from to c) (sym (none_chunk_slice (length a) a (min from s) (min to s) w.0) ∙ h)

@@ -5,7 +5,7 @@ use Rattle.std.proofs.Common.{◌-◌, ◌⊎◌, ◌∙◌, zero, suc, refl, ap
 use Rattle.std.proofs.Math.Nat.{mod-eq_of_lt}
 use Rattle.std.proofs.lemmas.Nat.{mod_below}
 use Rattle.std.proofs.lemmas.Bool.{false≢true, lt-ltb, le-ltb}
-use Rattle.bitmap_bytes.specs.Chunk.{chunk_bit, chunk_bits, IsBitWritten, bit_in, IsChunk, bit_value, byte_of, byte_bits, chunk_from, chunk_of, IsByteWritten, IsByteJoined}
+use Rattle.bitmap_bytes.specs.Chunk.{chunk_bit, chunk_bits, IsBitWritten, bytes_bit, IsChunk, bit_value, byte_of, byte_bits, chunk_from, chunk_of, IsByteWritten, IsByteJoined}
 use Rattle.bitmap_bytes.proofs.Chunks.Bits.{chunk_bit-mod}
 use Rattle.bitmap_core.proofs.Examples.EachPlace.{same_at, same_places, is_other}
 
@@ -13,11 +13,11 @@ use Rattle.bitmap_core.proofs.Examples.EachPlace.{same_at, same_places, is_other
 ninth_bit : chunk_bit 2 (0 ∷ 2 ∷ []) 9 ≡ true
 ninth_bit = refl
 
--- a position past the chunk is taken by its place in a chunk: 25 is 16 and 9
+-- a position past the chunk is reduced to its place in a chunk: 25 is 16 plus 9
 ninth_bit_of_the_next_chunk : chunk_bit 2 (0 ∷ 2 ∷ []) 25 ≡ true
 ninth_bit_of_the_next_chunk = refl
 
--- bit 1 of the same chunk stands in the first byte
+-- bit 1 of the same chunk is in the first byte
 first_byte_is_zero : chunk_bit 2 (0 ∷ 2 ∷ []) 1 ≡ false
 first_byte_is_zero = refl
 
@@ -25,7 +25,7 @@ first_byte_is_zero = refl
 highest_bit : chunk_bit 3 (255 ∷ 255 ∷ 128 ∷ []) 23 ≡ true
 highest_bit = refl
 
--- 6 is two and four: the bits of one byte, the lowest first
+-- 6 is 2 plus 4: the bits of one byte, the lowest first
 bits_of_six : chunk_bits 1 (6 ∷ []) ≡ false ∷ true ∷ true ∷ false ∷ false ∷ false ∷ false ∷ false ∷ []
 bits_of_six = refl
 
@@ -34,11 +34,11 @@ bits_of_two_bytes : chunk_bits 2 (1 ∷ 128 ∷ []) ≡ true ∷ false ∷ false
 bits_of_two_bytes = refl
 
 -- bit 8 of a run of three bytes is the lowest of the second
-bit_in_the_second_byte : bit_in (0 ∷ 1 ∷ 0 ∷ []) 8 ≡ true
+bit_in_the_second_byte : bytes_bit (0 ∷ 1 ∷ 0 ∷ []) 8 ≡ true
 bit_in_the_second_byte = refl
 
--- past the bytes each bit is zero: two bytes end before bit 16
-bit_past_the_bytes : bit_in (255 ∷ 255 ∷ []) 16 ≡ false
+-- each bit past the bytes is zero: two bytes end before bit 16
+bit_past_the_bytes : bytes_bit (255 ∷ 255 ∷ []) 16 ≡ false
 bit_past_the_bytes = refl
 
 -- a bit as a number
@@ -52,11 +52,11 @@ clear_bit_is_zero = refl
 byte_of_two_bits : byte_of (λ t. (t == 0) || (t == 3)) ≡ 9
 byte_of_two_bits = refl
 
--- the last place of a byte is 128, and a bit at place 8 is none of it
+-- the last place of a byte is 128, and place 8 is not in the byte
 byte_of_the_last_bit : byte_of (λ t. (t == 7) || (t == 8)) ≡ 128
 byte_of_the_last_bit = refl
 
--- 9 is one and eight
+-- 9 is 1 plus 8
 bits_of_nine : byte_bits 9 ≡ true ∷ false ∷ false ∷ true ∷ false ∷ false ∷ false ∷ false ∷ []
 bits_of_nine = refl
 
@@ -72,7 +72,7 @@ chunk_of_four_bits = refl
 wide_chunk_of_four_bits : chunk_of 3 (true ∷ false ∷ true ∷ true ∷ []) 0 ≡ 13 ∷ 0 ∷ 0 ∷ []
 wide_chunk_of_four_bits = refl
 
--- the ninth of nine bits stands alone in the second chunk of one byte
+-- the ninth of nine bits is alone in the second chunk of one byte
 chunk_of_the_ninth_bit : chunk_of 1 (false ∷ false ∷ false ∷ false ∷ false ∷ false ∷ false ∷ false ∷ true ∷ []) 1 ≡ 1 ∷ []
 chunk_of_the_ninth_bit = refl
 
@@ -86,26 +86,26 @@ three_bytes = record { len = refl; bytes = each }
     each (suc (suc zero)) = omega arith
     each (suc (suc (suc k))) = omega arith
 
--- two bytes are not
+-- two bytes are not a chunk of three
 two_bytes_are_not_three : IsChunk 3 (1 ∷ 2 ∷ []) → ⊥
 two_bytes_are_not_three c = omega (arith, c.len)
 
--- and 256 is no byte
+-- 256 is not a byte
 no_byte : IsChunk 2 (1 ∷ 256 ∷ []) → ⊥
 no_byte c = omega (arith, c.bytes 1)
 
--- position 25 written in a chunk of two bytes: place 9, and no other
+-- writing position 25 of a chunk of two bytes changes place 9, and no other
 bit_written : IsBitWritten 2 (5 ∷ 0 ∷ []) (5 ∷ 2 ∷ []) 25 true
 bit_written = record {
   here = refl;
   others = λ j d. same_places 2 (λ k. not (k == 9)) (5 ∷ 0 ∷ []) (5 ∷ 2 ∷ []) j (omega arith) refl (is_other (j % 16) 9 d);
 }
 
--- where place 0 is changed as well, it is not written so
+-- a change of place 0 as well is not such a write
 two_bits_written : IsBitWritten 2 (5 ∷ 0 ∷ []) (4 ∷ 2 ∷ []) 25 true → ⊥
 two_bits_written w = false≢true (w.others 0 (λ e. omega (arith, e)))
 
--- position 12 stands in the second byte, which becomes 7
+-- position 12 is in the second byte, which becomes 7
 byte_written : IsByteWritten 2 (1 ∷ 2 ∷ []) (1 ∷ 7 ∷ []) 12 7
 byte_written = record {
   here = λ j e. here j (omega arith) (mod_below j 8 (omega arith));
@@ -115,11 +115,11 @@ byte_written = record {
     here : (j : ℕ) → j / 8 % 2 ≡ 1 → j % 8 < 8 → chunk_bit 2 (1 ∷ 7 ∷ []) j ≡ (bit_at 7 (j % 8) == 1)
     here j e h = ap (λ b. bit_at (slice_index_or (1 ∷ 7 ∷ []) b 0) (j % 8) == 1) e
 
--- where the first byte is changed as well, it is not written so
+-- a change of the first byte as well is not such a write
 two_bytes_written : IsByteWritten 2 (1 ∷ 2 ∷ []) (0 ∷ 7 ∷ []) 12 7 → ⊥
 two_bytes_written w = false≢true (w.others 0 (λ e. omega (arith, e)))
 
--- 171 is 1010 1011 in binary: from place 4 of a chunk of two bytes on, its low half stands above what is kept of the first byte, its high half below what is kept of the second
+-- 171, 1010 1011 in binary, at place 4 of two bytes: its low half is above the kept part of the first byte, its high half below that of the second
 pub byte_joined : IsByteJoined 2 (1 ∷ 192 ∷ []) (177 ∷ 202 ∷ []) 20 171
 byte_joined = record { here = here; others = others }
   where
@@ -135,10 +135,10 @@ byte_joined = record { here = here; others = others }
       | inr h ↦ rw (le-ltb (j % 16) 4 (omega (arith, h)), le-ltb (j % 16) 12 h) refl
     ])
 
--- where the rest of the second byte is cleared, it is not joined so
+-- a result with the rest of the second byte cleared is not this one
 byte_joined_clears_none : IsByteJoined 2 (1 ∷ 192 ∷ []) (177 ∷ 10 ∷ []) 20 171 → ⊥
 byte_joined_clears_none w = false≢true (w.others 15 (inr (omega arith)))
 
--- where its halves change places, neither
+-- a result with the halves exchanged is not this one
 byte_joined_in_order : IsByteJoined 2 (1 ∷ 192 ∷ []) (161 ∷ 203 ∷ []) 20 171 → ⊥
 byte_joined_in_order w = false≢true (w.here 4 (omega arith) (omega arith))

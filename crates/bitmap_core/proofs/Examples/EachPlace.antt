@@ -7,11 +7,11 @@ use Rattle.std.proofs.lemmas.Bool.{cases_lt, ne_eqb}
 use Rattle.std.proofs.Math.Nat.{mod-eq_of_lt}
 use Rattle.std.proofs.lemmas.Nat.{mod_below}
 use Rattle.bitmap_bytes.specs.Chunk.{chunk_bit}
-use Rattle.bitmap_bytes.specs.Bits.{bit_of}
+use Rattle.bitmap_bytes.specs.Bits.{chunks_bit}
 use Rattle.bitmap_bytes.proofs.Chunks.Bits.{chunk_bit-mod}
 use Rattle.bitmap_bytes.proofs.Chunks.Lists.{bit_of_past}
 
--- the first k values of a function, those out of the question left false
+-- the first k values of a function, with false at the places that are not kept
 abbrev pub table : (ℕ → Bool) → (ℕ → Bool) → ℕ → List Bool
 table keep f k = map (λ i. if keep i then f i else false) (range_with_len 0 k)
 
@@ -38,12 +38,12 @@ same_places n keep old new j p e s =
     ∙ sym (same_at keep (chunk_bit n old) (chunk_bit n new) (8 * n) (j % (8 * n)) e w s)
     ∙ chunk_bit-mod n old (j % (8 * n)) j p q
 
--- lists of chunks that agree at the kept ones of their first k positions, where they have no more
+-- lists of chunks that agree at the kept positions below k agree at each kept position, if they have no bits from k on
 pub same_bits : (n k : ℕ) (keep : ℕ → Bool) (old new : List (List ℕ)) (j : ℕ)
-    → table keep (bit_of n old) k ≡ table keep (bit_of n new) k → (k ≤ j → length old ≤ j / (8 * n)) → length new ≡ length old
+    → table keep (chunks_bit n old) k ≡ table keep (chunks_bit n new) k → (k ≤ j → length old ≤ j / (8 * n)) → length new ≡ length old
     → keep j ≡ true
-    → bit_of n new j ≡ bit_of n old j
+    → chunks_bit n new j ≡ chunks_bit n old j
 same_bits n k keep old new j e past l s = elim (cases_lt j k) [
-  | inl h ↦ sym (same_at keep (bit_of n old) (bit_of n new) k j e h s)
+  | inl h ↦ sym (same_at keep (chunks_bit n old) (chunks_bit n new) k j e h s)
   | inr h ↦ bit_of_past n new j (omega (arith, past h)) ∙ sym (bit_of_past n old j (past h))
 ]

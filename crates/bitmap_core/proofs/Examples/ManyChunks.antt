@@ -1,4 +1,4 @@
--- Lists of chunks, and the bits that they hold.
+-- Lists of chunks, and their bits.
 use Rattle.std.specs.Prelude.{◌≡◌, ℕ, ◌/◌, ◌%◌, ◌<◌, Bool, true, false, not, ◌==◌, ◌&&◌, ◌||◌, [], ◌∷◌, slice_index, slice_index_or}
 use Rattle.std.specs.Int.{bit_at}
 use Rattle.std.proofs.Common.{zero, suc, refl, ap, sym, ◌∙◌, arith, inl, inr}
@@ -6,7 +6,7 @@ use Rattle.std.proofs.lemmas.Nat.{mod_below}
 use Rattle.std.proofs.Math.Bool.{xor}
 use Rattle.std.proofs.lemmas.Bool.{false≢true, cases_lt}
 use Rattle.bitmap_bytes.specs.Chunk.{chunk_bit}
-use Rattle.bitmap_bytes.specs.Bits.{bit_of, bits, IsZeroFrom, IsChunkCount, IsBitPut, AreChunks, IsBytePut}
+use Rattle.bitmap_bytes.specs.Bits.{chunks_bit, bits, IsZeroFrom, IsChunkCount, IsBitPut, AreChunks, IsBytePut}
 use Rattle.bitmap_bytes.specs.Combined.{IsCombined}
 use Rattle.bitmap_bytes.proofs.Chunks.Lists.{bit_of_past}
 use Rattle.bitmap_bytes.proofs.Counting.Tests.{any_range_at}
@@ -14,55 +14,55 @@ use Rattle.bitmap_core.proofs.Examples.EachPlace.{table, same_at, same_bits, is_
 use Rattle.bitmap_bytes.proofs.Chunks.Bits.{chunk_bit-mod}
 
 -- bit 8 of two chunks of one byte is the lowest of the second
-first_of_the_second : bit_of 1 ((0 ∷ []) ∷ (1 ∷ []) ∷ []) 8 ≡ true
+first_of_the_second : chunks_bit 1 ((0 ∷ []) ∷ (1 ∷ []) ∷ []) 8 ≡ true
 first_of_the_second = refl
 
 -- bit 26 of chunks of two bytes is bit 10 of the second chunk, which is place 2 of its second byte
-within_the_second : bit_of 2 ((0 ∷ 0 ∷ []) ∷ (0 ∷ 4 ∷ []) ∷ []) 26 ≡ true
+within_the_second : chunks_bit 2 ((0 ∷ 0 ∷ []) ∷ (0 ∷ 4 ∷ []) ∷ []) 26 ≡ true
 within_the_second = refl
 
--- past the chunks there are zeros
-past_the_chunks : bit_of 1 ((255 ∷ []) ∷ []) 8 ≡ false
+-- there are zeros past the chunks
+past_the_chunks : chunks_bit 1 ((255 ∷ []) ∷ []) 8 ≡ false
 past_the_chunks = refl
 
--- two chunks of one byte, 5 and 1, hold ten bits: 1 and 4, then 1
+-- two chunks of one byte, 5 and 1, have ten bits: those of 1 and 4, then that of 1
 ten_bits : bits 1 ((5 ∷ []) ∷ (1 ∷ []) ∷ []) 10 ≡ true ∷ false ∷ true ∷ false ∷ false ∷ false ∷ false ∷ false ∷ true ∷ false ∷ []
 unfolding bits
 ten_bits = refl
 
--- the same bytes in one chunk of two hold the same bits
+-- the same bytes in one chunk of two bytes have the same bits
 ten_bits_of_one_chunk : bits 2 ((5 ∷ 1 ∷ []) ∷ []) 10 ≡ true ∷ false ∷ true ∷ false ∷ false ∷ false ∷ false ∷ false ∷ true ∷ false ∷ []
 unfolding bits
 ten_bits_of_one_chunk = refl
 
--- no length, no bits
+-- length 0 gives no bits
 no_bits : bits 4 [] 0 ≡ []
 unfolding bits
 no_bits = refl
 
--- 3 has places 0 and 1 set, and from 2 on there are zeros
+-- 3 has places 0 and 1 set, and zeros from 2 on
 zero_from_two : IsZeroFrom 1 ((3 ∷ []) ∷ []) 2
 zero_from_two i h = elim (cases_lt i 8) [
-  | inl b ↦ any_range_at (bit_of 1 ((3 ∷ []) ∷ [])) 2 6 i refl h (omega arith)
+  | inl b ↦ any_range_at (chunks_bit 1 ((3 ∷ []) ∷ [])) 2 6 i refl h (omega arith)
   | inr p ↦ bit_of_past 1 ((3 ∷ []) ∷ []) i (omega arith)
 ]
 
--- but not from 1 on
+-- it does not have zeros from 1 on
 not_zero_from_one : IsZeroFrom 1 ((3 ∷ []) ∷ []) 1 → ⊥
 not_zero_from_one z = false≢true (let e = z 1 (omega arith) in cc)
 
--- a full byte: zeros from its end on
+-- a full byte has zeros from its end on
 zero_from_the_end : IsZeroFrom 1 ((255 ∷ []) ∷ []) 8
 zero_from_the_end i h = bit_of_past 1 ((255 ∷ []) ∷ []) i (omega arith)
 
--- no bits fill no chunk, and one bit fills one
+-- no bits need no chunk, and one bit needs one
 chunks_of_no_bits : IsChunkCount 4 0 0
 chunks_of_no_bits = (omega arith, omega arith)
 
 chunks_of_one_bit : IsChunkCount 4 1 1
 chunks_of_one_bit = (omega arith, omega arith)
 
--- 32 bits fill one chunk of four bytes, and 33 fill two
+-- 32 bits need one chunk of four bytes, and 33 need two
 chunks_of_32_bits : IsChunkCount 4 1 32
 chunks_of_32_bits = (omega arith, omega arith)
 
@@ -76,11 +76,11 @@ too_few_chunks c = omega (arith, c.0)
 too_many_chunks : IsChunkCount 4 2 32 → ⊥
 too_many_chunks c = omega (arith, c.1)
 
--- 73 bits fill two chunks of nine bytes
+-- 73 bits need two chunks of nine bytes
 chunks_of_73_bits : IsChunkCount 9 2 73
 chunks_of_73_bits = (omega arith, omega arith)
 
--- bit 9 put into the second byte
+-- bit 9 is set, in the second byte
 bit_put : IsBitPut 1 ((5 ∷ []) ∷ (1 ∷ []) ∷ []) ((5 ∷ []) ∷ (3 ∷ []) ∷ []) 9 true
 bit_put = record {
   here = refl;
@@ -88,11 +88,11 @@ bit_put = record {
   count = refl;
 }
 
--- a chunk more is no bit put
+-- an additional chunk is not the result of setting a bit
 chunk_more_is_not_put : IsBitPut 1 ((5 ∷ []) ∷ []) ((5 ∷ []) ∷ (2 ∷ []) ∷ []) 9 true → ⊥
 chunk_more_is_not_put p = omega (arith, p.count)
 
--- nor is a put at another place
+-- nor is a bit set at another place
 another_place : IsBitPut 1 ((5 ∷ []) ∷ []) ((7 ∷ []) ∷ []) 3 false → ⊥
 another_place p = false≢true (let e = p.others 1 (λ e. omega (arith, e)) in cc)
 
@@ -112,19 +112,19 @@ two_chunks (suc zero) h = record { len = refl; bytes = each }
     each (suc (suc k)) = omega arith
 two_chunks (suc (suc i)) h = absurd (omega arith)
 
--- a short one is no chunk
+-- a list of fewer bytes is not a chunk
 short_chunk : AreChunks 2 ((1 ∷ 2 ∷ []) ∷ (3 ∷ []) ∷ []) → ⊥
 short_chunk c = omega (arith, (c 1 (omega arith)).len)
 
--- bit 27 stands in the last of four bytes, which becomes 9
+-- bit 27 is in the last of four bytes, which becomes 9
 byte_put : IsBytePut 2 ((1 ∷ 2 ∷ []) ∷ (3 ∷ 4 ∷ []) ∷ []) ((1 ∷ 2 ∷ []) ∷ (3 ∷ 9 ∷ []) ∷ []) 27 9
 byte_put = record {
-  here = λ j e. same_at (λ k. k / 8 == 3) (bit_of 2 ((1 ∷ 2 ∷ []) ∷ (3 ∷ 9 ∷ []) ∷ [])) (λ k. bit_at 9 (k % 8) == 1) 32 j refl (omega arith) (ap (λ q. q == 3) e);
+  here = λ j e. same_at (λ k. k / 8 == 3) (chunks_bit 2 ((1 ∷ 2 ∷ []) ∷ (3 ∷ 9 ∷ []) ∷ [])) (λ k. bit_at 9 (k % 8) == 1) 32 j refl (omega arith) (ap (λ q. q == 3) e);
   others = λ j d. same_bits 2 32 (λ k. not (k / 8 == 3)) ((1 ∷ 2 ∷ []) ∷ (3 ∷ 4 ∷ []) ∷ []) ((1 ∷ 2 ∷ []) ∷ (3 ∷ 9 ∷ []) ∷ []) j refl (λ h. omega arith) refl (is_other (j / 8) 3 d);
   count = refl;
 }
 
--- where the byte beside it is changed as well, it is not put so
+-- a change of the adjacent byte as well is not the result of setting a bit
 another_byte : IsBytePut 2 ((1 ∷ 2 ∷ []) ∷ []) ((0 ∷ 9 ∷ []) ∷ []) 8 9 → ⊥
 another_byte p = false≢true (let e = p.others 0 (λ e. omega (arith, e)) in cc)
 
@@ -142,7 +142,7 @@ joined_byte f a b c e zero h t =
     ∙ ap (λ x. f x (chunk_bit 1 (b ∷ []) (t % 8))) (sym (m a))
     ∙ ap (λ y. f (chunk_bit 1 (a ∷ []) t) y) (sym (m b))
 
--- one chunk of one byte joined with another by 12 and 10: both have 8, either has 14, one of them alone has 6
+-- the chunks 12 and 10 of one byte, combined: `and` gives 8, `or` gives 14, and `xor` gives 6
 joined_by_and : IsCombined 1 (λ x y. x && y) ((12 ∷ []) ∷ []) ((10 ∷ []) ∷ []) ((8 ∷ []) ∷ [])
 joined_by_and = record { count = refl; bits = joined_byte (λ x y. x && y) 12 10 8 refl }
 
@@ -153,6 +153,6 @@ joined_by_xor : IsCombined 1 xor ((12 ∷ []) ∷ []) ((10 ∷ []) ∷ []) ((6 �
 unfolding xor
 joined_by_xor = record { count = refl; bits = joined_byte xor 12 10 6 refl }
 
--- 14 is not what both have
+-- 14 is not the result of `and`
 not_joined : IsCombined 1 (λ x y. x && y) ((12 ∷ []) ∷ []) ((10 ∷ []) ∷ []) ((14 ∷ []) ∷ []) → ⊥
 not_joined j = false≢true (let e = j.bits 0 (omega arith) 1 in cc)

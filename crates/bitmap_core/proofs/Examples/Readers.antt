@@ -1,4 +1,4 @@
--- What readers see, set positions, and words.
+-- Meanings of bitmaps, set positions, and words.
 use Rattle.std.specs.Prelude.{◌≡◌, ◌^◌, true, false, ◌==◌, ◌||◌, [], ◌∷◌}
 use Rattle.std.specs.Int.{bit_at as digit_at}
 use Rattle.std.proofs.Common.{zero, suc, refl, arith}
@@ -8,7 +8,7 @@ use Rattle.bitmap_core.specs.PrunedBits.{PrunedBits}
 use Rattle.bitmap_bytes.specs.Words.{starts_word, word_start, next_word, IsCut}
 use Rattle.bitmap_core.specs.Meaning.{Meaning, plain_meaning, pruned_meaning, IsLawful, IsRetainedChunk, IsRetained, ShowsChunk, ones_between, ones, words_between, words, word_bit, left_from, IsScan}
 
--- two bits, 1 and 0, nothing pruned
+-- two bits, 1 and 0, with nothing pruned
 abbrev pub plain : Meaning
 plain = plain_meaning (true ∷ false ∷ [])
 
@@ -24,11 +24,11 @@ plain_begins_with_one = refl
 plain_goes_on_with_zero : plain.bit 1 ≡ false
 plain_goes_on_with_zero = refl
 
--- bits 0, 1, 1 behind two pruned chunks
+-- bits 0, 1, 1 after two pruned chunks
 abbrev pub three_bits : PrunedBits
 three_bits = record { pruned = 2; bits = false ∷ true ∷ true ∷ [] }
 
--- as chunks of one byte: the length is 19, and 17 is the first position that is set
+-- with chunks of one byte the length is 19, and 17 is the first set position
 abbrev pub bitmap : Meaning
 bitmap = pruned_meaning 1 three_bits
 
@@ -44,7 +44,7 @@ pruned_begins_with_zero = refl
 pruned_goes_on_with_one : bitmap.bit 17 ≡ true
 pruned_goes_on_with_one = refl
 
--- it is a bitmap
+-- it is a valid meaning
 pruned_is_lawful : IsLawful 1 bitmap
 pruned_is_lawful = record {
   width = record { positive = omega arith; fits = omega arith };
@@ -53,7 +53,7 @@ pruned_is_lawful = record {
   chunks_fit = omega arith;
 }
 
--- one of chunks without bytes is none, nor is one that is longer than u64, nor one that prunes more than it has
+-- not valid: chunks without bytes, a length that does not fit u64, and a pruned prefix longer than the bitmap
 no_bytes_a_chunk : IsLawful 0 bitmap → ⊥
 no_bytes_a_chunk l = omega (arith, l.width.positive)
 
@@ -63,7 +63,7 @@ too_long l = omega (arith, l.len_fits)
 pruned_past_the_length : IsLawful 1 (record { pruned = 3; len = 23; bit = λ k. false }) → ⊥
 pruned_past_the_length l = omega (arith, l.pruned_within)
 
--- chunks whose bits pass u64 are too wide
+-- chunks whose bits do not fit u64 are too wide
 too_wide : IsLawful 2305843009213693952 plain → ⊥
 too_wide l = omega (arith, l.width.fits)
 
@@ -90,26 +90,26 @@ pruned_is_not_retained r = omega (arith, r.0)
 length_is_not_retained : IsRetained 1 bitmap 19 → ⊥
 length_is_not_retained r = omega (arith, r.1)
 
--- 254 shows chunk 2: its lowest bits are 0, 1, 1, and those past the length may be set
+-- 254 may be chunk 2: its lowest bits are 0, 1, 1, and bits past the length may be set
 shows_the_third_chunk : ShowsChunk 1 bitmap 2 (254 ∷ [])
 shows_the_third_chunk zero h s = refl
 shows_the_third_chunk (suc zero) h s = refl
 shows_the_third_chunk (suc (suc zero)) h s = refl
 shows_the_third_chunk (suc (suc (suc k))) h s = absurd (omega arith)
 
--- 2 does not: its third bit is 0
+-- 2 may not: its third bit is 0
 does_not_show_it : ShowsChunk 1 bitmap 2 (2 ∷ []) → ⊥
 does_not_show_it s = false≢true (let e = s 2 (omega arith) (omega arith) in cc)
 
--- from 3 up to 6, of 2, 3, 5 and 6
+-- of 2, 3, 5 and 6, those from 3 up to 6
 two_of_four : ones_between (λ k. (k == 2) || (k == 3) || (k == 5) || (k == 6)) 3 6 ≡ 3 ∷ 5 ∷ []
 two_of_four = refl
 
--- none from 6 up to 3
+-- there is none from 6 up to 3
 none_of_four : ones_between (λ k. (k == 2) || (k == 3) || (k == 5) || (k == 6)) 6 3 ≡ []
 none_of_four = refl
 
--- the set positions of the bitmap: all, those from 18 on, those below 18, and none of a range turned round
+-- the set positions of the bitmap: all, those from 18 on, those below 18, and none of a reversed range
 ones_of_all : ones 1 bitmap 0 18446744073709551615 ≡ 17 ∷ 18 ∷ []
 ones_of_all = refl
 
@@ -122,7 +122,7 @@ ones_up_to = refl
 ones_of_none : ones 1 bitmap 18 17 ≡ []
 ones_of_none = refl
 
--- at the upper end of u64, behind 288230376151711743 chunks of eight bytes: the first of three bits, and the last
+-- at the upper end of u64, after 288230376151711743 chunks of eight bytes: the first of three bits, and the last
 ones_near_the_end : ones 8 (pruned_meaning 8 (record { pruned = 288230376151711743; bits = true ∷ false ∷ true ∷ [] })) 0 18446744073709551615 ≡ 18446744073709551552 ∷ 18446744073709551554 ∷ []
 ones_near_the_end = refl
 
@@ -142,7 +142,7 @@ no_word_begins = refl
 short_word_of_the_second_chunk : starts_word 9 136 ≡ true
 short_word_of_the_second_chunk = refl
 
--- the words of 71, of 100 and of 140
+-- the words that contain 71, 100 and 140
 word_of_71 : word_start 9 71 ≡ 64
 word_of_71 = refl
 
@@ -175,30 +175,30 @@ next_eight_bytes = refl
 within_sixteen_bytes : next_word 16 0 ≡ 64
 within_sixteen_bytes = refl
 
--- positions 0 to 72 of chunks of nine bytes meet the words at 0, 64 and 72
+-- positions 0 to 72 of chunks of nine bytes are in the words at 0, 64 and 72
 three_words : words_between 9 0 73 ≡ 3
 three_words = refl
 
--- positions 65 to 71 meet one, in its midst
+-- positions 65 to 71 are within one word
 one_word : words_between 9 65 72 ≡ 1
 one_word = refl
 
--- an empty range meets none, though it lies within a word
+-- an empty range meets no word, even if it is within one
 no_word : words_between 9 10 10 ≡ 0
 no_word = refl
 
--- 65 positions of chunks of eight bytes meet two words
+-- 65 positions of chunks of eight bytes are in two words
 two_words : words_between 8 0 65 ≡ 2
 two_words = refl
 
--- the three retained bits behind two chunks of one byte are one word, and none past the length counts
+-- the three retained bits after two chunks of one byte are one word, and bits past the length do not count
 word_of_pruned : words 1 bitmap 0 100 ≡ 1
 word_of_pruned = refl
 
 no_word_past_pruned : words 1 bitmap 19 100 ≡ 0
 no_word_past_pruned = refl
 
--- 5 is one and four: in a word at 64 it has the positions 64 and 66
+-- 5 is 1 plus 4: in a word at 64 it has the positions 64 and 66
 bit_of_a_word : word_bit 64 5 66 ≡ true
 bit_of_a_word = refl
 
@@ -209,15 +209,15 @@ no_bit_of_a_word = refl
 abbrev pub ten : Meaning
 ten = plain_meaning (true ∷ false ∷ true ∷ false ∷ false ∷ false ∷ false ∷ false ∷ true ∷ true ∷ [])
 
--- of the word at 0 the bit at 2 is left, and then come those from the word at 8 on
+-- the bit at 2 is left of the word at 0, and then come those from the word at 8 on
 left_in_the_first_word : left_from 1 ten 0 4 10 ≡ 2 ∷ 8 ∷ 9 ∷ []
 left_in_the_first_word = refl
 
--- where nothing is left of the last word, nothing is left
+-- if nothing is left of the last word, nothing is left
 nothing_left : left_from 1 ten 8 0 10 ≡ []
 nothing_left = refl
 
--- an iterator over all ten that has loaded the word at 0 out of its chunk, which is 5: one more word is to come, of two
+-- an iterator over all ten bits that has loaded the word at 0 from its chunk, 5: one of two words is to come
 iterator : IsScan 1 ten 0 10 (5 ∷ []) 1 0
 iterator = record {
   lawful = record {
@@ -244,7 +244,7 @@ iterator = record {
     shows (suc (suc (suc (suc (suc (suc (suc zero))))))) h s = refl
     shows (suc (suc (suc (suc (suc (suc (suc (suc k)))))))) h s = absurd (omega arith)
 
--- it is none where it has loaded two words already, or where another chunk is shown, or where no word begins at its base
+-- not valid: two words loaded already, another chunk in the iterator, and a base at which no word begins
 too_many_loads : IsScan 1 ten 0 10 (5 ∷ []) 2 0 → ⊥
 too_many_loads s = omega (arith, s.counted)
 

@@ -1,4 +1,4 @@
--- Searches and counts, and the words that they rest on.
+-- Searches and counts, and the definitions that they use.
 use Rattle.std.specs.Prelude.{◌≡◌, ◌<◌, ◌≤◌, true, false, [], ◌∷◌, Some, None, ◌==◌, ◌||◌}
 use Rattle.std.proofs.Common.{ℕ, zero, suc, refl, arith}
 use Rattle.std.proofs.lemmas.Bool.{false≢true}
@@ -22,7 +22,7 @@ first_of_none = refl
 last_of_none : last [] ≡ None
 last_of_none = refl
 
--- positions that are not set
+-- unset positions
 zeros_of_ten : zeros 1 ten 0 10 ≡ 1 ∷ 3 ∷ 4 ∷ 5 ∷ 6 ∷ 7 ∷ []
 zeros_of_ten = refl
 
@@ -35,7 +35,7 @@ zeros_turned_round = refl
 zeros_of_a_test : zeros_between (λ k. (k == 2) || (k == 4)) 1 6 ≡ 1 ∷ 3 ∷ 5 ∷ []
 zeros_of_a_test = refl
 
--- from 0 the first set position is 0 itself, and from 3 it is 8; from the length on there is none
+-- the first set position from 0 on is 0 itself, and from 3 on it is 8; from the length on there is none
 next_one_at_its_start : next_one 1 ten 0 ≡ Some 0
 next_one_at_its_start = refl
 
@@ -45,21 +45,21 @@ next_one_after_zeros = refl
 next_one_at_the_length : next_one 1 ten 10 ≡ None
 next_one_at_the_length = refl
 
--- pruned positions are passed over
+-- pruned positions are skipped
 next_one_past_pruned : next_one 1 bitmap 0 ≡ Some 17
 next_one_past_pruned = refl
 
 next_zero_past_pruned : next_zero 1 bitmap 0 ≡ Some 16
 next_zero_past_pruned = refl
 
--- no position at or past the length is one that is not set
+-- no position at or past the length counts as unset
 next_zero_in_ten : next_zero 1 ten 2 ≡ Some 3
 next_zero_in_ten = refl
 
 next_zero_at_the_end : next_zero 1 ten 8 ≡ None
 next_zero_at_the_end = refl
 
--- below 9 the last set position is 8, and below 8 it is 2; below 0 there is none
+-- the last set position below 9 is 8, and below 8 it is 2; below 0 there is none
 prev_one_below_nine : prev_one 1 ten 9 ≡ Some 8
 prev_one_below_nine = refl
 
@@ -69,7 +69,7 @@ prev_one_below_eight = refl
 prev_one_below_zero : prev_one 1 ten 0 ≡ None
 prev_one_below_zero = refl
 
--- an end past the length is the length
+-- an end past the length counts as the length
 prev_one_past_the_length : prev_one 1 ten 100 ≡ Some 9
 prev_one_past_the_length = refl
 
@@ -79,7 +79,7 @@ prev_zero_of_ten = refl
 prev_zero_of_pruned : prev_zero 1 bitmap 16 ≡ None
 prev_zero_of_pruned = refl
 
--- counts of all, of a part, and of a range that is turned round
+-- counts of all positions, of a part, and of a reversed range
 count_of_all : ones_count 1 ten 0 18446744073709551615 ≡ 4
 count_of_all = refl
 
@@ -105,7 +105,7 @@ select_past_the_last = refl
 select_in_pruned : select_one 1 bitmap 1 ≡ Some 18
 select_in_pruned = refl
 
--- a bit that is wanted
+-- a bit that the search looks for
 set_is_wanted : is_wanted true true ≡ true
 set_is_wanted = refl
 
@@ -128,14 +128,14 @@ last_below_five = record { below = omega arith; passes = refl; none_after = λ i
 last_below_five_is_not_two : IsLastBelow (λ k. (k == 2) || (k == 4)) 5 2 → ⊥
 last_below_five_is_not_two l = false≢true (let e = l.none_after 4 (omega arith) (omega arith) in cc)
 
--- from 1 on, 4 has one before it
+-- 4 has one position before it, counted from 1 on
 nth_of_two : IsNth (λ k. (k == 2) || (k == 4)) 1 6 1 4
 nth_of_two = record { above = omega arith; below = omega arith; passes = refl; rank = refl }
 
 nth_of_two_is_not_zeroth : IsNth (λ k. (k == 2) || (k == 4)) 1 6 0 4 → ⊥
 nth_of_two_is_not_zeroth l = omega (arith, l.rank)
 
--- in `ten`, 8 is next from 3 on; 9 is not, and 2 is not
+-- in `ten`, the next set position from 3 on is 8; it is not 9, and not 2
 eight_is_next : IsNext 1 ten true 3 8
 eight_is_next = record { retained = (omega arith, omega arith); above = omega arith; bit = refl; least = least }
   where
@@ -153,7 +153,7 @@ nine_is_not_next l = false≢true (let e = l.least 8 (omega arith, omega arith) 
 two_is_not_next : IsNext 1 ten true 3 2 → ⊥
 two_is_not_next l = omega (arith, l.above)
 
--- 9 is the last that is set below 10
+-- the last set position below 10 is 9
 nine_is_previous : IsPrevious 1 ten true 10 9
 nine_is_previous = record { retained = (omega arith, omega arith); below = omega arith; bit = refl; greatest = λ k r h s. absurd (omega arith) }
 

@@ -1,4 +1,4 @@
--- What an edit of the chunks does to the list of their bits.
+-- The effect of edits of the chunks on the list of their bits.
 use Rattle.std.proofs.Common.{◌≡◌, ℕ, ◌+◌, ◌-◌, ◌*◌, ◌/◌, ◌%◌, ◌<◌, ◌≤◌, Bool, false, List, [], ◌∷◌, ◌++◌, length, get_or, set, take, replicate, map, sym, ap, ◌∙◌, inl, inr, arith}
 use Rattle.std.specs.List.{range_with_len}
 use Rattle.std.proofs.Math.Nat.{mod-eq_of_lt}
@@ -7,20 +7,20 @@ use Rattle.std.proofs.lemmas.List.{get_or-set_same, get_or-set_other, length-set
 use Rattle.std.proofs.lemmas.List.FromFn.{length-map-range_with_len, get_or-map-range_with_len}
 use Rattle.std.proofs.lemmas.Bool.{cases_eq, cases_lt}
 use Rattle.bitmap_bytes.specs.Chunk.{chunk_bit}
-use Rattle.bitmap_bytes.specs.Bits.{bit_of, bits, IsChunkCount, IsBitPut, IsZeroFrom}
+use Rattle.bitmap_bytes.specs.Bits.{chunks_bit, bits, IsChunkCount, IsBitPut, IsZeroFrom}
 use Rattle.bitmap_bytes.proofs.Chunks.Places.{index_below, full_len}
 use Rattle.bitmap_bytes.proofs.Chunks.Bits.{chunk_bit-mod}
 use Rattle.bitmap_bytes.proofs.Lists.Bits.{get_or-bits, bits-more, bits_are, bits-same, len_is, take-bits}
-use Rattle.bitmap_bytes.proofs.Chunks.Lists.{bit_of-push_in, bit_of-push_here}
+use Rattle.bitmap_bytes.proofs.Chunks.Lists.{chunks_bit-push_in, chunks_bit-push_here}
 
--- a bit put, pushed and popped
+-- a bit is set, pushed and popped
 pub bits-put : (n : ℕ) (xs ys : List (List ℕ)) (i : ℕ) (b : Bool) (len : ℕ) (v : List Bool) → IsBitPut n xs ys i b
     → bits n xs len ≡ v → i < len
     → bits n ys len ≡ set v i b
 bits-put n xs ys i b len v p e h =
     bits_are n ys len (set v i b) (length-set v i b ∙ len_is n xs len v e) (λ j s. elim (cases_eq j i) [
       | inl q ↦
-          ap (λ k. bit_of n ys k) q
+          ap (λ k. chunks_bit n ys k) q
           ∙ p.here
           ∙ sym (get_or-set_same v i b false (omega (arith, len_is n xs len v e)))
           ∙ ap (λ k. get_or (set v i b) k false) (sym q)
@@ -36,14 +36,14 @@ bits-push n xs ys len b v p e =
     ∙ ap (λ l. l ++ b ∷ []) (bits-same n xs ys len (λ i s. p.others i (λ q. absurd (omega arith))) ∙ e)
 
 pub bits-pop : (n : ℕ) (xs ys : List (List ℕ)) (last len : ℕ) (v : List Bool) → last + 1 ≡ len
-    → ((i : ℕ) → i < last → bit_of n ys i ≡ bit_of n xs i) → bits n xs len ≡ v
-    → v ≡ bits n ys last ++ bit_of n xs last ∷ []
+    → ((i : ℕ) → i < last → chunks_bit n ys i ≡ chunks_bit n xs i) → bits n xs len ≡ v
+    → v ≡ bits n ys last ++ chunks_bit n xs last ∷ []
 bits-pop n xs ys last len v e s h =
-    sym h ∙ ap (λ k. bits n xs k) (sym e) ∙ bits-more n xs last ∙ ap (λ l. l ++ bit_of n xs last ∷ []) (sym (bits-same n xs ys last s))
+    sym h ∙ ap (λ k. bits n xs k) (sym e) ∙ bits-more n xs last ∙ ap (λ l. l ++ chunks_bit n xs last ∷ []) (sym (bits-same n xs ys last s))
 
--- zero bits made part of the bits
+-- zero bits are appended by a greater length
 pub bits-extend : (n : ℕ) (xs ys : List (List ℕ)) (len longer : ℕ) (v : List Bool) → len ≤ longer → IsZeroFrom n xs len
-    → ((i : ℕ) → bit_of n ys i ≡ bit_of n xs i) → bits n xs len ≡ v
+    → ((i : ℕ) → chunks_bit n ys i ≡ chunks_bit n xs i) → bits n xs len ≡ v
     → bits n ys longer ≡ v ++ replicate (longer - length v) false
 bits-extend n xs ys len longer v p z h e =
     let l = len_is n xs len v e in
@@ -62,17 +62,17 @@ bits-extend n xs ys len longer v p z h e =
           ∙ sym (get_or-append_right v (replicate (longer - length v) false) len i false l w)
     ])
 
--- a list that is long enough is lengthened by nothing
+-- extending a list to at most its length changes nothing
 pub append_nothing : (v : List Bool) (m : ℕ) → m ≤ length v → v ≡ v ++ replicate (m - length v) false
 append_nothing v m h = let e : m - length v ≡ 0 = omega arith in sym (ap (λ k. v ++ replicate k false) e ∙ append-nil v)
 
--- the bits below a shorter length
+-- the bits below a smaller length
 pub bits-take : (n : ℕ) (xs ys : List (List ℕ)) (len shorter : ℕ) (v : List Bool) → shorter ≤ len
-    → ((i : ℕ) → i < shorter → bit_of n ys i ≡ bit_of n xs i) → bits n xs len ≡ v
+    → ((i : ℕ) → i < shorter → chunks_bit n ys i ≡ chunks_bit n xs i) → bits n xs len ≡ v
     → bits n ys shorter ≡ take shorter v
 bits-take n xs ys len shorter v p h e = bits-same n xs ys shorter h ∙ sym (take-bits n xs len shorter p) ∙ ap (λ x. take shorter x) e
 
--- a whole chunk pushed
+-- a whole chunk is pushed
 pub bits-push_chunk : (n : ℕ) (xs : List (List ℕ)) (len : ℕ) (c : List ℕ) (v : List Bool) → 0 < n → len % (8 * n) ≡ 0
     → IsChunkCount n (length xs) len → bits n xs len ≡ v
     → bits n (xs ++ c ∷ []) (len + 8 * n) ≡ v ++ map (chunk_bit n c) (range_with_len 0 (8 * n))
@@ -83,7 +83,7 @@ bits-push_chunk n xs len c v p e k b =
     let pushed : List Bool = map (chunk_bit n c) (range_with_len 0 (8 * n)) in
     bits_are n (xs ++ c ∷ []) (len + 8 * n) (v ++ pushed) (omega (arith, length-append v pushed)) (λ i h. elim (cases_lt i len) [
       | inl s ↦
-          bit_of-push_in n xs c i (index_below n (length xs) len i p s k)
+          chunks_bit-push_in n xs c i (index_below n (length xs) len i p s k)
           ∙ sym (get_or-bits n xs len i false s)
           ∙ ap (λ x. get_or x i false) b
           ∙ sym (get_or_append_left v (map (chunk_bit n c) (range_with_len 0 (8 * n))) false i (omega arith))
@@ -94,17 +94,17 @@ bits-push_chunk n xs len c v p e k b =
           ap (λ x. x % (8 * n)) at
           ∙ mod-mul-add (length xs) (8 * n) (i - len) (omega arith)
           ∙ sym (mod-eq_of_lt {n = i - len} {m = 8 * n} (omega arith)) in
-          bit_of-push_here n xs c i q
+          chunks_bit-push_here n xs c i q
           ∙ chunk_bit-mod n c i (i - len) p r
           ∙ sym (get_or-map-range_with_len (chunk_bit n c) 0 (8 * n) (i - len) (i - len) false (omega arith) (omega arith))
           ∙ sym (get_or-append_right v (map (chunk_bit n c) (range_with_len 0 (8 * n))) len i false l s)
     ])
 
--- the bits of one list behind those of another
+-- the bits of one list after those of another
 pub bits-append : (n m : ℕ) (xs ys os : List (List ℕ)) (len more : ℕ) (v w : List Bool) → 0 < n
     → IsChunkCount n (length ys) (len + more) → bits n xs len ≡ v → bits m os more ≡ w
-    → ((i : ℕ) → i < len → bit_of n ys i ≡ bit_of n xs i)
-    → ((i : ℕ) → len ≤ i → i / (8 * n) < length ys → bit_of n ys i ≡ bit_of m os (i - len))
+    → ((i : ℕ) → i < len → chunks_bit n ys i ≡ chunks_bit n xs i)
+    → ((i : ℕ) → len ≤ i → i / (8 * n) < length ys → chunks_bit n ys i ≡ chunks_bit m os (i - len))
     → bits n ys (len + more) ≡ v ++ w
 bits-append n m xs ys os len more v w p k e f kept joined =
     let l = len_is n xs len v e in

@@ -6,7 +6,7 @@ use Rattle.std.specs.Bool.{Decides}
 use Rattle.std.specs.Cmp.{booleans_Decides}
 use Rattle.std.specs.Cmp.Lexicographic.{pointwise, pointwise_decides}
 use Rattle.std.proofs.Math.Bool.{beq}
-use Rattle.bitmap_bytes.specs.Bits.{bit_of, bits, IsZeroFrom}
+use Rattle.bitmap_bytes.specs.Bits.{chunks_bit, bits, IsZeroFrom}
 use Rattle.bitmap_bytes.proofs.Lists.Bits.{get_or-bits, bits-same, len_is}
 
 decides_from : {P : Type 0} (r : Bool) → (r ≡ true → P) → (r ≡ false → P → ⊥) → Decides r P
@@ -15,7 +15,7 @@ decides_from false f g = (f, λ p. absurd (g refl p))
 
 pub same_values : (n : ℕ) (xs ys : List (List ℕ)) (len len' : ℕ) (v w : List Bool) (r : Bool) → bits n xs len ≡ v
     → bits n ys len' ≡ w → len ≡ len' → IsZeroFrom n xs len → IsZeroFrom n ys len'
-    → Decides r ((i : ℕ) → bit_of n xs i ≡ bit_of n ys i)
+    → Decides r ((i : ℕ) → chunks_bit n xs i ≡ chunks_bit n ys i)
     → r ≡ pointwise beq v w
 same_values n xs ys len len' v w r e f l z y d =
     let g : bits n ys len ≡ w = ap (λ k. bits n ys k) l ∙ f in

@@ -1,4 +1,4 @@
--- Which positions stand in a list of set positions.
+-- Membership in a list of set positions.
 use Rattle.std.proofs.Common.{◌≡◌, ℕ, zero, suc, ◌+◌, ◌-◌, ◌*◌, ◌<◌, ◌≤◌, min, max, Bool, true, false, cond, List, ◌∷◌, ◌++◌, length, get_or, refl, sym, ap, subst, ◌∙◌, arith}
 use Rattle.std.specs.Prelude.{◌↔◌}
 use Rattle.std.specs.List.{All, Contains, count_by, filter, range_with_len}
@@ -12,7 +12,7 @@ use Rattle.bitmap_bytes.proofs.Counting.Ones.{ones_from}
 use Rattle.bitmap_bytes.proofs.Counting.Places.{count_map}
 use Rattle.bitmap_core.proofs.Lists.SetPositions.{ones_between-append, ones_between-hit}
 
--- what stands behind the front of a list is in it
+-- an item after the first is in the list
 Contains-middle : (xs ys : List ℕ) (k : ℕ) → Contains (xs ++ k ∷ ys) k
 Contains-middle xs ys k = (
   length xs,
@@ -41,7 +41,7 @@ module _ (bit : ℕ → Bool) (lo hi : ℕ) where
   pub ones_between-ascend : IsStrictlyIncreasing (ones_between bit lo hi)
   ones_between-ascend = IsStrictlyIncreasing-filter bit (range_with_len lo (hi - lo)) (range_ascends lo (hi - lo))
 
-  -- a set position between the two ends is in the list
+  -- a set position in the range is in the list
   has : (k : ℕ) → lo ≤ k → k < hi → bit k ≡ true → Contains (ones_between bit lo hi) k
   has k a b e =
       let split : ones_between bit lo hi ≡ ones_between bit lo k ++ ones_between bit k hi = ones_between-append bit lo k hi a (omega arith) in
@@ -49,7 +49,7 @@ module _ (bit : ℕ → Bool) (lo hi : ℕ) where
       subst (λ xs. Contains xs k) (sym (split ∙ ap (λ ys. ones_between bit lo k ++ ys) hit))
       (Contains-middle (ones_between bit lo k) (ones_between bit (k + 1) hi) k)
 
-  -- and there is no other
+  -- the list has no other positions
   found : (k : ℕ) → Contains (ones_between bit lo hi) k → (lo ≤ k) × (k < hi) × (bit k ≡ true)
   found k c =
       let InRange : ℕ → Type 0 = λ x. (lo ≤ x) × (x < lo + (hi - lo)) in
@@ -76,7 +76,7 @@ run_count : (p : ℕ → Bool) (a n : ℕ) → length (filter p (range_with_len 
 run_count p a zero = refl
 run_count p a (suc n) = cond_count (p a) a (filter p (range_with_len (a + 1) n)) (ones_from p (a + 1) n) (run_count p (a + 1) n)
 
--- the set positions of a list, as an iterator over a bitmap gives them
+-- the set positions of a list, as an iterator over a bitmap yields them
 module _ (v : List Bool) (positions : List ℕ) (is : positions ≡ filter (λ k. get_or v k false) (range_with_len 0 (length v))) where
   between : positions ≡ ones_between (λ k. get_or v k false) 0 (length v)
   between = let z : length v ≡ length v - 0 = omega arith in is ∙ ap (λ n. filter (λ k. get_or v k false) (range_with_len 0 n)) z
@@ -91,7 +91,7 @@ module _ (v : List Bool) (positions : List ℕ) (is : positions ≡ filter (λ k
         λ h. subst (λ xs. Contains xs k) (sym between) (e.1 (omega arith, h.0, h.1)),
       )
 
-  -- they are as many as the ones
+  -- there are as many as set bits
   pub positions-count : length positions ≡ count_by (λ b. b) v
   positions-count =
       ap length is

@@ -1,9 +1,9 @@
--- Lists of set positions, position by position and part by part.
+-- Lists of set positions: by position, and by parts of a range.
 use Rattle.std.proofs.Common.{◌≡◌, ℕ, zero, suc, ◌+◌, ◌-◌, ◌*◌, ◌^◌, ◌<◌, ◌≤◌, min, max, Bool, true, false, cond, List, [], ◌∷◌, ◌++◌, length, refl, ap, ◌∙◌, arith, add-zero, zero-add}
 use Rattle.std.specs.List.{filter, range_with_len}
 use Rattle.bitmap_core.specs.Meaning.{Meaning, ones_between, ones}
 
--- n positions from lo on
+-- the n positions from lo on
 abbrev run : (ℕ → Bool) → ℕ → ℕ → List ℕ
 run p lo n = filter p (range_with_len lo n)
 
@@ -62,7 +62,7 @@ ones_between-false p lo hi h = run-none p lo (hi - lo) (λ k i j. h k i (omega a
 pub ones_between-length : (p : ℕ → Bool) (lo hi : ℕ) → length (ones_between p lo hi) ≤ hi - lo
 ones_between-length p lo hi = run-length p lo (hi - lo)
 
--- the first set position, and those after it
+-- the list is its first set position, and then those after it
 pub ones_between-first : (p q : ℕ → Bool) (lo t hi : ℕ) → lo ≤ t → t < hi → p t ≡ true
     → ((k : ℕ) → lo ≤ k → k < t → p k ≡ false) → ((k : ℕ) → lo ≤ k → k ≤ t → q k ≡ false)
     → ((k : ℕ) → t < k → k < hi → p k ≡ q k)
@@ -80,6 +80,6 @@ ones_between-first p q lo t hi h i at before gone same =
 pub ones_between-at : (bit : ℕ → Bool) (lo low hi high : ℕ) → lo ≡ low → hi ≡ high → ones_between bit lo hi ≡ ones_between bit low high
 ones_between-at bit lo low hi high e d = rw (e, d)
 
--- the set positions of a bitmap are fewer than 2 ^ 64
+-- a bitmap has fewer than 2 ^ 64 set positions
 pub ones_fit : (n : ℕ) (m : Meaning) (a b : ℕ) → m.len < 2 ^ 64 → length (ones n m a b) < 2 ^ 64
 ones_fit n m a b fits = omega (arith, ones_between-length m.bit (max a (8 * n * m.pruned)) (min b m.len))

@@ -5,14 +5,14 @@ use Rattle.std.proofs.lemmas.Slice.Zip.{get_or-zip, length-zip}
 use Rattle.std.proofs.lemmas.List.{get_or_append_left, get_or-append_right, get_or-replicate, length-append, length-replicate, length-map, get_or-map}
 use Rattle.std.proofs.lemmas.Bool.{cases_lt}
 use Rattle.bitmap_bytes.specs.Chunk.{chunk_bit}
-use Rattle.bitmap_bytes.specs.Bits.{bit_of, bits, IsChunkCount, IsZeroFrom}
+use Rattle.bitmap_bytes.specs.Bits.{chunks_bit, bits, IsChunkCount, IsZeroFrom}
 use Rattle.bitmap_bytes.specs.Combined.{IsCombined}
 use Rattle.bitmap_bytes.proofs.Chunks.Places.{index_below}
 use Rattle.bitmap_bytes.proofs.Lists.Bits.{get_or-bits, bits_are, len_is}
 use Rattle.bitmap_bytes.proofs.Chunks.Lists.{bit_of_past}
 
 pub bits-flip : (n : ℕ) (xs ys zs : List (List ℕ)) (len : ℕ) (v : List Bool) → bits n xs len ≡ v
-    → ((i : ℕ) → i < len → bit_of n ys i ≡ not (bit_of n xs i)) → ((i : ℕ) → i < len → bit_of n zs i ≡ bit_of n ys i)
+    → ((i : ℕ) → i < len → chunks_bit n ys i ≡ not (chunks_bit n xs i)) → ((i : ℕ) → i < len → chunks_bit n zs i ≡ chunks_bit n ys i)
     → bits n zs len ≡ map not v
 bits-flip n xs ys zs len v e f g =
     bits_are n zs len (map not v) (length-map v not ∙ len_is n xs len v e) (λ i s.
@@ -22,7 +22,7 @@ bits-flip n xs ys zs len v e f g =
     ∙ sym (get_or-map not v i false false (omega (arith, len_is n xs len v e))))
 
 pub bits-fill : (n : ℕ) (xs zs : List (List ℕ)) (len : ℕ) (b : Bool) (v : List Bool) → bits n xs len ≡ v
-    → ((i : ℕ) → i < len → bit_of n zs i ≡ b)
+    → ((i : ℕ) → i < len → chunks_bit n zs i ≡ b)
     → bits n zs len ≡ replicate (length v) b
 bits-fill n xs zs len b v e f =
     let l = len_is n xs len v e in
@@ -30,10 +30,10 @@ bits-fill n xs zs len b v e f =
     f i s
     ∙ sym (get_or-replicate (length v) i b false (omega arith)))
 
--- one bit of chunks that were joined
+-- one bit of combined chunks
 joined_bit : (n : ℕ) (f : Bool → Bool → Bool) (xs os ys : List (List ℕ)) (i : ℕ) → IsCombined n f xs os ys
     → i / (8 * n) < length xs
-    → bit_of n ys i ≡ f (bit_of n xs i) (bit_of n os i)
+    → chunks_bit n ys i ≡ f (chunks_bit n xs i) (chunks_bit n os i)
 joined_bit n f xs os ys i j s = j.bits (i / (8 * n)) s i
 
 pub bits-zip : (n : ℕ) (f : Bool → Bool → Bool) (xs os ys : List (List ℕ)) (len : ℕ) (v w : List Bool) → 0 < n
@@ -47,21 +47,21 @@ bits-zip n f xs os ys len v w p k j e g =
     let a = sym (get_or-bits n xs len i false s) ∙ ap (λ x. get_or x i false) e in
     let b = sym (get_or-bits n os len i false s) ∙ ap (λ x. get_or x i false) g in
     joined_bit n f xs os ys i j (index_below n (length xs) len i p s k)
-    ∙ ap (λ x. f x (bit_of n os i)) a
+    ∙ ap (λ x. f x (chunks_bit n os i)) a
     ∙ ap (λ x. f (get_or v i false) x) b
     ∙ sym (ap (λ (p : Bool × Bool). f p.0 p.1) (get_or-zip v w i (false, false) (omega arith) (omega arith)))
     ∙ sym (get_or-map (λ (p : Bool × Bool). f p.0 p.1) (zip v w) i (false, false) false (omega arith)))
 
--- where both end in zeros, so do the chunks that they make
+-- if both end in zeros, so do the combined chunks
 pub IsZeroFrom-zip : (n : ℕ) (f : Bool → Bool → Bool) (xs os ys : List (List ℕ)) (len : ℕ) → f false false ≡ false
     → IsCombined n f xs os ys → IsZeroFrom n xs len → IsZeroFrom n os len
     → IsZeroFrom n ys len
 IsZeroFrom-zip n f xs os ys len o j y z i h = elim (cases_lt (i / (8 * n)) (length xs)) [
-  | inl s ↦ joined_bit n f xs os ys i j s ∙ ap (λ x. f x (bit_of n os i)) (y i h) ∙ ap (λ x. f false x) (z i h) ∙ o
+  | inl s ↦ joined_bit n f xs os ys i j s ∙ ap (λ x. f x (chunks_bit n os i)) (y i h) ∙ ap (λ x. f false x) (z i h) ∙ o
   | inr s ↦ bit_of_past n ys i (omega (arith, j.count))
 ]
 
--- two runs of chunks, each joined with its own
+-- two runs of chunks, each combined with its own operand
 IsCombined-append : (n : ℕ) (f : Bool → Bool → Bool) (fs gs os ps xs ys : List (List ℕ)) → length fs ≡ length os
     → IsCombined n f fs os xs → IsCombined n f gs ps ys
     → IsCombined n f (fs ++ gs) (os ++ ps) (xs ++ ys)
@@ -81,7 +81,7 @@ IsCombined-append n f fs gs os ps xs ys e j k = record {
   ];
 }
 
--- the same, of whole lists that are those runs
+-- the same for whole lists that are these runs
 pub joined_runs : (n : ℕ) (f : Bool → Bool → Bool) (fs gs os ps xs ys olds others news : List (List ℕ)) → olds ≡ fs ++ gs
     → os ++ ps ≡ others → news ≡ xs ++ ys → length fs ≡ length os → IsCombined n f fs os xs → IsCombined n f gs ps ys
     → IsCombined n f olds others news

@@ -1,4 +1,4 @@
--- What a bitmap is to its readers, read by chunks and made of a list of bits.
+-- The meaning of a bitmap as readers see it, by chunks and as a list of bits.
 use Rattle.std.proofs.Common.{◌≡◌, ℕ, ◌+◌, ◌-◌, ◌*◌, ◌/◌, ◌%◌, ◌^◌, ◌<◌, Bool, false, List, [], length, get_or, sym, ap, ◌∙◌, arith}
 use Rattle.std.proofs.Math.Nat.{div-add-mod, mod-eq_of_lt, div-le_self, lt_of_mul-lt-mul_left}
 use Rattle.std.proofs.lemmas.Nat.{mod_below, div-mul-add, mod-mul-add}
@@ -8,7 +8,7 @@ use Rattle.bitmap_core.specs.Meaning.{Meaning, plain_meaning, IsLawful, ShowsChu
 use Rattle.bitmap_bytes.proofs.Chunks.Bits.{chunk_bit-mod}
 use Rattle.bitmap_bytes.proofs.Lists.Bits.{get_or-bits, len_is}
 
--- a bit below the length, read out of its chunk
+-- a bit below the length is the bit of its chunk
 pub shown_bit : (n : ℕ) (m : Meaning) (bytes : List ℕ) (k : ℕ) → 0 < n → k < m.len → ShowsChunk n m (k / (8 * n)) bytes
     → chunk_bit n bytes k ≡ m.bit k
 shown_bit n m bytes k p h shows =
@@ -26,7 +26,7 @@ plain_lawful n v p w h = record {
   chunks_fit = omega (arith, div-le_self (length v) (8 * n));
 }
 
--- a chunk of a dense bitmap shows the list
+-- a chunk of a dense bitmap has the bits of the list
 pub plain_shows : (n : ℕ) (chunks : List (List ℕ)) (len : ℕ) (v : List Bool) (c : ℕ) (bytes : List ℕ) → 0 < n
     → bits n chunks len ≡ v → bytes ≡ get_or chunks c []
     → ShowsChunk n (plain_meaning v) c bytes
@@ -42,13 +42,13 @@ plain_shows n chunks len v c bytes p e r k h s =
     ∙ sym (get_or-bits n chunks len (8 * n * c + k) false (omega arith))
     ∙ ap (λ x. get_or x (8 * n * c + k) false) e
 
--- a chunk with a bit is there
+-- a chunk with a bit below the length exists
 pub plain_has : (n : ℕ) (chunks : List (List ℕ)) (len : ℕ) (v : List Bool) (c : ℕ) → bits n chunks len ≡ v
     → IsChunkCount n (length chunks) len → 8 * n * c < length v
     → c < length chunks
 plain_has n chunks len v c e k h = lt_of_mul-lt-mul_left (8 * n) (omega (arith, len_is n chunks len v e, k.0))
 
--- and so the last one
+-- the last chunk exists
 pub plain_has_last : (n : ℕ) (chunks : List (List ℕ)) (len : ℕ) (v : List Bool) → bits n chunks len ≡ v
     → IsChunkCount n (length chunks) len → 0 < length v
     → (length v - 1) / (8 * n) < length chunks

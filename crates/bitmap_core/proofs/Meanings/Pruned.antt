@@ -1,4 +1,4 @@
--- What a bitmap with a pruned front is to its readers.
+-- The meaning of a bitmap with a pruned prefix, as readers see it.
 use Rattle.std.proofs.Common.{◌≡◌, ℕ, ◌+◌, ◌-◌, ◌*◌, ◌/◌, ◌%◌, ◌^◌, ◌<◌, List, ap, ◌∙◌, arith}
 use Rattle.std.proofs.Math.Nat.{div-le_self, div-add-mod}
 use Rattle.bitmap_bytes.specs.Chunk.{chunk_bit}
@@ -18,6 +18,6 @@ pruned_lawful n b p w h = record {
 pub pruned_shows : (n : ℕ) (b : PrunedBits) (c : ℕ) (bytes : List ℕ) → 0 < n → bytes ≡ chunk n b c → ShowsChunk n (pruned_meaning n b) c bytes
 pruned_shows n b c bytes p e k h s = ap (λ x. chunk_bit n x k) e ∙ chunk_bit_of_chunk n b c k p h
 
--- where the last chunk begins, and how far it is used
+-- the start of the last chunk, and the number of its bits in use
 pub last_used : (w len : ℕ) → 0 < len → w * ((len - 1) / w) + ((len - 1) % w + 1) ≡ len
 last_used w len h = omega (arith, div-add-mod (len - 1) w)

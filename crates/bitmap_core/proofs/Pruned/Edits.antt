@@ -1,4 +1,4 @@
--- The length, the bits and the chunks of an edited bitmap with a pruned front.
+-- The length, the bits and the chunks of an edited bitmap with a pruned prefix.
 use Rattle.std.proofs.Common.{◌≡◌, ℕ, ◌+◌, ◌-◌, ◌*◌, ◌/◌, ◌%◌, ◌^◌, ◌<◌, ◌≤◌, Bool, false, cond, List, [], ◌∷◌, ◌++◌, length, get_or, map, take, replicate, refl, sym, ap, ◌∙◌, inl, inr, eqb, ltb, Result, Ok, Err, OnOk, OnErr, arith}
 use Rattle.std.proofs.Math.Nat.{mod-mod, mul-add, mul-add-div, mul-add-mod_self_left}
 use Rattle.std.proofs.lemmas.Nat.{div_below, mod_below}
@@ -7,10 +7,10 @@ use Rattle.std.proofs.lemmas.Bool.{cases_lt, cases_eq, cases_order, eq-eqb, ne_e
 use Rattle.std.proofs.lemmas.List.FromFn.{length-map-range_with_len, get_or-map-range_with_len}
 use Rattle.std.specs.List.{flat_map, range_with_len}
 use Rattle.bitmap_bytes.specs.Chunk.{chunk_bit, chunk_bits}
-use Rattle.bitmap_bytes.specs.Bits.{bit_of}
-use Rattle.bitmap_core.specs.PrunedBits.{PrunedBits, pruned_bits, bit_len, bit_at, HasBit, chunk, pushed, popped, set_at, appended, extended, truncated, pruned_to, unpruned, with_chunk}
+use Rattle.bitmap_bytes.specs.Bits.{chunks_bit}
+use Rattle.bitmap_core.specs.PrunedBits.{PrunedBits, pruned_bits, bit_len, bit_at, IsRetained, chunk, pushed, popped, set_at, appended, extended, truncated, pruned_to, unpruned, with_chunk}
 use Rattle.bitmap_bytes.proofs.Chunks.Bits.{chunk_bit-mod}
-use Rattle.bitmap_bytes.proofs.Chunks.Front.{length-front_bits, get_or-front_bits}
+use Rattle.bitmap_bytes.proofs.Chunks.Concatenated.{length-front_bits, get_or-front_bits}
 use Rattle.bitmap_core.proofs.Pruned.Positions.{same_pruned, same_bitmap, bit_past, bit_from_bits, len_from_bits, front_of, place, chunk_bit_of_chunk}
 
 -- lengths
@@ -61,7 +61,7 @@ bit_truncated n b len k h = elim (cases_lt k len) [
 pub popped_is : (n : ℕ) (b : PrunedBits) → popped b ≡ truncated n b (bit_len n b - 1)
 popped_is n b = same_pruned (popped b) (truncated n b (bit_len n b - 1)) refl (ap (λ m. take m b.bits) (omega arith))
 
-pub bit_set : (n : ℕ) (b : PrunedBits) (j : ℕ) (x : Bool) (k : ℕ) → HasBit n b j → pruned_bits n b ≤ k
+pub bit_set : (n : ℕ) (b : PrunedBits) (j : ℕ) (x : Bool) (k : ℕ) → IsRetained n b j → pruned_bits n b ≤ k
     → bit_at n (set_at n b j x) k ≡ cond (eqb k j) x (bit_at n b k)
 bit_set n b j x k ok h = elim (cases_eq k j) [
   | inl e ↦ rw (eq-eqb k j e, e) (get_or-set_same b.bits (j - pruned_bits n b) x false (omega (arith, ok.0, ok.1)))
@@ -91,12 +91,12 @@ bit_extended n b len k = elim (cases_lt (k - pruned_bits n b) (length b.bits)) [
       ∙ (zeros (len - bit_len n b) (k - pruned_bits n b - length b.bits) ∙ sym (get_or_past b.bits (k - pruned_bits n b) false l))
 ]
 
-bit_with_chunk : (n : ℕ) (b : PrunedBits) (i : ℕ) (bytes : List ℕ) (k : ℕ) → HasBit n b k
+bit_with_chunk : (n : ℕ) (b : PrunedBits) (i : ℕ) (bytes : List ℕ) (k : ℕ) → IsRetained n b k
     → bit_at n (with_chunk n b i bytes) k ≡ cond (eqb (k / (8 * n)) i) (chunk_bit n bytes k) (bit_at n b k)
 bit_with_chunk n b i bytes k h =
     bit_from_bits n b.pruned (bit_len n b) (λ k. cond (eqb (k / (8 * n)) i) (chunk_bit n bytes k) (bit_at n b k)) k h.0 h.1
 
--- an unprune puts the chunks' bits before the others, which keep their positions
+-- an unprune puts the bits of the chunks before the others, whose positions are unchanged
 module _ (n : ℕ) (b : PrunedBits) (chunks : List (List ℕ)) (p : 0 < n) (fits : length chunks ≤ b.pruned) where
   pub len_unpruned : bit_len n (unpruned n b chunks) ≡ bit_len n b
   len_unpruned = omega (arith, front_before, length-front_bits n chunks, length-append (flat_map (chunk_bits n) chunks) b.bits)
@@ -113,7 +113,7 @@ module _ (n : ℕ) (b : PrunedBits) (chunks : List (List ℕ)) (p : 0 < n) (fits
       ∙ ap (λ j. get_or b.bits j false) (omega arith)
 
   pub bit_unpruned_low : (k : ℕ) → 8 * n * (b.pruned - length chunks) ≤ k → k < pruned_bits n b
-      → bit_at n (unpruned n b chunks) k ≡ bit_of n chunks (k - 8 * n * (b.pruned - length chunks))
+      → bit_at n (unpruned n b chunks) k ≡ chunks_bit n chunks (k - 8 * n * (b.pruned - length chunks))
   bit_unpruned_low k l h =
       let f = front_of (8 * n) (length chunks) b.pruned fits in
       let put : List Bool = flat_map (chunk_bits n) chunks in
@@ -121,7 +121,7 @@ module _ (n : ℕ) (b : PrunedBits) (chunks : List (List ℕ)) (p : 0 < n) (fits
       get_or_append_left put b.bits false place (omega (arith, length-front_bits n chunks))
       ∙ get_or-front_bits n chunks (k - 8 * n * (b.pruned - length chunks)) p (omega arith)
 
--- a chunk replaced among the retained bits, counted from the first retained chunk
+-- a chunk is replaced among the retained bits, counted from the first retained chunk
 module _ (n : ℕ) (b : PrunedBits) (i : ℕ) (bytes : List ℕ) (p : 0 < n) (low : b.pruned ≤ i) where
   index_down : (k : ℕ) → k / (8 * n) ≡ i - b.pruned → (pruned_bits n b + k) / (8 * n) ≡ i
   index_down k e = mul-add-div (omega arith) b.pruned k ∙ omega arith
@@ -157,7 +157,7 @@ module _ (n : ℕ) (b : PrunedBits) (i : ℕ) (bytes : List ℕ) (p : 0 < n) (lo
       ∙ ap (λ j. cond (eqb (j / (8 * n)) i) (chunk_bit n bytes j) (bit_at n b j)) e
       ∙ sym (bit_with_chunk n b i bytes k (r.0, s)))
 
--- a fact that holds after success and after a refusal
+-- a fact that holds after success and after an error
 pub either_way : {T E P : Type 0} (r : Result T E) → OnOk r P → OnErr r P → P
 either_way (Ok x) p q = p
 either_way (Err x) p q = q
@@ -174,9 +174,9 @@ pruned_count n b i low = elim (cases_lt b.pruned i) [
   | inr m ↦ rw (le-ltb b.pruned i m) (omega arith)
 ]
 
--- bit d of the chunks from the first retained one on
+-- bit d, counted from the first retained chunk
 bit_of_dropped : (n : ℕ) (b : PrunedBits) (m d : ℕ) → 0 < n → d < 8 * n * m
-    → bit_of n (map (chunk n b) (range_with_len b.pruned m)) d ≡ bit_at n b (pruned_bits n b + d)
+    → chunks_bit n (map (chunk n b) (range_with_len b.pruned m)) d ≡ bit_at n b (pruned_bits n b + d)
 bit_of_dropped n b m d p h =
     let q : d / (8 * n) < m = div_below d (8 * n) m (omega arith) (omega arith) in
     let r = mod_below d (8 * n) (omega arith) in
@@ -187,7 +187,7 @@ bit_of_dropped n b m d p h =
     ∙ chunk_bit_of_chunk n b (b.pruned + d / (8 * n)) (d % (8 * n)) p r
     ∙ ap (λ k. bit_at n b k) e
 
--- the chunks that a prune drops, put back, give the bitmap as it was
+-- putting back the chunks that a prune has dropped restores the bitmap
 pub unpruned_pruned : (n : ℕ) (b : PrunedBits) (i : ℕ) → 0 < n → b.pruned ≤ i → 8 * n * i ≤ bit_len n b
     → unpruned n (pruned_to n b i) (map (chunk n b) (range_with_len b.pruned (i - b.pruned))) ≡ b
 unpruned_pruned n b i p low high =
@@ -203,7 +203,7 @@ unpruned_pruned n b i p low high =
     same_bitmap n (unpruned n (pruned_to n b i) put) b e len (λ k r. elim (cases_lt k (8 * n * i)) [
       | inl h ↦
           bit_unpruned_low n (pruned_to n b i) _ p fits k (omega (arith, r.0, before)) (omega (arith, front))
-          ∙ ap (λ d. bit_of n (map (chunk n b) (range_with_len b.pruned (i - b.pruned))) d) (ap (λ m. k - m) before)
+          ∙ ap (λ d. chunks_bit n (map (chunk n b) (range_with_len b.pruned (i - b.pruned))) d) (ap (λ m. k - m) before)
           ∙ bit_of_dropped n b (i - b.pruned) (k - pruned_bits n b) p (omega (arith, front_of (8 * n) b.pruned i low, r.0))
           ∙ ap (λ j. bit_at n b j) (omega (arith, r.0))
       | inr h ↦ bit_unpruned_high n (pruned_to n b i) _ p fits k (omega (arith, front)) ∙ bit_pruned n b i k low h

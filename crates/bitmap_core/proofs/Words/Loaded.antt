@@ -1,4 +1,4 @@
--- What a loaded word says of the bitmap.
+-- A loaded word, and the bits of the bitmap.
 use Rattle.std.proofs.Common.{◌≡◌, ◌≢◌, eqb, ℕ, ◌+◌, ◌-◌, ◌*◌, ◌/◌, ◌%◌, ◌<◌, ◌≤◌, inl, inr, ⊎_elim, min, Bool, true, false, List, [], ◌∷◌, ◌++◌, arith, ap, sym, ◌∙◌}
 use Rattle.std.proofs.lemmas.Bool.{cases_lt, cases_eq}
 use Rattle.std.proofs.lemmas.List.{append-nil}
@@ -66,7 +66,7 @@ module _ (n : ℕ) (m : Meaning) (base lo end : ℕ) (wanted : Bool) (bytes : Li
       let three : ones_between w lo top ≡ ones_between (seen_as wanted m).bit lo top = ones_between-same w (seen_as wanted m).bit lo top same in
       rw (one, none, two, none2, three) (append-nil (ones_between (seen_as wanted m).bit lo top))
 
-  -- what is left after the load is what was left before it
+  -- a load leaves the same positions to be yielded
   pub left_loaded : left_from n (seen_as wanted m) base word end ≡ ones_between (seen_as wanted m).bit lo end
   left_loaded =
       let w : ones_between (word_bit base word) base (base + 64) ≡ ones_between (seen_as wanted m).bit lo top = in_word in
@@ -89,7 +89,7 @@ left_empty n m base word end e =
 pub left_none : (n : ℕ) (m : Meaning) (base word end : ℕ) → word ≡ 0 → end ≤ next_word n base → left_from n m base word end ≡ []
 left_none n m base word end e h = left_empty n m base word end e ∙ ones_between-none m.bit (next_word n base) end h
 
--- what is left stays the same on the way to the next word
+-- going on to the next word leaves the same positions to be yielded
 pub left_moved : (n : ℕ) (m : Meaning) (base word end after : ℕ) (new old : List ℕ) → word ≡ 0 → after ≡ next_word n base
     → new ≡ ones_between m.bit after end → left_from n m base word end ≡ old
     → new ≡ old
@@ -128,7 +128,7 @@ first_loaded n first end wanted bytes word masked p inside past_chunk past_end m
 
 -- ---- the lowest bit of a word
 
--- what `take_lowest` does to a word
+-- the effect of `take_lowest` on a word
 pub record IsLowestTaken (old new place : ℕ) : Type 0 where
   pub within : place < 64
   pub set : eqb (bit_at old place) 1 ≡ true
@@ -156,7 +156,7 @@ module _ (old new place : ℕ) (t : IsLowestTaken old new place) where
       ])
       (λ k a b. sym (t.others (k - base) (omega arith) (omega arith)))
 
-  -- of what is left in a word and after it, the lowest bit is the first
+  -- the lowest bit of the word is the first of the positions to be yielded
   pub left_taken : (n : ℕ) (m : Meaning) (base end : ℕ) (before left : List ℕ) → left_from n m base old end ≡ before
       → before ≡ left
       → left ≡ (base + place) ∷ left_from n m base new end

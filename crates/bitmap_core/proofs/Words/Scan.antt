@@ -29,7 +29,7 @@ words_between-le n lo hi =
     (λ (ge : hi ≤ lo). let e = le-ltb lo hi ge in rw e (omega arith))
     (cases_lt lo hi)
 
--- ---- one step on
+-- ---- one step
 
 module _ (n : ℕ) (m : Meaning) (base end : ℕ) (chunk : List ℕ) (loads first : ℕ)
     (scan : IsScan n m base end chunk loads first) (next : ℕ) (is : next ≡ next_word n base) (inside : next < end) where
@@ -72,7 +72,7 @@ module _ (n : ℕ) (m : Meaning) (base end : ℕ) (chunk : List ℕ) (loads firs
     counted = step_counted;
   }
 
--- what a load at the next word needs, and what it leaves
+-- the conditions of a load at the next word, and its effect
 pub record IsStep (n : ℕ) (m : Meaning) (base end loads first next : ℕ) (chunk : List ℕ) : Type 0 where
   pub after : base < next
   pub starts : starts_word n next ≡ true
@@ -80,7 +80,7 @@ pub record IsStep (n : ℕ) (m : Meaning) (base end loads first next : ℕ) (chu
   pub retained : 8 * n * m.pruned ≤ next
   pub below : next < m.len
   pub shown : (next % (8 * n) ≡ 0 → ⊥) → ShowsChunk n m (next / (8 * n)) chunk
-  pub room : loads + 1 < 2 ^ 64
+  pub space : loads + 1 < 2 ^ 64
   pub scan : (bytes : List ℕ) → ShowsChunk n m (next / (8 * n)) bytes → IsScan n m next end bytes (loads + 1) first
 
 pub step : {n : ℕ} {m : Meaning} {base end loads first next : ℕ} {chunk : List ℕ} → IsScan n m base end chunk loads first
@@ -97,7 +97,7 @@ step {n} {m} {base} {end} {loads} {first} {next} {chunk} scan is inside fits =
       retained = omega (arith, scan.retained (omega arith));
       below = omega (arith, scan.within);
       shown = step_shown n m base end chunk loads first scan next is inside;
-      room = omega (arith, step_counted n m base end chunk loads first scan next is inside, words_between-le n first end);
+      space = omega (arith, step_counted n m base end chunk loads first scan next is inside, words_between-le n first end);
       scan = step_scan n m base end chunk loads first scan next is inside;
     }
 

@@ -1,4 +1,4 @@
-//! A bitmap as text.
+//! `Debug` output of a dense bitmap.
 
 ghost use Rattle.std.specs.Prelude.{◌≤◌, drop, take, length, Some};
 ghost use Rattle.std.specs.List.{flat_map};
@@ -8,13 +8,13 @@ ghost use Rattle.bitmap_core.specs.Text.{digit};
 use crate::bitmap::BitMap;
 use std::fmt;
 
-// The most bits that are all shown.
+// The greatest length at which all bits are shown.
 const SHOWN_WHOLE: u64 = 64;
 
-// How many bits are shown at each end of a bitmap with more.
+// The number of bits that are shown at each end of a longer bitmap.
 const SHOWN_END: u64 = 32;
 
-// Writes the bits from `start` up to `end`, as `1` and `0`.
+// Writes the bits at positions from `start` up to `end`, as `1` and `0`.
 fn write_bits<const N: usize, W: fmt::Write>(
     bitmap: &BitMap<N>,
     start: u64,
@@ -38,9 +38,9 @@ impl<const N: usize> fmt::Debug for BitMap<N> {
 
     ghost debug_output = { λ b. Some (debug_text b) };
 
-    /// `BitMap[`, the bits in order as `1` and `0`, and `]`.
+    /// Writes `BitMap[`, the bits in order as `1` and `0`, and `]`. The options of the formatter have no effect.
     ///
-    /// Of more than 64 bits it shows the first 32, `...` and the last 32. The formatter's options change nothing.
+    /// Of more than 64 bits it writes the first 32, `...` and the last 32. Does not allocate itself; at most 67 calls of the writer.
     fn fmt<W: fmt::Write>(&self, f: &mut fmt::Formatter<W>) -> fmt::Result
         ensures writes { DisplaysOnOk W.write_str_gives f.old result (Some (debug_text self.now)) f.new }
         ensures styled { WritesStyledOnOk W.write_str_gives f.old result (debug_text self.now) f.new }

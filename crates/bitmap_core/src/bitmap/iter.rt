@@ -1,16 +1,33 @@
-//! The bits of a bitmap, one after another.
+//! The iterator over the bits of a dense bitmap.
 
 ghost use Rattle.std.specs.Prelude.{◌≡◌, ◌^◌, ◌<◌, IfSome, Some, length};
 ghost use Rattle.std.specs.Iterator.{YieldsFirst, item_count, UpTo};
 ghost use Rattle.std.specs.Iterator.SizeHint.{IsWithinCount};
+ghost use Rattle.bitmap_bytes.specs.Chunk.{IsWidth};
 
 use crate::bitmap::BitMap;
 use std::iter;
 use std::marker::Model;
 
-/// The bits of a bitmap in order, as `iter` gives them. It is the list of those that are left.
+/// An iterator over the bits of a bitmap, in order. `BitMap::iter` returns it.
 ///
-/// After the last bit it answers `None`, then and ever after. No step takes memory.
+/// In contracts its value is the list of the bits that are left.
+/// After the last bit, `next` always returns `None`. A call of `next` does not allocate, and takes constant time.
+///
+/// ```
+/// use bitmap_core::bitmap::BitMap;
+///
+/// /// Returns the length of the longest run of set bits.
+/// pub fn longest_run<const N: usize>(bitmap: &BitMap<N>) -> u64 {
+///     let mut longest = 0;
+///     let mut run: u64 = 0;
+///     for bit in bitmap.iter() {
+///         run = if bit { run.saturating_add(1) } else { 0 };
+///         longest = run.max(longest);
+///     }
+///     longest
+/// }
+/// ```
 #[derive(Drop)]
 pub struct Iterator<'a, const N: usize> {
     bitmap: &'a BitMap<N>,
@@ -28,9 +45,12 @@ impl<'a, const N: usize> Model for Iterator<'a, N> {
 }
 
 impl<const N: usize> BitMap<N> {
-    /// The bits in order, from position 0 up to the length. No memory.
+    /// Returns an iterator over the bits in order, from position 0 to the length.
+    ///
+    /// Does not allocate; constant time.
     pub fn iter(&self) -> Iterator<'_, N>
         ensures value { result ≡ self.now }
+        ensures width { IsWidth N }
         ensures bound { length self.now < 2 ^ 64 }
     {
         let _ = self.len();
@@ -57,7 +77,9 @@ impl<const N: usize> iter::Iterator for Iterator<'_, N> {
         Some(self.bitmap.get(position))
     }
 
-    /// Both bounds are the number of bits that are left, which always fits `usize`.
+    /// Returns the number of bits that are left, as both bounds. It always fits `usize`.
+    ///
+    /// Does not allocate; constant time.
     fn size_hint(&self) -> (usize, Option<usize>)
         ensures lower { IsWithinCount result.0 (item_count (λ left. left) self.now) }
         ensures upper { IfSome result.1 (UpTo (item_count (λ left. left) self.now)) }

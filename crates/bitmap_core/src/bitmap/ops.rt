@@ -1,4 +1,4 @@
-//! What whole bitmaps are to operators: equality, hashes, `&`, `|` and `^`.
+//! Operators on whole bitmaps: equality, hashing, `&`, `|` and `^`.
 
 ghost use Rattle.std.specs.Prelude.{◌≡◌, length, replicate, false, not, ◌&&◌, ◌||◌, map, IfOk};
 ghost use Rattle.std.specs.List.{zip};
@@ -17,7 +17,15 @@ impl<const N: usize> PartialEq for BitMap<N> {
 
     ghost laws = { Prim.search (comparing, rules) };
 
-    /// Whether the bits are the same, and so the lengths. No memory.
+    /// Returns whether the two bitmaps have the same bits, and so the same length.
+    ///
+    /// # Memory
+    ///
+    /// Does not allocate.
+    ///
+    /// # Complexity
+    ///
+    /// At most linear in the bytes of the chunks. Constant if the lengths differ.
     fn eq(&self, other: &Self) -> bool {
         self.len == other.len && deque::are_equal(&self.chunks, &other.chunks)
     }
@@ -34,7 +42,15 @@ impl<const N: usize> Hash for BitMap<N> {
 
     ghost respects_eq = { fed_bits-alike N };
 
-    /// Feeds the length, and then the bytes of each chunk. Equal bitmaps hash alike. No memory.
+    /// Feeds the length to the hasher, and then the bytes of each chunk. Equal bitmaps have equal hashes.
+    ///
+    /// # Memory
+    ///
+    /// Does not allocate itself.
+    ///
+    /// # Complexity
+    ///
+    /// One call of the hasher for the length, and one per chunk.
     fn hash<H: Hasher>(&self, state: &mut H) {
         let len = self.len;
         state.write_u64(len);
@@ -49,9 +65,19 @@ impl<const N: usize> BitAnd<&BitMap<N>> for &BitMap<N> {
 
     ghost bitand_gives = { λ a b r. IfOk r (λ c. c ≡ map (λ p. p.0 && p.1) (zip a.now b.now)) };
 
-    /// A new bitmap whose bit is set where both have it. The lengths are the same.
+    /// Returns a new bitmap whose bit is set if it is set in both bitmaps. The lengths are equal.
     ///
-    /// Takes memory for its chunks, from the allocator of the left one, and errs where that is refused.
+    /// # Errors
+    ///
+    /// Returns `AllocError` if the allocation fails.
+    ///
+    /// # Memory
+    ///
+    /// Allocates space for the chunks, from the allocator of the left bitmap.
+    ///
+    /// # Complexity
+    ///
+    /// Linear in the chunks.
     fn bitand(self, other: &BitMap<N>) -> Result<BitMap<N>, AllocError> {
         let mut both = self.clone()?;
         both.and(other);
@@ -66,9 +92,19 @@ impl<const N: usize> BitOr<&BitMap<N>> for &BitMap<N> {
 
     ghost bitor_gives = { λ a b r. IfOk r (λ c. c ≡ map (λ p. p.0 || p.1) (zip a.now b.now)) };
 
-    /// A new bitmap whose bit is set where either has it. The lengths are the same.
+    /// Returns a new bitmap whose bit is set if it is set in at least one of the bitmaps. The lengths are equal.
     ///
-    /// Takes memory for its chunks, from the allocator of the left one, and errs where that is refused.
+    /// # Errors
+    ///
+    /// Returns `AllocError` if the allocation fails.
+    ///
+    /// # Memory
+    ///
+    /// Allocates space for the chunks, from the allocator of the left bitmap.
+    ///
+    /// # Complexity
+    ///
+    /// Linear in the chunks.
     fn bitor(self, other: &BitMap<N>) -> Result<BitMap<N>, AllocError> {
         let mut either = self.clone()?;
         either.or(other);
@@ -83,9 +119,19 @@ impl<const N: usize> BitXor<&BitMap<N>> for &BitMap<N> {
 
     ghost bitxor_gives = { λ a b r. IfOk r (λ c. c ≡ map (λ p. xor p.0 p.1) (zip a.now b.now)) };
 
-    /// A new bitmap whose bit is set where the two differ. The lengths are the same.
+    /// Returns a new bitmap whose bit is set if the bits of the two bitmaps differ. The lengths are equal.
     ///
-    /// Takes memory for its chunks, from the allocator of the left one, and errs where that is refused.
+    /// # Errors
+    ///
+    /// Returns `AllocError` if the allocation fails.
+    ///
+    /// # Memory
+    ///
+    /// Allocates space for the chunks, from the allocator of the left bitmap.
+    ///
+    /// # Complexity
+    ///
+    /// Linear in the chunks.
     fn bitxor(self, other: &BitMap<N>) -> Result<BitMap<N>, AllocError> {
         let mut difference = self.clone()?;
         difference.xor(other);

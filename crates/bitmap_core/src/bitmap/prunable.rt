@@ -1,10 +1,10 @@
-//! Bitmaps with a pruned front: its bits are gone, and the others keep their positions.
+//! Bitmaps with a pruned prefix: the pruned bits are dropped, and the others keep their positions.
 //!
 //! ```
 //! use bitmap_core::bitmap::Prunable;
 //! use std::alloc::{AllocError, Global};
 //!
-//! /// A log that has forgotten its first chunk. Its length is still 34, and its first retained position is 32.
+//! /// Returns a log whose first chunk is pruned. Its length is still 34, and its first retained position is 32.
 //! pub fn recent(alloc: Global) -> Result<Prunable<4>, AllocError> {
 //!     let mut log = Prunable::<4>::new(alloc);
 //!     log.push_chunk(&[1, 2, 3, 4])?;
@@ -19,7 +19,7 @@
 ghost use Rattle.std.specs.Prelude.{◌≡◌, ℕ, ◌+◌, ◌-◌, ◌*◌, ◌/◌, ◌%◌, ◌^◌, ◌<◌, ◌≤◌, ◌↔◌, [], false, length, IfOk, OnOk, OnErr, IsOk, ◌==◌};
 ghost use Rattle.std.specs.Int.{div_ceil};
 ghost use Rattle.bitmap_bytes.specs.Chunk.{byte_bits, chunk_bit, chunk_bits, IsWidth};
-ghost use Rattle.bitmap_core.specs.PrunedBits.{appended, bit_at, bit_len, chunk, extended, HasChunk, HasBit, last_bit, popped, pruned_bits, pruned_to, pushed, set_at, truncated, unpruned, with_chunk};
+ghost use Rattle.bitmap_core.specs.PrunedBits.{appended, bit_at, bit_len, chunk, extended, IsRetainedChunk, IsRetained, last_bit, popped, pruned_bits, pruned_to, pushed, set_at, truncated, unpruned, with_chunk};
 
 mod error;
 
@@ -30,13 +30,16 @@ use crate::chunk::{chunk_count, chunk_index, chunk_width};
 use std::alloc::{AllocError, Global};
 use std::marker::Model;
 
-/// A bitmap whose front may be pruned, by whole chunks of `N` bytes.
+/// A bitmap whose prefix may be pruned, in whole chunks of `N` bytes.
 ///
-/// Positions and indices of chunks are absolute: they count from the first bit and chunk that the bitmap ever had, pruned ones included.
-/// A position is retained where it is neither pruned nor past the end; a chunk is retained where one of its positions is.
+/// Positions and indices of chunks are absolute: they count from the first bit that the bitmap ever had, pruned bits included.
+/// A position is retained if it is not pruned and below the length. A chunk is retained if one of its positions is.
 ///
-/// The length, pruned bits counted, is at most `u64::MAX`. A chunk is held for every `8N` retained bits begun.
-/// It implements the trait `Readable` too. Calls of the same name are those here, whose chunks are borrowed and not copied.
+/// The length counts the pruned bits, and is at most `u64::MAX`. Only retained chunks are stored.
+/// The type also implements the trait `Readable`. Where both have a call of the same name, the call here is used.
+/// It borrows a chunk, and the call of the trait copies it.
+///
+/// The head of the module has an example.
 #[derive(Debug, Drop)]
 pub struct Prunable<const N: usize> {
     bitmap: BitMap<N>,
@@ -54,10 +57,12 @@ impl<const N: usize> Model for Prunable<N> {
 }
 
 impl<const N: usize> Prunable<N> {
-    /// The width of a chunk in bits, `8N`. Nothing is promised of it where that passes `u64`, and no bitmap is so wide.
+    /// The width of a chunk in bits, `8N`. The value is meaningful only if `8N` fits `u64`, as it does for every bitmap.
     pub const CHUNK_SIZE_BITS: u64 = (N as u64).wrapping_mul(8);
 
-    /// A bitmap without bits, nothing pruned. `N` is at least 1, and `8N` fits `u64`. No memory.
+    /// Returns an empty bitmap in which nothing is pruned.
+    ///
+    /// `N` is at least 1, and `8N` fits `u64`. Does not allocate; constant time.
     pub fn new(alloc: Global) -> Self
         requires width { IsWidth N }
         ensures { result ≡ record { pruned = 0; bits = [] } }
@@ -68,7 +73,9 @@ impl<const N: usize> Prunable<N> {
         }
     }
 
-    /// The same as `new`, on the same conditions.
+    /// Returns an empty bitmap in which nothing is pruned, as `new` does.
+    ///
+    /// `N` is at least 1, and `8N` fits `u64`. Does not allocate; constant time.
     pub fn default(alloc: Global) -> Self
         requires width { IsWidth N }
         ensures { result ≡ record { pruned = 0; bits = [] } }
@@ -76,9 +83,13 @@ impl<const N: usize> Prunable<N> {
         Prunable::new(alloc)
     }
 
-    /// A bitmap whose first `pruned_chunks` chunks are pruned, with no bit behind them. Its length is `8N` times their number.
+    /// Returns a bitmap of `pruned_chunks` pruned chunks, without a retained bit. Its length is `8N` times `pruned_chunks`.
     ///
-    /// It errs with `PrunedChunksOverflow` exactly where that passes `u64`. `N` is at least 1, and `8N` fits `u64`. No memory.
+    /// `N` is at least 1, and `8N` fits `u64`. Does not allocate; constant time.
+    ///
+    /// # Errors
+    ///
+    /// Returns `PrunedChunksOverflow` if and only if the length does not fit `u64`.
     pub fn new_with_pruned_chunks(alloc: Global, pruned_chunks: usize) -> Result<Self, Error>
         requires width { IsWidth N }
         ensures ok { IfOk result (λ b. b ≡ record { pruned = pruned_chunks; bits = [] }) }
@@ -94,7 +105,7 @@ impl<const N: usize> Prunable<N> {
         })
     }
 
-    // The bits after the pruned ones, and the number of pruned chunks, as a bitmap.
+    // The bitmap of a number of pruned chunks and the bits after them.
     pub(crate) fn from_parts(bitmap: BitMap<N>, pruned_chunks: usize) -> Self
         requires width { IsWidth N }
         requires total { 8 * N * pruned_chunks + length bitmap < 2 ^ 64 }
@@ -115,7 +126,9 @@ impl<const N: usize> Prunable<N> {
         &self.bitmap
     }
 
-    /// The number of bits, pruned ones counted. No memory.
+    /// Returns the number of bits, pruned bits included.
+    ///
+    /// Does not allocate; constant time.
     pub fn len(&self) -> u64
         ensures value { result ≡ bit_len N self.now }
         ensures width { IsWidth N }
@@ -124,28 +137,36 @@ impl<const N: usize> Prunable<N> {
         self.pruned_bits() + self.bitmap.len()
     }
 
-    /// Whether the length is 0. A bitmap with pruned bits is not empty. No memory.
+    /// Returns whether the length is 0. A bitmap with pruned bits is not empty.
+    ///
+    /// Does not allocate; constant time.
     pub fn is_empty(&self) -> bool
         ensures { result ≡ (bit_len N self.now == 0) }
     {
         self.len() == 0
     }
 
-    /// Whether the length is a multiple of `8N`, as 0 is. No memory.
+    /// Returns whether the length is a multiple of `8N`. A length of 0 is.
+    ///
+    /// Does not allocate; constant time.
     pub fn is_chunk_aligned(&self) -> bool
         ensures { result ≡ (bit_len N self.now % (8 * N) == 0) }
     {
         self.len() % chunk_width::<N>() == 0
     }
 
-    /// The number of pruned chunks. No memory.
+    /// Returns the number of pruned chunks.
+    ///
+    /// Does not allocate; constant time.
     pub fn pruned_chunks(&self) -> usize
         ensures { result ≡ self.now.pruned }
     {
         self.pruned_chunks
     }
 
-    /// The number of pruned bits, which is the first retained position. No memory.
+    /// Returns the number of pruned bits, which is the first position that is not pruned.
+    ///
+    /// Does not allocate; constant time.
     pub fn pruned_bits(&self) -> u64
         ensures { result ≡ pruned_bits N self.now }
     {
@@ -153,7 +174,9 @@ impl<const N: usize> Prunable<N> {
         chunk_width::<N>() * pruned
     }
 
-    /// The number of chunks, pruned ones and a partial last one counted. No memory.
+    /// Returns the number of chunks, including pruned chunks and a partly used last chunk.
+    ///
+    /// Does not allocate; constant time.
     pub fn chunks_len(&self) -> usize
         ensures value { result ≡ div_ceil (bit_len N self.now) (8 * N) }
         ensures holds { (i : ℕ) → (i < result) ↔ (8 * N * i < bit_len N self.now) }
@@ -161,43 +184,49 @@ impl<const N: usize> Prunable<N> {
         chunk_count::<N>(self.len())
     }
 
-    /// The number of full chunks, pruned ones counted, without a partial last one. No memory.
+    /// Returns the number of full chunks, including pruned chunks. A partly used last chunk does not count.
+    ///
+    /// Does not allocate; constant time.
     pub fn complete_chunks(&self) -> usize
         ensures { result ≡ bit_len N self.now / (8 * N) }
     {
         chunk_index::<N>(self.len())
     }
 
-    /// The bit at a retained position. No memory.
+    /// Returns the bit at position `bit`, which is absolute and retained.
+    ///
+    /// Does not allocate; constant time.
     pub fn get_bit(&self, bit: u64) -> bool
-        requires { HasBit N self.now bit }
+        requires { IsRetained N self.now bit }
         ensures { result ≡ bit_at N self.now bit }
     {
         self.bitmap.get(bit - self.pruned_bits())
     }
 
-    /// The chunk of a retained position. Its bits past the length are zero. No memory.
+    /// Returns the chunk that contains position `bit`, which is absolute and retained. Its bits past the length are zero.
+    ///
+    /// Does not allocate; constant time.
     pub fn get_chunk_containing(&self, bit: u64) -> &[u8; N]
-        requires { HasBit N self.now bit }
+        requires { IsRetained N self.now bit }
         ensures { result.now ≡ chunk N self.now (bit / (8 * N)) }
     {
         let _ = self.len();
         self.get_chunk(Self::to_chunk_index(bit))
     }
 
-    /// The chunk at an index, which is at least the pruned count and below `chunks_len`.
+    /// Returns the chunk at an absolute index, which is at least `pruned_chunks` and below `chunks_len`. Its bits past the length are zero.
     ///
-    /// Its bits past the length are zero. No memory.
+    /// Does not allocate; constant time.
     pub fn get_chunk(&self, index: usize) -> &[u8; N]
-        requires { HasChunk N self.now index }
+        requires { IsRetainedChunk N self.now index }
         ensures { result.now ≡ chunk N self.now index }
     {
         self.bitmap.chunk_at(index - self.pruned_chunks)
     }
 
-    /// The last chunk, and how many of its bits are in use: `8N` where it is full. Some bit is retained.
+    /// Returns the last chunk, and the number of its bits that are in use: `8N` if it is full. Its bits past the length are zero.
     ///
-    /// Its bits past the length are zero. No memory.
+    /// At least one bit is retained. Does not allocate; constant time.
     pub fn last_chunk(&self) -> (&[u8; N], u64)
         requires { 0 < length self.now.bits }
         ensures chunk { result.0.now ≡ chunk N self.now ((bit_len N self.now - 1) / (8 * N)) }
@@ -208,16 +237,20 @@ impl<const N: usize> Prunable<N> {
         (self.get_chunk_containing(last), used)
     }
 
-    /// Replaces the bit at a retained position. No memory.
+    /// Sets the bit at position `bit` to `value`. The position is absolute and retained.
+    ///
+    /// Does not allocate; constant time.
     pub fn set_bit(&mut self, bit: u64, value: bool)
-        requires { HasBit N self.old bit }
+        requires { IsRetained N self.old bit }
         ensures { self.new ≡ set_at N self.old bit value }
     {
         let pruned = self.pruned_bits();
         self.bitmap.set(bit - pruned, value);
     }
 
-    /// Removes and answers the last bit. Some bit is retained. No memory.
+    /// Removes the last bit, and returns it. At least one bit is retained.
+    ///
+    /// Does not allocate; constant time.
     pub fn pop(&mut self) -> bool
         requires { 0 < length self.old.bits }
         ensures value { result ≡ last_bit self.old }
@@ -226,7 +259,15 @@ impl<const N: usize> Prunable<N> {
         self.bitmap.pop()
     }
 
-    /// Keeps the positions below `n`, which is the new length. `n` is at least `pruned_bits` and at most the length. No memory.
+    /// Shortens the bitmap to a length of `n` bits, pruned bits included. `n` is at least `pruned_bits` and at most the length.
+    ///
+    /// # Memory
+    ///
+    /// Does not allocate.
+    ///
+    /// # Complexity
+    ///
+    /// At most linear in the chunks that are removed.
     pub fn truncate(&mut self, n: u64)
         requires from { pruned_bits N self.old ≤ n }
         requires to { n ≤ bit_len N self.old }
@@ -236,7 +277,9 @@ impl<const N: usize> Prunable<N> {
         self.bitmap.truncate(n - pruned);
     }
 
-    /// Removes and answers the last chunk. The length is a multiple of `8N`, and some bit is retained. No memory.
+    /// Removes the last chunk, and returns it. The length is a multiple of `8N`, and at least one bit is retained.
+    ///
+    /// Does not allocate; constant time: one chunk is copied.
     pub fn pop_chunk(&mut self) -> [u8; N]
         requires aligned { bit_len N self.old % (8 * N) ≡ 0 }
         requires filled { 0 < length self.old.bits }
@@ -246,10 +289,17 @@ impl<const N: usize> Prunable<N> {
         self.bitmap.remove_last_chunk()
     }
 
-    /// Prunes every chunk before chunk `bit / 8N`, that of position `bit`. `bit` is at most the length. No memory.
+    /// Prunes every chunk before the one that contains position `bit`, which is chunk `bit / 8N`. `bit` is at most the length.
     ///
-    /// The length stays, and so does the position of each bit. The chunks that stay are not moved in memory.
-    /// Where those before are pruned already nothing changes.
+    /// The length and the position of each bit do not change. If these chunks are pruned already, nothing changes.
+    ///
+    /// # Memory
+    ///
+    /// Does not allocate.
+    ///
+    /// # Complexity
+    ///
+    /// Linear in the chunks that are dropped. The retained chunks are not moved in memory.
     pub fn prune_to_bit(&mut self, bit: u64)
         requires { bit ≤ bit_len N self.old }
         ensures { self.new ≡ pruned_to N self.old (bit / (8 * N)) }
@@ -262,11 +312,11 @@ impl<const N: usize> Prunable<N> {
         }
     }
 
-    /// Replaces the bits of the chunk at an index, which is at least the pruned count and below `chunks_len`. The length stays.
+    /// Replaces the bits of the chunk at an absolute index, which is at least `pruned_chunks` and below `chunks_len`.
     ///
-    /// The bits of `chunk` past the length are zero. No memory.
+    /// The length does not change. The bits of `chunk` past the length are zero. Does not allocate; constant time: one chunk is copied.
     pub fn set_chunk_by_index(&mut self, index: usize, chunk: &[u8; N])
-        requires retained { HasChunk N self.old index }
+        requires retained { IsRetainedChunk N self.old index }
         requires zero { (k : ℕ) → bit_len N self.old ≤ k → k / (8 * N) ≡ index → chunk_bit N chunk.now k ≡ false }
         ensures { self.new ≡ with_chunk N self.old index chunk.now }
     {
@@ -276,8 +326,17 @@ impl<const N: usize> Prunable<N> {
 
     /// Appends a bit. The length is below `u64::MAX`.
     ///
-    /// Where the length is a multiple of `8N` it needs room for one chunk more, and takes memory where there is none.
-    /// Elsewhere it takes none, and succeeds. Refused, the bitmap is as it was.
+    /// # Errors
+    ///
+    /// Returns `AllocError` if an allocation fails; the bitmap is unchanged. If the length is not a multiple of `8N`, it succeeds.
+    ///
+    /// # Memory
+    ///
+    /// Allocates only if the length is a multiple of `8N` and there is no capacity for another chunk.
+    ///
+    /// # Complexity
+    ///
+    /// Amortized constant.
     #[inline]
     pub fn push(&mut self, bit: bool) -> Result<(), AllocError>
         requires { bit_len N self.old + 1 < 2 ^ 64 }
@@ -288,13 +347,22 @@ impl<const N: usize> Prunable<N> {
         self.bitmap.push(bit)
     }
 
-    /// Appends the eight bits of a byte, the lowest first. The length is a multiple of 8, and 8 more fit `u64`.
+    /// Appends the eight bits of a byte, the lowest first. The length is a multiple of 8, and the new length fits `u64`.
     ///
-    /// Where the length is a multiple of `8N` it needs room for one chunk more, and takes memory where there is none.
-    /// Elsewhere it takes none, and succeeds. Refused, the bitmap is as it was.
+    /// # Errors
+    ///
+    /// Returns `AllocError` if an allocation fails; the bitmap is unchanged. If the length is not a multiple of `8N`, it succeeds.
+    ///
+    /// # Memory
+    ///
+    /// Allocates only if the length is a multiple of `8N` and there is no capacity for another chunk.
+    ///
+    /// # Complexity
+    ///
+    /// Amortized constant.
     pub fn push_byte(&mut self, byte: u8) -> Result<(), AllocError>
         requires aligned { bit_len N self.old % 8 ≡ 0 }
-        requires room { bit_len N self.old + 8 < 2 ^ 64 }
+        requires space { bit_len N self.old + 8 < 2 ^ 64 }
         ensures ok { OnOk result (self.new ≡ appended self.old (byte_bits byte)) }
         ensures err { OnErr result (self.new ≡ self.old) }
         ensures partial { ¬ (bit_len N self.old % (8 * N) ≡ 0) → IsOk result }
@@ -302,26 +370,45 @@ impl<const N: usize> Prunable<N> {
         self.bitmap.append_byte(byte)
     }
 
-    /// Appends the bits of a chunk to a bitmap whose length is a multiple of `8N`, with room for `8N` more in `u64`.
+    /// Appends the `8N` bits of a chunk. The length is a multiple of `8N`, and the new length fits `u64`.
     ///
-    /// It needs room for the chunk, and takes memory where there is none. Refused, the bitmap is as it was.
+    /// # Errors
+    ///
+    /// Returns `AllocError` if an allocation fails; the bitmap is unchanged.
+    ///
+    /// # Memory
+    ///
+    /// Allocates only if there is no capacity for another chunk.
+    ///
+    /// # Complexity
+    ///
+    /// Amortized constant: one chunk is copied.
     pub fn push_chunk(&mut self, chunk: &[u8; N]) -> Result<(), AllocError>
         requires aligned { bit_len N self.old % (8 * N) ≡ 0 }
-        requires room { bit_len N self.old + 8 * N < 2 ^ 64 }
+        requires space { bit_len N self.old + 8 * N < 2 ^ 64 }
         ensures ok { OnOk result (self.new ≡ appended self.old (chunk_bits N chunk.now)) }
         ensures err { OnErr result (self.new ≡ self.old) }
     {
         self.bitmap.push_chunk(chunk)
     }
 
-    /// Appends false bits up to a length of `n` bits, pruned ones counted. A bitmap of that length or more stays as it is.
+    /// Appends false bits up to a length of `n` bits, pruned bits included. If the bitmap has that length or more, it is unchanged.
     ///
-    /// Takes memory at most once, for the chunks that are missing. Where none is, it takes none and succeeds.
-    /// Refused, the bitmap is as it was.
+    /// # Errors
+    ///
+    /// Returns `AllocError` if the allocation fails; the bitmap is unchanged. If no chunk is missing, it succeeds.
+    ///
+    /// # Memory
+    ///
+    /// Allocates at most once, and only if there is no capacity for the missing chunks.
+    ///
+    /// # Complexity
+    ///
+    /// Amortized linear in the chunks that are appended.
     pub fn extend_to(&mut self, n: u64) -> Result<(), AllocError>
         ensures ok { OnOk result (self.new ≡ extended N self.old n) }
         ensures err { OnErr result (self.new ≡ self.old) }
-        ensures roomy { n ≤ 8 * N * div_ceil (bit_len N self.old) (8 * N) → IsOk result }
+        ensures has_capacity { n ≤ 8 * N * div_ceil (bit_len N self.old) (8 * N) → IsOk result }
     {
         let pruned = self.pruned_bits();
         self.bitmap.extend_to(n.saturating_sub(pruned))
@@ -329,25 +416,44 @@ impl<const N: usize> Prunable<N> {
 
     /// Appends the bits of a dense bitmap, in order. Its chunks may have another width. The sum of the lengths fits `u64`.
     ///
-    /// Takes memory at most once, for the chunks that are missing. Where none is, it takes none and succeeds.
-    /// Refused, the bitmap is as it was.
+    /// # Errors
+    ///
+    /// Returns `AllocError` if the allocation fails; the bitmap is unchanged. If no chunk is missing, it succeeds.
+    ///
+    /// # Memory
+    ///
+    /// Allocates at most once, and only if there is no capacity for the missing chunks.
+    ///
+    /// # Complexity
+    ///
+    /// Amortized linear in the bytes of the appended chunks. Most of them are written in words of 64 bits if `N` is 8 or more.
     pub fn extend_from_bitmap<const M: usize>(
         &mut self,
         other: &BitMap<M>,
     ) -> Result<(), AllocError>
-        requires room { bit_len N self.old + length other.now < 2 ^ 64 }
+        requires space { bit_len N self.old + length other.now < 2 ^ 64 }
         ensures ok { OnOk result (self.new ≡ appended self.old other.now) }
         ensures err { OnErr result (self.new ≡ self.old) }
-        ensures roomy { bit_len N self.old + length other.now ≤ 8 * N * div_ceil (bit_len N self.old) (8 * N) → IsOk result }
+        ensures has_capacity { bit_len N self.old + length other.now ≤ 8 * N * div_ceil (bit_len N self.old) (8 * N) → IsOk result }
     {
         self.bitmap.extend_from_bitmap(other)
     }
 
-    /// Puts chunks back in front of the retained bits, in order, so that the last one comes to stand right before them.
-    /// They are at most as many as are pruned. The length stays, and so does the position of each bit.
+    /// Restores pruned chunks: inserts `chunks`, in order, directly before the retained bits.
     ///
-    /// Takes memory at most once, for these chunks; the others are copied only then. Of no chunks it takes none, and succeeds.
-    /// Refused, the bitmap is as it was.
+    /// There are at most as many chunks as are pruned. The length and the position of each bit do not change.
+    ///
+    /// # Errors
+    ///
+    /// Returns `AllocError` if the allocation fails; the bitmap is unchanged. If `chunks` is empty, it succeeds.
+    ///
+    /// # Memory
+    ///
+    /// Allocates at most once, and only if there is no capacity for `chunks`.
+    ///
+    /// # Complexity
+    ///
+    /// Linear in `chunks`. If it allocates, it may also move the retained chunks.
     pub fn unprune(&mut self, chunks: &[[u8; N]]) -> Result<(), AllocError>
         requires { length chunks.now ≤ self.old.pruned }
         ensures ok { OnOk result (self.new ≡ unpruned N self.old chunks.now) }
@@ -360,16 +466,18 @@ impl<const N: usize> Prunable<N> {
         Ok(())
     }
 
-    /// The mask of the bit at position `bit` in its byte: `1 << (bit mod 8)`. No memory.
+    /// Returns the mask of the bit at position `bit` in its byte: 2 to the power `bit mod 8`.
+    ///
+    /// Does not allocate; constant time.
     pub fn chunk_byte_bitmask(bit: u64) -> u8
         ensures { result ≡ 2 ^ (bit % 8) }
     {
         chunk::bit_mask(bit)
     }
 
-    /// The index of the byte of its chunk in which the bit at position `bit` stands: `(bit / 8) mod N`.
+    /// Returns the index, in its chunk, of the byte that contains the bit at position `bit`: `(bit / 8) mod N`.
     ///
-    /// `N` is at least 1. No memory.
+    /// `N` is at least 1. Does not allocate; constant time.
     pub fn chunk_byte_offset(bit: u64) -> usize
         requires { 0 < N }
         ensures { result ≡ bit / 8 % N }
@@ -377,9 +485,9 @@ impl<const N: usize> Prunable<N> {
         chunk::byte_index::<N>(bit)
     }
 
-    /// The absolute index of the chunk in which the bit at position `bit` stands: `bit / 8N`.
+    /// Returns the absolute index of the chunk that contains the bit at position `bit`: `bit / 8N`.
     ///
-    /// `N` is at least 1, and `8N` fits `u64`. No memory.
+    /// `N` is at least 1, and `8N` fits `u64`. Does not allocate; constant time.
     pub fn to_chunk_index(bit: u64) -> usize
         requires width { IsWidth N }
         ensures { result ≡ bit / (8 * N) }
@@ -387,9 +495,9 @@ impl<const N: usize> Prunable<N> {
         chunk_index::<N>(bit)
     }
 
-    /// Bit `bit mod 8N` of a chunk, so the bit at position `bit` where the chunk is that of the position.
+    /// Returns bit `bit mod 8N` of a chunk. If the chunk is that of position `bit`, this is the bit at that position.
     ///
-    /// `N` is at least 1. No memory.
+    /// `N` is at least 1. Does not allocate; constant time.
     pub fn get_bit_from_chunk(chunk: &[u8; N], bit: u64) -> bool
         requires { 0 < N }
         ensures { result ≡ chunk_bit N chunk.now bit }
@@ -401,7 +509,19 @@ impl<const N: usize> Prunable<N> {
 impl<const N: usize> Clone for Prunable<N> {
     ghost is_clone = { λ a b. b ≡ a };
 
-    /// An equal bitmap. Takes memory for its retained chunks, and errs where that is refused.
+    /// Returns an equal bitmap.
+    ///
+    /// # Errors
+    ///
+    /// Returns `AllocError` if the allocation fails.
+    ///
+    /// # Memory
+    ///
+    /// Allocates space for the retained chunks, from the allocator of the bitmap.
+    ///
+    /// # Complexity
+    ///
+    /// Linear in the retained chunks.
     fn clone(&self) -> Result<Self, AllocError> {
         Ok(Prunable {
             bitmap: self.bitmap.clone()?,

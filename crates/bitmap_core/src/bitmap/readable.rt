@@ -1,26 +1,30 @@
-//! What all bitmaps share for their readers: chunks, bits and set positions. The trait `Readable` has to be in scope.
+//! The trait `Readable` of all bitmaps that can be read: chunks, bits, set positions, searches and counts.
 //!
-//! A question to any bitmap of any width:
+//! The trait must be in scope to call its functions.
+//!
+//! A function over any bitmap of any width:
 //!
 //! ```
+//! ghost use Rattle.std.specs.Prelude.{◌≡◌};
+//! ghost use Rattle.std.specs.Option.{option_or};
+//! ghost use Rattle.bitmap_core.specs.Searches.{next_one};
+//!
 //! use bitmap_core::bitmap::Readable;
 //!
-//! /// The first position from `from` on whose bit is set.
-//! pub fn next_set<B: Readable<N>, const N: usize>(bitmap: &B, from: u64) -> Option<u64> {
-//!     // Tells the proof how large `N` may be.
-//!     let _ = bitmap.len();
-//!     bitmap.ones_iter_from(from).next()
+//! /// Returns the first set position from `from` on, or the first of all if there is none.
+//! pub fn next_around<B: Readable<N>, const N: usize>(bitmap: &B, from: u64) -> Option<u64>
+//!     ensures { result ≡ option_or (next_one N (B.meaning bitmap.now) from) (next_one N (B.meaning bitmap.now) 0) }
+//! {
+//!     bitmap.next_one(from).or(bitmap.next_one(0))
 //! }
 //! ```
 
 ghost use Rattle.std.specs.Prelude.{◌≡◌, ◌+◌, ◌-◌, ◌*◌, ◌/◌, ◌^◌, ◌<◌, ◌≤◌, ◌==◌, length};
 
 mod dense;
-pub mod loads;
 mod ones;
 mod prunable;
 mod search;
-pub mod searches;
 
 pub use crate::bitmap::readable::ones::OnesIter;
 use crate::bitmap::readable::ones::first_from;
@@ -28,21 +32,22 @@ use crate::bitmap::readable::search::{count_ones, last_below, nth_one};
 use crate::chunk;
 use std::ops::Range;
 
-/// A bitmap as its readers see it: bits in chunks of `N` bytes, some of which may be pruned at the front.
+/// A bitmap that can be read: bits in chunks of `N` bytes, whose prefix may be pruned in whole chunks.
 ///
-/// Positions count bits and indices count chunks, both from the first bit that the bitmap ever had.
-/// A position is retained where it is neither pruned nor past the end.
+/// Positions count bits, and indices count chunks. Both are absolute: they count from the first bit that the bitmap ever had.
+/// A position is retained if it is not pruned and below the length.
 ///
-/// An implementor says what bitmap a value holds, its `meaning`, and answers five questions about it.
-/// It promises that `N` is at least 1, that `8N` and the length fit `u64`, and that no more is pruned than the length.
-/// The answers are of the same bitmap as long as the value is borrowed.
-/// The bits of a chunk at or past the length may be any: no reader looks at them.
-/// The other functions follow, and cannot be replaced. They take no memory of their own.
-/// Over `BitMap` and `Prunable` no function takes any.
+/// An implementor states which bitmap a value holds (`meaning`) and implements the five functions without a body.
+/// The contracts require that `N` is at least 1, and that `8N` and the length fit `u64`. At most the length is pruned.
+/// While the value is borrowed, the functions describe one and the same bitmap.
+/// The bits of a chunk at or past the length may have any value: no other function reads them.
+/// The other functions are final, and do not allocate themselves. For `BitMap` and `Prunable`, no function of the trait allocates.
 ///
-/// A caller for any `N` asks for `len()` before it goes over set positions: that tells its proof how large `N` may be.
+/// Complexities count words: 64 bits of one chunk each, or fewer at the end of a chunk.
 ///
-/// Eight bits in one chunk of one byte:
+/// A caller for any `N` calls `len()` before it iterates over set positions: the contract of `len` gives its proof the bound on `N`.
+///
+/// A bitmap of eight bits, in one chunk of one byte:
 ///
 /// ```
 /// ghost use Rattle.std.specs.Prelude.{[], ◌∷◌};
@@ -82,63 +87,79 @@ pub trait Readable<const N: usize> {
     ghost use Rattle.bitmap_core.specs.Meaning.{Meaning, IsLawful, IsRetained, IsRetainedChunk, ShowsChunk, ones, zeros, words};
     ghost use Rattle.bitmap_core.specs.Searches.{next_one, next_zero, prev_one, prev_zero, ones_count, select_one};
 
-    /// The bitmap that the value holds.
+    /// The bitmap that the value holds: its number of pruned chunks, its length, and the bit at each position.
     ghost meaning: { Self → Meaning };
 
-    /// The number of chunks all of whose bits lie below the length, pruned chunks counted.
+    /// Returns the number of full chunks, including pruned chunks. A partly used last chunk does not count.
     fn complete_chunks(&self) -> usize
         ensures { result ≡ (meaning self.now).len / (8 * N) };
 
-    /// A copy of the chunk at an index. One of its bits is retained; those at or past the length may be any.
+    /// Returns a copy of the chunk at an absolute index. The chunk has a retained bit. Its bits past the length may have any value.
     fn get_chunk(&self, chunk: usize) -> [u8; N]
         requires { IsRetainedChunk N (meaning self.now) chunk }
         ensures { ShowsChunk N (meaning self.now) chunk result };
 
-    /// A copy of the last chunk, and the number of its bits below the length: `8N` where it is full. The other bits may be any.
+    /// Returns a copy of the last chunk, and the number of its bits below the length: `8N` if it is full.
     ///
-    /// Some bit is retained.
+    /// At least one bit is retained. The bits of the chunk past the length may have any value.
     fn last_chunk(&self) -> ([u8; N], u64)
         requires { 8 * N * (meaning self.now).pruned < (meaning self.now).len }
         ensures chunk { ShowsChunk N (meaning self.now) (((meaning self.now).len - 1) / (8 * N)) result.0 }
         ensures used { 8 * N * (((meaning self.now).len - 1) / (8 * N)) + result.1 ≡ (meaning self.now).len };
 
-    /// The number of chunks pruned at the front.
+    /// Returns the number of pruned chunks.
     fn pruned_chunks(&self) -> usize
         ensures value { result ≡ (meaning self.now).pruned }
         ensures lawful { IsLawful N (meaning self.now) };
 
-    /// The number of bits, pruned bits counted.
+    /// Returns the number of bits, pruned bits included.
     fn len(&self) -> u64
         ensures value { result ≡ (meaning self.now).len }
         ensures lawful { IsLawful N (meaning self.now) };
 
-    /// Whether there is no bit, pruned or retained.
+    /// Returns whether the length is 0. A bitmap with pruned bits is not empty.
+    ///
+    /// Does not allocate. Calls `len` once.
     final fn is_empty(&self) -> bool
         ensures { result ≡ ((meaning self.now).len == 0) }
     {
         self.len() == 0
     }
 
-    /// The number of bits pruned at the front, which is the first retained position.
+    /// Returns the number of pruned bits, which is the first position that is not pruned.
+    ///
+    /// Does not allocate. Calls `pruned_chunks` once.
     final fn pruned_bits(&self) -> u64
         ensures { result ≡ 8 * N * (meaning self.now).pruned }
     {
         self.pruned_chunks() as u64 * (8 * N as u64)
     }
 
-    /// The bit at a retained position.
+    /// Returns the bit at position `bit`, which is absolute and retained.
+    ///
+    /// Does not allocate. Calls `len` and `get_chunk` once each.
     final fn get_bit(&self, bit: u64) -> bool
         requires { IsRetained N (meaning self.now) bit }
         ensures { result ≡ (meaning self.now).bit bit }
     {
         let _ = self.len();
+        // Not `chunk_index`: the goal of the proof would name its result and not `bit / 8N`.
         let chunk = self.get_chunk((bit / (8 * N as u64)) as usize);
         chunk::get_bit(&chunk, bit)
     }
 
-    /// The set positions among the retained ones in `range`, ascending. An empty range has none, nor has one that ends before it starts.
+    /// Returns an iterator over the retained positions in `range` whose bit is set, in ascending order.
     ///
-    /// It asks for the length once, here, and for each chunk at most once.
+    /// If the range is empty or ends before it starts, there is none.
+    ///
+    /// # Memory
+    ///
+    /// Does not allocate, and neither does the iterator.
+    ///
+    /// # Complexity
+    ///
+    /// Calls `len` and `pruned_chunks` once, here. The whole iteration calls `get_chunk` at most once per chunk that the range meets.
+    /// It is linear in the words of the range plus the positions returned.
     final fn ones_iter_range(&self, range: Range<u64>) -> OnesIter<'_, Self, N>
     where
         Self: Sized,
@@ -151,7 +172,15 @@ pub trait Readable<const N: usize> {
         OnesIter::over(self, self.len(), range, true)
     }
 
-    /// The set positions among the retained ones from `pos` on, ascending. It asks as `ones_iter_range` does.
+    /// Returns an iterator over the retained positions at or above `pos` whose bit is set, in ascending order.
+    ///
+    /// # Memory
+    ///
+    /// Does not allocate, and neither does the iterator.
+    ///
+    /// # Complexity
+    ///
+    /// That of `ones_iter_range` for the range from `pos` to the length.
     final fn ones_iter_from(&self, pos: u64) -> OnesIter<'_, Self, N>
     where
         Self: Sized,
@@ -164,9 +193,17 @@ pub trait Readable<const N: usize> {
         self.ones_iter_range(pos..u64::MAX)
     }
 
-    /// Returns an iterator over the positions among the retained ones in `range` whose bit is not set, ascending.
+    /// Returns an iterator over the retained positions in `range` whose bit is not set, in ascending order.
     ///
-    /// An empty range has none, nor has a range that ends before it starts. The length is asked for once, here, and each chunk at most once.
+    /// If the range is empty or ends before it starts, there is none.
+    ///
+    /// # Memory
+    ///
+    /// Does not allocate, and neither does the iterator.
+    ///
+    /// # Complexity
+    ///
+    /// That of `ones_iter_range`.
     final fn zeros_iter_range(&self, range: Range<u64>) -> OnesIter<'_, Self, N>
     where
         Self: Sized,
@@ -181,7 +218,14 @@ pub trait Readable<const N: usize> {
 
     /// Returns the least retained position at or above `from` whose bit is set, or `None` if there is none.
     ///
-    /// The length is asked for once, and each chunk at most once. Does not allocate.
+    /// # Memory
+    ///
+    /// Does not allocate.
+    ///
+    /// # Complexity
+    ///
+    /// Calls `len` and `pruned_chunks` once, and `get_chunk` at most once per chunk from `from` to the position found.
+    /// Linear in the words from `from` to that position, or to the length if there is none.
     final fn next_one(&self, from: u64) -> Option<u64>
     where
         Self: Sized,
@@ -192,7 +236,13 @@ pub trait Readable<const N: usize> {
 
     /// Returns the least retained position at or above `from` whose bit is not set, or `None` if there is none.
     ///
-    /// It asks for what `next_one` asks for. Does not allocate.
+    /// # Memory
+    ///
+    /// Does not allocate.
+    ///
+    /// # Complexity
+    ///
+    /// That of `next_one`.
     final fn next_zero(&self, from: u64) -> Option<u64>
     where
         Self: Sized,
@@ -203,7 +253,14 @@ pub trait Readable<const N: usize> {
 
     /// Returns the greatest retained position below `end` whose bit is set, or `None` if there is none.
     ///
-    /// The length is asked for once, and each chunk at most once. Does not allocate.
+    /// # Memory
+    ///
+    /// Does not allocate.
+    ///
+    /// # Complexity
+    ///
+    /// Calls `len` and `pruned_chunks` once, and `get_chunk` at most once per chunk from the position found to `end`.
+    /// Linear in the words from that position, or from the first retained one if there is none, to `end`.
     final fn prev_one(&self, end: u64) -> Option<u64>
     where
         Self: Sized,
@@ -215,7 +272,13 @@ pub trait Readable<const N: usize> {
 
     /// Returns the greatest retained position below `end` whose bit is not set, or `None` if there is none.
     ///
-    /// It asks for what `prev_one` asks for. Does not allocate.
+    /// # Memory
+    ///
+    /// Does not allocate.
+    ///
+    /// # Complexity
+    ///
+    /// That of `prev_one`.
     final fn prev_zero(&self, end: u64) -> Option<u64>
     where
         Self: Sized,
@@ -227,7 +290,16 @@ pub trait Readable<const N: usize> {
 
     /// Returns the number of retained positions in `range` whose bit is set.
     ///
-    /// An empty range has none, nor has a range that ends before it starts. The length is asked for once, and each chunk that the range meets once. Does not allocate.
+    /// If the range is empty or ends before it starts, the number is 0.
+    ///
+    /// # Memory
+    ///
+    /// Does not allocate.
+    ///
+    /// # Complexity
+    ///
+    /// Calls `len` and `pruned_chunks` once, and `get_chunk` once per chunk that the range meets.
+    /// Linear in the words of the range.
     final fn count_ones_range(&self, range: Range<u64>) -> u64
     where
         Self: Sized,
@@ -240,7 +312,14 @@ pub trait Readable<const N: usize> {
 
     /// Returns the retained position whose bit is set and that has `k` such positions below it, or `None` if there are at most `k`.
     ///
-    /// The length is asked for once, and each chunk at most once. Does not allocate.
+    /// # Memory
+    ///
+    /// Does not allocate.
+    ///
+    /// # Complexity
+    ///
+    /// Calls `len` and `pruned_chunks` once, and `get_chunk` once per retained chunk up to that of the position found.
+    /// Linear in the words of these chunks.
     final fn select_one(&self, k: u64) -> Option<u64>
     where
         Self: Sized,

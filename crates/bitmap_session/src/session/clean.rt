@@ -1,14 +1,14 @@
-//! What a session does where there is no batch: one function a command.
+//! Commands outside a batch: one function per command.
 
 ghost use Rattle.std.specs.Prelude.{◌≡◌, None, Ok, IfOk};
 ghost use Rattle.std.specs.Map.{keys_of};
 ghost use Rattle.std.specs.Option.{option_map};
 ghost use Rattle.bitmap_bytes.specs.Chunk.{IsWidth};
-ghost use Rattle.bitmap_core.specs.Spelling.{pruned_spelling};
+ghost use Rattle.bitmap_core.specs.Encoding.{pruned_encoding};
 ghost use Rattle.historical_bitmap.specs.History.{kept_under};
 ghost use Rattle.historical_bitmap.specs.View.{history_of};
 ghost use Rattle.bitmap_session.specs.Machine.{Agrees, StepTo, ones_of};
-ghost use Rattle.bitmap_session.specs.Seen.{clean, said, seen};
+ghost use Rattle.bitmap_session.specs.Abstraction.{clean, value_of, machine_of};
 
 use crate::command::Command;
 use crate::reply::{Refusal, Reply};
@@ -25,7 +25,7 @@ fn start<const N: usize>(
     chunks: usize,
 ) -> (Reply<N>, State<N>)
     requires width { IsWidth N }
-    ensures { StepTo N Agrees (clean N bitmap.entry) (Command.Start chunks) (said result.0) (seen result.1) }
+    ensures { StepTo N Agrees (clean N bitmap.entry) (Command.Start chunks) (value_of result.0) (machine_of result.1) }
 {
     match CleanBitMap::new_with_pruned_chunks(alloc, chunks) {
         Ok(empty) => (Reply::Done, State::Clean(empty)),
@@ -37,15 +37,13 @@ fn start<const N: usize>(
 }
 
 fn begin<const N: usize>(bitmap: CleanBitMap<N>) -> (Reply<N>, State<N>)
-    ensures { StepTo N Agrees (clean N bitmap.entry) Command.Begin (said result.0) (seen result.1) }
+    ensures { StepTo N Agrees (clean N bitmap.entry) Command.Begin (value_of result.0) (machine_of result.1) }
 {
-    // Tells the proof how large N may be.
-    let _ = bitmap.len();
     (Reply::Done, State::Dirty(bitmap.into_dirty()))
 }
 
 fn rewind<const N: usize>(bitmap: CleanBitMap<N>, number: u64) -> (Reply<N>, State<N>)
-    ensures { StepTo N Agrees (clean N bitmap.entry) (Command.Rewind number) (said result.0) (seen result.1) }
+    ensures { StepTo N Agrees (clean N bitmap.entry) (Command.Rewind number) (value_of result.0) (machine_of result.1) }
 {
     match bitmap.rewind_to(number) {
         Ok(bitmap) => (Reply::Done, State::Clean(bitmap)),
@@ -54,19 +52,19 @@ fn rewind<const N: usize>(bitmap: CleanBitMap<N>, number: u64) -> (Reply<N>, Sta
 }
 
 fn len<const N: usize>(bitmap: &CleanBitMap<N>) -> Reply<N>
-    ensures { StepTo N Agrees (clean N bitmap.now) Command.Len (said result) (clean N bitmap.now) }
+    ensures { StepTo N Agrees (clean N bitmap.now) Command.Len (value_of result) (clean N bitmap.now) }
 {
     Reply::Number(bitmap.len())
 }
 
 fn pruned_chunks<const N: usize>(bitmap: &CleanBitMap<N>) -> Reply<N>
-    ensures { StepTo N Agrees (clean N bitmap.now) Command.PrunedChunks (said result) (clean N bitmap.now) }
+    ensures { StepTo N Agrees (clean N bitmap.now) Command.PrunedChunks (value_of result) (clean N bitmap.now) }
 {
     Reply::Number(bitmap.pruned_chunks() as u64)
 }
 
 fn get<const N: usize>(bitmap: &CleanBitMap<N>, position: u64) -> Reply<N>
-    ensures { StepTo N Agrees (clean N bitmap.now) (Command.Get position) (said result) (clean N bitmap.now) }
+    ensures { StepTo N Agrees (clean N bitmap.now) (Command.Get position) (value_of result) (clean N bitmap.now) }
 {
     match check_position(bitmap.len(), bitmap.current().pruned_bits(), position) {
         Ok(()) => Reply::Bit(bitmap.get_bit(position)),
@@ -75,7 +73,7 @@ fn get<const N: usize>(bitmap: &CleanBitMap<N>, position: u64) -> Reply<N>
 }
 
 fn chunk<const N: usize>(bitmap: &CleanBitMap<N>, position: u64) -> Reply<N>
-    ensures { StepTo N Agrees (clean N bitmap.now) (Command.Chunk position) (said result) (clean N bitmap.now) }
+    ensures { StepTo N Agrees (clean N bitmap.now) (Command.Chunk position) (value_of result) (clean N bitmap.now) }
 {
     match check_position(bitmap.len(), bitmap.current().pruned_bits(), position) {
         Ok(()) => Reply::Chunk(*bitmap.get_chunk_containing(position)),
@@ -83,7 +81,7 @@ fn chunk<const N: usize>(bitmap: &CleanBitMap<N>, position: u64) -> Reply<N>
     }
 }
 
-// The set positions of a bitmap in a range.
+// Returns the set positions of a bitmap in a range, ascending.
 fn set_positions<const N: usize>(
     bitmap: &Prunable<N>,
     alloc: Global,
@@ -92,13 +90,13 @@ fn set_positions<const N: usize>(
 ) -> Result<Vec<u64>, AllocError>
     ensures { IfOk result (λ positions. positions.items ≡ ones_of N from to bitmap.now) }
 {
-    // Tells the proof how large N may be.
+    // The call shows the prover that 8 * N fits u64.
     let _ = bitmap.len();
     bitmap.ones_iter_range(from..to).collect(alloc)
 }
 
 fn ones<const N: usize>(bitmap: &CleanBitMap<N>, alloc: Global, from: u64, to: u64) -> Reply<N>
-    ensures { StepTo N Agrees (clean N bitmap.now) (Command.Ones from to) (said result) (clean N bitmap.now) }
+    ensures { StepTo N Agrees (clean N bitmap.now) (Command.Ones from to) (value_of result) (clean N bitmap.now) }
 {
     match set_positions(bitmap.current(), alloc, from, to) {
         Ok(positions) => Reply::Positions(Some(positions)),
@@ -106,9 +104,9 @@ fn ones<const N: usize>(bitmap: &CleanBitMap<N>, alloc: Global, from: u64, to: u
     }
 }
 
-// The bytes that spell a bitmap.
-fn spelled<const N: usize>(bitmap: &Prunable<N>, alloc: Global) -> Result<Vec<u8>, AllocError>
-    ensures { IfOk result (λ bytes. bytes.items ≡ pruned_spelling N bitmap.now) }
+// Returns the encoding of a bitmap.
+fn encoded<const N: usize>(bitmap: &Prunable<N>, alloc: Global) -> Result<Vec<u8>, AllocError>
+    ensures { IfOk result (λ bytes. bytes.items ≡ pruned_encoding N bitmap.now) }
 {
     let mut bytes = Vec::new(alloc);
     bitmap.write(&mut bytes)?;
@@ -116,16 +114,16 @@ fn spelled<const N: usize>(bitmap: &Prunable<N>, alloc: Global) -> Result<Vec<u8
 }
 
 fn encode<const N: usize>(bitmap: &CleanBitMap<N>, alloc: Global) -> Reply<N>
-    ensures { StepTo N Agrees (clean N bitmap.now) Command.Encode (said result) (clean N bitmap.now) }
+    ensures { StepTo N Agrees (clean N bitmap.now) Command.Encode (value_of result) (clean N bitmap.now) }
 {
-    match spelled(bitmap.current(), alloc) {
+    match encoded(bitmap.current(), alloc) {
         Ok(bytes) => Reply::Bytes(Some(bytes)),
         Err(_) => Reply::Refused(Refusal::NoMemory),
     }
 }
 
 fn at<const N: usize>(bitmap: &CleanBitMap<N>, number: u64) -> Reply<N>
-    ensures { StepTo N Agrees (clean N bitmap.now) (Command.At number) (said result) (clean N bitmap.now) }
+    ensures { StepTo N Agrees (clean N bitmap.now) (Command.At number) (value_of result) (clean N bitmap.now) }
 {
     match bitmap.get_at_commit(number) {
         Ok(found) => Reply::Snapshot(found),
@@ -133,7 +131,7 @@ fn at<const N: usize>(bitmap: &CleanBitMap<N>, number: u64) -> Reply<N>
     }
 }
 
-// The set positions in a range of the bitmap that was committed under a number, where it is kept.
+// Returns the set positions in a range of the bitmap at a commit, or `None` if the commit is not kept.
 fn kept_positions<const N: usize>(
     bitmap: &CleanBitMap<N>,
     alloc: Global,
@@ -157,7 +155,7 @@ fn ones_at<const N: usize>(
     from: u64,
     to: u64,
 ) -> Reply<N>
-    ensures { StepTo N Agrees (clean N bitmap.now) (Command.OnesAt number from to) (said result) (clean N bitmap.now) }
+    ensures { StepTo N Agrees (clean N bitmap.now) (Command.OnesAt number from to) (value_of result) (clean N bitmap.now) }
 {
     match kept_positions(bitmap, alloc, number, from, to) {
         Ok(positions) => Reply::Positions(positions),
@@ -165,31 +163,31 @@ fn ones_at<const N: usize>(
     }
 }
 
-// The bytes that spell the bitmap that was committed under a number, where it is kept.
-fn kept_spelling<const N: usize>(
+// Returns the encoding of the bitmap at a commit, or `None` if the commit is not kept.
+fn kept_encoding<const N: usize>(
     bitmap: &CleanBitMap<N>,
     alloc: Global,
     number: u64,
 ) -> Result<Option<Vec<u8>>, AllocError>
-    ensures ok { IfOk result (λ found. option_map (λ v. v.items) found ≡ option_map (pruned_spelling N) (kept_under (history_of N bitmap.now) number)) }
+    ensures ok { IfOk result (λ found. option_map (λ v. v.items) found ≡ option_map (pruned_encoding N) (kept_under (history_of N bitmap.now) number)) }
     ensures absent { kept_under (history_of N bitmap.now) number ≡ None → result ≡ Ok None }
 {
     match bitmap.get_at_commit(number)? {
         None => Ok(None),
-        Some(found) => Ok(Some(spelled(&found, alloc)?)),
+        Some(found) => Ok(Some(encoded(&found, alloc)?)),
     }
 }
 
 fn encode_at<const N: usize>(bitmap: &CleanBitMap<N>, alloc: Global, number: u64) -> Reply<N>
-    ensures { StepTo N Agrees (clean N bitmap.now) (Command.EncodeAt number) (said result) (clean N bitmap.now) }
+    ensures { StepTo N Agrees (clean N bitmap.now) (Command.EncodeAt number) (value_of result) (clean N bitmap.now) }
 {
-    match kept_spelling(bitmap, alloc, number) {
+    match kept_encoding(bitmap, alloc, number) {
         Ok(bytes) => Reply::Bytes(bytes),
         Err(_) => Reply::Refused(Refusal::NoMemory),
     }
 }
 
-// The kept numbers, ascending.
+// Returns the kept commit numbers, ascending.
 fn kept_numbers<const N: usize>(
     bitmap: &CleanBitMap<N>,
     alloc: Global,
@@ -200,7 +198,7 @@ fn kept_numbers<const N: usize>(
 }
 
 fn commits<const N: usize>(bitmap: &CleanBitMap<N>, alloc: Global) -> Reply<N>
-    ensures { StepTo N Agrees (clean N bitmap.now) Command.Commits (said result) (clean N bitmap.now) }
+    ensures { StepTo N Agrees (clean N bitmap.now) Command.Commits (value_of result) (clean N bitmap.now) }
 {
     match kept_numbers(bitmap, alloc) {
         Ok(numbers) => Reply::Positions(Some(numbers)),
@@ -209,50 +207,50 @@ fn commits<const N: usize>(bitmap: &CleanBitMap<N>, alloc: Global) -> Reply<N>
 }
 
 fn exists<const N: usize>(bitmap: &CleanBitMap<N>, number: u64) -> Reply<N>
-    ensures { StepTo N Agrees (clean N bitmap.now) (Command.Exists number) (said result) (clean N bitmap.now) }
+    ensures { StepTo N Agrees (clean N bitmap.now) (Command.Exists number) (value_of result) (clean N bitmap.now) }
 {
     Reply::Bit(bitmap.commit_exists(number))
 }
 
 fn latest<const N: usize>(bitmap: &CleanBitMap<N>) -> Reply<N>
-    ensures { StepTo N Agrees (clean N bitmap.now) Command.Latest (said result) (clean N bitmap.now) }
+    ensures { StepTo N Agrees (clean N bitmap.now) Command.Latest (value_of result) (clean N bitmap.now) }
 {
     Reply::Maybe(bitmap.latest_commit())
 }
 
 fn earliest<const N: usize>(bitmap: &CleanBitMap<N>) -> Reply<N>
-    ensures { StepTo N Agrees (clean N bitmap.now) Command.Earliest (said result) (clean N bitmap.now) }
+    ensures { StepTo N Agrees (clean N bitmap.now) Command.Earliest (value_of result) (clean N bitmap.now) }
 {
     Reply::Maybe(bitmap.earliest_commit())
 }
 
 fn drop_before<const N: usize>(bitmap: &mut CleanBitMap<N>, number: u64) -> Reply<N>
-    ensures { StepTo N Agrees (clean N bitmap.old) (Command.DropBefore number) (said result) (clean N bitmap.new) }
+    ensures { StepTo N Agrees (clean N bitmap.old) (Command.DropBefore number) (value_of result) (clean N bitmap.new) }
 {
     Reply::Number(bitmap.prune_commits_before(number) as u64)
 }
 
 fn clear<const N: usize>(bitmap: &mut CleanBitMap<N>) -> Reply<N>
-    ensures { StepTo N Agrees (clean N bitmap.old) Command.Clear (said result) (clean N bitmap.new) }
+    ensures { StepTo N Agrees (clean N bitmap.old) Command.Clear (value_of result) (clean N bitmap.new) }
 {
     bitmap.clear_history();
     Reply::Done
 }
 
 fn entries<const N: usize>(bitmap: &CleanBitMap<N>) -> Reply<N>
-    ensures { StepTo N Agrees (clean N bitmap.now) Command.Entries (said result) (clean N bitmap.now) }
+    ensures { StepTo N Agrees (clean N bitmap.now) Command.Entries (value_of result) (clean N bitmap.now) }
 {
     Reply::Wide(bitmap.reverse_entries())
 }
 
-/// One command where there is no batch: the reply, and the state after it. Refused, the state is as it was.
+/// Runs one command outside a batch, and returns its reply and the state after it. A refused command leaves the state unchanged.
 pub fn step<const N: usize>(
     mut bitmap: CleanBitMap<N>,
     alloc: Global,
     command: &Command<N>,
 ) -> (Reply<N>, State<N>)
     requires width { IsWidth N }
-    ensures { StepTo N Agrees (clean N bitmap.entry) command.now (said result.0) (seen result.1) }
+    ensures { StepTo N Agrees (clean N bitmap.entry) command.now (value_of result.0) (machine_of result.1) }
 {
     match command {
         Command::Start(chunks) => start(bitmap, alloc, *chunks),
@@ -270,8 +268,8 @@ pub fn step<const N: usize>(
             (reply, State::Clean(bitmap))
         }
         Command::EncodeAt(number) => (encode_at(&bitmap, alloc, *number), State::Clean(bitmap)),
-        Command::Decode(text, range) => {
-            let reply = decode(alloc, text.as_slice(), range);
+        Command::Decode(input, range) => {
+            let reply = decode(alloc, input.as_slice(), range);
             (reply, State::Clean(bitmap))
         }
         Command::Commits => (commits(&bitmap, alloc), State::Clean(bitmap)),

@@ -1,23 +1,29 @@
-//! What a session does alike with and without a batch.
+//! What a session does in the same way in a batch and outside.
 
 ghost use Rattle.std.specs.Prelude.{◌≡◌, ◌<◌, ◌≤◌, [], ◌∷◌, OnOk, nat_le, nat_lt};
 ghost use Rattle.std.specs.Option.{option_map};
 ghost use Rattle.std.specs.Result.{result_err};
 ghost use Rattle.bitmap_bytes.specs.Chunk.{IsWidth};
-ghost use Rattle.bitmap_core.specs.Reading.{admits};
-ghost use Rattle.bitmap_session.specs.Answers as answers;
+ghost use Rattle.bitmap_core.specs.Decoding.{admits};
+ghost use Rattle.bitmap_session.specs.Replies as replies;
 ghost use Rattle.bitmap_session.specs.Machine.{first, IsDecoded, when};
-ghost use Rattle.bitmap_session.specs.Seen.{reason, said};
+ghost use Rattle.bitmap_session.specs.Abstraction.{reason, value_of};
 
 use crate::reply::{Refusal, Reply};
 use bitmap_core::bitmap::Prunable;
 use bitmap_core::bitmap::codec::{CodecError, RangeCfg, Read};
 use std::alloc::Global;
 
-/// Whether a position is retained in a bitmap of so many bits, the first of them pruned: else why a command is refused. No memory.
+/// Checks that an absolute position is retained in a bitmap of `len` bits, of which the first `pruned_bits` are pruned.
+///
+/// Does not allocate; constant time.
+///
+/// # Errors
+///
+/// Returns `OutOfBounds` if the position is not below `len`, and else `Pruned` if it is below `pruned_bits`.
 pub fn check_position(len: u64, pruned_bits: u64, position: u64) -> Result<(), Refusal>
     ensures why { option_map reason (result_err result)
-        ≡ first (when (nat_le len position) answers.Refusal.OutOfBounds ∷ when (nat_lt position pruned_bits) answers.Refusal.Pruned ∷ []) }
+        ≡ first (when (nat_le len position) replies.Refusal.OutOfBounds ∷ when (nat_lt position pruned_bits) replies.Refusal.Pruned ∷ []) }
     ensures retained { OnOk result ((pruned_bits ≤ position) × (position < len)) }
 {
     if position >= len {
@@ -29,12 +35,20 @@ pub fn check_position(len: u64, pruned_bits: u64, position: u64) -> Result<(), R
     Ok(())
 }
 
-/// The reply to a read of a bitmap from the front of a text, its number of retained bits in the range. Takes memory for the bitmap.
-pub fn decode<const N: usize>(alloc: Global, text: &[u8], range: &RangeCfg) -> Reply<N>
+/// Decodes a bitmap from a prefix of `input`, and returns the reply. The range limits its number of retained bits.
+///
+/// # Memory
+///
+/// Allocates the chunks of the bitmap.
+///
+/// # Complexity
+///
+/// Linear in the bytes of the encoding.
+pub fn decode<const N: usize>(alloc: Global, input: &[u8], range: &RangeCfg) -> Reply<N>
     requires width { IsWidth N }
-    ensures { IsDecoded N (admits range.now) text.now (said result) }
+    ensures { IsDecoded N (admits range.now) input.now (value_of result) }
 {
-    let mut left = text;
+    let mut left = input;
     match Prunable::read_cfg(alloc, &mut left, range) {
         Ok(bitmap) => Reply::Read(bitmap, left.len()),
         Err(CodecError::OutOfMemory) => Reply::Refused(Refusal::NoMemory),

@@ -1,4 +1,4 @@
--- What differs between two states. Each chunk has one byte.
+-- The chunks in which two states differ. Each chunk has one byte.
 use Rattle.std.specs.Prelude.{◌≡◌, ◌++◌, [], ◌∷◌, Some, None, replicate, true, false}
 use Rattle.std.proofs.Common.{refl}
 use Rattle.bitmap_core.specs.PrunedBits.{PrunedBits}
@@ -16,30 +16,30 @@ one_cleared = record { pruned = 0; bits = replicate 9 true ++ false ∷ replicat
 abbrev pruned_and_popped : PrunedBits
 pruned_and_popped = record { pruned = 1; bits = replicate 4 true }
 
--- three zeros, and one more of them pushed: the bytes stay
+-- three zeros, and one more that is pushed: the bytes do not change
 abbrev three_zeros : PrunedBits
 three_zeros = record { pruned = 0; bits = replicate 3 false }
 
 abbrev four_zeros : PrunedBits
 four_zeros = record { pruned = 0; bits = replicate 4 false }
 
--- no chunk differs from itself
+-- no chunk of a state differs from the same state
 same_state : changed 1 twenty twenty ≡ []
 same_state = refl
 
--- one bit, in chunk 1
+-- one bit differs, in chunk 1
 one_bit : changed 1 twenty one_cleared ≡ 1 ∷ []
 one_bit = refl
 
--- chunk 0 is pruned, chunk 1 has four bits fewer, and chunk 2 is gone
+-- chunk 0 is pruned, chunk 1 has four bits fewer, and chunk 2 is cut off
 all_three : changed 1 twenty pruned_and_popped ≡ 0 ∷ 1 ∷ 2 ∷ []
 all_three = refl
 
--- the other way round it is the same
+-- in the other direction the same chunks differ
 all_three_back : changed 1 pruned_and_popped twenty ≡ 0 ∷ 1 ∷ 2 ∷ []
 all_three_back = refl
 
--- a pruned chunk has no bytes, and a chunk that begins at the length has none
+-- a pruned chunk has no bytes, and a chunk that starts at the length has none
 bytes_of_pruned : retained_bytes 1 pruned_and_popped 0 ≡ None
 bytes_of_pruned = refl
 
@@ -49,15 +49,15 @@ bytes_of_last = refl
 bytes_past : retained_bytes 1 pruned_and_popped 2 ≡ None
 bytes_past = refl
 
--- a zero pushed into a chunk that is there leaves its bytes as they are: the length tells, and no chunk
+-- a zero pushed into an existing chunk does not change its bytes: only the length differs
 zero_pushed : changed 1 three_zeros four_zeros ≡ []
 zero_pushed = refl
 
--- a first zero pushed makes a chunk
+-- the push of a first zero adds a chunk
 first_zero : changed 1 (record { pruned = 0; bits = [] }) three_zeros ≡ 0 ∷ []
 first_zero = refl
 
--- between numbers: both are kept, and in order
+-- between two numbers, if both are kept and ascend
 between_kept : changed_between 1 ((3, twenty) ∷ (5, one_cleared) ∷ []) 3 5 ≡ Some (1 ∷ [])
 between_kept = refl
 
@@ -70,13 +70,13 @@ between_absent = refl
 between_same : changed_between 1 ((3, twenty) ∷ (5, one_cleared) ∷ []) 5 5 ≡ Some []
 between_same = refl
 
--- the chunks that differ, with the length and the pruned count, make the other state
+-- one state with the chunks that differ, the length and the pruned count of the other is the other
 patched_to_shorter : patched 1 twenty pruned_and_popped (0 ∷ 1 ∷ 2 ∷ []) ≡ pruned_and_popped
 patched_to_shorter = refl
 
 patched_to_longer : patched 1 pruned_and_popped twenty (0 ∷ 1 ∷ 2 ∷ []) ≡ twenty
 patched_to_longer = refl
 
--- with one of them left out the bits of that chunk stay
+-- if a chunk is left out, its bits do not change
 one_left_out : patched 1 twenty one_cleared [] ≡ twenty
 one_left_out = refl

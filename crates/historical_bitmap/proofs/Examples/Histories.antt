@@ -1,26 +1,26 @@
--- Three commits of chunks of one byte: the byte FF; then a byte 0F behind it and the first chunk pruned; then eight pops.
+-- Three commits of chunks of one byte: the byte FF; then a byte 0F after it, with the first chunk pruned; then eight pops.
 use Rattle.std.specs.Prelude.{◌≡◌, ◌^◌, ◌-◌, true, false, Bool, ℕ, List, [], ◌∷◌, ◌++◌, Some, None, replicate}
 use Rattle.std.specs.List.Sorted.{IsStrictlySortedBy}
 use Rattle.std.proofs.Common.{refl, arith}
 use Rattle.std.proofs.lemmas.Bool.{cases_eq}
 use mathlib.Core.Logic.{inl, inr}
 use Rattle.bitmap_core.specs.PrunedBits.{PrunedBits}
-use Rattle.historical_bitmap.specs.Record.{Reverse}
+use Rattle.historical_bitmap.specs.Record.{ReverseRecord}
 use Rattle.historical_bitmap.specs.Record.ChunkDiff.{Removed, Added, Pruned}
 use Rattle.historical_bitmap.specs.History.{kept_under, latest, earliest, from_number, up_to_number, past_number, undone, snapshots, costs, left_by, IsLeftBy, first_kept, RiseInNumber, EntriesRise, AreUpTo}
 
--- what stands at the end: one chunk pruned, no bit
+-- the current bitmap: one pruned chunk and no retained bit
 abbrev pub current : PrunedBits
 current = record { pruned = 1; bits = [] }
 
-abbrev pub commits : List (ℕ × Reverse)
+abbrev pub commits : List (ℕ × ReverseRecord)
 commits =
     (1, record { len = 0; pruned = 0; entries = (0, Added) ∷ [] })
     ∷ (2, record { len = 8; pruned = 0; entries = (0, Pruned (255 ∷ [])) ∷ (1, Added) ∷ [] })
     ∷ (3, record { len = 16; pruned = 1; entries = (1, Removed (15 ∷ [])) ∷ [] })
     ∷ []
 
--- what was committed
+-- the committed bitmaps
 abbrev first : PrunedBits
 first = record { pruned = 0; bits = replicate 8 true }
 
@@ -33,15 +33,15 @@ history = (1, first) ∷ (2, second) ∷ (3, current) ∷ []
 old_states : snapshots 1 commits current ≡ history
 old_states = refl
 
--- all undone, nothing stands, as before the first commit
+-- with all records undone the bitmap is empty, as before the first commit
 at_the_beginning : undone 1 commits current ≡ record { pruned = 0; bits = [] }
 at_the_beginning = refl
 
--- the state of a number is what is left where the records of later numbers are undone
+-- the state under a number is the current bitmap with the records past it undone
 second_is_left : undone 1 (past_number 2 commits) current ≡ second
 second_is_left = refl
 
--- one entry, two and one
+-- the records have one entry, two and one
 entries_by_number : costs commits ≡ (1, 1) ∷ (2, 2) ∷ (3, 1) ∷ []
 entries_by_number = refl
 
@@ -60,13 +60,13 @@ last_number = refl
 first_number : earliest commits ≡ Some 1
 first_number = refl
 
-no_last_number : latest {X = Reverse} [] ≡ None
+no_last_number : latest {X = ReverseRecord} [] ≡ None
 no_last_number = refl
 
-no_first_number : earliest {X = Reverse} [] ≡ None
+no_first_number : earliest {X = ReverseRecord} [] ≡ None
 no_first_number = refl
 
--- of the numbers 2, 4 and 9, those from 4 on, up to 4 and past 4
+-- the numbers 2, 4 and 9, and those of them from 4 on, up to 4 and past 4
 abbrev numbered : List (ℕ × Bool)
 numbered = (2, true) ∷ (4, false) ∷ (9, true) ∷ []
 
@@ -79,15 +79,15 @@ up_to_four = refl
 past_four : past_number 4 numbered ≡ (9, true) ∷ []
 past_four = refl
 
--- the first commit dropped, the other states stay
+-- with the first commit dropped, the other states are unchanged
 dropped : snapshots 1 (from_number 2 commits) current ≡ (2, second) ∷ (3, current) ∷ []
 dropped = refl
 
--- gone back to the second commit, the states up to it stay
-gone_back : snapshots 1 (up_to_number 2 commits) (undone 1 (past_number 2 commits) current) ≡ (1, first) ∷ (2, second) ∷ []
-gone_back = refl
+-- after a rewind to the second commit, the states up to it are unchanged
+rewound_to : snapshots 1 (up_to_number 2 commits) (undone 1 (past_number 2 commits) current) ≡ (1, first) ∷ (2, second) ∷ []
+rewound_to = refl
 
--- what the second commit left, and the first: the length and the number of pruned chunks
+-- the bitmap that the second commit left, and the length and pruned count that the first and the second left
 left_by_second : left_by 1 2 commits current ≡ second
 left_by_second = refl
 
@@ -97,7 +97,7 @@ left_by_first = record { width = record { positive = omega arith; fits = omega a
 left_by_number_two : IsLeftBy 1 2 commits current 16 1
 left_by_number_two = record { width = record { positive = omega arith; fits = omega arith }; len_is = refl; pruned_is = refl; within = omega arith }
 
--- the first record to keep a byte of chunk 0 is the second, and of chunk 1 the third; none keeps one of chunk 2
+-- the second record is the first to keep a byte of chunk 0, and the third to keep one of chunk 1; none keeps one of chunk 2
 first_byte : first_kept commits 0 ≡ Some (255 ∷ [])
 first_byte = refl
 
@@ -107,11 +107,11 @@ second_byte = refl
 no_third_byte : first_kept commits 2 ≡ None
 no_third_byte = refl
 
--- of two that keep one, the first
+-- of two records that keep a byte, the first counts
 first_of_two : first_kept ((1, record { len = 8; pruned = 0; entries = (0, Removed (7 ∷ [])) ∷ [] }) ∷ (2, record { len = 8; pruned = 0; entries = (0, Removed (9 ∷ [])) ∷ [] }) ∷ []) 0 ≡ Some (7 ∷ [])
 first_of_two = refl
 
--- numbers rise where each is above the one before it
+-- numbers ascend if each is greater than the one before it
 numbers_rise : RiseInNumber numbered
 unfolding IsStrictlySortedBy
 numbers_rise = ((refl, (refl, tt)), ((refl, tt), (tt, tt)))
@@ -120,7 +120,7 @@ twice_is_no_rise : RiseInNumber ((4, true) ∷ (4, false) ∷ []) → ⊥
 unfolding IsStrictlySortedBy
 twice_is_no_rise rise = absurd cc
 
--- the entries of a record rise by chunk
+-- the entries of a record ascend by chunk
 entries_rise : EntriesRise commits
 unfolding IsStrictlySortedBy
 entries_rise = λ k d h. elim (cases_eq k 0) [

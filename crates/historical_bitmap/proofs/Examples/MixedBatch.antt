@@ -6,10 +6,10 @@ use Rattle.std.proofs.Common.{refl}
 use Rattle.bitmap_core.specs.PrunedBits.{PrunedBits, bit_len}
 use Rattle.historical_bitmap.specs.Edits.{Edit, after_all, touched}
 use Rattle.historical_bitmap.specs.Edits.Edit.{Push, Pop, Set, Prune}
-use Rattle.historical_bitmap.specs.Record.{Reverse, before}
+use Rattle.historical_bitmap.specs.Record.{ReverseRecord, before}
 use Rattle.historical_bitmap.specs.Record.ChunkDiff.{Modified, Added, Pruned}
 use Rattle.historical_bitmap.specs.Undo.{undone_in_steps}
-use Rattle.historical_bitmap.specs.Pending.{Layer, pending_bits, layer_marks, diff_of, applied_in_steps}
+use Rattle.historical_bitmap.specs.Pending.{PendingEdits, pending_bits, marked_chunks, diff_of, applied_in_steps}
 
 abbrev base : PrunedBits
 base = record { pruned = 0; bits = replicate 96 true }
@@ -17,7 +17,7 @@ base = record { pruned = 0; bits = replicate 96 true }
 abbrev batch : List Edit
 batch = replicate 40 Pop ++ replicate 50 (Push false) ++ Set 60 true ∷ Prune 32 ∷ []
 
--- one chunk pruned; 24 true bits that were left, four false ones, the one that was set, and 45 false ones
+-- one pruned chunk; the 24 true bits that were not popped, four false ones, the one that was set, and 45 false ones
 abbrev left : PrunedBits
 left = record { pruned = 1; bits = replicate 24 true ++ replicate 4 false ++ true ∷ replicate 45 false }
 
@@ -30,33 +30,33 @@ length_left = refl
 touches_four : distinct_count nat_eq (touched 4 base batch) ≡ 4
 touches_four = refl
 
--- bit 60 is bit 4 of the fourth byte of chunk 1; the chunks 2 and 3 hold false bits alone
-abbrev pub layer : Layer
-layer = record { len = 106; pruned = 1; edited = (1, 255 ∷ 255 ∷ 255 ∷ 16 ∷ []) ∷ (2, replicate 4 0) ∷ (3, replicate 4 0) ∷ []; captured = replicate 4 255 ∷ [] }
+-- bit 60 is bit 4 of the fourth byte of chunk 1; the chunks 2 and 3 have only false bits
+abbrev pub edits_fit : PendingEdits
+edits_fit = record { len = 106; pruned = 1; edited = (1, 255 ∷ 255 ∷ 255 ∷ 16 ∷ []) ∷ (2, replicate 4 0) ∷ (3, replicate 4 0) ∷ []; captured = replicate 4 255 ∷ [] }
 
-layer_leaves : pending_bits 4 base layer ≡ left
-layer_leaves = refl
+pending_leaves : pending_bits 4 base edits_fit ≡ left
+pending_leaves = refl
 
-layer_leaves_in_steps : applied_in_steps 4 base layer ≡ left
-layer_leaves_in_steps = refl
+pending_leaves_in_steps : applied_in_steps 4 base edits_fit ≡ left
+pending_leaves_in_steps = refl
 
-marks_three_edited_and_one_pruned : layer_marks 4 base layer ≡ 1 ∷ 2 ∷ 3 ∷ 0 ∷ []
+marks_three_edited_and_one_pruned : marked_chunks 4 base edits_fit ≡ 1 ∷ 2 ∷ 3 ∷ 0 ∷ []
 marks_three_edited_and_one_pruned = refl
 
--- the record has four entries, one for each touched chunk
-abbrev back : Reverse
+-- the record has four entries, one per touched chunk
+abbrev back : ReverseRecord
 back = record { len = 96; pruned = 0; entries = (0, Pruned (replicate 4 255)) ∷ (1, Modified (replicate 4 255)) ∷ (2, Modified (replicate 4 255)) ∷ (3, Added) ∷ [] }
 
-first_entry : diff_of 4 base layer 0 ≡ Pruned (replicate 4 255)
+first_entry : diff_of 4 base edits_fit 0 ≡ Pruned (replicate 4 255)
 first_entry = refl
 
-second_entry : diff_of 4 base layer 1 ≡ Modified (replicate 4 255)
+second_entry : diff_of 4 base edits_fit 1 ≡ Modified (replicate 4 255)
 second_entry = refl
 
-third_entry : diff_of 4 base layer 2 ≡ Modified (replicate 4 255)
+third_entry : diff_of 4 base edits_fit 2 ≡ Modified (replicate 4 255)
 third_entry = refl
 
-fourth_entry : diff_of 4 base layer 3 ≡ Added
+fourth_entry : diff_of 4 base edits_fit 3 ≡ Added
 fourth_entry = refl
 
 restored : before 4 back left ≡ base

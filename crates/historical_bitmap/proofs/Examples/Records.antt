@@ -1,4 +1,4 @@
--- Whether a record leads back, and whether it can be undone in steps. Each chunk has one byte.
+-- Whether a record rebuilds the older bitmap, and whether it can be undone in steps. Each chunk has one byte.
 use Rattle.std.specs.Prelude.{◌≡◌, ℕ, ◌/◌, ◌<◌, ◌≤◌, None, Some, true, false, List, [], ◌∷◌, MatchOption, is_some, replicate}
 use Rattle.std.specs.List.Sorted.{IsStrictlySortedBy}
 use Rattle.std.specs.Ordering.{nat_cmp}
@@ -7,16 +7,16 @@ use mathlib.Core.Bool.{false≢true}
 use Rattle.std.proofs.lemmas.Bool.{cases_eq, ne_eqb}
 use mathlib.Core.Logic.{inl, inr, ◌⊎◌}
 use Rattle.bitmap_bytes.specs.Chunk.{chunk_bit}
-use Rattle.bitmap_core.specs.PrunedBits.{PrunedBits, HasChunk, chunk}
-use Rattle.historical_bitmap.specs.Record.{Reverse, kept, IsUnchanged, LeadsBack}
+use Rattle.bitmap_core.specs.PrunedBits.{PrunedBits, IsRetainedChunk, chunk}
+use Rattle.historical_bitmap.specs.Record.{ReverseRecord, kept, IsUnchanged, LeadsBack}
 use Rattle.historical_bitmap.specs.Record.ChunkDiff.{Modified, Removed, Added, Pruned}
 use Rattle.historical_bitmap.specs.History.{AllCanUndo, AreKept}
 use Rattle.historical_bitmap.specs.Undo.{CanUndo, IsOldChunk, kept_between}
-use Rattle.historical_bitmap.specs.Pending.{CanApply, IsEdited, ReversesLayer, edited_chunk, layer_of, pending_bits}
-use Rattle.historical_bitmap.proofs.Examples.Undos.{twelve, shorter, from_shorter, behind_one, from_behind_one}
-use Rattle.historical_bitmap.proofs.Examples.Layers.{base, rewritten, back}
+use Rattle.historical_bitmap.specs.Pending.{CanApply, IsEdited, IsRecordOf, edited_chunk, uncaptured, pending_bits}
+use Rattle.historical_bitmap.proofs.Examples.Undos.{twelve, shorter, from_shorter, beyond_one, from_beyond_one}
+use Rattle.historical_bitmap.proofs.Examples.PendingBits.{base, rewritten, back}
 
--- the indices of the records below rise
+-- the indices of the records below ascend
 first_two : IsStrictlySortedBy nat_cmp (0 ∷ 1 ∷ [])
 unfolding IsStrictlySortedBy
 first_two = ((refl, tt), (tt, tt))
@@ -44,7 +44,7 @@ clear_past_twelve k e past = elim (four k e past) [
       ]
     ]
 
--- chunk 0 cut to three bits, and chunk 1 cut off: both come back
+-- chunk 0 cut to three bits, and chunk 1 cut off: both are restored
 shorter_can : CanUndo 1 from_shorter shorter
 shorter_can = record {
   rises = omega arith;
@@ -71,30 +71,30 @@ shorter_can = record {
       ]
     ]
 
--- a record that does not keep the bytes of a pruned chunk cannot
-forgotten_cannot : CanUndo 1 (record { len = 12; pruned = 0; entries = [] }) behind_one → ⊥
+-- a record that does not keep the bytes of a pruned chunk cannot be undone
+forgotten_cannot : CanUndo 1 (record { len = 12; pruned = 0; entries = [] }) beyond_one → ⊥
 forgotten_cannot can = absurd (false≢true (can.pruned 0 (omega arith) (omega arith)))
 
--- nor one that keeps bytes for a chunk past the end
+-- nor can one that keeps bytes for a chunk past the end
 past_the_end_cannot : CanUndo 1 (record { len = 12; pruned = 0; entries = (2, Removed (1 ∷ [])) ∷ [] }) shorter → ⊥
 past_the_end_cannot can = omega (arith, (can.others 2 (omega arith)).high)
 
--- nor one whose byte for the first retained chunk has bits past the end
+-- nor can one whose byte for the first retained chunk has bits past the end
 bits_past_the_end_cannot : CanUndo 1 (record { len = 3; pruned = 0; entries = (0, Modified (255 ∷ [])) ∷ [] }) shorter → ⊥
 bits_past_the_end_cannot can = absurd (false≢true (sym ((can.others 0 (omega arith)).clear 3 refl (omega arith))))
 
--- nor one that keeps nothing of what was cut off
+-- nor can one that keeps nothing of a chunk that was cut off
 cut_off_cannot : CanUndo 1 (record { len = 12; pruned = 0; entries = [] }) shorter → ⊥
 cut_off_cannot can = omega (arith, (can.unkept 11 (omega arith) (omega arith) refl).1)
 
--- nor one that does not name a chunk that the commit made
+-- nor can one without an entry for a chunk that the commit added
 made_unnamed_cannot : CanUndo 1 (record { len = 8; pruned = 0; entries = [] }) (record { pruned = 0; bits = replicate 16 true }) → ⊥
 made_unnamed_cannot can = omega (arith, (can.unnamed 8 (omega arith, omega arith) refl).1)
 
--- a pruned chunk whose byte is kept comes back, and of the chunk behind it the bits stand
-behind_one_can : CanUndo 1 from_behind_one behind_one
+-- a pruned chunk whose byte is kept is restored, and the bits of the chunk after it are unchanged
+beyond_one_can : CanUndo 1 from_beyond_one beyond_one
 unfolding IsStrictlySortedBy
-behind_one_can = record {
+beyond_one_can = record {
   rises = omega arith;
   fits = omega arith;
   pruned = λ i low high. let first : i ≡ 0 = omega (arith, high) in rw first refl;
@@ -104,7 +104,7 @@ behind_one_can = record {
   sorted = (tt, tt);
 }
 
--- a pruned chunk past the old length, which the commit made itself, does no harm
+-- a record can have a pruned chunk past the old length, which the commit itself added
 appended_and_pruned_can : CanUndo 1 (record { len = 4; pruned = 0; entries = (0, Pruned (15 ∷ [])) ∷ (1, Pruned (255 ∷ [])) ∷ [] }) (record { pruned = 2; bits = [] })
 appended_and_pruned_can = record {
   rises = omega arith;
@@ -116,15 +116,15 @@ appended_and_pruned_can = record {
   sorted = first_two;
 }
 
--- bytes may not be put in place of a chunk that begins at the length, nor with a bit at the length
+-- bytes cannot be written back to a chunk that starts at the length, nor if they have a bit at the length
 at_the_length_is_no_chunk : IsOldChunk 1 8 1 (0 ∷ []) → ⊥
 at_the_length_is_no_chunk old = omega (arith, old.high)
 
 bit_at_the_length_is_set : IsOldChunk 1 12 1 (31 ∷ []) → ⊥
 bit_at_the_length_is_set old = absurd (false≢true (sym (old.clear 12 refl (omega arith))))
 
--- of two records each is asked of what its commit left: the first, of eight bits with eight more pushed, keeps nothing of chunk 0, which the second cuts
-abbrev pushed_and_cut : List (ℕ × Reverse)
+-- each of two records is undone from what its commit left: the first, for eight pushed bits after eight, keeps nothing of chunk 0, which the second cuts
+abbrev pushed_and_cut : List (ℕ × ReverseRecord)
 pushed_and_cut =
     (1, record { len = 8; pruned = 0; entries = (1, Added) ∷ [] })
     ∷ (2, record { len = 16; pruned = 0; entries = (0, Modified (255 ∷ [])) ∷ (1, Removed (255 ∷ [])) ∷ [] })
@@ -171,15 +171,15 @@ both_can = (pushed, (cut, tt))
       sorted = first_two;
     }
 
--- from what stands after the second the first could not be undone
+-- the first could not be undone from the bitmap after the second
 first_of_four_cannot : AllCanUndo 1 ((1, record { len = 8; pruned = 0; entries = (1, Added) ∷ [] }) ∷ []) four_left → ⊥
 first_of_four_cannot can = omega (arith, (can.0.unkept 7 (omega arith) (omega arith) refl).1)
 
--- nor is a second record that cannot be undone passed over
+-- nor is a second record that cannot be undone skipped
 second_of_two_cannot : AllCanUndo 1 ((1, record { len = 0; pruned = 0; entries = (0, Added) ∷ [] }) ∷ (2, record { len = 12; pruned = 0; entries = [] }) ∷ []) shorter → ⊥
 second_of_two_cannot can = omega (arith, (can.1.0.unkept 11 (omega arith) (omega arith) refl).1)
 
--- kept commits have numbers that rise, up to the last one
+-- kept commits have ascending numbers, up to the last one
 numbers_must_rise : AreKept 1 four_left ((2, record { len = 4; pruned = 0; entries = [] }) ∷ (2, record { len = 4; pruned = 0; entries = [] }) ∷ []) (Some 2) → ⊥
 unfolding IsStrictlySortedBy
 numbers_must_rise kept = let first = kept.rise.0.0 in absurd cc
@@ -191,25 +191,25 @@ none_are_kept : AreKept 1 four_left [] None
 unfolding IsStrictlySortedBy
 none_are_kept = record { undo = tt; rise = tt; numbers = refl }
 
--- the bytes of chunks 1 and 2, in order; what was made keeps none
+-- the bytes of chunks 1 and 2, in order; an added chunk keeps none
 between : kept_between 1 3 ((0, Modified (9 ∷ [])) ∷ (1, Pruned (7 ∷ [])) ∷ (2, Pruned (5 ∷ [])) ∷ (3, Added) ∷ []) ≡ (7 ∷ []) ∷ (5 ∷ []) ∷ []
 between = refl
 
--- ---- a record that leads back
--- what the record is to say of chunk i
+-- ---- a record that leads to the older bitmap
+-- what the record has to say about chunk i
 abbrev SaysOf : ℕ → Type 0
 SaysOf i = MatchOption (kept from_shorter i) (IsUnchanged 1 twelve shorter i) (λ bytes. bytes ≡ chunk 1 twelve i)
 
 shorter_leads_back : LeadsBack 1 from_shorter twelve shorter
 shorter_leads_back = record { len = refl; pruned = refl; chunks = λ i h. at i h }
   where
-    at : (i : ℕ) → HasChunk 1 twelve i → SaysOf i
+    at : (i : ℕ) → IsRetainedChunk 1 twelve i → SaysOf i
     at i h = elim (cases_eq i 0) [
       | inl a ↦ subst SaysOf (sym a) refl
       | inr b ↦ let one : i ≡ 1 = omega (arith, b, h.1) in subst SaysOf (sym one) refl
     ]
 
--- other old bytes do not
+-- a record with other old bytes does not
 wrong_byte_does_not : LeadsBack 1 (record { len = 12; pruned = 0; entries = (0, Modified (254 ∷ [])) ∷ (1, Removed (15 ∷ [])) ∷ [] }) twelve shorter → ⊥
 wrong_byte_does_not back = omega (arith, ap (λ bytes. get_or bytes 0 0) (back.chunks 0 (omega arith, omega arith)))
 
@@ -217,7 +217,7 @@ wrong_byte_does_not back = omega (arith, ap (λ bytes. get_or bytes 0 0) (back.c
 cut_must_be_kept : LeadsBack 1 (record { len = 12; pruned = 0; entries = (1, Removed (15 ∷ [])) ∷ [] }) twelve shorter → ⊥
 cut_must_be_kept back = omega (arith, (back.chunks 0 (omega arith, omega arith) 5 refl (omega arith, omega arith)).0.1)
 
--- a chunk of one bit is unchanged where another bit is pushed behind it, and then its record keeps nothing of it
+-- a chunk of one bit is unchanged if another bit is pushed after it, and then the record keeps nothing of it
 abbrev one_bit : PrunedBits
 one_bit = record { pruned = 0; bits = true ∷ [] }
 
@@ -227,7 +227,7 @@ grown_unchanged k e h = let first : k ≡ 0 = omega (arith, h.1) in ((omega arit
 grown_leads_back : LeadsBack 1 (record { len = 1; pruned = 0; entries = [] }) one_bit (record { pruned = 0; bits = true ∷ false ∷ [] })
 grown_leads_back = record { len = refl; pruned = refl; chunks = λ i h. let first : i ≡ 0 = omega (arith, h.1) in rw first grown_unchanged }
 
--- behind a pruned chunk, whose byte the record keeps, the next is unchanged
+-- the chunk after a pruned one, whose byte the record keeps, is unchanged
 pruned_leads_back : LeadsBack 1 (record { len = 9; pruned = 0; entries = (0, Pruned (255 ∷ [])) ∷ [] }) (record { pruned = 0; bits = replicate 9 true }) (record { pruned = 1; bits = true ∷ [] })
 pruned_leads_back = record {
   len = refl;
@@ -238,15 +238,15 @@ pruned_leads_back = record {
     next : IsUnchanged 1 (record { pruned = 0; bits = replicate 9 true }) (record { pruned = 1; bits = true ∷ [] }) 1
     next k e h = let eighth : k ≡ 8 = omega (arith, e, h.1) in ((omega (arith, e), omega (arith, eighth)), rw eighth refl)
 
--- it is changed where its bit is cleared, while the next chunk is not
+-- it is changed if its bit is cleared, and the next chunk is not
 cleared_is_changed : IsUnchanged 1 one_bit (record { pruned = 0; bits = false ∷ [] }) 0 → ⊥
 cleared_is_changed unchanged = absurd (false≢true (unchanged 0 refl (omega arith, omega arith)).1)
 
 next_is_unchanged : IsUnchanged 1 one_bit (record { pruned = 0; bits = false ∷ [] }) 1
 next_is_unchanged k e h = absurd (omega (arith, e, h.1))
 
--- ---- a record of pending edits: each chunk that they name, with what became of it
-rewritten_is_reversed : ReversesLayer 1 base rewritten back
+-- ---- a record of pending edits: each marked chunk, with what the commit does to it
+rewritten_is_reversed : IsRecordOf 1 base rewritten back
 rewritten_is_reversed = record {
   len = refl;
   pruned = refl;
@@ -260,31 +260,31 @@ rewritten_is_reversed = record {
   ];
 }
 
--- one without the chunk that was cut off is none
-without_the_cut_chunk : ReversesLayer 1 base rewritten (record { len = 20; pruned = 0; entries = (0, Pruned (255 ∷ [])) ∷ (1, Modified (255 ∷ [])) ∷ [] }) → ⊥
+-- a record without the chunk that was cut off is not one of them
+without_the_cut_chunk : IsRecordOf 1 base rewritten (record { len = 20; pruned = 0; entries = (0, Pruned (255 ∷ [])) ∷ (1, Modified (255 ∷ [])) ∷ [] }) → ⊥
 without_the_cut_chunk r = absurd (false≢true (ap is_some (r.entries 2)))
 
--- ---- pending edits that can be made in steps
-rewritten_alone : pending_bits 1 base (layer_of 14 1 rewritten.edited) ≡ pending_bits 1 base rewritten
+-- ---- pending edits that can be applied in steps
+rewritten_alone : pending_bits 1 base (uncaptured 14 1 rewritten.edited) ≡ pending_bits 1 base rewritten
 rewritten_alone = refl
 
--- an edited chunk past the pending length cannot be
-past_the_length_cannot : CanApply 1 base (layer_of 14 1 ((2, 0 ∷ []) ∷ [])) → ⊥
+-- an edited chunk past the pending length cannot be applied
+past_the_length_cannot : CanApply 1 base (uncaptured 14 1 ((2, 0 ∷ []) ∷ [])) → ⊥
 past_the_length_cannot can = omega (arith, (can.edited 2).high)
 
--- nor one that is at the length, nor one of two bytes
-at_the_length_cannot : IsEdited 1 base (layer_of 16 0 []) 2 (0 ∷ []) → ⊥
+-- nor can one that starts at the length, nor one of two bytes
+at_the_length_cannot : IsEdited 1 base (uncaptured 16 0 []) 2 (0 ∷ []) → ⊥
 at_the_length_cannot edited = omega (arith, edited.high)
 
-two_bytes_cannot : IsEdited 1 base (layer_of 16 0 []) 1 (0 ∷ 0 ∷ []) → ⊥
+two_bytes_cannot : IsEdited 1 base (uncaptured 16 0 []) 1 (0 ∷ 0 ∷ []) → ⊥
 two_bytes_cannot edited = omega (arith, edited.size)
 
--- nor can more be pruned than is left
-front_past_the_length_cannot : CanApply 1 base (layer_of 3 1 []) → ⊥
-front_past_the_length_cannot can = omega (arith, can.front)
+-- nor can more be pruned than the length
+front_past_the_length_cannot : CanApply 1 base (uncaptured 3 1 []) → ⊥
+front_past_the_length_cannot can = omega (arith, can.prefix)
 
--- nor can any edit where the bitmap is too short
-too_short_cannot : CanApply 1 base (layer_of 21 0 []) → ⊥
+-- nor can any edit if the bitmap is too short
+too_short_cannot : CanApply 1 base (uncaptured 21 0 []) → ⊥
 too_short_cannot can = omega (arith, can.long)
 
 edited_clear : (k : ℕ) → k / 8 ≡ 1 → 14 ≤ k → chunk_bit 1 (7 ∷ []) k ≡ false
@@ -295,10 +295,10 @@ edited_clear k e past = elim (cases_eq k 14) [
 
 -- an edited chunk i is right
 abbrev RightAt : ℕ → Type 0
-RightAt i = MatchOption (edited_chunk (layer_of 14 1 rewritten.edited) i) (Unit {0}) (IsEdited 1 base (layer_of 14 1 rewritten.edited) i)
+RightAt i = MatchOption (edited_chunk (uncaptured 14 1 rewritten.edited) i) (Unit {0}) (IsEdited 1 base (uncaptured 14 1 rewritten.edited) i)
 
-rewritten_can : CanApply 1 base (layer_of 14 1 rewritten.edited)
-rewritten_can = record { long = omega arith; front = omega arith; rises = omega arith; edited = edited }
+rewritten_can : CanApply 1 base (uncaptured 14 1 rewritten.edited)
+rewritten_can = record { long = omega arith; prefix = omega arith; rises = omega arith; edited = edited }
   where
     edited : (i : ℕ) → RightAt i
     edited i = elim (cases_eq i 0) [

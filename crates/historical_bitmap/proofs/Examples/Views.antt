@@ -1,13 +1,15 @@
--- What contracts see. Each chunk has one byte.
+-- The views of bitmaps that contracts use. Each chunk has one byte.
 use Rattle.std.specs.Prelude.{◌≡◌, ◌^◌, ◌-◌, ◌/◌, length, unwrap_or, true, false, ℕ, [], ◌∷◌, ◌++◌, Some, None, ⊤, replicate, nat_eq}
 use Rattle.std.specs.Set.{is_member}
 use Rattle.std.proofs.Common.{refl, ap, arith}
 use Rattle.std.proofs.lemmas.Bool.{cases_eq, false≢true, ne_eqb}
 use mathlib.Core.Logic.{inl, inr}
 use Rattle.historical_bitmap.specs.declared.bitmap.historical.error.Error.TheVariants.{NonMonotonicCommit, ReservedCommitNumber}
+use Rattle.bitmap_core.specs.PrunedBits.{PrunedBits}
+use Rattle.historical_bitmap.specs.Cost.{popped_to_chunks, most_cost}
 use Rattle.historical_bitmap.specs.Edits.Edit.{Pop, Set}
-use Rattle.historical_bitmap.specs.Pending.{Layer}
-use Rattle.historical_bitmap.specs.View.{View, history_of, costs_of, pending_of, marks_of, IsEditedAt, HoldsToo, IsEditOf, IsRunOf, IsBatchOn, refusal_of, popped_to_chunks, most_cost}
+use Rattle.historical_bitmap.specs.Pending.{PendingEdits}
+use Rattle.historical_bitmap.specs.View.{View, history_of, costs_of, pending_of, marked_of, IsEditedAt, KeepsEdited, IsEditOf, IsRunOf, IsBatchOn, commit_error}
 use Rattle.historical_bitmap.proofs.Examples.Histories.{current, commits}
 
 -- a clean bitmap with three commits, the last of them 3
@@ -20,50 +22,72 @@ clean_history = refl
 clean_costs : costs_of clean ≡ (1, 1) ∷ (2, 2) ∷ (3, 1) ∷ []
 clean_costs = refl
 
--- no number may be kept but those past the last one, below the reserved one
-seven_refused : refusal_of (Some 9) 7 ≡ Some (NonMonotonicCommit 9 7)
+-- a commit is accepted only under a number greater than the last one, and not under the reserved one
+seven_refused : commit_error (Some 9) 7 ≡ Some (NonMonotonicCommit 9 7)
 seven_refused = refl
 
-nine_refused : refusal_of (Some 9) 9 ≡ Some (NonMonotonicCommit 9 9)
+nine_refused : commit_error (Some 9) 9 ≡ Some (NonMonotonicCommit 9 9)
 nine_refused = refl
 
-ten_accepted : refusal_of (Some 9) 10 ≡ None
+ten_accepted : commit_error (Some 9) 10 ≡ None
 ten_accepted = refl
 
-zero_accepted_first : refusal_of None 0 ≡ None
+zero_accepted_first : commit_error None 0 ≡ None
 zero_accepted_first = refl
 
-greatest_reserved : refusal_of (Some 9) (2 ^ 64 - 1) ≡ Some ReservedCommitNumber
+greatest_reserved : commit_error (Some 9) (2 ^ 64 - 1) ≡ Some ReservedCommitNumber
 greatest_reserved = refl
 
--- twelve true bits with some of them popped
-abbrev popped_to : ℕ → View Layer
+-- twelve true bits, some of them popped
+abbrev popped_to : ℕ → View PendingEdits
 popped_to len = record { current = record { pruned = 0; bits = replicate 12 true }; commits = []; last = None; state = record { len = len; pruned = 0; edited = []; captured = [] } }
 
 popped_pending : pending_of 1 (popped_to 8) ≡ record { pruned = 0; bits = replicate 8 true }
 popped_pending = refl
 
 -- four positions of chunk 1 are cut off
-popped_marks : marks_of 1 (popped_to 8) ≡ 1 ∷ 1 ∷ 1 ∷ 1 ∷ []
+popped_marks : marked_of 1 (popped_to 8) ≡ 1 ∷ 1 ∷ 1 ∷ 1 ∷ []
 popped_marks = refl
 
--- eight bits are a whole chunk and below twelve: one marked chunk and one entry more
-to_chunks : popped_to_chunks 1 (popped_to 8) ≡ true
+-- eight of twelve bits are a whole chunk: one entry for the marked chunk 1, and one more
+abbrev bits : ℕ → PrunedBits
+bits len = record { pruned = 0; bits = replicate len true }
+
+to_chunks : popped_to_chunks 1 (bits 12) (bits 8) ≡ true
 to_chunks = refl
 
-cost_of_chunks : most_cost 1 (popped_to 8) ≡ 2
+cost_of_chunks : most_cost 1 (1 ∷ 1 ∷ 1 ∷ 1 ∷ []) (bits 12) (bits 8) ≡ 2
 cost_of_chunks = refl
 
--- nine are no whole chunk
-not_to_chunks : popped_to_chunks 1 (popped_to 9) ≡ false
+-- nine bits do not end with a whole chunk
+not_to_chunks : popped_to_chunks 1 (bits 12) (bits 9) ≡ false
 not_to_chunks = refl
 
-cost_of_nine : most_cost 1 (popped_to 9) ≡ 1
+cost_of_nine : most_cost 1 (1 ∷ 1 ∷ 1 ∷ []) (bits 12) (bits 9) ≡ 1
 cost_of_nine = refl
 
--- sixteen are whole chunks, and more than twelve
-pushed_to_chunks : popped_to_chunks 1 (record { current = record { pruned = 0; bits = replicate 12 true }; commits = []; last = None; state = record { len = 16; pruned = 0; edited = (1, 255 ∷ []) ∷ []; captured = [] } }) ≡ false
+-- sixteen bits are whole chunks and more than twelve
+pushed_to_chunks : popped_to_chunks 1 (bits 12) (bits 16) ≡ false
 pushed_to_chunks = refl
+
+-- sixteen bits are not fewer than sixteen
+kept_whole : popped_to_chunks 1 (bits 16) (bits 16) ≡ false
+kept_whole = refl
+
+-- 16 of 17 bits are a whole chunk of two bytes; 24 of 25 are not whole chunks of two bytes
+to_wide_chunks : popped_to_chunks 2 (bits 17) (bits 16) ≡ true
+to_wide_chunks = refl
+
+not_to_wide_chunks : popped_to_chunks 2 (bits 25) (bits 24) ≡ false
+not_to_wide_chunks = refl
+
+-- two distinct chunks, one of them twice
+two_chunks : most_cost 1 (1 ∷ 2 ∷ 1 ∷ []) (bits 12) (bits 9) ≡ 2
+two_chunks = refl
+
+-- an empty batch costs nothing
+no_chunks : most_cost 1 [] (bits 12) (bits 12) ≡ 0
+no_chunks = refl
 
 -- a pop of the twelfth bit: the pending bitmap has eleven, and the chunk of the new length is marked
 popped_once : IsEditOf 1 (popped_to 12) Pop (popped_to 11)
@@ -73,7 +97,7 @@ popped_once = record { current = refl; commits = refl; last = refl; pending = re
 popped_once_more : IsEditOf 1 (popped_to 8) Pop (popped_to 7)
 popped_once_more = record { current = refl; commits = refl; last = refl; pending = refl; marks = λ q h. marked q h }
   where
-    marked : (q : ℕ) → is_member nat_eq (marks_of 1 (popped_to 7)) q ≡ true → is_member nat_eq (1 ∷ 1 ∷ 1 ∷ 1 ∷ 0 ∷ []) q ≡ true
+    marked : (q : ℕ) → is_member nat_eq (marked_of 1 (popped_to 7)) q ≡ true → is_member nat_eq (1 ∷ 1 ∷ 1 ∷ 1 ∷ 0 ∷ []) q ≡ true
     marked q h = elim (cases_eq q 0) [
       | inl a ↦ rw a refl
       | inr b ↦ elim (cases_eq q 1) [ inl a ↦ rw a refl | inr d ↦ let e = rw (ne_eqb q 0 b, ne_eqb q 1 d) at h in cc ]
@@ -82,8 +106,8 @@ popped_once_more = record { current = refl; commits = refl; last = refl; pending
 popped_twice : IsRunOf 1 (popped_to 12) (Pop ∷ Pop ∷ []) (popped_to 10)
 popped_twice = record { current = refl; commits = refl; last = refl; pending = refl; marks = λ q h. h }
 
--- ---- a batch that has cleared bit 0 of the twelve: the first chunk is held whole, and the second is not
-abbrev cleared : View Layer
+-- ---- a batch that has cleared bit 0 of the twelve: the first chunk is edited, and the second is not
+abbrev cleared : View PendingEdits
 cleared = record { current = record { pruned = 0; bits = replicate 12 true }; commits = []; last = None; state = record { len = 12; pruned = 0; edited = (0, 254 ∷ []) ∷ []; captured = [] } }
 
 holds_the_first : IsEditedAt 1 cleared 7
@@ -92,31 +116,31 @@ holds_the_first = refl
 holds_no_other : IsEditedAt 1 cleared 8 → ⊥
 holds_no_other holds = false≢true holds
 
--- of two bytes position 8 is in the first chunk
+-- in chunks of two bytes, position 8 is in the first chunk
 holds_wide : IsEditedAt 2 cleared 8
 holds_wide = refl
 
--- with bit 11 cleared as well both are held, the second with the byte 07
-abbrev cleared_twice : View Layer
+-- if bit 11 is cleared too, both chunks are edited, the second with the byte 07
+abbrev cleared_twice : View PendingEdits
 cleared_twice = record { current = record { pruned = 0; bits = replicate 12 true }; commits = []; last = None; state = record { len = 12; pruned = 0; edited = (0, 254 ∷ []) ∷ (1, 7 ∷ []) ∷ []; captured = [] } }
 
-holds_more : HoldsToo 1 cleared 11 cleared_twice
+holds_more : KeepsEdited 1 cleared 11 cleared_twice
 holds_more = (refl, more)
   where
     more : (other : ℕ) → IsEditedAt 1 cleared other → IsEditedAt 1 cleared_twice other
     more other h = elim (cases_eq (other / 8) 0) [ inl a ↦ rw a refl | inr b ↦ let e = rw (ne_eqb (other / 8) 0 b) at h in cc ]
 
-holds_the_position_too : HoldsToo 1 cleared 11 cleared → ⊥
+holds_the_position_too : KeepsEdited 1 cleared 11 cleared → ⊥
 holds_the_position_too holds = false≢true holds.0
 
-holds_the_old_ones_too : HoldsToo 1 cleared_twice 0 cleared → ⊥
+holds_the_old_ones_too : KeepsEdited 1 cleared_twice 0 cleared → ⊥
 holds_the_old_ones_too holds = false≢true (holds.1 8 refl)
 
--- the second is the first after an edit of bit 11; the first chunk, marked before, stays so
+-- the second batch is the first after an edit of bit 11; the first chunk was marked before, and still is
 cleared_once_more : IsEditOf 1 cleared (Set 11 false) cleared_twice
 cleared_once_more = record { current = refl; commits = refl; last = refl; pending = refl; marks = λ q h. h }
 
--- after bit 11 alone the first chunk would not be marked
+-- after an edit of bit 11 alone the first chunk would not be marked
 cleared_once : IsEditOf 1 (popped_to 12) (Set 11 false) cleared_twice → ⊥
 cleared_once edit = false≢true (edit.marks 0 refl)
 
@@ -129,8 +153,8 @@ cleared_again = record { current = refl; commits = refl; last = refl; pending = 
       | inr b ↦ elim (cases_eq q 1) [ inl a ↦ rw a refl | inr d ↦ let e = rw (ne_eqb q 0 b, ne_eqb q 1 d) at h in cc ]
     ]
 
--- a batch stands on the bitmap with its current bitmap, commits and last number, and on no other
-abbrev batch_on : View Layer
+-- a batch is on the bitmap with its current bitmap, commits and last number, and on no other
+abbrev batch_on : View PendingEdits
 batch_on = record { current = current; commits = commits; last = Some 3; state = record { len = 8; pruned = 1; edited = []; captured = [] } }
 
 on_its_own : IsBatchOn clean batch_on

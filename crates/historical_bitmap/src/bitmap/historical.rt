@@ -1,4 +1,40 @@
-//! A bitmap with a history of commits.
+//! A bitmap with a history of numbered commits.
+//!
+//! `CleanBitMap::into_dirty` turns a bitmap into a batch. A batch is edited, and then committed under a number, or aborted.
+//! The bitmap at a kept commit is read in place by `at`, rebuilt by `get_at_commit`, or made current again by `rewind_to`.
+//!
+//! # Examples
+//! Two versions are committed. The set bits of the first one are counted, and then the bitmap is rewound to it:
+//!
+//! ```
+//! ghost use Rattle.std.specs.Prelude.{◌≡◌, Some, IfSome};
+//!
+//! use historical_bitmap::bitmap::Readable;
+//! use historical_bitmap::bitmap::historical::CleanBitMap;
+//! use std::alloc::Global;
+//!
+//! /// Commits two versions, counts the set bits of the first one, and rewinds to it. Returns `None` if an allocation fails.
+//! pub fn first_of_two(alloc: Global) -> Option<(u64, CleanBitMap<8>)>
+//!     ensures { IfSome result (λ found. found.1.last ≡ Some 1) }
+//! {
+//!     // Version 1 has the bits 1, 0.
+//!     let mut batch = CleanBitMap::<8>::new(alloc).into_dirty();
+//!     batch.push(true).ok()?.push(false).ok()?;
+//!     let bitmap = batch.commit(1).ok()?;
+//!
+//!     // Version 2 has the bits 1, 1, 1. The edits require that position 1 is retained, and that the length can grow.
+//!     let mut batch = bitmap.into_dirty();
+//!     if batch.len() == 2 && batch.pruned_chunks() == 0 {
+//!         batch.set_bit(1, true).ok()?.push(true).ok()?;
+//!     }
+//!     let bitmap = batch.commit(2).ok()?;
+//!
+//!     // Version 1 still has one set bit. Then it becomes the current bitmap again.
+//!     let ones = bitmap.at(1)?.count_ones_range(0..3);
+//!     let bitmap = bitmap.rewind_to(1).ok()?;
+//!     Some((ones, bitmap))
+//! }
+//! ```
 
 mod apply;
 mod at;
@@ -19,7 +55,7 @@ mod undo;
 
 pub use crate::bitmap::historical::at::AtCommit;
 pub use crate::bitmap::historical::changes::ChangedChunks;
-pub use crate::bitmap::historical::commits::{Commits, Numbers};
+pub use crate::bitmap::historical::commits::{CommitNumbers, Commits};
 pub use crate::bitmap::historical::edit::{Edit, Lent};
 pub use crate::bitmap::historical::error::{ApplyError, Error, RewindError};
 pub use crate::bitmap::historical::pending::Dirty;
@@ -31,13 +67,16 @@ use std::alloc::AllocError;
 use std::collections::BTreeMap;
 use std::marker::Model;
 
-/// A bitmap of `N`-byte chunks whose front may be pruned, with what was committed before, by number.
+/// A prunable bitmap in chunks of `N` bytes, with a history of numbered commits. The head of this module has an example.
 ///
-/// The current bitmap is held whole. Of each older one a record is kept of what the commits after it changed.
-/// A `CleanBitMap` is read and begun, a `DirtyBitMap` is edited and committed.
+/// The current bitmap is stored whole. Per kept commit there is one reverse record, which says how to undo that commit.
+/// A `CleanBitMap` is read or turned into a batch, and a `DirtyBitMap` is a batch, which is edited and committed.
 ///
-/// Positions and lengths count bits, pruned ones too. A commit's number is above the last one, which is that last committed or gone back to,
-/// whether it is still kept or not; `u64::MAX` is no commit's number.
+/// Positions and lengths are absolute and count bits, pruned ones too. The number of a commit has to be greater than the last number:
+/// the number last committed or rewound to, even if its commit is not kept. `u64::MAX` is reserved.
+///
+/// # Memory
+/// The retained chunks of the current bitmap, the entries of the reverse records, and the edited and captured chunks of a batch.
 #[derive(Debug, Drop)]
 pub struct BitMap<const N: usize, S: State = Clean> {
     current: Prunable<N>,
@@ -46,10 +85,10 @@ pub struct BitMap<const N: usize, S: State = Clean> {
     state: S,
 }
 
-/// A historical bitmap with no edit pending.
+/// A historical bitmap without pending edits.
 pub type CleanBitMap<const N: usize> = BitMap<N, Clean>;
 
-/// A historical bitmap with pending edits, or begun and not edited yet.
+/// A batch: a historical bitmap with pending edits, of which there may be none yet.
 pub type DirtyBitMap<const N: usize> = BitMap<N, Dirty<N>>;
 
 impl<const N: usize, S: State> Model for BitMap<N, S> {
@@ -68,9 +107,16 @@ impl<const N: usize, S: State> Clone for BitMap<N, S> {
 
     ghost is_clone = { λ a b. b ≡ a };
 
-    /// An equal bitmap, with its commits and its pending edits.
+    /// Returns an equal bitmap, with its commits and its pending edits.
     ///
-    /// Takes memory for the current bitmap, for the records and for the pending edits, and errs where that is refused. The bitmap stays as it is.
+    /// # Errors
+    /// `AllocError` if an allocation fails.
+    ///
+    /// # Memory
+    /// Allocates the current bitmap, the reverse records and the pending edits.
+    ///
+    /// # Complexity
+    /// Linear in the retained chunks, the kept commits and their entries, and the edited and captured chunks.
     fn clone(&self) -> Result<Self, AllocError> {
         Ok(BitMap {
             current: self.current.clone()?,

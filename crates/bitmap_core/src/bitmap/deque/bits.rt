@@ -2,20 +2,22 @@
 
 ghost use Rattle.std.specs.Prelude.{◌≡◌, ℕ, ◌+◌, ◌*◌, ◌/◌, ◌%◌, ◌^◌, ◌<◌, length, not};
 ghost use Rattle.bitmap_bytes.specs.Chunk.{IsWidth};
-ghost use Rattle.bitmap_bytes.specs.Bits.{bit_of, IsBitPut, IsBytePut, IsChunkCount, IsZeroFrom};
+ghost use Rattle.bitmap_bytes.specs.Bits.{chunks_bit, IsBitPut, IsBytePut, IsChunkCount, IsZeroFrom};
 
 use crate::chunk;
 use crate::chunk::{chunk_index, chunk_width};
 use std::collections::VecDeque;
 
+// Returns bit `bit` of the chunks.
 pub fn get_bit<const N: usize>(chunks: &VecDeque<[u8; N]>, bit: u64) -> bool
     requires width { IsWidth N }
     requires within { bit / (8 * N) < length chunks.now.items }
-    ensures { result ≡ bit_of N chunks.now.items bit }
+    ensures { result ≡ chunks_bit N chunks.now.items bit }
 {
     chunk::get_bit(&chunks[chunk_index::<N>(bit)], bit)
 }
 
+// Sets bit `bit` of the chunks to `value`.
 pub fn set_bit<const N: usize>(chunks: &mut VecDeque<[u8; N]>, bit: u64, value: bool)
     requires width { IsWidth N }
     requires within { bit / (8 * N) < length chunks.old.items }
@@ -24,16 +26,16 @@ pub fn set_bit<const N: usize>(chunks: &mut VecDeque<[u8; N]>, bit: u64, value: 
     chunk::set_bit(&mut chunks[chunk_index::<N>(bit)], bit, value);
 }
 
-// Inverts a bit.
+// Inverts bit `bit` of the chunks.
 pub fn flip_bit<const N: usize>(chunks: &mut VecDeque<[u8; N]>, bit: u64)
     requires width { IsWidth N }
     requires within { bit / (8 * N) < length chunks.old.items }
-    ensures { IsBitPut N chunks.old.items chunks.new.items bit (not (bit_of N chunks.old.items bit)) }
+    ensures { IsBitPut N chunks.old.items chunks.new.items bit (not (chunks_bit N chunks.old.items bit)) }
 {
     chunk::flip_bit(&mut chunks[chunk_index::<N>(bit)], bit);
 }
 
-// Writes the whole byte in which a bit stands.
+// Replaces the byte that contains bit `bit`.
 pub fn set_byte<const N: usize>(chunks: &mut VecDeque<[u8; N]>, bit: u64, byte: u8)
     requires width { IsWidth N }
     requires within { bit / (8 * N) < length chunks.old.items }
@@ -42,12 +44,12 @@ pub fn set_byte<const N: usize>(chunks: &mut VecDeque<[u8; N]>, bit: u64, byte: 
     chunk::set_byte(&mut chunks[chunk_index::<N>(bit)], bit, byte);
 }
 
-// Clears the bits from a length on.
+// Clears the bits at and past a length.
 pub fn clear_tail<const N: usize>(chunks: &mut VecDeque<[u8; N]>, len: u64)
     requires width { IsWidth N }
     requires count { IsChunkCount N (length chunks.old.items) len }
     ensures count { length chunks.new.items ≡ length chunks.old.items }
-    ensures below { (i : ℕ) → i < len → bit_of N chunks.new.items i ≡ bit_of N chunks.old.items i }
+    ensures below { (i : ℕ) → i < len → chunks_bit N chunks.new.items i ≡ chunks_bit N chunks.old.items i }
     ensures zero { IsZeroFrom N chunks.new.items len }
 {
     let from = len % chunk_width::<N>();

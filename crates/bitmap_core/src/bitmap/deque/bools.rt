@@ -1,22 +1,22 @@
-//! A deque of chunks from booleans, and as booleans.
+//! Conversions between booleans and a deque of chunks.
 
 ghost use Rattle.std.specs.Prelude.{◌≡◌, ℕ, ◌+◌, ◌*◌, ◌^◌, ◌<◌, ◌≤◌, ◌++◌, length, false, slice_index_or, vec_len, vec_capacity, IfOk, IsOk};
 ghost use Rattle.bitmap_bytes.specs.Chunk.{IsWidth};
-ghost use Rattle.bitmap_bytes.specs.Bits.{bit_of, bits, IsChunkCount};
+ghost use Rattle.bitmap_bytes.specs.Bits.{chunks_bit, bits, IsChunkCount};
 
 use crate::chunk;
 use crate::chunk::{chunk_count, chunk_width};
 use std::alloc::{AllocError, Global};
 use std::collections::VecDeque;
 
-// The chunks of booleans, with zeros after them.
+// The chunks of some booleans, with zeros after them.
 pub fn from_bools<const N: usize>(
     alloc: Global,
     bools: &[bool],
 ) -> Result<VecDeque<[u8; N]>, AllocError>
     requires width { IsWidth N }
     ensures count { IfOk result (λ q. IsChunkCount N (length q.items) (length bools.now)) }
-    ensures bits { IfOk result (λ q. (i : ℕ) → bit_of N q.items i ≡ slice_index_or bools.now i false) }
+    ensures bits { IfOk result (λ q. (i : ℕ) → chunks_bit N q.items i ≡ slice_index_or bools.now i false) }
     ensures none { length bools.now ≡ 0 → IsOk result }
 {
     let width = chunk_width::<N>() as usize;
@@ -30,11 +30,11 @@ pub fn from_bools<const N: usize>(
     Ok(chunks)
 }
 
-// Appends the bits of chunks to booleans that have room for them.
+// Appends the first `len` bits of the chunks to a vector of booleans that has capacity for them.
 pub fn append_bools<const N: usize>(chunks: &VecDeque<[u8; N]>, len: u64, bools: &mut Vec<bool>)
     requires width { IsWidth N }
     requires count { IsChunkCount N (length chunks.now.items) len }
-    requires room { vec_len bools.old + len ≤ vec_capacity bools.old }
+    requires space { vec_len bools.old + len ≤ vec_capacity bools.old }
     ensures { bools.new.items ≡ bools.old.items ++ bits N chunks.now.items len }
 {
     let width = chunk_width::<N>();

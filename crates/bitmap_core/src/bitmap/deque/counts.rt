@@ -1,14 +1,14 @@
-//! How many bits of a deque of chunks are set, and whether any in a range is.
+//! The number of set bits of a deque of chunks, and whether a bit of a range is set.
 
 ghost use Rattle.std.specs.Prelude.{◌≡◌, ◌+◌, ◌-◌, ◌*◌, ◌^◌, ◌<◌, ◌≤◌, length, not};
 ghost use Rattle.std.specs.List.{count_by, list_all, range_with_len};
-ghost use Rattle.bitmap_bytes.specs.Bits.{bit_of, bits};
+ghost use Rattle.bitmap_bytes.specs.Bits.{chunks_bit, bits};
 
 use crate::bitmap::deque::runs::bytes;
 use crate::chunk::words;
 use std::collections::VecDeque;
 
-// The number of ones in some chunks.
+// The number of set bits of some chunks.
 pub fn count_ones<const N: usize>(chunks: &VecDeque<[u8; N]>) -> u64
     requires positive { 0 < N }
     requires fits { count_by (λ b. b) (bits N chunks.now.items (8 * N * length chunks.now.items)) < 2 ^ 64 }
@@ -18,11 +18,11 @@ pub fn count_ones<const N: usize>(chunks: &VecDeque<[u8; N]>) -> u64
     words::count_ones(front) + words::count_ones(back)
 }
 
-// Whether no bit of some chunks from `from` on and below `to` is set.
+// Whether no bit of some chunks at or above `from` and below `to` is set.
 pub fn is_unset<const N: usize>(chunks: &VecDeque<[u8; N]>, from: u64, to: u64) -> bool
     requires positive { 0 < N }
     requires within { to ≤ 8 * N * length chunks.now.items }
-    ensures { result ≡ list_all (λ i. not (bit_of N chunks.now.items i)) (range_with_len from (to - from)) }
+    ensures { result ≡ list_all (λ i. not (chunks_bit N chunks.now.items i)) (range_with_len from (to - from)) }
 {
     let (front, back) = bytes(chunks);
     let split = (front.len() as u64).saturating_mul(8);

@@ -1,9 +1,9 @@
-//! Every chunk of a deque.
+//! Operations on every chunk of a deque.
 
 ghost use Rattle.std.specs.Prelude.{◌≡◌, ℕ, ◌+◌, ◌*◌, ◌/◌, ◌<◌, ◌≤◌, [], ◌++◌, length, not, slice_index_or};
 ghost use Rattle.std.specs.Bool.{Decides};
 ghost use Rattle.std.specs.List.{fold};
-ghost use Rattle.bitmap_bytes.specs.Bits.{bit_of, AreChunks};
+ghost use Rattle.bitmap_bytes.specs.Bits.{chunks_bit, AreChunks};
 ghost use Rattle.bitmap_bytes.specs.Chunk.{chunk_bit};
 ghost use Rattle.bitmap_bytes.specs.Combined.{IsCombined};
 
@@ -17,12 +17,12 @@ use std::hash::Hasher;
 pub fn flip<const N: usize>(chunks: &mut VecDeque<[u8; N]>)
     requires { 0 < N }
     ensures count { length chunks.new.items ≡ length chunks.old.items }
-    ensures bits { (k : ℕ) → k / (8 * N) < length chunks.old.items → bit_of N chunks.new.items k ≡ not (bit_of N chunks.old.items k) }
+    ensures bits { (k : ℕ) → k / (8 * N) < length chunks.old.items → chunks_bit N chunks.new.items k ≡ not (chunks_bit N chunks.old.items k) }
 {
     flip_slice(chunks.make_contiguous());
 }
 
-// Sixteen chunks a turn, a number that the compiler sees, so that the bytes of small chunks are inverted together.
+// Sixteen chunks per step: the compiler knows the number, so it inverts the bytes of small chunks together.
 fn flip_slice<const N: usize>(chunks: &mut [[u8; N]])
     requires { 0 < N }
     ensures count { length chunks.new ≡ length chunks.old }
@@ -49,18 +49,18 @@ fn flip_some<const N: usize>(chunks: &mut [[u8; N]], from: usize, count: usize)
     }
 }
 
-// Writes one value to every bit.
+// Sets every bit to `value`.
 pub fn fill<const N: usize>(chunks: &mut VecDeque<[u8; N]>, value: bool)
     requires { 0 < N }
     ensures count { length chunks.new.items ≡ length chunks.old.items }
-    ensures bits { (k : ℕ) → k / (8 * N) < length chunks.old.items → bit_of N chunks.new.items k ≡ value }
+    ensures bits { (k : ℕ) → k / (8 * N) < length chunks.old.items → chunks_bit N chunks.new.items k ≡ value }
 {
     for chunk in chunks.make_contiguous().iter_mut() {
         whole::fill(chunk, value);
     }
 }
 
-// Combines each bit with the other of its place.
+// Combines each bit with the bit of `others` at the same position.
 pub fn combine<B: Bitwise, const N: usize>(
     chunks: &mut VecDeque<[u8; N]>,
     others: &VecDeque<[u8; N]>,
@@ -75,7 +75,7 @@ pub fn combine<B: Bitwise, const N: usize>(
     combine_slices::<B, N>(tail, back);
 }
 
-// Sixteen chunks a turn, as `flip_slice` goes.
+// Sixteen chunks per step, as in `flip_slice`.
 fn combine_slices<B: Bitwise, const N: usize>(chunks: &mut [[u8; N]], others: &[[u8; N]])
     requires positive { 0 < N }
     requires same { length chunks.old ≡ length others.now }
@@ -83,14 +83,14 @@ fn combine_slices<B: Bitwise, const N: usize>(chunks: &mut [[u8; N]], others: &[
 {
     let groups = chunks.len() / 16;
     for i in 0..groups {
-        // A copy, so that no write can be taken for one to the others: all sixteen are combined at once.
+        // A copy, so that the compiler knows that no write changes `others`: it combines all sixteen at once.
         let theirs: [[u8; N]; 16] = others[16 * i..16 * i + 16].try_into().unwrap();
         combine_some::<B, N>(chunks, &theirs, 16 * i);
     }
     combine_some::<B, N>(chunks, &others[16 * groups..], 16 * groups);
 }
 
-// Combines the chunks from the index `from` on with the others, as many as these are.
+// Combines the chunks from the index `from` on with `others`, as many as these are.
 fn combine_some<B: Bitwise, const N: usize>(chunks: &mut [[u8; N]], others: &[[u8; N]], from: usize)
     requires positive { 0 < N }
     requires within { from + length others.now ≤ length chunks.old }
@@ -104,11 +104,11 @@ fn combine_some<B: Bitwise, const N: usize>(chunks: &mut [[u8; N]], others: &[[u
     }
 }
 
-// Whether two deques of one length have the same bits.
+// Whether two deques of the same length have the same bits.
 pub fn are_equal<const N: usize>(a: &VecDeque<[u8; N]>, b: &VecDeque<[u8; N]>) -> bool
     requires positive { 0 < N }
     requires same { length a.now.items ≡ length b.now.items }
-    ensures { Decides result ((k : ℕ) → bit_of N a.now.items k ≡ bit_of N b.now.items k) }
+    ensures { Decides result ((k : ℕ) → chunks_bit N a.now.items k ≡ chunks_bit N b.now.items k) }
 {
     let (a_front, a_back) = slices(a);
     let (b_front, b_back) = slices(b);
@@ -119,7 +119,7 @@ pub fn are_equal<const N: usize>(a: &VecDeque<[u8; N]>, b: &VecDeque<[u8; N]>) -
     }
 }
 
-// Whether two fronts and the backs behind them make the same run. The first front is no longer than the second.
+// Whether `front` followed by `back` equals `longer` followed by `rest`. `front` is no longer than `longer`.
 fn runs_equal<const N: usize>(
     front: &[[u8; N]],
     back: &[[u8; N]],
@@ -135,7 +135,7 @@ fn runs_equal<const N: usize>(
     slices_equal(front, low) && slices_equal(near, high) && slices_equal(far, rest)
 }
 
-// Byte by byte, so that many are compared at once.
+// Compares bytes and not chunks, so that many are compared at once.
 fn slices_equal<const N: usize>(a: &[[u8; N]], b: &[[u8; N]]) -> bool
     requires { length a.now ≡ length b.now }
     ensures { Decides result (a.now ≡ b.now) }
@@ -145,7 +145,7 @@ fn slices_equal<const N: usize>(a: &[[u8; N]], b: &[[u8; N]]) -> bool
     a.as_flattened() == b.as_flattened()
 }
 
-// Feeds each chunk to a hash, in order.
+// Feeds each chunk to a hasher, in order.
 pub fn feed<const N: usize, H: Hasher>(chunks: &VecDeque<[u8; N]>, state: &mut H)
     ensures fed { state.new ≡ fold H.write state.old chunks.now.items }
     ensures known { AreChunks N chunks.now.items }

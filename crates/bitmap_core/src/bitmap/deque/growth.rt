@@ -1,15 +1,15 @@
-//! A deque of chunks made longer and shorter.
+//! Growing and shrinking a deque of chunks.
 
 ghost use Rattle.std.specs.Prelude.{◌≡◌, ℕ, ◌+◌, ◌*◌, ◌%◌, ◌^◌, ◌<◌, ◌≤◌, [], ◌∷◌, ◌++◌, length, replicate, OnOk, OnErr, IsOk};
 ghost use Rattle.bitmap_bytes.specs.Chunk.{IsWidth};
-ghost use Rattle.bitmap_bytes.specs.Bits.{bit_of, IsChunkCount, IsZeroFrom};
+ghost use Rattle.bitmap_bytes.specs.Bits.{chunks_bit, IsChunkCount, IsZeroFrom};
 
 use crate::bitmap::deque::bits::clear_tail;
 use crate::chunk::{chunk_count, chunk_width};
 use std::alloc::AllocError;
 use std::collections::VecDeque;
 
-// Adds a chunk of zeros. On its own, so that what stands around it stays small enough to be inlined.
+// Appends a chunk of zeros. It is a function of its own so that its callers stay small enough to be inlined.
 #[inline(never)]
 fn add_chunk<const N: usize>(chunks: &mut VecDeque<[u8; N]>) -> Result<(), AllocError>
     ensures ok { OnOk result (chunks.new.items ≡ chunks.old.items ++ replicate N 0 ∷ []) }
@@ -19,14 +19,17 @@ fn add_chunk<const N: usize>(chunks: &mut VecDeque<[u8; N]>) -> Result<(), Alloc
     Ok(())
 }
 
-// Adds a chunk of zeros where the chunks are full.
+// Appends a chunk of zeros if the chunks are full.
 #[inline]
-pub fn make_room<const N: usize>(chunks: &mut VecDeque<[u8; N]>, len: u64) -> Result<(), AllocError>
+pub fn make_space<const N: usize>(
+    chunks: &mut VecDeque<[u8; N]>,
+    len: u64,
+) -> Result<(), AllocError>
     requires width { IsWidth N }
     requires count { IsChunkCount N (length chunks.old.items) len }
     ensures partial { ¬ (len % (8 * N) ≡ 0) → IsOk result }
-    ensures room { OnOk result (IsChunkCount N (length chunks.new.items) (len + 1)) }
-    ensures same { (i : ℕ) → bit_of N chunks.new.items i ≡ bit_of N chunks.old.items i }
+    ensures space { OnOk result (IsChunkCount N (length chunks.new.items) (len + 1)) }
+    ensures same { (i : ℕ) → chunks_bit N chunks.new.items i ≡ chunks_bit N chunks.old.items i }
     ensures err { OnErr result (chunks.new.items ≡ chunks.old.items) }
 {
     if len % chunk_width::<N>() == 0 {
@@ -35,20 +38,20 @@ pub fn make_room<const N: usize>(chunks: &mut VecDeque<[u8; N]>, len: u64) -> Re
     Ok(())
 }
 
-// Drops the last chunk where no bit stands in it.
-pub fn drop_room<const N: usize>(chunks: &mut VecDeque<[u8; N]>, len: u64)
+// Removes the last chunk if it has no bit below the length.
+pub fn drop_space<const N: usize>(chunks: &mut VecDeque<[u8; N]>, len: u64)
     requires width { IsWidth N }
     requires count { IsChunkCount N (length chunks.old.items) (len + 1) }
     requires zero { IsZeroFrom N chunks.old.items len }
     ensures count { IsChunkCount N (length chunks.new.items) len }
-    ensures same { (i : ℕ) → bit_of N chunks.new.items i ≡ bit_of N chunks.old.items i }
+    ensures same { (i : ℕ) → chunks_bit N chunks.new.items i ≡ chunks_bit N chunks.old.items i }
 {
     if len % chunk_width::<N>() == 0 {
         let _ = chunks.pop_back();
     }
 }
 
-// Appends copies of a chunk, or none where their memory is refused.
+// Appends copies of a chunk. On an error the chunks are unchanged.
 pub fn append_copies<const N: usize>(
     chunks: &mut VecDeque<[u8; N]>,
     count: usize,
@@ -65,7 +68,7 @@ pub fn append_copies<const N: usize>(
     Ok(())
 }
 
-// Appends the chunks of zeros that are missing for a greater length.
+// Appends the chunks of zeros that a greater length needs.
 pub fn extend_zeros<const N: usize>(
     chunks: &mut VecDeque<[u8; N]>,
     len: u64,
@@ -74,21 +77,21 @@ pub fn extend_zeros<const N: usize>(
     requires width { IsWidth N }
     requires count { IsChunkCount N (length chunks.old.items) len }
     requires order { len ≤ longer }
-    ensures room { OnOk result (IsChunkCount N (length chunks.new.items) longer) }
-    ensures same { (i : ℕ) → bit_of N chunks.new.items i ≡ bit_of N chunks.old.items i }
+    ensures space { OnOk result (IsChunkCount N (length chunks.new.items) longer) }
+    ensures same { (i : ℕ) → chunks_bit N chunks.new.items i ≡ chunks_bit N chunks.old.items i }
     ensures err { OnErr result (chunks.new.items ≡ chunks.old.items) }
-    ensures roomy { longer ≤ 8 * N * length chunks.old.items → IsOk result }
+    ensures has_capacity { longer ≤ 8 * N * length chunks.old.items → IsOk result }
 {
     let missing = chunk_count::<N>(longer) - chunks.len();
     append_copies(chunks, missing, [0; N])
 }
 
-// Drops the chunks in which no bit below a smaller length stands, and clears the bits from there on.
+// Removes the chunks that have no bit below a smaller length, and clears the bits from that length on.
 pub fn shorten<const N: usize>(chunks: &mut VecDeque<[u8; N]>, shorter: u64)
     requires width { IsWidth N }
     requires order { shorter ≤ 8 * N * length chunks.old.items }
     ensures count { IsChunkCount N (length chunks.new.items) shorter }
-    ensures below { (i : ℕ) → i < shorter → bit_of N chunks.new.items i ≡ bit_of N chunks.old.items i }
+    ensures below { (i : ℕ) → i < shorter → chunks_bit N chunks.new.items i ≡ chunks_bit N chunks.old.items i }
     ensures zero { IsZeroFrom N chunks.new.items shorter }
 {
     chunks.truncate(chunk_count::<N>(shorter));

@@ -1,4 +1,4 @@
-//! A deque of chunks as two runs, since it may wrap.
+//! A deque of chunks as two slices, because it may wrap around.
 
 ghost use Rattle.std.specs.Prelude.{◌≡◌, ◌++◌};
 ghost use Rattle.std.specs.List.{flat_map};
@@ -7,7 +7,7 @@ ghost use Rattle.bitmap_bytes.specs.Bits.{AreChunks};
 use crate::chunk::facts::all_known;
 use std::collections::VecDeque;
 
-// The chunks of a deque, in two runs.
+// The chunks of a deque, in two slices.
 pub fn slices<const N: usize>(chunks: &VecDeque<[u8; N]>) -> (&[[u8; N]], &[[u8; N]])
     ensures items { result.0.now ++ result.1.now ≡ chunks.now.items }
     ensures known { AreChunks N chunks.now.items }
@@ -18,7 +18,7 @@ pub fn slices<const N: usize>(chunks: &VecDeque<[u8; N]>) -> (&[[u8; N]], &[[u8;
     (front, back)
 }
 
-// The bytes of a deque's chunks, in two runs.
+// The bytes of the chunks of a deque, in two slices.
 pub fn bytes<const N: usize>(chunks: &VecDeque<[u8; N]>) -> (&[u8], &[u8])
     ensures items { result.0.now ++ result.1.now ≡ flat_map (λ c. c) chunks.now.items }
     ensures known { AreChunks N chunks.now.items }

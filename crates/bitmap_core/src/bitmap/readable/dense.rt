@@ -1,4 +1,4 @@
-//! A dense bitmap as its readers see it.
+//! `Readable` for dense bitmaps.
 
 ghost use Rattle.std.specs.Prelude.{◌≤◌};
 ghost use Rattle.std.specs.List.{filter, range_with_len};

@@ -1,4 +1,4 @@
-//! The positions of a range of any bitmap whose bit is set, or is not set, by words of 64 bits.
+//! The iterator over the positions of a range whose bit is set, or is not set, by words of 64 bits.
 
 ghost use Rattle.std.specs.Prelude.{◌≡◌, ◌≢◌, ℕ, ◌+◌, ◌*◌, ◌/◌, ◌%◌, ◌^◌, ◌<◌, ◌≤◌, ◌==◌, true, false, [], length, MatchBool};
 ghost use Rattle.std.specs.Int.{bit_at};
@@ -14,30 +14,34 @@ use crate::chunk::{chunk_index, chunk_width};
 use std::marker::Model;
 use std::ops::Range;
 
-/// The positions of a range whose bit is set, ascending, each once. The iterator of `zeros_iter_range` yields those whose bit is not set.
+/// An iterator over the positions of a range whose bit is set, in ascending order.
 ///
-/// It goes by words of 64 bits, and loads each at most once. After the last position it always returns `None`. Does not allocate.
+/// The iterator that `zeros_iter_range` returns is over the positions whose bit is not set.
+/// Each word of the range is loaded at most once, and `get_chunk` is called at most once per chunk.
+/// After the last position, `next` always returns `None`. No call of `next` allocates.
+///
+/// The head of the module `readable` has an example.
 #[derive(Drop)]
 pub struct OnesIter<'a, B: Readable<N>, const N: usize> {
     readable: &'a B,
     // The end of the range, at most the length.
     end: u64,
-    // Whether the set positions are wanted, and not the others.
+    // Whether the positions whose bit is set are wanted. If false, those whose bit is not set are.
     wanted: bool,
     cursor: Cursor<N>,
 }
 
 #[derive(Drop)]
 struct Cursor<const N: usize> {
-    // For contracts alone: where the range begins.
+    // For contracts only: where the range begins.
     first: u64,
-    // Where the word begins, or the end where the range is empty.
+    // Where the current word begins, or the end of the range if the range is empty.
     base: u64,
-    // The bits of that word that are not given yet.
+    // The wanted bits of that word whose position has not been returned.
     word: u64,
-    // The chunk that has the word.
+    // The chunk that contains the word.
     chunk: [u8; N],
-    // For contracts alone: how many words were loaded.
+    // For contracts only: the number of words loaded.
     loads: u64,
 }
 
@@ -55,7 +59,7 @@ impl<'a, B: Readable<N>, const N: usize> Model for OnesIter<'a, B, N> {
     ghost invariant = { λ s. IsIterating N (B.meaning s.readable.now) s.cursor.base s.cursor.word s.end s.cursor.chunk s.cursor.loads s.cursor.first };
 }
 
-// The wanted bits of the word at `base` of its chunk, with zeros from the end of the chunk and from `end` on. Each call counts as one load.
+// The wanted bits of the word at `base` of its chunk, with zeros past the end of the chunk and from `end` on. Counts one load.
 fn load_word<const N: usize>(
     chunk: &[u8; N],
     base: u64,
@@ -66,7 +70,7 @@ fn load_word<const N: usize>(
     requires width { IsWidth N }
     requires start { starts_word N base ≡ true }
     requires below { base < end }
-    requires room { loads.old + 1 < 2 ^ 64 }
+    requires space { loads.old + 1 < 2 ^ 64 }
     ensures inside { (i : ℕ) → i < 64 → base + i < end → base % (8 * N) + i < 8 * N → (bit_at result i == 1) ≡ is_wanted wanted (chunk_bit N chunk.now (base % (8 * N) + i)) }
     ensures past_chunk { (i : ℕ) → i < 64 → 8 * N ≤ base % (8 * N) + i → (bit_at result i == 1) ≡ false }
     ensures past_end { IsCut base result end }
@@ -76,7 +80,7 @@ fn load_word<const N: usize>(
     wanted_below(chunk, base, end, wanted)
 }
 
-// Moves on to the next word with a bit that is not given yet, if there is one.
+// Moves to the next word with a bit whose position has not been returned. Returns whether there is one.
 fn advance<B: Readable<N>, const N: usize>(
     readable: &B,
     end: u64,
@@ -104,7 +108,7 @@ fn advance<B: Readable<N>, const N: usize>(
     true
 }
 
-// Asks for the chunk of `base` where that begins one.
+// Gets the chunk of `base` if a chunk begins there.
 fn turn_chunk<B: Readable<N>, const N: usize>(readable: &B, base: u64, chunk: &mut [u8; N])
     requires lawful { IsLawful N (B.meaning readable.now) }
     requires retained { IsRetained N (B.meaning readable.now) base }
@@ -117,7 +121,7 @@ fn turn_chunk<B: Readable<N>, const N: usize>(readable: &B, base: u64, chunk: &m
     }
 }
 
-// Loads the word at `next`, which follows the cursor's.
+// Loads the word at `next`, which follows the word of the cursor.
 fn load_next<B: Readable<N>, const N: usize>(
     readable: &B,
     end: u64,
@@ -141,7 +145,7 @@ fn load_next<B: Readable<N>, const N: usize>(
 }
 
 impl<'a, B: Readable<N>, const N: usize> OnesIter<'a, B, N> {
-    // The wanted positions in a range of a bitmap of length `len`. It asks for the first chunk.
+    // The wanted positions in a range of a bitmap of length `len`. Gets the first chunk of the range.
     pub(crate) fn over(readable: &'a B, len: u64, range: Range<u64>, wanted: bool) -> Self
         requires lawful { IsLawful N (B.meaning readable.now) }
         requires len { len ≡ (B.meaning readable.now).len }
@@ -184,7 +188,7 @@ impl<'a, B: Readable<N>, const N: usize> OnesIter<'a, B, N> {
         }
     }
 
-    // What `next` does, and what it loads. Clauses of `next` itself would ask each caller's loop for a proof file.
+    // Does what `next` does, and states what it loads. If `next` had these clauses, the loop of each caller would need a proof file.
     pub(crate) fn step(&mut self) -> Option<u64>
         ensures steps { YieldsFirst (λ s. s.left) self.old result self.new }
         ensures grows { self.old.loads ≤ self.new.loads }
@@ -197,7 +201,7 @@ impl<'a, B: Readable<N>, const N: usize> OnesIter<'a, B, N> {
         Some(self.cursor.base + place)
     }
 
-    // What the fields say of every value.
+    // States the bound on the number of loads, which holds for every value.
     pub(crate) fn loads_within_words(&self)
         ensures { self.now.loads ≤ self.now.words }
     {
@@ -205,7 +209,7 @@ impl<'a, B: Readable<N>, const N: usize> OnesIter<'a, B, N> {
     }
 }
 
-// The first wanted position from `from` on of a bitmap of length `len`.
+// The first wanted position at or above `from` of a bitmap of length `len`.
 pub(crate) fn first_from<B: Readable<N>, const N: usize>(
     readable: &B,
     len: u64,

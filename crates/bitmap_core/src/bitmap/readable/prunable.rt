@@ -1,4 +1,4 @@
-//! A bitmap with a pruned front as its readers see it.
+//! `Readable` for bitmaps with a pruned prefix.
 
 use crate::bitmap::prunable::Prunable;
 use crate::bitmap::readable::Readable;

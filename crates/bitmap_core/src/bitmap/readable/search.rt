@@ -1,4 +1,4 @@
-//! Counts and searches over any bitmap, a chunk per turn.
+//! Counts and searches over any bitmap, one chunk per step.
 
 ghost use Rattle.std.specs.Prelude.{◌≡◌, ℕ, ◌+◌, ◌*◌, ◌≤◌, length};
 ghost use Rattle.std.specs.List.{slice_get};
@@ -9,7 +9,9 @@ use crate::bitmap::readable::Readable;
 use crate::chunk::chunk_index;
 use crate::chunk::range::{last_in, nth_in, ones_in};
 
-// The number of set positions from `first` on and below `end`. It asks for each chunk that the range meets once.
+// The width is written as `8 * N`: for a call of `chunk_width`, the goals of the proofs name its result and not this value.
+
+// The number of set positions at or above `first` and below `end`. Gets each chunk that the range meets once.
 pub(crate) fn count_ones<B: Readable<N>, const N: usize>(readable: &B, first: u64, end: u64) -> u64
     requires lawful { IsLawful N (B.meaning readable.now) }
     requires retained { 8 * N * (B.meaning readable.now).pruned ≤ first }
@@ -29,9 +31,9 @@ pub(crate) fn count_ones<B: Readable<N>, const N: usize>(readable: &B, first: u6
     total
 }
 
-// The set position from `first` on and below `end` that has `k` set positions between `first` and itself.
+// The set position at or above `first` and below `end` that has `k` set positions between `first` and itself.
 //
-// It asks for each chunk up to that of the position once.
+// Gets each chunk up to that of the position once.
 pub(crate) fn nth_one<B: Readable<N>, const N: usize>(
     readable: &B,
     first: u64,
@@ -61,9 +63,9 @@ pub(crate) fn nth_one<B: Readable<N>, const N: usize>(
     None
 }
 
-// The last retained position below `end` that is set, or, if `wanted` is false, that is not set.
+// The last retained position below `end` that is set or, if `wanted` is false, that is not set.
 //
-// It asks for each chunk from that of `end` back to that of the position once.
+// Gets each chunk from that of `end` down to that of the position once.
 pub(crate) fn last_below<B: Readable<N>, const N: usize>(
     readable: &B,
     end: u64,

@@ -1,4 +1,4 @@
-//! Pending edits made in the current bitmap: first what may be refused, then what takes no memory.
+//! Applying pending edits to the current bitmap: first the steps that allocate, then those that do not.
 
 ghost use Rattle.std.specs.Prelude.{◌≡◌, ℕ, ◌+◌, ◌*◌, ◌<◌, ◌≤◌, List, get_or, length, IfOk, MatchOption, OnOk, OnErr, nat_eq};
 ghost use Rattle.std.specs.List.Sorted.{IsStrictlySortedBy};
@@ -6,31 +6,32 @@ ghost use Rattle.std.specs.Map.{keys_of, lookup};
 ghost use Rattle.std.specs.Ordering.{nat_cmp};
 ghost use Rattle.bitmap_bytes.specs.Chunk.{IsWidth};
 ghost use Rattle.bitmap_core.specs.PrunedBits.{PrunedBits, bit_len, extended, pruned_bits, truncated};
-ghost use Rattle.historical_bitmap.specs.Pending.{CanApply, Layer, LayerFits, edits_of, layer_of, pending_bits};
+ghost use Rattle.historical_bitmap.specs.Pending.{CanApply, PendingEdits, PendingFits, edits_of, uncaptured, pending_bits};
 ghost use Rattle.historical_bitmap.specs.Run.{run_entries};
 ghost use Rattle.historical_bitmap.specs.Undo.{IsOldChunk, put_back};
 
 use crate::bitmap::historical::grown::GrownChunks;
 use bitmap_core::bitmap::Prunable;
+use bitmap_core::chunk::chunk_width;
 use std::alloc::AllocError;
 use std::collections::BTreeMap;
 
-// Extends the bitmap to a length, where that is longer, and answers the length before.
+// Extends the bitmap with zeros to a length, if that is longer, and returns the length before.
 //
-// Takes memory for the chunks that are missing. Refused, the bitmap is as it was.
+// Allocates for the chunks that are missing. If that fails, the bitmap is unchanged.
 pub(crate) fn grow<const N: usize>(current: &mut Prunable<N>, len: u64) -> Result<u64, AllocError>
     ensures before { IfOk result (λ before. before ≡ bit_len N current.old) }
     ensures ok { OnOk result (current.new ≡ extended N current.old len) }
     ensures err { OnErr result (current.new ≡ current.old) }
-    ensures ready { OnOk result ((l : Layer) → l.len ≡ len → LayerFits N current.old l → CanApply N current.new (layer_of l.len l.pruned l.edited)) }
-    ensures pending { OnOk result ((l : Layer) → l.len ≡ len → LayerFits N current.old l → pending_bits N current.new l ≡ pending_bits N current.old l) }
+    ensures ready { OnOk result ((l : PendingEdits) → l.len ≡ len → PendingFits N current.old l → CanApply N current.new (uncaptured l.len l.pruned l.edited)) }
+    ensures pending { OnOk result ((l : PendingEdits) → l.len ≡ len → PendingFits N current.old l → pending_bits N current.new l ≡ pending_bits N current.old l) }
 {
     let before = current.len();
     current.extend_to(len)?;
     Ok(before)
 }
 
-// Cuts a bitmap that has grown back to its length before, which leaves it as it was. No memory.
+// Truncates a bitmap that `grow` extended to its length before, which restores it. Does not allocate.
 pub(crate) fn shrink_back<const N: usize>(current: &mut Prunable<N>, before: u64)
     requires from { pruned_bits N current.old ≤ before }
     requires to { before ≤ bit_len N current.old }
@@ -40,24 +41,23 @@ pub(crate) fn shrink_back<const N: usize>(current: &mut Prunable<N>, before: u64
     current.truncate(before);
 }
 
-// Makes pending edits in a bitmap that is as long as they ask. No memory.
+// Applies pending edits to a bitmap that is at least as long as the pending length. Does not allocate.
 pub(crate) fn overwrite<const N: usize>(
     current: &mut Prunable<N>,
     len: u64,
     edited: GrownChunks<N>,
     pruned: usize,
 )
-    requires { CanApply N current.old (layer_of len pruned edited) }
-    ensures { current.new ≡ pending_bits N current.old (layer_of len pruned edited.entry) }
+    requires { CanApply N current.old (uncaptured len pruned edited) }
+    ensures { current.new ≡ pending_bits N current.old (uncaptured len pruned edited.entry) }
 {
     let _ = current.len();
     current.truncate(len);
     write_all(current, edited);
-    let width = 8 * N as u64;
-    current.prune_to_bit(width * pruned as u64);
+    current.prune_to_bit(chunk_width::<N>() * pruned as u64);
 }
 
-// Replaces the bits of edited chunks. No memory.
+// Replaces the bits of edited chunks. Does not allocate.
 fn write_all<const N: usize>(current: &mut Prunable<N>, edited: GrownChunks<N>)
     requires width { IsWidth N }
     requires retained { (i : ℕ) → MatchOption (lookup (nat_eq i) edited) (Unit {0}) (λ bytes. current.old.pruned ≤ i) }
@@ -70,7 +70,7 @@ fn write_all<const N: usize>(current: &mut Prunable<N>, edited: GrownChunks<N>)
     write_run(current, from, &run);
 }
 
-// Replaces the bits of the chunks of a run. No memory.
+// Replaces the bits of the chunks of a run. Does not allocate.
 fn write_run<const N: usize>(current: &mut Prunable<N>, from: usize, run: &Vec<[u8; N]>)
     requires width { IsWidth N }
     requires retained { (at : ℕ) → at < length run.now.items → current.old.pruned ≤ from + at }
@@ -83,7 +83,7 @@ fn write_run<const N: usize>(current: &mut Prunable<N>, from: usize, run: &Vec<[
     }
 }
 
-// Replaces the bits of chunks. No memory.
+// Replaces the bits of chunks. Does not allocate.
 fn write_chunks<const N: usize>(current: &mut Prunable<N>, edited: &BTreeMap<usize, [u8; N]>)
     requires width { IsWidth N }
     requires retained { (i : ℕ) → MatchOption (lookup (nat_eq i) edited.now.entries) (Unit {0}) (λ bytes. current.old.pruned ≤ i) }

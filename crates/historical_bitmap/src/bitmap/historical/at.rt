@@ -1,8 +1,9 @@
-//! Old states read where they stand, without a bitmap of their own.
+//! Past states that are read in place, without a bitmap of their own.
 
 ghost use Rattle.std.specs.Prelude.{◌≡◌, ◌-◌, ◌^◌, None, option_copied, option_map, slice_get};
+ghost use Rattle.bitmap_bytes.specs.Chunk.{IsWidth};
 ghost use Rattle.bitmap_core.specs.Meaning.{pruned_meaning, ShowsChunk};
-ghost use Rattle.bitmap_core.specs.PrunedBits.{HasChunk};
+ghost use Rattle.bitmap_core.specs.PrunedBits.{IsRetainedChunk};
 ghost use Rattle.historical_bitmap.specs.History.{EntriesRise, first_kept as first_kept_of, IsLeftBy, kept_under, left_by, past_number};
 ghost use Rattle.historical_bitmap.specs.View.{history_of};
 
@@ -14,13 +15,15 @@ use std::collections::BTreeMap;
 use std::marker::Model;
 use std::ops::Bound;
 
-/// A bitmap that was committed under a kept number, read in place: its bits are looked for in the records of later commits, and then in the current bitmap.
+/// The bitmap at a kept commit, read in place: a chunk is searched for in the reverse records of later commits, then in the current bitmap.
 ///
-/// It reads as any `Readable` does, and takes no memory. Its length and its number of pruned chunks are at hand. Each chunk
-/// that is asked for costs a binary search in the record of each later commit, up to the first that has it.
+/// It is a `Readable`, and its methods do not allocate. `CleanBitMap::at` returns it.
 ///
-/// So it is the cheaper way to a few bits, and far back to many. Whoever reads much of a recent commit makes a bitmap of its
-/// own of it by `get_at_commit`: that costs a copy of the current one and a pass over the later records, and then a bit costs next to nothing.
+/// # Complexity
+/// `len` and `pruned_chunks`: constant. A read of a chunk: one binary search per reverse record past the commit, until one keeps the chunk.
+///
+/// To read a few bits, this is cheaper than `get_at_commit`. To read many bits of a state with many commits after it, `get_at_commit`
+/// is cheaper: it costs a copy of the current bitmap and one pass over the later records, and then each read takes constant time.
 #[derive(Drop)]
 pub struct AtCommit<'a, const N: usize> {
     of: &'a BitMap<N, Clean>,
@@ -40,7 +43,7 @@ impl<'a, const N: usize> Model for AtCommit<'a, N> {
     ghost invariant = { λ a. IsLeftBy N a.number a.of.now.commits a.of.now.current a.len a.pruned };
 }
 
-// The first record past a number.
+// Returns the first reverse record past a number.
 fn first_past<const N: usize>(
     commits: &BTreeMap<u64, CommitDiff<N>>,
     number: u64,
@@ -54,7 +57,7 @@ fn first_past<const N: usize>(
     }
 }
 
-// The old bytes that the first record past a number to keep any keeps of a chunk.
+// Returns the old bytes of a chunk from the first record past a number that keeps any.
 fn first_kept<const N: usize>(
     commits: &BTreeMap<u64, CommitDiff<N>>,
     number: u64,
@@ -73,11 +76,15 @@ fn first_kept<const N: usize>(
 }
 
 impl<const N: usize> BitMap<N, Clean> {
-    /// The bitmap that was committed under a number, to be read in place, where that commit is kept. `u64::MAX` is never kept.
+    /// Returns the bitmap at commit `number`, to be read in place, or `None` if that commit is not kept. `u64::MAX` is never kept.
     ///
-    /// No memory. It finds what `get_at_commit` finds, and is never refused.
+    /// It is the same state that `get_at_commit` returns as a bitmap of its own. Does not allocate.
     ///
-    /// How many bits of an old version are set in a range:
+    /// # Complexity
+    /// A search among the kept commits: logarithmic in them. `AtCommit` says what a read costs.
+    ///
+    /// # Examples
+    /// The number of bits of a past version that are set in a range:
     ///
     /// ```
     /// ghost use Rattle.std.specs.Prelude.{◌≡◌, length};
@@ -90,7 +97,7 @@ impl<const N: usize> BitMap<N, Clean> {
     /// use historical_bitmap::bitmap::historical::CleanBitMap;
     /// use std::ops::Range;
     ///
-    /// /// How many bits of a version are set in a range, where that version is kept.
+    /// /// Returns how many bits of a version are set in a range, or `None` if that version is not kept.
     /// pub fn count_in_version<const N: usize>(
     ///     versions: &CleanBitMap<N>,
     ///     number: u64,
@@ -99,13 +106,13 @@ impl<const N: usize> BitMap<N, Clean> {
     ///     ensures { result ≡ option_map (λ version. length (ones N (pruned_meaning N version) range.start range.end)) (kept_under (history_of N versions.now) number) }
     /// {
     ///     let version = versions.at(number)?;
-    ///     let _ = version.len();
     ///     Some(version.ones_iter_range(range).count())
     /// }
     /// ```
     pub fn at(&self, number: u64) -> Option<AtCommit<'_, N>>
         ensures value { result ≡ kept_under (history_of N self.now) number }
         ensures reserved { kept_under (history_of N self.now) (2 ^ 64 - 1) ≡ None }
+        ensures width { IsWidth N }
     {
         let _ = self.current.len();
         if !self.commit_exists(number) {
@@ -120,7 +127,7 @@ impl<const N: usize> BitMap<N, Clean> {
         })
     }
 
-    // The length and the number of pruned chunks that the last commit up to a number left.
+    // Returns the length and the number of pruned chunks that the last commit up to a number left.
     fn extent_at(&self, number: u64) -> (u64, usize)
         ensures { IsLeftBy N number self.now.commits self.now.current result.0 result.1 }
     {
@@ -130,9 +137,9 @@ impl<const N: usize> BitMap<N, Clean> {
         }
     }
 
-    // A chunk that the last commit up to a number left: its bits below the length then, and any bits past it.
+    // Returns a chunk that the last commit up to a number left. Bits past the length at that commit may have any value.
     fn chunk_at(&self, number: u64, chunk: usize) -> [u8; N]
-        requires { HasChunk N (left_by N number self.now.commits self.now.current) chunk }
+        requires { IsRetainedChunk N (left_by N number self.now.commits self.now.current) chunk }
         ensures { ShowsChunk N (pruned_meaning N (left_by N number self.now.commits self.now.current)) chunk result }
     {
         let _ = self.current.len();

@@ -1,4 +1,4 @@
-//! A batch that is applied: begun, edited by a closure, and committed or given up.
+//! Applying a batch: begun, edited by a closure, and committed or aborted.
 
 use crate::bitmap::historical::{ApplyError, BitMap, Clean, CleanBitMap, DirtyBitMap};
 use private::Batches;
@@ -6,22 +6,22 @@ use private::Batches;
 mod private {
     use crate::bitmap::historical::ApplyError;
 
-    // A clean value, a batch of which is a `D`: the bound of a closure may name a type parameter, but no const one.
+    // A clean value whose batches have type `D`. It exists since the bound of a closure may name a type parameter, but no const one.
     pub trait Batches<const N: usize, D: Drop>: Drop + Sized {
         ghost use Rattle.std.specs.Prelude.{ℕ, Result};
         ghost use Rattle.historical_bitmap.specs.declared.bitmap.historical.error.ApplyError.{ApplyError};
 
-        // A batch is the value, begun.
+        // A batch is the value with no edit pending.
         ghost is_begun: { ℕ → Self → D → Type 0 };
 
-        // What comes, under a number, of the batch that a closure left and of what the closure answered.
+        // What `finish` returns for the batch that a closure left, the closure's result, and a number.
         ghost batch_gives: { {E : Type 0} → ℕ → D → Result (Unit {0}) E → ℕ → Result Self (Self × ApplyError E) → Type 0 };
 
         // Begins a batch.
         fn begin(self) -> D
             ensures { is_begun N self result };
 
-        // Commits what a closure left where it answered `Ok`, else gives it up.
+        // Commits the batch that a closure left if the closure returned `Ok`, else aborts it.
         fn finish<E>(
             left: D,
             answer: Result<(), E>,
@@ -58,17 +58,30 @@ impl<const N: usize> Batches<N, DirtyBitMap<N>> for CleanBitMap<N> {
 }
 
 impl<const N: usize> BitMap<N, Clean> {
-    ghost use Rattle.std.specs.Borrow.{MutBor};
+    ghost use Rattle.historical_bitmap.specs.Batch.{AcceptsBegun, IsApplied};
 
-    /// Edits the bitmap by a closure, and commits it under a number where the closure answers `Ok`.
+    /// Edits the bitmap with a closure, and commits the result as commit `number` if the closure returns `Ok`.
     ///
-    /// The closure takes `&mut DirtyBitMap<N>`. It is called once, on `into_dirty` of the value, which has to meet what it asks for,
-    /// and may put another dirty bitmap in its place. What it leaves is committed, and the number is compared with the last one of that.
+    /// The closure takes `&mut DirtyBitMap<N>`. It is called once, on `into_dirty` of the value, which must meet the closure's `requires`.
+    /// It may replace that value by another dirty bitmap. The one that it leaves is committed.
+    /// `number` is compared with the last number of that one.
     ///
-    /// It errs with `Batch` and what the closure answered where that is an `Err`, else with `Commit` and why where the commit is refused.
-    /// Then it hands back what `abort` of what the closure left gives.
+    /// # Errors
     ///
-    /// Takes the memory that the closure takes, and that of `commit`.
+    /// - `ApplyError::Batch` with the closure's error if the closure returns one;
+    /// - `ApplyError::Commit` with the error of `commit` if that fails.
+    ///
+    /// With either, it also returns what `abort` makes of the bitmap that the closure left.
+    ///
+    /// # Memory
+    ///
+    /// What the closure allocates, and then as `commit`.
+    ///
+    /// # Complexity
+    ///
+    /// That of the closure, and then of `commit` or `abort`.
+    ///
+    /// # Examples
     ///
     /// ```
     /// ghost use Rattle.std.specs.Prelude.{◌≡◌, ◌+◌, ◌^◌, ◌<◌, ◌++◌, ◌∷◌, [], true, false, IfErr, IfOk, OnOk};
@@ -79,7 +92,7 @@ impl<const N: usize> BitMap<N, Clean> {
     /// use historical_bitmap::bitmap::historical::{ApplyError, CleanBitMap};
     /// use std::alloc::AllocError;
     ///
-    /// /// Appends two bits, and keeps the bitmap so made under a number. Refused, the bitmap is as it was.
+    /// /// Appends two bits, and commits. After an error the bitmap is unchanged.
     /// pub fn append_two(
     ///     bitmap: CleanBitMap<4>,
     ///     number: u64,
@@ -109,8 +122,8 @@ impl<const N: usize> BitMap<N, Clean> {
     ) -> Result<CleanBitMap<N>, (CleanBitMap<N>, ApplyError<E>)>
     where
         CleanBitMap<N>: Batches<N, D>,
-        requires { (lent : MutBor D) → ⟦<CleanBitMap<N> as Batches<N, D>>⟧.is_begun N self lent.now → F.pre edit lent }
-        ensures { (lent : MutBor D) × (answer : _) × (left : MutBor D) × ⟦<CleanBitMap<N> as Batches<N, D>>⟧.is_begun N self.entry lent.now × F.post edit lent answer left × ⟦<CleanBitMap<N> as Batches<N, D>>⟧.batch_gives N left.now answer number result }
+        requires accepts { AcceptsBegun (⟦<CleanBitMap<N> as Batches<N, D>>⟧.is_begun N self) (F.pre edit) }
+        ensures applied { IsApplied (⟦<CleanBitMap<N> as Batches<N, D>>⟧.is_begun N self.entry) (F.post edit) (λ left answer. ⟦<CleanBitMap<N> as Batches<N, D>>⟧.batch_gives N left answer number result) }
     {
         let mut batch = self.begin();
         let answer = edit(&mut batch);

@@ -1,4 +1,4 @@
-//! The chunks in which two states of a historical bitmap differ.
+//! The chunks in which two kept states of a historical bitmap differ.
 
 ghost use Rattle.std.specs.Prelude.{◌≡◌, ℕ, ◌+◌, ◌*◌, ◌++◌, ◌^◌, ◌<◌, ◌≤◌, List, length, IfSome};
 ghost use Rattle.std.specs.Iterator.{YieldsFirst, item_count};
@@ -18,10 +18,15 @@ use std::collections::BTreeMap;
 use std::marker::Model;
 use std::ops::Bound;
 
-/// The indices of the chunks that differ between two kept states, ascending, each once.
+/// An iterator over the indices of the chunks that differ between two kept states, ascending, each once.
 ///
-/// A call of `next` asks each record of the commits between the two states for its first entry from an index on, by a binary search,
-/// and reads the chunk in both states, until they differ. After the last index it returns `None`, then and ever after. Does not allocate.
+/// `CleanBitMap::changed_chunks` returns it. After the last index, `next` returns `None`, however often it is called.
+///
+/// Does not allocate.
+///
+/// # Complexity
+/// For each chunk that `next` examines: one binary search per reverse record between the two states, and two reads through `AtCommit`.
+/// It examines only chunks with an entry in such a record.
 #[derive(Drop)]
 pub struct ChangedChunks<'a, const N: usize> {
     commits: &'a BTreeMap<u64, CommitDiff<N>>,
@@ -29,7 +34,7 @@ pub struct ChangedChunks<'a, const N: usize> {
     to: u64,
     older: AtCommit<'a, N>,
     newer: AtCommit<'a, N>,
-    // The first index that is not passed yet.
+    // The first index that is still to be examined.
     next: usize,
     // The number of chunks of the longer state.
     end: usize,
@@ -47,7 +52,7 @@ impl<'a, const N: usize> Model for ChangedChunks<'a, N> {
     ghost invariant = { λ c. IsComparing N c.from c.to c.commits.now.entries c.older c.newer c.end };
 }
 
-// The lesser of two numbers, if there are both.
+// Returns the lesser of two numbers, or the only one.
 fn least(left: Option<usize>, right: Option<usize>) -> Option<usize>
     ensures { (from : ℕ) (xs ys : List ℕ) → IsNextMember xs from left → IsNextMember ys from right → IsNextMember (xs ++ ys) from result }
 {
@@ -59,7 +64,7 @@ fn least(left: Option<usize>, right: Option<usize>) -> Option<usize>
     }
 }
 
-// The first chunk from `first` on that a record past one number, up to another, names.
+// Returns the first chunk from `first` on with an entry in a record past `from` and up to `to`.
 fn next_named<const N: usize>(
     commits: &BTreeMap<u64, CommitDiff<N>>,
     from: u64,
@@ -79,7 +84,7 @@ fn next_named<const N: usize>(
 }
 
 impl<'a, const N: usize> AtCommit<'a, N> {
-    // The bytes of a chunk, if it is retained. Its bits past the length are zero. Does not allocate.
+    // Returns the bytes of a chunk, if it is retained. Bits past the length are zero. Does not allocate.
     pub(crate) fn retained_bytes(&self, chunk: usize) -> Option<[u8; N]>
         requires { 8 * N * chunk < 2 ^ 64 }
         ensures { result ≡ retained_bytes_of N self.now chunk }
@@ -95,7 +100,7 @@ impl<'a, const N: usize> AtCommit<'a, N> {
     }
 }
 
-// The first chunk from `first` on and before `end` in which two states differ.
+// Returns the first chunk from `first` on, and before `end`, in which two states differ.
 fn next_changed<const N: usize>(
     commits: &BTreeMap<u64, CommitDiff<N>>,
     from: u64,
@@ -122,12 +127,13 @@ fn next_changed<const N: usize>(
 }
 
 impl<const N: usize> BitMap<N, Clean> {
-    /// The indices of the chunks that differ between the states committed under two numbers, ascending, each once:
-    /// the chunks retained in one state and not in the other, and those retained in both with other bytes. Bits past the length count as zero.
+    /// Returns an iterator over the indices of the chunks that differ between the states under two numbers, ascending, each once.
     ///
+    /// A chunk differs if it is retained in only one of the states, or if its bytes differ. Bits past the length count as zero.
     /// Returns `None` unless both numbers are kept and `from` is at most `to`. Does not allocate.
     ///
-    /// Only chunks that a record past `from`, up to `to`, names are read.
+    /// # Complexity
+    /// Logarithmic in the kept commits. `ChangedChunks` says what the iterator costs.
     pub fn changed_chunks(&self, from: u64, to: u64) -> Option<ChangedChunks<'_, N>>
         ensures value { result ≡ changed_between N (history_of N self.now) from to }
         ensures bound { IfSome result (λ changes. length changes < 2 ^ 64) }

@@ -1,8 +1,8 @@
-//! What is asked of a historical bitmap with no edit pending, its commits apart.
+//! Methods of a historical bitmap without pending edits, except those about commits.
 
 ghost use Rattle.std.specs.Prelude.{◌≡◌, ℕ, ◌*◌, ◌/◌, ◌^◌, ◌<◌, ◌↔◌, ◌==◌, [], None, IfOk, IfErr, IsOk};
 ghost use Rattle.bitmap_bytes.specs.Chunk.{IsWidth};
-ghost use Rattle.bitmap_core.specs.PrunedBits.{bit_at, bit_len, chunk, HasBit};
+ghost use Rattle.bitmap_core.specs.PrunedBits.{bit_at, bit_len, chunk, IsRetained};
 ghost use Rattle.historical_bitmap.specs.Pending.{unedited};
 ghost use Rattle.historical_bitmap.specs.declared.bitmap.historical.error.Error.TheVariants.{PrunedChunksOverflow};
 
@@ -15,7 +15,9 @@ use std::alloc::Global;
 use std::collections::BTreeMap;
 
 impl<const N: usize> BitMap<N, Clean> {
-    /// A bitmap without bits, nothing pruned and no commits. `N` is at least 1, and `8N` fits `u64`. No memory.
+    /// Returns an empty bitmap: no bits, no pruned chunks and no commits.
+    ///
+    /// `N`, the width of a chunk in bytes, has to be at least 1, and `8 * N` has to fit `u64`. Does not allocate; constant time.
     pub fn new(alloc: Global) -> Self
         requires width { IsWidth N }
         ensures { result ≡ record { current = record { pruned = 0; bits = [] }; commits = []; last = None; state = tt } }
@@ -23,7 +25,9 @@ impl<const N: usize> BitMap<N, Clean> {
         Self::without_commits(alloc, Prunable::new(alloc))
     }
 
-    /// The same as `new`, on the same conditions. No memory.
+    /// Returns an empty bitmap, as `new` does, under the same conditions.
+    ///
+    /// Does not allocate; constant time.
     pub fn default(alloc: Global) -> Self
         requires width { IsWidth N }
         ensures { result ≡ record { current = record { pruned = 0; bits = [] }; commits = []; last = None; state = tt } }
@@ -31,9 +35,12 @@ impl<const N: usize> BitMap<N, Clean> {
         Self::new(alloc)
     }
 
-    /// A bitmap whose first `pruned_chunks` chunks are pruned, with no bit behind them and no commits. Its length in bits is `8N` times their number.
+    /// Returns a bitmap with `pruned_chunks` pruned chunks, no retained bits and no commits. Its length is `8 * N * pruned_chunks` bits.
     ///
-    /// It errs with `PrunedChunksOverflow` exactly where that passes `u64`, and with nothing else. `N` is at least 1, and `8N` fits `u64`. No memory.
+    /// `N`, the width of a chunk in bytes, has to be at least 1, and `8 * N` has to fit `u64`. Does not allocate; constant time.
+    ///
+    /// # Errors
+    /// `PrunedChunksOverflow`, exactly if the length does not fit `u64`.
     pub fn new_with_pruned_chunks(alloc: Global, pruned_chunks: usize) -> Result<Self, Error>
         requires width { IsWidth N }
         ensures ok { IfOk result (λ b. b ≡ record { current = record { pruned = pruned_chunks; bits = [] }; commits = []; last = None; state = tt }) }
@@ -44,7 +51,7 @@ impl<const N: usize> BitMap<N, Clean> {
         Ok(Self::without_commits(alloc, current))
     }
 
-    // A bitmap that nothing was committed of.
+    // Returns a bitmap without commits.
     fn without_commits(alloc: Global, current: Prunable<N>) -> Self
         ensures { result ≡ record { current = current.entry; commits = []; last = None; state = tt } }
     {
@@ -56,7 +63,9 @@ impl<const N: usize> BitMap<N, Clean> {
         }
     }
 
-    /// The same bitmap begun as a batch, with no edit pending. No memory.
+    /// Turns the bitmap into a batch with no pending edits.
+    ///
+    /// Does not allocate; constant time.
     pub fn into_dirty(self) -> BitMap<N, Dirty<N>>
         ensures { result ≡ record { current = self.entry.current; commits = self.entry.commits; last = self.entry.last; state = unedited N self.entry.current } }
     {
@@ -69,14 +78,18 @@ impl<const N: usize> BitMap<N, Clean> {
         }
     }
 
-    /// The current bitmap. No memory.
+    /// Returns the current bitmap.
+    ///
+    /// Does not allocate; constant time.
     pub fn current(&self) -> &Prunable<N>
         ensures { result.now ≡ self.now.current }
     {
         &self.current
     }
 
-    /// The length of the current bitmap in bits, pruned ones counted. No memory.
+    /// Returns the length of the current bitmap in bits. Pruned bits count.
+    ///
+    /// Does not allocate; constant time.
     pub fn len(&self) -> u64
         ensures value { result ≡ bit_len N self.now.current }
         ensures width { IsWidth N }
@@ -85,33 +98,39 @@ impl<const N: usize> BitMap<N, Clean> {
         self.current.len()
     }
 
-    /// Whether the length of the current bitmap is 0. One with pruned bits is not empty. No memory.
+    /// Returns whether the length of the current bitmap is 0. A bitmap with pruned bits is not empty.
+    ///
+    /// Does not allocate; constant time.
     pub fn is_empty(&self) -> bool
         ensures { result ≡ (bit_len N self.now.current == 0) }
     {
         self.current.is_empty()
     }
 
-    /// The number of pruned chunks of the current bitmap. No memory.
+    /// Returns the number of pruned chunks of the current bitmap.
+    ///
+    /// Does not allocate; constant time.
     pub fn pruned_chunks(&self) -> usize
         ensures { result ≡ self.now.current.pruned }
     {
         self.current.pruned_chunks()
     }
 
-    /// The bit of the current bitmap at an absolute position, which is retained. No memory.
+    /// Returns the bit of the current bitmap at the absolute position `bit`, which has to be retained.
+    ///
+    /// Does not allocate; constant time.
     pub fn get_bit(&self, bit: u64) -> bool
-        requires { HasBit N self.now.current bit }
+        requires { IsRetained N self.now.current bit }
         ensures { result ≡ bit_at N self.now.current bit }
     {
         self.current.get_bit(bit)
     }
 
-    /// The bytes of the chunk of the current bitmap that contains an absolute position, which is retained.
+    /// Returns the bytes of the chunk of the current bitmap that contains the absolute position `bit`, which has to be retained.
     ///
-    /// Its bits past the length are zero. No memory.
+    /// Bits of the chunk past the length are zero. Does not allocate; constant time.
     pub fn get_chunk_containing(&self, bit: u64) -> &[u8; N]
-        requires { HasBit N self.now.current bit }
+        requires { IsRetained N self.now.current bit }
         ensures { result.now ≡ chunk N self.now.current (bit / (8 * N)) }
     {
         self.current.get_chunk_containing(bit)

@@ -1,4 +1,4 @@
-//! The commits of a historical bitmap: what is kept under which number, what is dropped, and going back.
+//! The commits of a historical bitmap: reading what is kept under a number, listing, dropping and rewinding.
 
 ghost use Rattle.std.specs.Prelude.{◌≡◌, ℕ, ◌+◌, ◌-◌, ◌^◌, [], length, None, Some, Ok, is_some, IsSome, nat_le, IfErr, IfOk, OnOk, if◌then◌else◌, alloc_error};
 ghost use Rattle.std.specs.List.{sum_by};
@@ -19,13 +19,15 @@ use std::collections::btree_map::Keys;
 use std::marker::Model;
 use std::ops::Bound;
 
-/// The numbers of a map, ascending.
+/// An iterator over the numbers that are keys of a map, ascending, each once.
+///
+/// After the last number, `next` returns `None`, however often it is called.
 #[derive(Drop)]
-pub struct Numbers<'a, V> {
+pub struct CommitNumbers<'a, V> {
     keys: Keys<'a, u64, V>,
 }
 
-impl<'a, V> Model for Numbers<'a, V> {
+impl<'a, V> Model for CommitNumbers<'a, V> {
     ghost use Rattle.std.specs.Prelude.{List, ℕ};
 
     ghost Value = { List ℕ };
@@ -33,7 +35,7 @@ impl<'a, V> Model for Numbers<'a, V> {
     ghost view = { λ n. n.keys };
 }
 
-impl<'a, V> Iterator for Numbers<'a, V> {
+impl<'a, V> Iterator for CommitNumbers<'a, V> {
     type Item = u64;
 
     ghost use Rattle.std.specs.Iterator.{YieldsFirst, item_count};
@@ -42,7 +44,9 @@ impl<'a, V> Iterator for Numbers<'a, V> {
 
     ghost remaining = { item_count (λ s. s) };
 
-    /// The next number, or None where none is left, then and ever after. No memory.
+    /// Returns the next number, or `None` if none is left.
+    ///
+    /// Does not allocate; amortized constant time.
     fn next(&mut self) -> Option<u64> {
         match self.keys.next() {
             Some(number) => Some(*number),
@@ -51,10 +55,10 @@ impl<'a, V> Iterator for Numbers<'a, V> {
     }
 }
 
-/// The numbers of the kept commits of a historical bitmap, ascending, each once. Going through them takes no memory, and ends.
-pub type Commits<'a, const N: usize> = Numbers<'a, CommitDiff<N>>;
+/// An iterator over the numbers of the kept commits of a historical bitmap, ascending, each once.
+pub type Commits<'a, const N: usize> = CommitNumbers<'a, CommitDiff<N>>;
 
-// Undoes the records past a number, the newest first.
+// Undoes the reverse records past a number, the newest first.
 fn undo_past<const N: usize>(
     bitmap: &mut Prunable<N>,
     commits: &BTreeMap<u64, CommitDiff<N>>,
@@ -70,7 +74,7 @@ fn undo_past<const N: usize>(
     Ok(())
 }
 
-// The sum of the numbers of entries of some records.
+// Returns the total number of entries of some reverse records.
 fn count_entries<const N: usize>(commits: &BTreeMap<u64, CommitDiff<N>>) -> u128
     ensures { result ≡ sum_by (λ commit. length commit.1.entries) commits.now.entries }
 {
@@ -82,9 +86,20 @@ fn count_entries<const N: usize>(commits: &BTreeMap<u64, CommitDiff<N>>) -> u128
 }
 
 impl<const N: usize> BitMap<N, Clean> {
-    /// The bitmap that was committed under a number, where that commit is kept. `u64::MAX` is never kept.
+    /// Returns the bitmap at commit `number` as a bitmap of its own, or `None` if that commit is not kept.
     ///
-    /// Takes memory for a bitmap where the number is kept, and errs where that is refused. Elsewhere it takes none, and answers `Ok(None)`.
+    /// The current bitmap is copied, and the reverse records past the number are undone in the copy, newest first. `u64::MAX` is never kept.
+    /// To read a few bits, `at` is cheaper.
+    ///
+    /// # Errors
+    /// `AllocError` if an allocation fails. A number that is not kept is no error.
+    ///
+    /// # Memory
+    /// Allocates the bitmap, and temporarily the chunks that later commits pruned. Does not allocate if the number is not kept.
+    ///
+    /// # Complexity
+    /// Linear in the retained chunks of the current bitmap, plus the reverse records past the number and their entries.
+    /// Logarithmic in the kept commits if the number is not kept.
     pub fn get_at_commit(&self, number: u64) -> Result<Option<Prunable<N>>, AllocError>
         ensures ok { IfOk result (λ found. found ≡ kept_under (history_of N self.now) number) }
         ensures absent { kept_under (history_of N self.now) number ≡ None → result ≡ Ok None }
@@ -96,7 +111,7 @@ impl<const N: usize> BitMap<N, Clean> {
         Ok(Some(self.undone_to(number)?))
     }
 
-    // The bitmap that was committed under a kept number.
+    // Returns the bitmap at a kept commit.
     fn undone_to(&self, number: u64) -> Result<Prunable<N>, AllocError>
         requires { IsSome (kept_under (history_of N self.now) number) }
         ensures { IfOk result (λ found. kept_under (history_of N self.now) number ≡ Some found) }
@@ -106,7 +121,12 @@ impl<const N: usize> BitMap<N, Clean> {
         Ok(found)
     }
 
-    /// Whether a commit is kept under the number. `u64::MAX` is never kept. No memory.
+    /// Returns whether a commit is kept under `number`. `u64::MAX` is never kept.
+    ///
+    /// Does not allocate.
+    ///
+    /// # Complexity
+    /// Logarithmic in the kept commits.
     pub fn commit_exists(&self, number: u64) -> bool
         ensures value { result ≡ is_some (kept_under (history_of N self.now) number) }
         ensures reserved { kept_under (history_of N self.now) (2 ^ 64 - 1) ≡ None }
@@ -114,7 +134,9 @@ impl<const N: usize> BitMap<N, Clean> {
         self.commits.contains_key(&number)
     }
 
-    /// The greatest number of a kept commit, where one is kept. No memory.
+    /// Returns the greatest number of a kept commit, or `None` if no commit is kept.
+    ///
+    /// Does not allocate; logarithmic in the kept commits.
     pub fn latest_commit(&self) -> Option<u64>
         ensures { result ≡ latest (history_of N self.now) }
     {
@@ -124,7 +146,9 @@ impl<const N: usize> BitMap<N, Clean> {
         }
     }
 
-    /// The least number of a kept commit, where one is kept. No memory.
+    /// Returns the least number of a kept commit, or `None` if no commit is kept.
+    ///
+    /// Does not allocate; logarithmic in the kept commits.
     pub fn earliest_commit(&self) -> Option<u64>
         ensures { result ≡ earliest (history_of N self.now) }
     {
@@ -134,19 +158,27 @@ impl<const N: usize> BitMap<N, Clean> {
         }
     }
 
-    /// The numbers of the kept commits, ascending, each once. No memory.
+    /// Returns an iterator over the numbers of the kept commits, ascending, each once.
+    ///
+    /// Does not allocate.
+    ///
+    /// # Complexity
+    /// Logarithmic in the kept commits; a whole pass is linear in them.
     pub fn commits(&self) -> Commits<'_, N>
         ensures items { result ≡ keys_of (history_of N self.now) }
         ensures ascending { RiseInNumber (history_of N self.now) }
     {
-        Numbers {
+        CommitNumbers {
             keys: self.commits.keys(),
         }
     }
 
-    /// Drops the commits whose numbers are below `number`, and answers how many went. No memory.
+    /// Drops the commits whose numbers are below `number`, and returns how many were dropped.
     ///
-    /// The current bitmap, the other commits and the last number stay as they are.
+    /// The current bitmap, the other commits and the last number are unchanged. Does not allocate.
+    ///
+    /// # Complexity
+    /// Visits every kept commit, and frees the reverse records of the dropped ones.
     pub fn prune_commits_before(&mut self, number: u64) -> usize
         ensures value { self.new ≡ record self.old { commits = from_number number self.old.commits } }
         ensures history { history_of N self.new ≡ from_number number (history_of N self.old) }
@@ -163,15 +195,21 @@ impl<const N: usize> BitMap<N, Clean> {
         before - self.commits.len()
     }
 
-    /// Goes back to what was committed under a number: it is current again, the commits past it are dropped, and the next number has to be above it.
+    /// Rewinds to commit `number`: the bitmap at that commit becomes the current one, and the commits past it are dropped.
     ///
-    /// The other commits stay as they are.
+    /// The other commits are unchanged. `number` becomes the last number, so the next commit has to have a greater one.
     ///
-    /// It errs with `NoSuchCommit` exactly where the number is not kept, as `u64::MAX` never is, else with `Memory` where memory is refused.
-    /// Refused, it hands back the value as it was.
+    /// # Errors
+    /// `NoSuchCommit` if the number is not kept, as `u64::MAX` never is; else `Memory` if an allocation fails.
+    /// The bitmap is returned unchanged with the error.
     ///
-    /// Takes memory for a bitmap where the number is kept, and none elsewhere.
+    /// # Memory
+    /// Allocates a bitmap, as `get_at_commit` does. Does not allocate if the number is not kept.
     ///
+    /// # Complexity
+    /// That of `get_at_commit`, and it visits every kept commit.
+    ///
+    /// # Examples
     /// ```
     /// ghost use Rattle.std.specs.Prelude.{◌≡◌, None, Some, Err, OnErr, OnOk};
     /// ghost use Rattle.historical_bitmap.specs.History.{kept_under};
@@ -180,7 +218,7 @@ impl<const N: usize> BitMap<N, Clean> {
     ///
     /// use historical_bitmap::bitmap::historical::{CleanBitMap, RewindError};
     ///
-    /// /// Takes flags back to a checkpoint. Else they stay as they are, and it tells why.
+    /// /// Rewinds flags to a checkpoint. On an error they are unchanged.
     /// pub fn restored(flags: CleanBitMap<8>, checkpoint: u64) -> (CleanBitMap<8>, Result<(), RewindError>)
     ///     ensures back { OnOk result.1 (kept_under (history_of 8 flags) checkpoint ≡ Some result.0.current) }
     ///     ensures stay { OnErr result.1 (result.0 ≡ flags) }
@@ -222,7 +260,12 @@ impl<const N: usize> BitMap<N, Clean> {
         })
     }
 
-    /// Drops all commits. The current bitmap and the last number stay as they are. No memory.
+    /// Drops all commits.
+    ///
+    /// The current bitmap and the last number are unchanged. Does not allocate.
+    ///
+    /// # Complexity
+    /// Linear in the kept commits, whose reverse records are freed.
     pub fn clear_history(&mut self)
         ensures value { self.new ≡ record self.old { commits = [] } }
         ensures history { history_of N self.new ≡ [] }
@@ -231,9 +274,13 @@ impl<const N: usize> BitMap<N, Clean> {
         self.commits.clear();
     }
 
-    /// The number of entries of all kept records together, each with the old bytes of one chunk at most. No memory.
+    /// Returns the total number of entries of the kept reverse records. An entry has the old bytes of at most one chunk.
     ///
-    /// A record has an entry for each chunk that its commit touched, or fewer, and at most one more.
+    /// A record has at most one entry per chunk that its commit touched, and one more if the batch popped down to whole chunks.
+    /// Does not allocate.
+    ///
+    /// # Complexity
+    /// Visits every kept commit.
     pub fn reverse_entries(&self) -> u128
         ensures { result ≡ sum_by (λ kept. kept.1) (costs_of self.now) }
     {

@@ -1,16 +1,17 @@
-//! The edited chunks of a batch, by index.
+//! The edited chunks of a batch by index, with a write cache.
 
-ghost use Rattle.std.specs.Prelude.{◌≡◌, ℕ, ◌+◌, ◌*◌, ◌/◌, ◌%◌, ◌^◌, ◌<◌, ◌≤◌, [], List, length, Option, Some, None, IfOk, IfSome, OnOk, OnErr, IsOk, IsSome, nat_eq, nat_lt, if◌then◌else◌, slice_index, true, false};
+ghost use Rattle.std.specs.Prelude.{◌≡◌, ℕ, ◌+◌, ◌*◌, ◌/◌, ◌%◌, ◌^◌, ◌<◌, ◌≤◌, [], List, length, Option, Some, None, IfOk, IfSome, OnOk, OnErr, IsOk, IsSome, nat_eq, nat_lt, if◌then◌else◌, true, false};
 ghost use Rattle.std.specs.List.Sorted.{IsStrictlySortedBy};
 ghost use Rattle.std.specs.Map.{keys_of, lookup};
 ghost use Rattle.std.specs.Option.{option_copied, option_map};
 ghost use Rattle.std.specs.Ordering.{nat_cmp};
 ghost use Rattle.bitmap_bytes.specs.Chunk.{chunk_bit, IsChunk, IsWidth};
 ghost use Rattle.bitmap_core.specs.PrunedBits.{chunk, truncated};
-ghost use Rattle.historical_bitmap.specs.Held.{is_held_at, with_held};
+ghost use Rattle.historical_bitmap.specs.WriteCache.{is_cached_at, with_cached};
 ghost use Rattle.historical_bitmap.specs.Pending.{IsByteSetIn, IsNextMember, IsSetIn, IsWritten, Puts, PutsTwo, SetsIn};
 
 use bitmap_core::bitmap::prunable::Prunable;
+use bitmap_core::chunk::facts::known;
 use bitmap_core::chunk::join::join_byte;
 use bitmap_core::chunk::{self, bit_mask, byte_index, chunk_width, clear_from};
 use std::alloc::{AllocError, Global};
@@ -18,40 +19,29 @@ use std::collections::BTreeMap;
 use std::collections::btree_map::Entry;
 use std::marker::Model;
 
-// Chunks by index. One of them is held beside the map, in which older bytes may stand under its index: the last that bits were pushed to or popped from, or that was set twice in a row.
-// A write to it searches no map. That of another chunk searches it once, and once more where that one is held in place of it.
+// Chunks by index. The write cache keeps one of them outside the map: the last one that was pushed to, popped from, or set twice in a row.
+// The map may have outdated bytes under the cached index. A write to the cached chunk does not search the map.
+// A write to another chunk searches it once, and twice more if that chunk replaces the cached one.
 #[derive(Debug, Drop)]
 pub(crate) struct EditedChunks<const N: usize> {
     chunks: BTreeMap<usize, [u8; N]>,
-    held: Option<usize>,
+    cached: Option<usize>,
     chunk: [u8; N],
     recent: usize,
 }
 
 impl<const N: usize> Model for EditedChunks<N> {
     ghost use Rattle.std.specs.Prelude.{ℕ, List};
-    ghost use Rattle.historical_bitmap.specs.Held.{IsHeld, with_held};
+    ghost use Rattle.historical_bitmap.specs.WriteCache.{IsCached, with_cached};
 
     ghost Value = { List (ℕ × List ℕ) };
 
-    ghost view = { λ c. with_held c.chunks.entries c.held c.chunk };
+    ghost view = { λ c. with_cached c.chunks.entries c.cached c.chunk };
 
-    ghost invariant = { λ c. IsHeld N c.chunks.entries c.held };
+    ghost invariant = { λ c. IsCached N c.chunks.entries c.cached };
 }
 
-// What the type of a chunk says of it: N bytes, each below 256.
-pub(crate) fn known<const N: usize>(chunk: &[u8; N])
-    ensures { IsChunk N chunk.now }
-{
-    fit(chunk);
-}
-
-// What the type of a byte says of each: it is below 256.
-fn fit(bytes: &[u8])
-    ensures { (k : ℕ) → slice_index bytes.now k < 256 }
-{}
-
-// Writes a bit of a chunk, and answers the one that stood there. No memory.
+// Writes a bit of a chunk and returns the old one.
 pub(crate) fn replace_bit<const N: usize>(chunk: &mut [u8; N], bit: u64, value: bool) -> bool
     requires width { IsWidth N }
     ensures old { result ≡ chunk_bit N chunk.old bit }
@@ -63,7 +53,7 @@ pub(crate) fn replace_bit<const N: usize>(chunk: &mut [u8; N], bit: u64, value: 
     old
 }
 
-// The mask of a bit in its byte where it is set, else none.
+// Returns the mask of a bit in its byte if `value` is true, else 0.
 #[inline]
 fn mask_where(bit: u64, value: bool) -> u8
     ensures value { result ≡ (if value then 2 ^ (bit % 8) else 0) }
@@ -72,7 +62,7 @@ fn mask_where(bit: u64, value: bool) -> u8
     if value { bit_mask(bit) } else { 0 }
 }
 
-// Writes a bit of a chunk in which it is zero: the byte is not needed for it, so that bits in a row do not wait for one another. No memory.
+// Writes a bit of a chunk in which it is zero. It need not clear the bit first, so consecutive writes do not wait for each other.
 #[inline]
 pub(crate) fn fill_bit<const N: usize>(chunk: &mut [u8; N], bit: u64, value: bool)
     requires width { IsWidth N }
@@ -95,7 +85,7 @@ pub(crate) fn cut<const N: usize>(bytes: &mut [u8; N], from: u64)
     known(bytes);
 }
 
-// The chunk of the current bitmap at an index, with the bits from `len` on cleared.
+// Returns the chunk of the current bitmap at an index, with the bits from position `len` on cleared.
 pub(crate) fn first_chunk<const N: usize>(current: &Prunable<N>, len: u64, index: usize) -> [u8; N]
     requires from { current.now.pruned ≤ index }
     requires fits { 8 * N * index < 2 ^ 64 }
@@ -112,17 +102,18 @@ pub(crate) fn first_chunk<const N: usize>(current: &Prunable<N>, len: u64, index
     bytes
 }
 
-// Whether an index is the one that is held.
-fn is_held(held: Option<usize>, index: usize) -> bool
-    ensures { result ≡ is_held_at held index }
+// Returns whether an index is the cached one.
+fn is_cached(cached: Option<usize>, index: usize) -> bool
+    ensures { result ≡ is_cached_at cached index }
 {
-    match held {
-        Some(held) => held == index,
+    match cached {
+        Some(cached) => cached == index,
         None => false,
     }
 }
 
-// Writes a bit of the chunk at an index, at first that of the current bitmap, and answers its bytes. It searches once. Where a chunk stands there it takes no memory, and succeeds.
+// Writes a bit of the chunk at an index. Starts from the current bitmap's chunk if none is edited there.
+// Searches once. Does not allocate, and succeeds, if the map has that chunk.
 #[inline(never)]
 fn write_in<const N: usize>(
     chunks: &mut BTreeMap<usize, [u8; N]>,
@@ -131,11 +122,11 @@ fn write_in<const N: usize>(
     index: usize,
     bit: u64,
     value: bool,
-) -> Result<[u8; N], AllocError>
+) -> Result<(), AllocError>
     requires width { IsWidth N }
     requires from { current.now.pruned ≤ index }
     requires fits { 8 * N * index < 2 ^ 64 }
-    ensures ok { IfOk result (λ bytes. SetsIn N (chunk N (truncated N current.now len) index) chunks.old.entries chunks.new.entries index bit value bytes) }
+    ensures ok { OnOk result ((bytes : List ℕ) × SetsIn N (chunk N (truncated N current.now len) index) chunks.old.entries chunks.new.entries index bit value bytes) }
     ensures err { OnErr result (chunks.new.entries ≡ chunks.old.entries) }
     ensures absent { OnErr result (lookup (nat_eq index) chunks.old.entries ≡ None) }
     ensures sorted { OnOk result (IsStrictlySortedBy nat_cmp (keys_of chunks.new.entries)) }
@@ -144,21 +135,21 @@ fn write_in<const N: usize>(
         Ok(Entry::Occupied(entry)) => {
             let place = entry.into_mut();
             let _ = replace_bit(place, bit, value);
-            Ok(*place)
+            Ok(())
         }
         Ok(Entry::Vacant(entry)) => {
             let mut bytes = first_chunk(current, len, index);
             let _ = replace_bit(&mut bytes, bit, value);
             entry.insert(bytes);
-            Ok(bytes)
+            Ok(())
         }
         Err(_) => Err(AllocError),
     }
 }
 
-// Puts a chunk in the place of the one at an index, where there is one. No memory.
+// Replaces the chunk at an index, if there is one.
 fn put_in<const N: usize>(chunks: &mut BTreeMap<usize, [u8; N]>, index: usize, chunk: [u8; N])
-    ensures entries { chunks.new.entries ≡ with_held chunks.old.entries (Some index) chunk.entry }
+    ensures entries { chunks.new.entries ≡ with_cached chunks.old.entries (Some index) chunk.entry }
     ensures sorted { IsStrictlySortedBy nat_cmp (keys_of chunks.new.entries) }
 {
     if let Some(place) = chunks.get_mut(&index) {
@@ -167,51 +158,63 @@ fn put_in<const N: usize>(chunks: &mut BTreeMap<usize, [u8; N]>, index: usize, c
 }
 
 impl<const N: usize> EditedChunks<N> {
-    // No chunks. No memory.
+    // Returns a collection without chunks. Does not allocate.
     pub(crate) fn new(alloc: Global) -> Self
         requires width { IsWidth N }
         ensures { result ≡ [] }
     {
         EditedChunks {
             chunks: BTreeMap::new(alloc),
-            held: None,
+            cached: None,
             chunk: [0; N],
             recent: 0,
         }
     }
 
-    // The chunk at an index, where there is one.
+    // Returns the chunk at an index, if there is one.
     pub(crate) fn get(&self, index: usize) -> Option<&[u8; N]>
         ensures value { option_copied result ≡ lookup (nat_eq index) self.now }
         ensures sorted { IsStrictlySortedBy nat_cmp (keys_of self.now) }
     {
-        if is_held(self.held, index) {
+        if is_cached(self.cached, index) {
             return Some(&self.chunk);
         }
         self.chunks.get(&index)
     }
 
-    // Holds a chunk beside the map in the place of the one at an index, and no longer the one that was held. No memory.
+    // Caches a chunk in place of the one at an index. Writes the previously cached chunk back to the map. Does not allocate.
     #[inline(never)]
-    fn hold(&mut self, index: usize, chunk: [u8; N])
+    fn cache(&mut self, index: usize, chunk: [u8; N])
         requires there { IsSome (lookup (nat_eq index) self.old) }
-        ensures { self.new ≡ with_held self.old (Some index) chunk.entry }
+        ensures { self.new ≡ with_cached self.old (Some index) chunk.entry }
     {
-        if let Some(held) = self.held {
-            put_in(&mut self.chunks, held, self.chunk);
+        if let Some(cached) = self.cached {
+            put_in(&mut self.chunks, cached, self.chunk);
         }
         self.chunk = chunk;
-        self.held = Some(index);
+        self.cached = Some(index);
     }
 
-    // Takes the next write of a bit at an index for one of a run, which holds its chunk. No memory.
+    // Caches the chunk at an index, if there is one.
+    #[inline(never)]
+    fn cache_present(&mut self, index: usize)
+        ensures same { self.new ≡ self.old }
+    {
+        if let Some(chunk) = self.get(index) {
+            let chunk = *chunk;
+            self.cache(index, chunk);
+        }
+    }
+
+    // Marks an index as written last, so that the next write of a bit there caches its chunk.
     pub(crate) fn expect(&mut self, index: usize)
         ensures same { self.new ≡ self.old }
     {
         self.recent = index;
     }
 
-    // Writes a bit of the chunk at an index, at first that of the current bitmap, cut to a length. Where a chunk stands there it takes no memory, and succeeds.
+    // Writes a bit of the chunk at an index. Starts from the current bitmap's chunk, cut to `len` bits, if none is edited there.
+    // Does not allocate, and succeeds, if that chunk is edited.
     #[inline]
     pub(crate) fn write_bit(
         &mut self,
@@ -228,20 +231,20 @@ impl<const N: usize> EditedChunks<N> {
         ensures err { OnErr result (self.new ≡ self.old) }
         ensures edited { IsSome (lookup (nat_eq index) self.old) → IsOk result }
     {
-        if is_held(self.held, index) {
+        if is_cached(self.cached, index) {
             let _ = replace_bit(&mut self.chunk, bit, value);
             return Ok(());
         }
-        let chunk = write_in(&mut self.chunks, current, len, index, bit, value)?;
+        write_in(&mut self.chunks, current, len, index, bit, value)?;
         let is_second = self.recent == index;
         self.recent = index;
         if is_second {
-            self.hold(index, chunk);
+            self.cache_present(index);
         }
         Ok(())
     }
 
-    // Replaces a bit of the chunk at an index, and answers the old one, where there is one. No memory.
+    // Replaces a bit of the chunk at an index and returns the old one, if there is such a chunk. Does not allocate.
     #[inline]
     pub(crate) fn replace_bit(&mut self, index: usize, bit: u64, value: bool) -> Option<bool>
         requires width { IsWidth N }
@@ -250,23 +253,23 @@ impl<const N: usize> EditedChunks<N> {
         ensures some { IfSome (lookup (nat_eq index) self.old) (λ chunk. IsSetIn N self.old self.new index chunk bit value) }
         ensures sorted { IsStrictlySortedBy nat_cmp (keys_of self.new) }
     {
-        if is_held(self.held, index) {
+        if is_cached(self.cached, index) {
             return Some(replace_bit(&mut self.chunk, bit, value));
         }
         let mut chunk = *self.chunks.get(&index)?;
         let old = replace_bit(&mut chunk, bit, value);
-        self.hold(index, chunk);
+        self.cache(index, chunk);
         Some(old)
     }
 
-    // Writes the bits of a byte to the chunk at an index from a bit on, of which it has eight, where it is held, and answers whether it is. No memory.
+    // Writes the eight bits of a byte from position `bit` on, if the chunk at the index is cached. Returns whether it is. Does not allocate.
     pub(crate) fn join_byte(&mut self, index: usize, bit: u64, byte: u8) -> bool
         requires width { IsWidth N }
-        requires room { bit % (8 * N) + 8 ≤ 8 * N }
+        requires space { bit % (8 * N) + 8 ≤ 8 * N }
         ensures written { result ≡ true → IsByteSetIn N self.old self.new index bit byte }
         ensures other { result ≡ false → self.new ≡ self.old }
     {
-        if !is_held(self.held, index) {
+        if !is_cached(self.cached, index) {
             return false;
         }
         join_byte(&mut self.chunk, bit, byte);
@@ -274,7 +277,7 @@ impl<const N: usize> EditedChunks<N> {
         true
     }
 
-    // Puts a chunk at an index. Where one stands there it takes no memory, and succeeds.
+    // Inserts or replaces the chunk at an index. Does not allocate, and succeeds, if there is one.
     fn put(&mut self, index: usize, chunk: [u8; N]) -> Result<(), AllocError>
         ensures ok { OnOk result (Puts self.old self.new index (Some chunk.entry)) }
         ensures err { OnErr result (self.new ≡ self.old) }
@@ -282,7 +285,7 @@ impl<const N: usize> EditedChunks<N> {
         ensures was_sorted { IsStrictlySortedBy nat_cmp (keys_of self.old) }
         ensures sorted { IsStrictlySortedBy nat_cmp (keys_of self.new) }
     {
-        if is_held(self.held, index) {
+        if is_cached(self.cached, index) {
             self.chunk = chunk;
             return Ok(());
         }
@@ -290,7 +293,7 @@ impl<const N: usize> EditedChunks<N> {
         Ok(())
     }
 
-    // Puts a chunk at an index, and holds it. Where one stands there it takes no memory, and succeeds.
+    // Inserts or replaces the chunk at an index, and caches it. Does not allocate, and succeeds, if there is one.
     pub(crate) fn write(&mut self, index: usize, chunk: [u8; N]) -> Result<(), AllocError>
         ensures ok { OnOk result (Puts self.old self.new index (Some chunk.entry)) }
         ensures err { OnErr result (self.new ≡ self.old) }
@@ -299,13 +302,13 @@ impl<const N: usize> EditedChunks<N> {
         ensures sorted { IsStrictlySortedBy nat_cmp (keys_of self.new) }
     {
         self.put(index, chunk)?;
-        if !is_held(self.held, index) {
-            self.hold(index, chunk);
+        if !is_cached(self.cached, index) {
+            self.cache(index, chunk);
         }
         Ok(())
     }
 
-    // Puts two chunks at an index and the next one, at which there is none, and holds the second: both or, refused, neither.
+    // Inserts two chunks, at an index and at the next one, which has none. Caches the second. After an error nothing is changed.
     pub(crate) fn write_two(
         &mut self,
         index: usize,
@@ -322,25 +325,25 @@ impl<const N: usize> EditedChunks<N> {
             let _ = self.remove(index + 1);
             return Err(AllocError);
         }
-        self.hold(index + 1, second);
+        self.cache(index + 1, second);
         Ok(())
     }
 
-    // Takes the chunk at an index out. No memory.
+    // Removes the chunk at an index and returns it. Does not allocate.
     pub(crate) fn remove(&mut self, index: usize) -> Option<[u8; N]>
         ensures value { result ≡ lookup (nat_eq index) self.old }
         ensures removed { Puts self.old self.new index None }
         ensures sorted { IsStrictlySortedBy nat_cmp (keys_of self.new) }
     {
         let removed = self.chunks.remove(&index);
-        if is_held(self.held, index) {
-            self.held = None;
+        if is_cached(self.cached, index) {
+            self.cached = None;
             return Some(self.chunk);
         }
         removed
     }
 
-    // The first index from `from` on at which there is a chunk.
+    // Returns the first index from `from` on that has a chunk.
     pub(crate) fn next_from(&self, from: usize) -> Option<usize>
         ensures { IsNextMember (keys_of self.now) from result }
     {
@@ -350,32 +353,32 @@ impl<const N: usize> EditedChunks<N> {
         }
     }
 
-    // The indices ascend.
+    // States that the indices ascend.
     pub(crate) fn order(&self)
         ensures { IsStrictlySortedBy nat_cmp (keys_of self.now) }
     {
         let _recent = self.recent;
     }
 
-    // The same chunks once more. Takes memory for them.
+    // Returns a copy. Allocates for its chunks.
     pub(crate) fn duplicate(&self) -> Result<Self, AllocError>
         ensures { IfOk result (λ copy. copy ≡ self.now) }
     {
         Ok(EditedChunks {
             chunks: self.chunks.clone()?,
-            held: self.held,
+            cached: self.cached,
             chunk: self.chunk,
             recent: self.recent,
         })
     }
 
-    // The chunks as a map. No memory.
+    // Returns the chunks as a map. Does not allocate.
     pub(crate) fn into_map(self) -> BTreeMap<usize, [u8; N]>
         ensures { result.entries ≡ self.entry }
     {
         let mut chunks = self.chunks;
-        if let Some(held) = self.held {
-            put_in(&mut chunks, held, self.chunk);
+        if let Some(cached) = self.cached {
+            put_in(&mut chunks, cached, self.chunk);
         }
         chunks
     }

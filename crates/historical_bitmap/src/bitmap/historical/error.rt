@@ -1,42 +1,42 @@
-//! Why a historical bitmap was not made, not committed or not taken back to a commit.
+//! Errors of historical bitmaps.
 
 use bitmap_core::bitmap::prunable;
 use std::alloc::AllocError;
 use thiserror::Error as ErrorDerive;
 
-/// Why a historical bitmap was not made, which is `PrunedChunksOverflow`, or not committed, which is any other.
+/// The error of a constructor, which is `PrunedChunksOverflow`, or of a commit, which is any other.
 #[derive(Clone, Copy, Debug, PartialEq, Eq, ErrorDerive)]
 pub enum Error {
-    /// The number is not above the last one.
+    /// The commit's number is not above the last number.
     #[error("commit number ({attempted}) is not above the previous one ({previous})")]
     NonMonotonicCommit {
-        /// The number last committed or gone back to, whether it is still kept or not.
+        /// The last number: the number last committed or rewound to, even if its commit is not kept.
         previous: u64,
-        /// The number that was refused.
+        /// The number of the commit that failed.
         attempted: u64,
     },
 
-    /// The number is `u64::MAX`, which is no commit's number.
+    /// The commit's number is `u64::MAX`, which is reserved.
     #[error("the commit number u64::MAX is reserved")]
     ReservedCommitNumber,
 
-    /// The number of pruned bits passes `u64`.
+    /// The number of pruned bits does not fit `u64`.
     #[error("pruned_chunks * CHUNK_SIZE_BITS overflows u64")]
     PrunedChunksOverflow,
 
-    /// Memory was refused.
+    /// An allocation failed.
     #[error("out of memory")]
     Memory(AllocError),
 }
 
-/// Why a historical bitmap was not taken back to a commit.
+/// The error of `rewind_to`.
 #[derive(Clone, Copy, Debug, PartialEq, Eq, ErrorDerive)]
 pub enum RewindError {
     /// No commit is kept under the number.
     #[error("no commit is kept under that number")]
     NoSuchCommit,
 
-    /// Memory was refused.
+    /// An allocation failed.
     #[error("out of memory")]
     Memory(AllocError),
 }
@@ -63,12 +63,12 @@ impl From<prunable::Error> for Error {
     }
 }
 
-/// Why a batch was not applied.
+/// The error of `apply_batch`.
 #[derive(Debug, Drop)]
 pub enum ApplyError<E> {
-    /// Its closure answered an `Err`, of this.
+    /// The closure returned `Err` with this error. Nothing was committed.
     Batch(E),
 
-    /// Its commit was refused, for this.
+    /// The commit failed with this error.
     Commit(Error),
 }

@@ -1,4 +1,4 @@
-//! The edited chunks of a batch, those that it appends in a run.
+//! The edited chunks of a batch by index, with the appended ones in a contiguous run.
 
 ghost use Rattle.std.specs.Prelude.{◌≡◌, ℕ, ◌+◌, ◌*◌, ◌%◌, ◌^◌, ◌<◌, ◌≤◌, ◌&&◌, [], List, length, Option, Some, None, IfOk, IfSome, OnOk, OnErr, IsOk, IsSome, nat_eq, nat_le, nat_lt, true, false};
 ghost use Rattle.std.specs.List.Sorted.{IsStrictlySortedBy};
@@ -10,14 +10,15 @@ ghost use Rattle.bitmap_core.specs.PrunedBits.{chunk, truncated};
 ghost use Rattle.historical_bitmap.specs.Pending.{IsByteSetIn, IsNextMember, IsSetIn, Puts, PutsTwo, SetsIn};
 ghost use Rattle.historical_bitmap.specs.Run.{with_run};
 
-use crate::bitmap::historical::edited::{EditedChunks, fill_bit, first_chunk, known, replace_bit};
+use crate::bitmap::historical::edited::{EditedChunks, fill_bit, first_chunk, replace_bit};
 use bitmap_core::bitmap::prunable::Prunable;
+use bitmap_core::chunk::facts::known;
 use bitmap_core::chunk::join::join_byte;
 use std::alloc::{AllocError, Global};
 use std::collections::BTreeMap;
 use std::marker::Model;
 
-// Chunks by index. Those of one run of indices, which the batch appended, are found without a search; the others stand beside them.
+// Chunks by index. Those of the appended run, whose indices are consecutive, are found without a search. The others are in a map.
 #[derive(Debug, Drop)]
 pub(crate) struct GrownChunks<const N: usize> {
     others: EditedChunks<N>,
@@ -36,7 +37,7 @@ impl<const N: usize> Model for GrownChunks<N> {
     ghost invariant = { λ c. IsRun N c.others c.from c.run.items };
 }
 
-// Whether an index is one of a run of `count` indices.
+// Returns whether an index is in a run of `count` indices.
 #[inline]
 fn is_in(from: usize, count: usize, index: usize) -> bool
     ensures { result ≡ (nat_le from index && nat_lt index (from + count)) }
@@ -44,7 +45,7 @@ fn is_in(from: usize, count: usize, index: usize) -> bool
     from <= index && index - from < count
 }
 
-// Whether an index may be added behind a run of `count` indices, or begin one.
+// Returns whether an index may extend a run of `count` indices, or begin one.
 fn is_next(from: usize, count: usize, index: usize) -> bool
     ensures { result ≡ true → 0 < count → index ≡ from + count }
 {
@@ -52,7 +53,7 @@ fn is_next(from: usize, count: usize, index: usize) -> bool
 }
 
 impl<const N: usize> GrownChunks<N> {
-    // No chunks. No memory.
+    // Returns a collection without chunks. Does not allocate.
     pub(crate) fn new(alloc: Global) -> Self
         requires width { IsWidth N }
         ensures { result ≡ [] }
@@ -64,7 +65,7 @@ impl<const N: usize> GrownChunks<N> {
         }
     }
 
-    // The chunk at an index, where there is one.
+    // Returns the chunk at an index, if there is one.
     #[inline]
     pub(crate) fn get(&self, index: usize) -> Option<&[u8; N]>
         ensures value { option_copied result ≡ lookup (nat_eq index) self.now }
@@ -77,7 +78,8 @@ impl<const N: usize> GrownChunks<N> {
         self.others.get(index)
     }
 
-    // Writes a bit of the chunk at an index, at first that of the current bitmap, cut to a length. Where a chunk stands there it takes no memory, and succeeds.
+    // Writes a bit of the chunk at an index. Starts from the current bitmap's chunk, cut to `len` bits, if none is edited there.
+    // Does not allocate, and succeeds, if that chunk is edited.
     #[inline]
     pub(crate) fn write_bit(
         &mut self,
@@ -102,7 +104,7 @@ impl<const N: usize> GrownChunks<N> {
         self.others.write_bit(current, len, index, bit, value)
     }
 
-    // The same of a bit that is appended, which is zero where the chunk stands: a chunk that is not there yet is put into the run.
+    // As `write_bit`, for a bit that is appended: it is zero if its chunk is edited. A new chunk goes into the run if it is next there.
     #[inline]
     pub(crate) fn push_bit(
         &mut self,
@@ -128,7 +130,7 @@ impl<const N: usize> GrownChunks<N> {
         self.push_other(current, len, index, bit, value)
     }
 
-    // The same where the chunk need not stand in the run.
+    // As `push_bit`, for a chunk that need not be in the run.
     #[inline(never)]
     fn push_other(
         &mut self,
@@ -153,7 +155,7 @@ impl<const N: usize> GrownChunks<N> {
         self.write(index, bytes)
     }
 
-    // Replaces a bit of the chunk at an index, and answers the old one, where there is one. No memory.
+    // Replaces a bit of the chunk at an index and returns the old one, if there is such a chunk. Does not allocate.
     #[inline]
     pub(crate) fn replace_bit(&mut self, index: usize, bit: u64, value: bool) -> Option<bool>
         requires width { IsWidth N }
@@ -170,11 +172,12 @@ impl<const N: usize> GrownChunks<N> {
         self.others.replace_bit(index, bit, value)
     }
 
-    // Writes the bits of a byte to the chunk at an index from a bit on, of which it has eight, where it is at hand, and answers whether it is. No memory.
+    // Writes the eight bits of a byte from position `bit` on, if the chunk at the index is in the run or cached.
+    // Returns whether it is. Does not allocate.
     #[inline]
     pub(crate) fn join_byte(&mut self, index: usize, bit: u64, byte: u8) -> bool
         requires width { IsWidth N }
-        requires room { bit % (8 * N) + 8 ≤ 8 * N }
+        requires space { bit % (8 * N) + 8 ≤ 8 * N }
         ensures written { result ≡ true → IsByteSetIn N self.old self.new index bit byte }
         ensures other { result ≡ false → self.new ≡ self.old }
     {
@@ -188,7 +191,8 @@ impl<const N: usize> GrownChunks<N> {
         self.others.join_byte(index, bit, byte)
     }
 
-    // Puts a chunk at an index: into the run, where it is the next one there. Where one stands there it takes no memory, and succeeds.
+    // Inserts or replaces the chunk at an index. A new chunk goes into the run if it is next there.
+    // Does not allocate, and succeeds, if there is a chunk.
     pub(crate) fn write(&mut self, index: usize, chunk: [u8; N]) -> Result<(), AllocError>
         ensures ok { OnOk result (Puts self.old self.new index (Some chunk.entry)) }
         ensures err { OnErr result (self.new ≡ self.old) }
@@ -213,7 +217,8 @@ impl<const N: usize> GrownChunks<N> {
         Ok(())
     }
 
-    // Puts two chunks at an index and the next one, past the first of which there is none: both or, refused, neither.
+    // Inserts or replaces the chunk at an index, and inserts one at the next. There is no chunk past the index.
+    // After an error nothing is changed.
     pub(crate) fn write_two(
         &mut self,
         index: usize,
@@ -233,7 +238,7 @@ impl<const N: usize> GrownChunks<N> {
         Ok(())
     }
 
-    // Takes the chunk at an index out, past which there is none. No memory.
+    // Removes the chunk at an index, past which there is none, and returns it. Does not allocate.
     pub(crate) fn remove(&mut self, index: usize) -> Option<[u8; N]>
         requires last { (q : ℕ) → index < q → lookup (nat_eq q) self.old ≡ None }
         ensures value { result ≡ lookup (nat_eq index) self.old }
@@ -247,7 +252,7 @@ impl<const N: usize> GrownChunks<N> {
         self.others.remove(index)
     }
 
-    // The first index from `from` on at which there is a chunk.
+    // Returns the first index from `from` on that has a chunk.
     pub(crate) fn next_from(&self, from: usize) -> Option<usize>
         ensures { IsNextMember (keys_of self.now) from result }
     {
@@ -262,7 +267,7 @@ impl<const N: usize> GrownChunks<N> {
         }
     }
 
-    // The same chunks once more. Takes memory for them.
+    // Returns a copy. Allocates for its chunks.
     pub(crate) fn duplicate(&self) -> Result<Self, AllocError>
         ensures { IfOk result (λ copy. copy ≡ self.now) }
     {
@@ -273,7 +278,7 @@ impl<const N: usize> GrownChunks<N> {
         })
     }
 
-    // The chunks as a map, and those of the run with their first index. No memory.
+    // Returns the map of the other chunks, the first index of the run, and the run's chunks. Does not allocate.
     pub(crate) fn into_parts(self) -> (BTreeMap<usize, [u8; N]>, usize, Vec<[u8; N]>)
         ensures entries { with_run result.1 result.2.items result.0.entries ≡ self.entry }
         ensures apart { (q : ℕ) → result.1 ≤ q → q < result.1 + length result.2.items → lookup (nat_eq q) result.0.entries ≡ None }

@@ -1,4 +1,4 @@
-//! The edits of a batch that are pending.
+//! The pending edits of a batch.
 
 ghost use Rattle.std.specs.Prelude.{◌≡◌, ℕ, ◌+◌, ◌-◌, ◌*◌, ◌/◌, ◌%◌, ◌^◌, ◌<◌, ◌≤◌, ◌++◌, List, length, map, true, false, if◌then◌else◌, nat_lt, IfOk, IfSome, MatchOption, None, OnOk, OnErr, IsOk, IsSome, nat_eq, unwrap_or, slice_index, [], vec_len, vec_capacity};
 ghost use Rattle.std.specs.List.{range_with_len};
@@ -7,24 +7,27 @@ ghost use Rattle.std.specs.Map.{keys_of, lookup};
 ghost use Rattle.std.specs.Option.{option_map};
 ghost use Rattle.std.specs.Ordering.{nat_cmp};
 ghost use Rattle.std.specs.Set.{distinct_count};
-ghost use Rattle.bitmap_bytes.specs.Chunk.{bit_in, byte_bits, chunk_bit, chunk_bits, IsChunk, IsWidth};
-ghost use Rattle.bitmap_core.specs.PrunedBits.{PrunedBits, bit_at, bit_len, chunk, HasBit, pruned_bits, truncated};
+ghost use Rattle.bitmap_bytes.specs.Chunk.{bytes_bit, byte_bits, chunk_bit, chunk_bits, IsChunk, IsWidth};
+ghost use Rattle.bitmap_core.specs.PrunedBits.{PrunedBits, bit_at, bit_len, chunk, IsRetained, pruned_bits, truncated};
 ghost use Rattle.historical_bitmap.specs.Edits.{from_to};
-ghost use Rattle.historical_bitmap.specs.Pending.{Appends, diff_of, edited_chunk, IsNextMember, layer_marks, LayerFits, old_chunk, pending_bits, pending_chunk, Pops, Prunes, ReversesLayer, run_bits, unedited, Writes};
+ghost use Rattle.historical_bitmap.specs.Pending.{Appends, diff_of, edited_chunk, IsNextMember, marked_chunks, PendingFits, old_chunk, pending_bits, pending_chunk, Pops, Prunes, IsRecordOf, run_bits, unedited, Writes};
 ghost use Rattle.historical_bitmap.specs.Record.{LeadsBack};
 ghost use Rattle.historical_bitmap.specs.Stored.{diff_value};
 ghost use Rattle.historical_bitmap.specs.Undo.{CanUndo};
 
-use crate::bitmap::historical::edited::{first_chunk, known};
+use crate::bitmap::historical::edited::first_chunk;
 use crate::bitmap::historical::grown::GrownChunks;
 use crate::bitmap::historical::record::{ChunkDiff, CommitDiff};
 use bitmap_core::bitmap::prunable::Prunable;
+use bitmap_core::chunk::facts::known;
 use bitmap_core::chunk::join::{chunk_from, join};
 use bitmap_core::chunk::{chunk_index, chunk_width, clear_from, get_bit};
 use std::alloc::{AllocError, Global};
 use std::marker::Model;
 
-/// Edits are pending: the length and the number of pruned chunks that they leave, the chunks that they edit, and the old bytes of those that they prune.
+/// The state of a bitmap with pending edits.
+///
+/// It has the pending length, the pending number of pruned chunks, the edited chunks, and the old bytes of the chunks that the batch prunes.
 #[derive(Debug, Drop)]
 pub struct Dirty<const N: usize> {
     len: u64,
@@ -36,16 +39,16 @@ pub struct Dirty<const N: usize> {
 
 impl<const N: usize> Model for Dirty<N> {
     ghost use Rattle.bitmap_bytes.specs.Chunk.{IsWidth};
-    ghost use Rattle.historical_bitmap.specs.Pending.{Layer};
+    ghost use Rattle.historical_bitmap.specs.Pending.{PendingEdits};
 
-    ghost Value = { Layer };
+    ghost Value = { PendingEdits };
 
     ghost view = { λ d. record { len = d.len; pruned = d.pruned; edited = d.edited; captured = d.captured.items } };
 
     ghost invariant = { λ d. IsWidth N };
 }
 
-// The bytes of a chunk with the edits.
+// Returns the pending bytes of a chunk.
 fn chunk_with<const N: usize>(
     edited: &GrownChunks<N>,
     current: &Prunable<N>,
@@ -66,7 +69,7 @@ fn chunk_with<const N: usize>(
     }
 }
 
-// The bytes that a prune captures of a chunk.
+// Returns the bytes that a prune captures of a chunk.
 fn chunk_before<const N: usize>(
     edited: &GrownChunks<N>,
     current: &Prunable<N>,
@@ -85,7 +88,7 @@ fn chunk_before<const N: usize>(
     }
 }
 
-// Captures the chunks from `from` up to `to`, for which there is room.
+// Captures the chunks from `from` up to `to`, for which there is capacity.
 fn capture<const N: usize>(
     captured: &mut Vec<[u8; N]>,
     edited: &GrownChunks<N>,
@@ -97,7 +100,7 @@ fn capture<const N: usize>(
     requires low { current.now.pruned ≤ from }
     requires rises { from ≤ to }
     requires fits { 8 * N * to < 2 ^ 64 }
-    requires room { vec_len captured.old + (to - from) ≤ vec_capacity captured.old }
+    requires space { vec_len captured.old + (to - from) ≤ vec_capacity captured.old }
     ensures { captured.new.items ≡ captured.old.items ++ map (old_chunk N current.now (record { len = len; pruned = 0; edited = edited.now; captured = [] })) (from_to from to) }
 {
     let _ = current.len();
@@ -107,7 +110,7 @@ fn capture<const N: usize>(
 }
 
 impl<const N: usize> Dirty<N> {
-    // No edits. No memory.
+    // Returns a state without edits. Does not allocate.
     pub(crate) fn new(alloc: Global, current: &Prunable<N>) -> Self
         ensures { result ≡ unedited N current.now }
     {
@@ -120,7 +123,7 @@ impl<const N: usize> Dirty<N> {
         }
     }
 
-    // The length that the edits leave.
+    // Returns the pending length in bits.
     pub(crate) fn len(&self) -> u64
         ensures value { result ≡ self.now.len }
         ensures width { IsWidth N }
@@ -129,19 +132,19 @@ impl<const N: usize> Dirty<N> {
         self.len
     }
 
-    // The number of pruned chunks that the edits leave.
+    // Returns the pending number of pruned chunks.
     pub(crate) fn pruned_chunks(&self) -> usize
         ensures value { result ≡ self.now.pruned }
     {
         self.pruned
     }
 
-    // The allocator.
+    // Returns the allocator.
     pub(crate) fn allocator(&self) -> Global {
         self.alloc
     }
 
-    // The bytes of a chunk with the edits.
+    // Returns the pending bytes of a chunk.
     pub(crate) fn chunk(&self, current: &Prunable<N>, index: usize) -> [u8; N]
         requires from { current.now.pruned ≤ index }
         requires fits { 8 * N * index < 2 ^ 64 }
@@ -151,10 +154,10 @@ impl<const N: usize> Dirty<N> {
         chunk_with(&self.edited, current, self.len, index)
     }
 
-    // The bit at a position that the edits leave retained.
+    // Returns the pending bit at a retained position.
     pub(crate) fn get_bit(&self, current: &Prunable<N>, bit: u64) -> bool
-        requires layer { LayerFits N current.now self.now }
-        requires retained { HasBit N (pending_bits N current.now self.now) bit }
+        requires edits_fit { PendingFits N current.now self.now }
+        requires retained { IsRetained N (pending_bits N current.now self.now) bit }
         ensures { result ≡ bit_at N (pending_bits N current.now self.now) bit }
     {
         match self.edited.get(chunk_index::<N>(bit)) {
@@ -163,7 +166,7 @@ impl<const N: usize> Dirty<N> {
         }
     }
 
-    // Writes a bit in its chunk. Where that is edited it takes no memory, and succeeds.
+    // Writes a bit. Does not allocate, and succeeds, if its chunk is edited.
     pub(crate) fn write(
         &mut self,
         current: &Prunable<N>,
@@ -181,7 +184,7 @@ impl<const N: usize> Dirty<N> {
         Ok(())
     }
 
-    // Appends a bit. Where its chunk is edited it takes no memory, and succeeds.
+    // Appends a bit. Does not allocate, and succeeds, if its chunk is edited.
     pub(crate) fn push(&mut self, current: &Prunable<N>, value: bool) -> Result<(), AllocError>
         requires low { pruned_bits N current.now ≤ self.old.len }
         requires fits { self.old.len + 1 < 2 ^ 64 }
@@ -197,7 +200,7 @@ impl<const N: usize> Dirty<N> {
         Ok(())
     }
 
-    // Takes the last bit off, and answers it where its chunk is edited. No memory.
+    // Removes the last bit, and returns it if its chunk is edited. Does not allocate.
     pub(crate) fn pop(&mut self) -> Option<bool>
         requires some { 0 < self.old.len }
         requires last { (q : ℕ) → self.old.len ≤ 8 * N * q → edited_chunk self.old q ≡ None }
@@ -216,7 +219,7 @@ impl<const N: usize> Dirty<N> {
         self.edited.replace_bit(index, last, false)
     }
 
-    // Prunes the chunks before chunk `end`, and keeps their old bytes: of all of them or, refused, of none.
+    // Prunes the chunks before chunk `end`, and captures their old bytes. After an error nothing is changed.
     pub(crate) fn prune(&mut self, current: &Prunable<N>, end: usize) -> Result<(), AllocError>
         requires from { current.now.pruned ≤ self.old.pruned }
         requires fits { 8 * N * end < 2 ^ 64 }
@@ -241,10 +244,10 @@ impl<const N: usize> Dirty<N> {
         Ok(())
     }
 
-    // Appends the bits of some bytes, at most a chunk, at any length: to all the chunks that take them or, refused, to none.
-    // Where all stay in an edited chunk it takes no memory, and succeeds.
+    // Appends the bits of at most N bytes, at any length. After an error nothing is changed.
+    // Does not allocate, and succeeds, if all bits fall in one edited chunk.
     fn append(&mut self, current: &Prunable<N>, bytes: &[u8]) -> Result<(), AllocError>
-        requires layer { LayerFits N current.now self.old }
+        requires edits_fit { PendingFits N current.now self.old }
         requires some { 0 < length bytes.now }
         requires short { length bytes.now ≤ N }
         requires fits { self.old.len + 8 * length bytes.now < 2 ^ 64 }
@@ -255,26 +258,26 @@ impl<const N: usize> Dirty<N> {
         let len = self.len();
         let count = 8 * bytes.len() as u64;
         let first = chunk_index::<N>(len);
-        let room = chunk_width::<N>() - len % chunk_width::<N>();
+        let space = chunk_width::<N>() - len % chunk_width::<N>();
         let mut begun = self.chunk(current, first);
         join(&mut begun, len, bytes, &[]);
         known(&begun);
-        if count <= room {
+        if count <= space {
             self.edited.write(first, begun)?;
             self.len = len + count;
             return Ok(());
         }
-        let rest = chunk_from(bytes, &[], room);
+        let rest = chunk_from(bytes, &[], space);
         known(&rest);
         self.edited.write_two(first, begun, rest)?;
         self.len = len + count;
         Ok(())
     }
 
-    // Appends a byte to the chunk of the length, where that is held and has room for it, and answers whether it did. No memory.
+    // Appends a byte if the last chunk is in the run or cached and has space for it. Returns whether it did. Does not allocate.
     fn put_byte(&mut self, byte: u8) -> bool
         requires fits { self.old.len + 8 < 2 ^ 64 }
-        ensures done { result ≡ true → (b : PrunedBits) → LayerFits N b self.old → Appends N b self.old (byte_bits byte) self.new }
+        ensures done { result ≡ true → (b : PrunedBits) → PendingFits N b self.old → Appends N b self.old (byte_bits byte) self.new }
         ensures other { result ≡ false → self.new ≡ self.old }
     {
         let len = self.len;
@@ -288,9 +291,9 @@ impl<const N: usize> Dirty<N> {
         true
     }
 
-    // Appends the eight bits of a byte, the lowest first, at any length. Where all stay in an edited chunk it takes no memory, and succeeds.
+    // Appends the eight bits of a byte, lowest first, at any length. Does not allocate, and succeeds, if all fall in one edited chunk.
     pub(crate) fn push_byte(&mut self, current: &Prunable<N>, byte: u8) -> Result<(), AllocError>
-        requires layer { LayerFits N current.now self.old }
+        requires edits_fit { PendingFits N current.now self.old }
         requires fits { self.old.len + 8 < 2 ^ 64 }
         ensures ok { OnOk result (Appends N current.now self.old (byte_bits byte) self.new) }
         ensures err { OnErr result (self.new ≡ self.old) }
@@ -309,7 +312,7 @@ impl<const N: usize> Dirty<N> {
         current: &Prunable<N>,
         chunk: &[u8; N],
     ) -> Result<(), AllocError>
-        requires layer { LayerFits N current.now self.old }
+        requires edits_fit { PendingFits N current.now self.old }
         requires fits { self.old.len + 8 * N < 2 ^ 64 }
         ensures ok { OnOk result (Appends N current.now self.old (chunk_bits N chunk.now) self.new) }
         ensures err { OnErr result (self.new ≡ self.old) }
@@ -318,18 +321,18 @@ impl<const N: usize> Dirty<N> {
         self.append(current, chunk)
     }
 
-    // The first edited chunk from chunk `from` on.
+    // Returns the first edited chunk from chunk `from` on.
     pub(crate) fn next_edited(&self, from: usize) -> Option<usize>
         ensures { IsNextMember (keys_of self.now.edited) from result }
     {
         self.edited.next_from(from)
     }
 
-    // The first chunk from chunk `from` on that the edits name.
+    // Returns the first marked chunk from chunk `from` on.
     pub(crate) fn next_marked(&self, current: &Prunable<N>, from: usize) -> Option<usize>
-        requires layer { LayerFits N current.now self.now }
+        requires edits_fit { PendingFits N current.now self.now }
         requires low { current.now.pruned ≤ from }
-        ensures { IsNextMember (layer_marks N current.now self.now) from result }
+        ensures { IsNextMember (marked_chunks N current.now self.now) from result }
     {
         if from < self.pruned_chunks() {
             return Some(from);
@@ -348,7 +351,7 @@ impl<const N: usize> Dirty<N> {
         edited
     }
 
-    // What a commit does to a chunk that the edits name, with its old bytes.
+    // Returns what a commit does to a marked chunk, with its old bytes.
     pub(crate) fn diff(&self, current: &Prunable<N>, index: usize) -> ChunkDiff<N>
         requires low { current.now.pruned ≤ index }
         requires count { length self.now.captured ≡ self.now.pruned - current.now.pruned }
@@ -370,17 +373,17 @@ impl<const N: usize> Dirty<N> {
         }
     }
 
-    // The record of the edits, which leads back over them: one entry for each chunk that they name, in one ascending pass.
+    // Returns the reverse record of the edits: one entry per marked chunk, ascending. Each entry is found by its own search.
     pub(crate) fn record(
         &self,
         current: &Prunable<N>,
         alloc: Global,
     ) -> Result<CommitDiff<N>, AllocError>
-        requires layer { LayerFits N current.now self.now }
-        ensures reverses { IfOk result (λ r. ReversesLayer N current.now self.now r) }
+        requires edits_fit { PendingFits N current.now self.now }
+        ensures reverses { IfOk result (λ r. IsRecordOf N current.now self.now r) }
         ensures leads_back { IfOk result (λ r. LeadsBack N r current.now (pending_bits N current.now self.now)) }
         ensures can_undo { IfOk result (λ r. CanUndo N r (pending_bits N current.now self.now)) }
-        ensures bound { IfOk result (λ r. length r.entries ≤ distinct_count nat_eq (layer_marks N current.now self.now)) }
+        ensures bound { IfOk result (λ r. length r.entries ≤ distinct_count nat_eq (marked_chunks N current.now self.now)) }
     {
         let _ = self.len();
         let total = current.len();
@@ -393,14 +396,14 @@ impl<const N: usize> Dirty<N> {
         Ok(record)
     }
 
-    // The edited chunks by index. No memory.
+    // Returns the edited chunks by index. Does not allocate.
     pub(crate) fn into_edited(self) -> GrownChunks<N>
         ensures { result ≡ self.entry.edited }
     {
         self.edited
     }
 
-    // The same edits once more. Takes memory for their chunks.
+    // Returns a copy. Allocates for its chunks.
     pub(crate) fn duplicate(&self) -> Result<Self, AllocError>
         ensures { IfOk result (λ copy. copy ≡ self.now) }
     {

@@ -5,7 +5,7 @@ ghost use Rattle.std.specs.Iterator.{YieldsFirst, item_count};
 ghost use Rattle.bitmap_bytes.specs.Chunk.{IsWidth};
 ghost use Rattle.historical_bitmap.specs.Changes.{changed, retained_bytes as retained_bytes_of};
 ghost use Rattle.historical_bitmap.specs.Compared.{IsComparingPending, IsNextChange};
-ghost use Rattle.historical_bitmap.specs.Pending.{LayerFits, pending_bits};
+ghost use Rattle.historical_bitmap.specs.Pending.{PendingFits, pending_bits};
 ghost use Rattle.historical_bitmap.specs.View.{pending_of};
 
 use crate::bitmap::historical::{BitMap, Dirty};
@@ -13,14 +13,20 @@ use bitmap_core::bitmap::Prunable;
 use bitmap_core::chunk::{chunk_count, chunk_width};
 use std::marker::Model;
 
-/// The indices of the chunks that differ between the current and the pending bitmap of a batch, ascending, each once.
+/// An iterator over the indices of the chunks that differ between the current and the pending bitmap of a batch, ascending, each once.
 ///
-/// Only chunks that the pending edits name are read. After the last index it returns `None`, then and ever after. Does not allocate.
+/// `DirtyBitMap::changed_chunks` returns it. After the last index, `next` returns `None`, however often it is called.
+///
+/// Does not allocate.
+///
+/// # Complexity
+/// For each chunk that `next` examines: logarithmic in the edited chunks. It examines only marked chunks: those that the pending edits
+/// have edited, cut off or pruned.
 #[derive(Drop)]
 pub struct PendingChanges<'a, const N: usize> {
     current: &'a Prunable<N>,
     edits: &'a Dirty<N>,
-    // The first index that is not passed yet.
+    // The first index that is still to be examined.
     next: usize,
     // The number of chunks of the longer bitmap.
     end: usize,
@@ -39,7 +45,7 @@ impl<'a, const N: usize> Model for PendingChanges<'a, N> {
     ghost invariant = { λ c. IsComparingPending N c.current.now c.edits.now c.next c.end };
 }
 
-// The bytes of a chunk of the current bitmap, if it is retained.
+// Returns the bytes of a chunk of the current bitmap, if it is retained.
 fn current_bytes<const N: usize>(current: &Prunable<N>, chunk: usize) -> Option<[u8; N]>
     requires { 8 * N * chunk < 2 ^ 64 }
     ensures { result ≡ retained_bytes_of N current.now chunk }
@@ -52,13 +58,13 @@ fn current_bytes<const N: usize>(current: &Prunable<N>, chunk: usize) -> Option<
     Some(*current.get_chunk(chunk))
 }
 
-// The bytes of a chunk of the pending bitmap, if it is retained.
+// Returns the bytes of a chunk of the pending bitmap, if it is retained.
 fn pending_bytes<const N: usize>(
     current: &Prunable<N>,
     edits: &Dirty<N>,
     chunk: usize,
 ) -> Option<[u8; N]>
-    requires layer { LayerFits N current.now edits.now }
+    requires edits_fit { PendingFits N current.now edits.now }
     requires small { 8 * N * chunk < 2 ^ 64 }
     ensures { result ≡ retained_bytes_of N (pending_bits N current.now edits.now) chunk }
 {
@@ -70,7 +76,7 @@ fn pending_bytes<const N: usize>(
     Some(edits.chunk(current, chunk))
 }
 
-// The first chunk from `first` on and before `end` in which the current and the pending bitmap differ.
+// Returns the first chunk from `first` on, and before `end`, in which the current and the pending bitmap differ.
 fn next_pending<const N: usize>(
     current: &Prunable<N>,
     edits: &Dirty<N>,
@@ -95,10 +101,11 @@ fn next_pending<const N: usize>(
 }
 
 impl<const N: usize> BitMap<N, Dirty<N>> {
-    /// The indices of the chunks that differ between the current bitmap and the one with the pending edits, ascending, each once:
-    /// the chunks retained in one and not in the other, and those retained in both with other bytes. Bits past the length count as zero.
+    /// Returns an iterator over the indices of the chunks that differ between the current and the pending bitmap, ascending, each once.
     ///
-    /// Only chunks that the pending edits name are read. Does not allocate.
+    /// A chunk differs if it is retained in only one of the bitmaps, or if its bytes differ. Bits past the length count as zero.
+    ///
+    /// Does not allocate; constant time. `PendingChanges` says what the iterator costs.
     pub fn changed_chunks(&self) -> PendingChanges<'_, N>
         ensures value { result ≡ changed N self.now.current (pending_of N self.now) }
         ensures bound { length result < 2 ^ 64 }

@@ -1,4 +1,4 @@
-//! The record of a commit: what leads from what it left back to what stood before it.
+//! The reverse record of a commit: what turns the bitmap after the commit into the one before it.
 
 ghost use Rattle.std.specs.Prelude.{◌≡◌, ℕ, ◌<◌, ◌≤◌, [], ◌∷◌, ◌++◌, IfOk, IsSome, OnOk, OnErr, length, nat_eq, option_copied, option_map};
 ghost use Rattle.std.specs.List.Sorted.{IsStrictlySortedBy};
@@ -8,25 +8,28 @@ ghost use Rattle.bitmap_bytes.specs.Chunk.{IsWidth};
 ghost use Rattle.historical_bitmap.specs.Pending.{IsNextMember};
 ghost use Rattle.historical_bitmap.specs.Record.{bytes_of, kept, kept_bytes};
 ghost use Rattle.historical_bitmap.specs.Stored.{diff_value, entry_values};
-ghost use Rattle.historical_bitmap.specs.Undo.{kept_between, pruned_chunks};
+ghost use Rattle.historical_bitmap.specs.Undo.{kept_between, pruned_chunk_bytes};
 
 use std::alloc::{AllocError, Global};
 use std::marker::Model;
 
-// What a commit did to a chunk, with the bytes that stood there before it.
+// What a commit did to a chunk, with the chunk's old bytes.
 #[derive(Clone, Copy, Debug)]
 pub(crate) enum ChunkDiff<const N: usize> {
-    // It changed some of the chunk's bits.
+    // It changed bits of the chunk.
     Modified([u8; N]),
-    // It cut the chunk off at the end.
+    // It removed the chunk from the end.
     Removed([u8; N]),
-    // It made the chunk.
+    // It added the chunk, which has no old bytes.
     Added,
-    // It pruned the chunk at the front.
+    // It pruned the chunk.
     Pruned([u8; N]),
 }
 
-/// The length in bits and the number of pruned chunks before a commit, and what it did to chunks, strictly ascending by index.
+/// The reverse record of a commit.
+///
+/// It has the length in bits and the number of pruned chunks before the commit, and what the commit did to each touched chunk.
+/// The entries are strictly ascending by chunk index.
 #[derive(Debug, Drop)]
 pub struct CommitDiff<const N: usize> {
     len: u64,
@@ -35,7 +38,7 @@ pub struct CommitDiff<const N: usize> {
 }
 
 impl<const N: usize> ChunkDiff<N> {
-    // The bytes that stood there before the commit: none where it made the chunk. No memory.
+    // Returns the bytes before the commit, or `None` if the commit added the chunk.
     pub(crate) fn old_bytes(&self) -> Option<&[u8; N]>
         ensures { option_copied result ≡ kept_bytes (diff_value self.now) }
     {
@@ -49,10 +52,10 @@ impl<const N: usize> ChunkDiff<N> {
 }
 
 impl<const N: usize> Model for CommitDiff<N> {
-    ghost use Rattle.historical_bitmap.specs.Record.{Reverse};
+    ghost use Rattle.historical_bitmap.specs.Record.{ReverseRecord};
     ghost use Rattle.historical_bitmap.specs.Stored.{entry_values};
 
-    ghost Value = { Reverse };
+    ghost Value = { ReverseRecord };
 
     ghost use Rattle.bitmap_bytes.specs.Chunk.{IsWidth};
 
@@ -62,7 +65,7 @@ impl<const N: usize> Model for CommitDiff<N> {
 }
 
 impl<const N: usize> CommitDiff<N> {
-    // A record without entries. No memory.
+    // Returns a record without entries. Does not allocate.
     pub(crate) fn new(alloc: Global, len: u64, pruned_chunks: usize) -> Self
         requires width { IsWidth N }
         ensures { result ≡ record { len = len; pruned = pruned_chunks; entries = [] } }
@@ -74,7 +77,7 @@ impl<const N: usize> CommitDiff<N> {
         }
     }
 
-    // Appends an entry. Refused, the record is as it was.
+    // Appends an entry. If an allocation fails, the record is unchanged.
     pub(crate) fn push(&mut self, chunk: usize, diff: ChunkDiff<N>) -> Result<(), AllocError>
         ensures ok { OnOk result (self.new ≡ record self.old { entries = self.old.entries ++ (chunk, diff_value diff.entry) ∷ [] }) }
         ensures err { OnErr result (self.new ≡ self.old) }
@@ -83,14 +86,14 @@ impl<const N: usize> CommitDiff<N> {
         Ok(())
     }
 
-    // The number of entries.
+    // Returns the number of entries.
     pub(crate) fn entries(&self) -> usize
         ensures { result ≡ length self.now.entries }
     {
         self.chunk_diffs.len()
     }
 
-    // The length before the commit. No memory.
+    // Returns the length in bits before the commit.
     pub(crate) fn len(&self) -> u64
         ensures value { result ≡ self.now.len }
         ensures width { IsWidth N }
@@ -98,21 +101,21 @@ impl<const N: usize> CommitDiff<N> {
         self.len
     }
 
-    // The number of chunks pruned before the commit. No memory.
+    // Returns the number of pruned chunks before the commit.
     pub(crate) fn pruned_chunks(&self) -> usize
         ensures { result ≡ self.now.pruned }
     {
         self.pruned_chunks
     }
 
-    // The entries. No memory.
+    // Returns the entries.
     pub(crate) fn chunk_diffs(&self) -> &[(usize, ChunkDiff<N>)]
         ensures { entry_values result.now ≡ self.now.entries }
     {
         &self.chunk_diffs
     }
 
-    // The old bytes of a chunk, where the record keeps them, by a search in the ascending entries. No memory.
+    // Returns the old bytes of a chunk, if the record has them, by binary search.
     pub(crate) fn kept(&self, chunk: usize) -> Option<&[u8; N]>
         requires { IsStrictlySortedBy nat_cmp (keys_of self.now.entries) }
         ensures { option_copied result ≡ kept self.now chunk }
@@ -120,7 +123,7 @@ impl<const N: usize> CommitDiff<N> {
         find(&self.chunk_diffs, chunk)?.old_bytes()
     }
 
-    // The first chunk from `from` on that the record names, by a search in the ascending entries. No memory.
+    // Returns the first chunk from `from` on that has an entry, by binary search.
     pub(crate) fn next_from(&self, from: usize) -> Option<usize>
         requires { IsStrictlySortedBy nat_cmp (keys_of self.now.entries) }
         ensures { IsNextMember (keys_of self.now.entries) from result }
@@ -128,12 +131,12 @@ impl<const N: usize> CommitDiff<N> {
         next_entry(&self.chunk_diffs, from)
     }
 
-    // The old bytes of the chunks that the commit pruned, in order, where it left so many pruned. Takes memory once, for these.
+    // Returns the old bytes of the chunks that the commit pruned, in order. It left `pruned` chunks pruned. Allocates once, for these.
     pub(crate) fn pruned_bytes(&self, pruned: usize) -> Result<Vec<[u8; N]>, AllocError>
         requires sorted { IsStrictlySortedBy nat_cmp (keys_of self.now.entries) }
         requires rises { self.now.pruned ≤ pruned }
         requires kept { (i : ℕ) → self.now.pruned ≤ i → i < pruned → IsSome (kept self.now i) }
-        ensures { IfOk result (λ chunks. chunks.items ≡ pruned_chunks self.now pruned) }
+        ensures { IfOk result (λ chunks. chunks.items ≡ pruned_chunk_bytes self.now pruned) }
     {
         let from = self.pruned_chunks;
         let mut chunks = Vec::with_capacity(*self.chunk_diffs.allocator(), pruned - from)?;
@@ -142,7 +145,7 @@ impl<const N: usize> CommitDiff<N> {
     }
 }
 
-// The entry of a chunk among ascending ones.
+// Returns the entry of a chunk among ascending ones, by binary search.
 fn find<const N: usize>(entries: &[(usize, ChunkDiff<N>)], chunk: usize) -> Option<&ChunkDiff<N>>
     requires { IsStrictlySortedBy nat_cmp (keys_of (entry_values entries.now)) }
     ensures { option_map (λ diff. diff_value diff.now) result ≡ lookup (nat_eq chunk) (entry_values entries.now) }
@@ -164,7 +167,7 @@ fn find<const N: usize>(entries: &[(usize, ChunkDiff<N>)], chunk: usize) -> Opti
     None
 }
 
-// The chunk of the first of some ascending entries from chunk `from` on.
+// Returns the first chunk from chunk `from` on that has one of some ascending entries, by binary search.
 fn next_entry<const N: usize>(entries: &[(usize, ChunkDiff<N>)], from: usize) -> Option<usize>
     requires { IsStrictlySortedBy nat_cmp (keys_of (entry_values entries.now)) }
     ensures { IsNextMember (keys_of (entry_values entries.now)) from result }
@@ -187,17 +190,21 @@ fn next_entry<const N: usize>(entries: &[(usize, ChunkDiff<N>)], from: usize) ->
     None
 }
 
-// Appends the old bytes that entries keep of the chunks from one index up to another.
+// Appends the old bytes in ascending entries of the chunks from index `from` up to `to`. Stops at the first entry from `to` on.
 fn collect_between<const N: usize>(
     chunks: &mut Vec<[u8; N]>,
     entries: &[(usize, ChunkDiff<N>)],
     from: usize,
     to: usize,
 ) -> Result<(), AllocError>
+    requires { IsStrictlySortedBy nat_cmp (keys_of (entry_values entries.now)) }
     ensures { OnOk result (chunks.new.items ≡ chunks.old.items ++ kept_between from to (entry_values entries.now)) }
 {
     for entry in entries {
-        if from <= entry.0 && entry.0 < to {
+        if to <= entry.0 {
+            return Ok(());
+        }
+        if from <= entry.0 {
             if let Some(bytes) = entry.1.old_bytes() {
                 chunks.push(*bytes)?;
             }
@@ -209,7 +216,7 @@ fn collect_between<const N: usize>(
 impl<const N: usize> Clone for CommitDiff<N> {
     ghost is_clone = { λ a b. b ≡ a };
 
-    // An equal record. Takes memory for its entries, and errs where that is refused.
+    // Returns an equal record. Allocates for its entries, and fails if that fails.
     fn clone(&self) -> Result<Self, AllocError> {
         Ok(CommitDiff {
             len: self.len,

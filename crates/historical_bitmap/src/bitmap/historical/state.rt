@@ -10,22 +10,24 @@ mod private {
     use std::alloc::AllocError;
 
     pub trait Sealed: Drop + Sized {
-        // An equal state.
+        // Returns an equal state.
         fn copied(&self) -> Result<Self, AllocError>
             ensures { IfOk result (λ copy. copy ≡ self.now) };
     }
 }
 
-/// The states of a historical bitmap: `Clean` and `Dirty<N>`, and no other.
+/// A state of a historical bitmap: `Clean` or `Dirty<N>`.
+///
+/// The trait is sealed: no other type implements it.
 pub trait State: private::Sealed {
     ghost use Rattle.std.specs.Prelude.{ℕ};
     ghost use Rattle.bitmap_core.specs.PrunedBits.{PrunedBits};
 
-    /// What holds of the state beside the current bitmap, in chunks of so many bytes.
+    /// The invariant that relates a state to the current bitmap. Its first argument is the width of a chunk in bytes.
     ghost fits: { ℕ → PrunedBits → Self → Type 0 };
 }
 
-/// No edit is pending.
+/// The state without pending edits.
 #[derive(Debug, Drop)]
 pub struct Clean {
     alloc: Global,
@@ -40,12 +42,12 @@ impl Model for Clean {
 }
 
 impl Clean {
-    // No edit pending. No memory.
+    // Returns the state without pending edits. Does not allocate.
     pub(crate) fn new(alloc: Global) -> Self {
         Clean { alloc }
     }
 
-    // Where memory is taken from.
+    // Returns the allocator of the bitmap.
     pub(crate) fn allocator(&self) -> Global {
         self.alloc
     }
@@ -68,7 +70,7 @@ impl<const N: usize> private::Sealed for Dirty<N> {
 }
 
 impl<const N: usize> State for Dirty<N> {
-    ghost use Rattle.historical_bitmap.specs.Pending.{LayerFits};
+    ghost use Rattle.historical_bitmap.specs.Pending.{PendingFits};
 
-    ghost fits = { LayerFits };
+    ghost fits = { PendingFits };
 }

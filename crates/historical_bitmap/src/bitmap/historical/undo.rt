@@ -1,4 +1,4 @@
-//! A commit undone: from what it left and its record, what stood before it.
+//! Undoing a commit: from the bitmap after it and its reverse record, the bitmap before it.
 
 ghost use Rattle.std.specs.Prelude.{◌≡◌, ℕ, ◌≤◌, MatchOption, OnOk, nat_eq, nat_le, option_copied};
 ghost use Rattle.std.specs.List.{filter};
@@ -15,8 +15,8 @@ use crate::bitmap::historical::record::{ChunkDiff, CommitDiff};
 use bitmap_core::bitmap::Prunable;
 use std::alloc::AllocError;
 
-// Makes of what a commit left what stood before it. Takes memory for the chunks that it puts back.
-// Refused, nothing is promised of the bitmap: it is a working copy.
+// Turns the bitmap after a commit into the one before it. Allocates for the chunks that it restores.
+// After an error the bitmap may have any value: it is a working copy.
 pub(crate) fn undo<const N: usize>(
     newer: &mut Prunable<N>,
     diff: &CommitDiff<N>,
@@ -26,14 +26,14 @@ pub(crate) fn undo<const N: usize>(
 {
     let len = diff.len();
     let pruned = newer.pruned_chunks();
-    let front = diff.pruned_bytes(pruned)?;
-    newer.unprune(&front)?;
+    let prefix = diff.pruned_bytes(pruned)?;
+    newer.unprune(&prefix)?;
     resize(newer, len)?;
     put_back_from(newer, diff.chunk_diffs(), pruned);
     Ok(())
 }
 
-// Cuts the bitmap, or fills it with zeros, to a length.
+// Truncates the bitmap, or extends it with zeros, to a length.
 fn resize<const N: usize>(bitmap: &mut Prunable<N>, len: u64) -> Result<(), AllocError>
     requires { pruned_bits N bitmap.old ≤ len }
     ensures { OnOk result (bitmap.new ≡ resized N bitmap.old len) }
@@ -45,7 +45,7 @@ fn resize<const N: usize>(bitmap: &mut Prunable<N>, len: u64) -> Result<(), Allo
     Ok(())
 }
 
-// Puts the old bytes that entries keep back in place, of the chunks from an index on. No memory.
+// Restores the old bytes in entries of the chunks from index `from` on. Does not allocate.
 fn put_back_from<const N: usize>(
     bitmap: &mut Prunable<N>,
     entries: &[(usize, ChunkDiff<N>)],
@@ -64,7 +64,7 @@ fn put_back_from<const N: usize>(
     }
 }
 
-// Replaces the bits of a chunk by its old bytes, where there are some. No memory.
+// Replaces the bits of a chunk by its old bytes, if there are any. Does not allocate.
 fn put_back_chunk<const N: usize>(bitmap: &mut Prunable<N>, chunk: usize, bytes: Option<&[u8; N]>)
     requires width { IsWidth N }
     requires retained { bitmap.old.pruned ≤ chunk }

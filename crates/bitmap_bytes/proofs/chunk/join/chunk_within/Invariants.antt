@@ -1,10 +1,10 @@
 use Rattle.std.proofs.Common.{◌≡◌, ℕ, ◌+◌, ◌*◌, ◌<◌, length, get_or, eqb}
 use Rattle.std.specs.Int.{bit_at}
-use Rattle.bitmap_bytes.specs.Chunk.{bit_in}
+use Rattle.bitmap_bytes.specs.Chunk.{bytes_bit}
 use Rattle.bitmap_bytes.proofs.chunk.join.chunk_within.Given as goal
 
 abbrev pub invariant-loop-j : goal.invariant-loop-j
 invariant-loop-j g l = record {
   size : length l.chunk ≡ g.row.N;
-  done : (k t : ℕ) → k < l.j → t < 8 → eqb (bit_at (get_or l.chunk k 0) t) 1 ≡ bit_in l.bytes (l.skip + (8 * k + t));
+  done : (k t : ℕ) → k < l.j → t < 8 → eqb (bit_at (get_or l.chunk k 0) t) 1 ≡ bytes_bit l.bytes (l.skip + (8 * k + t));
 }

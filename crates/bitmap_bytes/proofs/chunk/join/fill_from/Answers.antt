@@ -3,7 +3,7 @@ use Rattle.std.specs.Int.{bit_at}
 use Rattle.std.proofs.Math.Nat.{div-add-mod}
 use Rattle.std.proofs.lemmas.List.{length-set, get_or-set_same, get_or-set_other}
 use Rattle.std.proofs.lemmas.Bool.{cases_eq}
-use Rattle.bitmap_bytes.specs.Chunk.{bit_in}
+use Rattle.bitmap_bytes.specs.Chunk.{bytes_bit}
 use Rattle.bitmap_bytes.proofs.Bytes.Shifted.{filled_bits, kept_bits}
 use Rattle.bitmap_bytes.proofs.chunk.join.fill_from.Goals as goal
 
@@ -18,7 +18,7 @@ loop-j-preserved g c = record {
         ap (λ m. eqb (bit_at (get_or (set c.loop-j.chunk c.loop-j.j c.bits_from.result) m 0) t) 1) e
         ∙ ap (λ x. eqb (bit_at x t) 1) (get_or-set_same c.loop-j.chunk c.loop-j.j c.bits_from.result 0 (omega (arith, c.loop-j.invariant.size)))
         ∙ c.bits_from.ensures t w
-        ∙ ap (bit_in (c.args.front.now ++ c.args.back.now)) q
+        ∙ ap (bytes_bit (c.args.front.now ++ c.args.back.now)) q
     | inr e ↦ ap (λ x. eqb (bit_at x t) 1) (get_or-set_other c.loop-j.chunk c.loop-j.j k _ 0 e) ∙ c.loop-j.invariant.done k t u (omega arith) w
   ];
 }

@@ -1,7 +1,7 @@
 use Rattle.std.proofs.Common.{◌≡◌, ◌+◌, ◌-◌, ◌*◌, ◌∙◌, ap, eqb, get_or, inl, inr, arith}
 use Rattle.std.specs.Int.{bit_at}
 use Rattle.std.proofs.lemmas.Bool.{cases_lt}
-use Rattle.bitmap_bytes.specs.Chunk.{bit_in}
+use Rattle.bitmap_bytes.specs.Chunk.{bytes_bit}
 use Rattle.bitmap_bytes.proofs.chunk.join.fill_words.Goals as goal
 
 pub loop-word-preserved : goal.loop-word-preserved
@@ -15,6 +15,6 @@ loop-word-preserved g c = record {
         ap (λ m. eqb (bit_at (get_or c.put_word.new.chunk m 0) t) 1) e
         ∙ ap (λ x. eqb x 1) (c.put_word.ensures.here (k - 8 * c.loop-word.word) t (omega arith) s)
         ∙ c.word_from.ensures (8 * (k - 8 * c.loop-word.word) + t) (omega arith)
-        ∙ ap (bit_in c.args.bytes.now) q
+        ∙ ap (bytes_bit c.args.bytes.now) q
   ];
 }

@@ -1,6 +1,6 @@
 use Rattle.std.proofs.Common.{◌≡◌, ◌*◌, ◌∙◌, length, get_or, [], sym, ap, eqb, arith}
 use Rattle.std.proofs.lemmas.List.{get_or_default}
-use Rattle.bitmap_bytes.specs.Bits.{bit_of}
+use Rattle.bitmap_bytes.specs.Bits.{chunks_bit}
 use Rattle.bitmap_bytes.proofs.Counting.Ones.{ones_from}
 use Rattle.bitmap_bytes.proofs.Counting.Places.{none_bits}
 use Rattle.bitmap_bytes.proofs.Counting.Blocks.{zero_block, other_block, zeros_where_same, other_where_not}
@@ -19,4 +19,4 @@ loop-block-preserved g c =
 pub returns : goal.returns
 returns g c =
     let e : c.loop-block.block-index ≡ length c.args.blocks.now = omega arith in
-    sym (none_bits g.row.M c.args.blocks.now (8 * g.row.M * length c.args.blocks.now) ∙ ap (λ x. eqb x 0) (sym (ap (λ k. ones_from (bit_of g.row.M c.args.blocks.now) 0 (8 * g.row.M * k)) e) ∙ c.loop-block.invariant))
+    sym (none_bits g.row.M c.args.blocks.now (8 * g.row.M * length c.args.blocks.now) ∙ ap (λ x. eqb x 0) (sym (ap (λ k. ones_from (chunks_bit g.row.M c.args.blocks.now) 0 (8 * g.row.M * k)) e) ∙ c.loop-block.invariant))

@@ -1,6 +1,6 @@
 use Rattle.std.proofs.Common.{get_or, ◌<◌, ◌≡◌, ◌*◌, ◌∙◌, length, sym, ap, eqb, arith}
 use Rattle.bitmap_bytes.proofs.Counting.Ones.{ones_from}
-use Rattle.bitmap_bytes.specs.Chunk.{bit_in}
+use Rattle.bitmap_bytes.specs.Chunk.{bytes_bit}
 use Rattle.bitmap_bytes.proofs.Counting.Words.{none_chunk, zero_byte, other_byte}
 use Rattle.bitmap_bytes.proofs.chunk.words.are_bytes_zero.Goals as goal
 
@@ -15,5 +15,5 @@ loop-byte-preserved c = zero_byte c.args.bytes.now c.loop-byte.byte-index c.if-b
 pub returns : goal.returns
 returns c =
     let e : c.loop-byte.byte-index ≡ length c.args.bytes.now = omega arith in
-    let none = sym (ap (λ k. ones_from (bit_in c.args.bytes.now) 0 (8 * k)) e) ∙ c.loop-byte.invariant in
+    let none = sym (ap (λ k. ones_from (bytes_bit c.args.bytes.now) 0 (8 * k)) e) ∙ c.loop-byte.invariant in
     sym (none_chunk (length c.args.bytes.now) c.args.bytes.now ∙ ap (λ x. eqb x 0) none)

@@ -1,5 +1,5 @@
 use Rattle.std.proofs.Common.{◌≡◌, ◌*◌, ◌<◌, ◌∙◌, length, sym, ap, arith}
-use Rattle.bitmap_bytes.specs.Bits.{bit_of}
+use Rattle.bitmap_bytes.specs.Bits.{chunks_bit}
 use Rattle.bitmap_bytes.proofs.Counting.Ones.{ones_from, count-bits}
 use Rattle.bitmap_bytes.proofs.Counting.Blocks.{more_block, more_block-fits}
 use Rattle.bitmap_bytes.proofs.chunk.words.block_ones.Goals as goal
@@ -16,4 +16,4 @@ loop-block-preserved c = more_block 64 c.args.blocks.now c.loop-block.block-inde
 pub returns : goal.returns
 returns c =
     let e : c.loop-block.block-index ≡ length c.args.blocks.now = omega arith in
-    c.loop-block.invariant ∙ ap (λ k. ones_from (bit_of 64 c.args.blocks.now) 0 (512 * k)) e ∙ sym (count-bits 64 c.args.blocks.now (512 * length c.args.blocks.now))
+    c.loop-block.invariant ∙ ap (λ k. ones_from (chunks_bit 64 c.args.blocks.now) 0 (512 * k)) e ∙ sym (count-bits 64 c.args.blocks.now (512 * length c.args.blocks.now))

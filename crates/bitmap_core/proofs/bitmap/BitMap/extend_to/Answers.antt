@@ -6,11 +6,11 @@ use Rattle.bitmap_bytes.proofs.Lists.Bits.{len_is}
 use Rattle.bitmap_core.proofs.Lists.Edits.{bits-extend, append_nothing}
 use Rattle.bitmap_core.proofs.bitmap.BitMap.extend_to.Goals as goal
 
-pub returns-in_err-extend_zeros-clause-roomy : goal.returns-in_err-extend_zeros-clause-roomy
-returns-in_err-extend_zeros-clause-roomy g c =
+pub returns-in_err-extend_zeros-clause-has_capacity : goal.returns-in_err-extend_zeros-clause-has_capacity
+returns-in_err-extend_zeros-clause-has_capacity g c =
     let e : div_ceil c.self.inside.len (8 * g.row.N) ≡ length c.self.inside.chunks.items =
     count_unique _ _ _ _ (IsChunkCount-ceil _ _ c.self.invariant.width.positive) c.self.invariant.count in
-    λ h. absurd (false≢true (c.in_err-extend_zeros.ensures.roomy (rw (len_is _ _ _ _ c.self.view_is, e) at h)))
+    λ h. absurd (false≢true (c.in_err-extend_zeros.ensures.has_capacity (rw (len_is _ _ _ _ c.self.view_is, e) at h)))
 
 pub returns-in_ok-extend_zeros-clause-ok : goal.returns-in_ok-extend_zeros-clause-ok
 returns-in_ok-extend_zeros-clause-ok g c =

@@ -1,5 +1,5 @@
 use Rattle.std.proofs.Common.{◌≡◌, ◌∙◌, sym, ap, get_or, false, arith}
-use Rattle.bitmap_bytes.specs.Bits.{bit_of}
+use Rattle.bitmap_bytes.specs.Bits.{chunks_bit}
 use Rattle.bitmap_bytes.proofs.Lists.Bits.{at_within, len_is, get_or-bits}
 use Rattle.bitmap_core.proofs.Lists.Edits.{bits-put}
 use Rattle.bitmap_bytes.proofs.Chunks.Lists.{IsZeroFrom-put}
@@ -21,7 +21,7 @@ invariant_of-self g c = record {
 pub returns : goal.returns
 returns g c =
     let l = len_is _ _ _ _ c.self.view_is in
-    let old : bit_of g.row.N c.self.inside.chunks.items c.args.bit ≡ get_or c.args.self.now c.args.bit false =
+    let old : chunks_bit g.row.N c.self.inside.chunks.items c.args.bit ≡ get_or c.args.self.now c.args.bit false =
     sym (get_or-bits _ _ _ _ false (omega arith))
     ∙ ap (λ x. get_or x c.args.bit false) c.self.view_is in
     rw old at (bits-put _ _ _ _ _ _ _ c.flip_bit.ensures c.self.view_is (omega arith))

@@ -1,4 +1,4 @@
-use Rattle.bitmap_core.proofs.Texts.Parts.{most_bytes, all_bytes}
+use Rattle.bitmap_core.proofs.Codec.Parts.{most_bytes, all_bytes}
 use Rattle.bitmap_core.proofs.bitmap.BitMap.max_encode_size.Goals as goal
 
 pub returns-clause-reached : goal.returns-clause-reached

@@ -2,7 +2,7 @@ use Rattle.std.proofs.Common.{◌∙◌, true, arith}
 use Rattle.std.proofs.lemmas.List.{length-replicate}
 use Rattle.bitmap_bytes.proofs.Chunks.Places.{IsChunkCount-ceil, index_below}
 use Rattle.bitmap_bytes.proofs.Lists.Bits.{bits-replicate}
-use Rattle.bitmap_bytes.proofs.Chunks.Lists.{bit_of-ones}
+use Rattle.bitmap_bytes.proofs.Chunks.Lists.{chunks_bit-ones}
 use Rattle.bitmap_core.proofs.bitmap.BitMap.ones.Goals as goal
 
 pub clear_tail-requires : goal.clear_tail-requires
@@ -32,4 +32,4 @@ returns-clause-ok g c =
       c.in_ok-append_copies.ensures.ok,
       c.new-chunks.ensures.items,
       c.chunk_count.ensures,
-    ) (bit_of-ones _ _ i positive (index_below _ _ _ _ positive s k)))
+    ) (chunks_bit-ones _ _ i positive (index_below _ _ _ _ positive s k)))

@@ -24,8 +24,8 @@ set_bit-requires g c =
       (c.self.invariant.width, last_within _ _ _ c.self.invariant.width.positive (rw e c.self.invariant.count)),
     )
 
-pub drop_room-requires : goal.drop_room-requires
-drop_room-requires g c =
+pub drop_space-requires : goal.drop_space-requires
+drop_space-requires g c =
     let l = len_is _ _ _ _ c.self.view_is in
     let e : c.self.inside.len - 1 + 1 ≡ c.self.inside.len = omega arith in (
       omega (arith, c.self.invariant.width.fits),
@@ -37,13 +37,13 @@ drop_room-requires g c =
 
 pub invariant_of-self : goal.invariant_of-self
 invariant_of-self g c =
-    let held = c.self.invariant in
+    let cached = c.self.invariant in
     let l = len_is _ _ _ _ c.self.view_is in
     let e : c.self.inside.len - 1 + 1 ≡ c.self.inside.len = omega arith in
     (record {
-      width = held.width;
-      count = c.drop_room.ensures.count;
-      zero = λ i h. c.drop_room.ensures.same i ∙ IsZeroFrom-pop _ _ _ _ _ e c.set_bit.ensures held.zero i h;
+      width = cached.width;
+      count = c.drop_space.ensures.count;
+      zero = λ i h. c.drop_space.ensures.same i ∙ IsZeroFrom-pop _ _ _ _ _ e c.set_bit.ensures cached.zero i h;
     })
 
 pub returns : goal.returns
@@ -51,4 +51,4 @@ returns g c =
     let l = len_is _ _ _ _ c.self.view_is in
     let e : c.self.inside.len - 1 + 1 ≡ c.self.inside.len = omega arith in
     rw c.get_bit-bit.ensures
-    (bits-pop _ _ _ _ _ _ e (λ i h. c.drop_room.ensures.same i ∙ c.set_bit.ensures.others i (λ q. absurd (omega arith))) c.self.view_is)
+    (bits-pop _ _ _ _ _ _ e (λ i h. c.drop_space.ensures.same i ∙ c.set_bit.ensures.others i (λ q. absurd (omega arith))) c.self.view_is)

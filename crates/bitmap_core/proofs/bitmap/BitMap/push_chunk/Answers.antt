@@ -12,17 +12,17 @@ overflow_add-self g c = omega (arith, len_is _ _ _ _ c.self.view_is)
 
 pub invariant_of-self-2 : goal.invariant_of-self-2
 invariant_of-self-2 g c =
-    let held = c.self.invariant in
+    let cached = c.self.invariant in
     let a = ap (λ x. x % (8 * g.row.N)) (sym (len_is _ _ _ _ c.self.view_is)) ∙ c.requires.aligned in
-    let k = IsChunkCount-chunk _ _ _ held.width.positive held.count a in
-    let f = full_len _ _ _ held.width.positive held.count a in
+    let k = IsChunkCount-chunk _ _ _ cached.width.positive cached.count a in
+    let f = full_len _ _ _ cached.width.positive cached.count a in
     rw (
       c.chunk_width.ensures,
       c.in_ok-push_back.ensures.items,
     ) (record {
-      width = held.width;
+      width = cached.width;
       count = rw length_push k;
-      zero = IsZeroFrom-count _ _ _ held.width.positive (rw (length_push, mul-add) (omega arith));
+      zero = IsZeroFrom-count _ _ _ cached.width.positive (rw (length_push, mul-add) (omega arith));
     })
 
 pub returns-clause-ok : goal.returns-clause-ok

@@ -1,7 +1,7 @@
 use Rattle.std.proofs.Common.{arith}
 use Rattle.std.proofs.lemmas.List.{length-append}
 use Rattle.bitmap_bytes.proofs.Lists.Bits.{len_is}
-use Rattle.bitmap_bytes.proofs.Chunks.Front.{bits-front, IsChunkCount-front, IsZeroFrom-front}
+use Rattle.bitmap_bytes.proofs.Chunks.Concatenated.{bits-front, IsChunkCount-front, IsZeroFrom-front}
 use Rattle.bitmap_core.proofs.bitmap.BitMap.put_front_chunks.Goals as goal
 
 pub overflow_add-self : goal.overflow_add-self
@@ -9,14 +9,14 @@ overflow_add-self g c = rw c.chunk_width.ensures (omega (arith, len_is _ _ _ _ c
 
 pub invariant_of-self-2 : goal.invariant_of-self-2
 invariant_of-self-2 g c =
-    let held = c.self.invariant in
+    let cached = c.self.invariant in
     rw (
       c.chunk_width.ensures,
       c.in_ok-put_front.ensures.ok,
     ) (record {
-      width = held.width;
-      count = rw length-append (IsChunkCount-front _ _ _ _ held.count);
-      zero = IsZeroFrom-front _ _ _ _ held.width.positive held.zero;
+      width = cached.width;
+      count = rw length-append (IsChunkCount-front _ _ _ _ cached.count);
+      zero = IsZeroFrom-front _ _ _ _ cached.width.positive cached.zero;
     })
 
 pub returns-clause-ok : goal.returns-clause-ok

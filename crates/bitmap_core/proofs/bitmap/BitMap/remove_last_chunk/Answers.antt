@@ -23,12 +23,12 @@ overflow_sub-self g c =
 
 pub invariant_of-self : goal.invariant_of-self
 invariant_of-self g c =
-    let held = c.self.invariant in
+    let cached = c.self.invariant in
     let y = c.pop_back.ensures.rest ∙ ap (λ m. take (m - 1) c.self.inside.chunks.items) c.self.inside.chunks.ok.0 in
     rw c.chunk_width.ensures (record {
-      width = held.width;
-      count = IsChunkCount-last _ _ _ _ _ held.width.positive held.count c.self.view_is c.requires.aligned c.requires.filled y;
-      zero = IsZeroFrom-last _ _ _ _ _ held.width.positive held.count c.self.view_is c.requires.aligned c.requires.filled y;
+      width = cached.width;
+      count = IsChunkCount-last _ _ _ _ _ cached.width.positive cached.count c.self.view_is c.requires.aligned c.requires.filled y;
+      zero = IsZeroFrom-last _ _ _ _ _ cached.width.positive cached.count c.self.view_is c.requires.aligned c.requires.filled y;
     })
 
 pub returns-clause-value : goal.returns-clause-value
@@ -39,7 +39,7 @@ returns-clause-value g c =
 
 pub returns-clause-rest : goal.returns-clause-rest
 returns-clause-rest g c =
-    let held = c.self.invariant in
+    let cached = c.self.invariant in
     let width = c.chunk_width.ensures in
     let y = c.pop_back.ensures.rest ∙ ap (λ m. take (m - 1) c.self.inside.chunks.items) c.self.inside.chunks.ok.0 in
-    rw width (bits-last _ _ _ _ _ held.width.positive held.count c.self.view_is c.requires.aligned c.requires.filled y)
+    rw width (bits-last _ _ _ _ _ cached.width.positive cached.count c.self.view_is c.requires.aligned c.requires.filled y)

@@ -10,13 +10,13 @@ set_chunk-requires g c =
 
 pub invariant_of-self : goal.invariant_of-self
 invariant_of-self g c =
-    let held = c.self.invariant in
+    let cached = c.self.invariant in
     let l = len_is _ _ _ _ c.self.view_is in
-    let w : c.args.index < length c.self.inside.chunks.items = chunk_within _ _ _ _ (omega arith) held.count in
+    let w : c.args.index < length c.self.inside.chunks.items = chunk_within _ _ _ _ (omega arith) cached.count in
     rw c.set_chunk.ensures (record {
-      width = held.width;
-      count = rw length-set held.count;
-      zero = IsZeroFrom-replaced _ _ _ _ _ w (λ k h. c.requires.zero k (omega arith)) held.zero;
+      width = cached.width;
+      count = rw length-set cached.count;
+      zero = IsZeroFrom-replaced _ _ _ _ _ w (λ k h. c.requires.zero k (omega arith)) cached.zero;
     })
 
 pub returns-clause-len : goal.returns-clause-len

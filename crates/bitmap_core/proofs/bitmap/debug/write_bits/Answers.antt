@@ -1,6 +1,6 @@
 use Rattle.std.proofs.Common.{arith, refl}
 use Rattle.std.proofs.lemmas.Grind.{common_steps}
-use Rattle.bitmap_core.proofs.Texts.Styled.{styled_two}
+use Rattle.bitmap_core.proofs.Codec.Styled.{styled_two}
 use Rattle.bitmap_core.proofs.bitmap.debug.write_bits.Goals as goal
 
 pub loop-i-preserved : goal.loop-i-preserved

@@ -9,10 +9,10 @@ loop-command-preserved g c =
     record {
       run = (
         so_far.0 ++ reply ∷ [],
-        rw (c.append.ensures.items, so_far.1, append_assoc) refl,
+        rw (c.push_reserved.ensures.items, so_far.1, append_assoc) refl,
         RunsOn-more _ _ _ _ _ c.command-item.result so_far.0 reply c.loop-command-test.true so_far.2 (rw (← c.command-item.is) c.serve-reply.ensures),
       );
-      room = omega arith;
+      space = omega arith;
     }
 
 pub returns-clause-run : goal.returns-clause-run

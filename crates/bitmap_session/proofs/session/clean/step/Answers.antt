@@ -1,5 +1,5 @@
-use Rattle.bitmap_session.specs.Seen.{said}
-use Rattle.bitmap_session.proofs.Steps.{decoded_clean}
+use Rattle.bitmap_session.specs.Abstraction.{value_of}
+use Rattle.bitmap_session.proofs.Steps.{decoded_clean, wrong_mode_clean}
 use Rattle.bitmap_session.proofs.session.clean.step.Goals as goal
 
 pub returns-in-Start : goal.returns-in-Start
@@ -62,5 +62,10 @@ returns-in-Entries g c = rw c.in-Entries.is c.entries.ensures
 pub returns-in-Decode : goal.returns-in-Decode
 returns-in-Decode g c =
     rw c.in-Decode.is
-    (decoded_clean g.row.N c.args.bitmap c.in-Decode.text c.in-Decode.range (said c.decode-reply.result)
+    (decoded_clean g.row.N c.args.bitmap c.in-Decode.input c.in-Decode.range (value_of c.decode-reply.result)
     (rw (← c.as_slice.ensures.value) c.decode-reply.ensures))
+
+pub returns-in_default : goal.returns-in_default
+returns-in_default g c =
+    let d = c.in_default in
+    wrong_mode_clean g.row.N c.args.bitmap c.args.command.now d.not-Start d.not-Begin d.not-Rewind d.not-Len d.not-PrunedChunks d.not-Get d.not-Chunk d.not-Ones d.not-Encode d.not-At d.not-OnesAt d.not-EncodeAt d.not-Decode d.not-Commits d.not-Exists d.not-Latest d.not-Earliest d.not-DropBefore d.not-Clear d.not-Entries

@@ -1,4 +1,4 @@
-use Rattle.bitmap_session.specs.Seen.{dirty}
+use Rattle.bitmap_session.specs.Abstraction.{dirty}
 use Rattle.bitmap_session.proofs.Steps.{chunk_shown, no_refusal_of}
 use Rattle.bitmap_session.proofs.session.dirty.chunk.Goals as goal
 

@@ -7,4 +7,4 @@ use Rattle.bitmap_session.proofs.session.dirty.prune.Goals as goal
 pub returns-in-Ok : goal.returns-in-Ok
 returns-in-Ok g c =
     let within : c.args.position ≤ bit_len g.row.N (pending_of g.row.N c.args.bitmap.now) = omega (arith, c.len.ensures.value) in
-    prune_accepted g.row.N c.args.bitmap.now c.try_prune.new.bitmap c.args.position (not_below _ _ within) c.in-Ok.ensures.ok
+    prune_accepted g.row.N c.args.bitmap.now c.try_prune_to_bit.new.self c.args.position (not_below _ _ within) c.in-Ok.ensures.ok

@@ -4,5 +4,5 @@ use Rattle.bitmap_session.proofs.session.dirty.push_chunk.Goals as goal
 
 pub returns-in-Ok : goal.returns-in-Ok
 returns-in-Ok g c =
-    let room = is_false _ (sym c.if-not-has_room.false ∙ c.has_room.ensures) in
-    push_chunk_accepted g.row.N c.args.bitmap.now c.try_push_chunk.new.bitmap c.args.bytes.now room c.in-Ok.ensures.ok
+    let space = is_false _ (sym c.if-not-has_space.false ∙ c.has_space.ensures) in
+    push_chunk_accepted g.row.N c.args.bitmap.now c.try_push_chunk.new.self c.args.bytes.now space c.in-Ok.ensures.ok

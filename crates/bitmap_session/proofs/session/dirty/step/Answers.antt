@@ -1,5 +1,5 @@
-use Rattle.bitmap_session.specs.Seen.{said}
-use Rattle.bitmap_session.proofs.Steps.{decoded_dirty}
+use Rattle.bitmap_session.specs.Abstraction.{value_of}
+use Rattle.bitmap_session.proofs.Steps.{decoded_dirty, wrong_mode_dirty}
 use Rattle.bitmap_session.proofs.session.dirty.step.Goals as goal
 
 pub returns-in-Push : goal.returns-in-Push
@@ -41,5 +41,10 @@ returns-in-Chunk g c = rw c.in-Chunk.is c.chunk.ensures
 pub returns-in-Decode : goal.returns-in-Decode
 returns-in-Decode g c =
     rw c.in-Decode.is
-    (decoded_dirty g.row.N c.args.bitmap c.in-Decode.text c.in-Decode.range (said c.decode-reply.result)
+    (decoded_dirty g.row.N c.args.bitmap c.in-Decode.input c.in-Decode.range (value_of c.decode-reply.result)
     (rw (← c.as_slice.ensures.value) c.decode-reply.ensures))
+
+pub returns-in_default : goal.returns-in_default
+returns-in_default g c =
+    let d = c.in_default in
+    wrong_mode_dirty g.row.N c.args.bitmap c.args.command.now d.not-Push d.not-PushByte d.not-PushChunk d.not-Pop d.not-Set d.not-Prune d.not-Commit d.not-Abort d.not-Len d.not-PrunedChunks d.not-Get d.not-Chunk d.not-Decode

@@ -1,10 +1,10 @@
 use Rattle.std.proofs.Common.{◌≡◌, ◌≤◌, ◌*◌, ◌∙◌, ◌^◌, ◌<◌, length, drop, take, true, false, arith, rules, sym}
 use Rattle.bitmap_bytes.specs.Bits.{chunk_count}
-use Rattle.bitmap_core.specs.Reading.{number, admits}
+use Rattle.bitmap_core.specs.Decoding.{number, admits}
 use Rattle.bitmap_bytes.proofs.Chunks.Places.{IsChunkCount-ceil}
 use Rattle.bitmap_bytes.proofs.Chunks.OfBytes.{length-first_chunks}
-use Rattle.bitmap_core.proofs.Texts.Faults.{sound-none, count-le}
-use Rattle.bitmap_core.proofs.Texts.Parts.{bytes-lt, read_past, read_whole, read_rest, read_chunks, trailing_fault}
+use Rattle.bitmap_core.proofs.Codec.DecodeErrors.{sound-none, count-le}
+use Rattle.bitmap_core.proofs.Codec.Parts.{bytes-lt, read_past, read_whole, read_rest, read_chunks, trailing_error}
 use Rattle.bitmap_core.proofs.bitmap.codec.dense.parts.Goals as goal
 
 pub overflow_mul-count : goal.overflow_mul-count
@@ -38,7 +38,7 @@ returns-then-is_set_past-clause-refused g c =
     let bytes : c.in_ok-bytes.bytes.now ≡ take (g.row.N * c.chunk_count-count.result) c.in_ok-front.body.now = search rules in
     let few : chunk_count g.row.N (number c.args.text.now) < 2 ^ 64 =
     omega (arith, len, c.from_be_bytes-len.type_inv, count-le g.row.N (number c.args.text.now) positive) in
-    trailing_fault g.row.N _ c.args.text.now long ok few (read_whole g.row.N c.args.text.now _ _ count body long whole)
+    trailing_error g.row.N _ c.args.text.now long ok few (read_whole g.row.N c.args.text.now _ _ count body long whole)
     (read_past g.row.N c.args.text.now _ _ true positive len
     (read_chunks g.row.N c.args.text.now _ _ count body _ _ bytes c.chunks_of-chunks.ensures)
     (sym c.if-is_set_past.true ∙ c.is_set_past.ensures))

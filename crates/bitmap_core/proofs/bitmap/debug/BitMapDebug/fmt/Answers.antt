@@ -1,7 +1,7 @@
 use Rattle.std.proofs.Common.{arith, true, refl, sym, subst}
 use Rattle.std.proofs.lemmas.Grind.{common_steps}
 use Rattle.std.specs.Fmt.{HasWrittenStyled}
-use Rattle.bitmap_core.proofs.Texts.Styled.{styled_two}
+use Rattle.bitmap_core.proofs.Codec.Styled.{styled_two}
 use Rattle.bitmap_core.proofs.bitmap.debug.BitMapDebug.fmt.Goals.{then-len-le-SHOWN_WHOLE+in_ok-write_bits, else-len-le-SHOWN_WHOLE+in_ok-write_bits-2+in_ok-write_str-2+in_ok-write_bits-3}
 use Rattle.bitmap_core.proofs.bitmap.debug.BitMapDebug.fmt.Goals as goal
 

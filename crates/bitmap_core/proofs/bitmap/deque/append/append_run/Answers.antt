@@ -1,6 +1,6 @@
 use Rattle.std.proofs.Common.{◌≡◌, ◌≤◌, ◌-◌, ◌*◌, ◌∙◌, length, ap, arith}
 use Rattle.std.specs.Int.{div_ceil}
-use Rattle.bitmap_bytes.specs.Bits.{bit_of}
+use Rattle.bitmap_bytes.specs.Bits.{chunks_bit}
 use Rattle.bitmap_bytes.proofs.Chunks.Places.{more_ceil, none_missing, index_below, IsChunkCount-ceil}
 use Rattle.bitmap_core.proofs.bitmap.deque.append.append_run.Goals as goal
 
@@ -34,10 +34,10 @@ returns-clause-kept g c = λ i h.
     let l : length c.fill_open.new.chunks.items ≡ length c.args.chunks.now.items = c.fill_open.ensures.count ∙ ap length c.reserve.ensures.items in
     c.push_whole.ensures.kept i (rw l (index_below g.row.N _ c.args.len i c.requires.width.positive h c.requires.count))
     ∙ c.fill_open.ensures.kept i h
-    ∙ ap (λ x. bit_of g.row.N x i) c.reserve.ensures.items
+    ∙ ap (λ x. chunks_bit g.row.N x i) c.reserve.ensures.items
 
-pub returns-in_err-reserve-clause-roomy : goal.returns-in_err-reserve-clause-roomy
-returns-in_err-reserve-clause-roomy g c = λ h.
+pub returns-in_err-reserve-clause-has_capacity : goal.returns-in_err-reserve-clause-has_capacity
+returns-in_err-reserve-clause-has_capacity g c = λ h.
     let m : c.chunk_count-count.result - c.len.result ≡ div_ceil c.args.total (8 * g.row.N) - length c.args.chunks.now.items =
     rw c.chunk_count-count.ensures (omega (arith, c.args.chunks.now.ok.0)) in
     let z = m ∙ none_missing g.row.N (length c.args.chunks.now.items) c.args.total c.requires.width.positive h in

@@ -1,7 +1,7 @@
 use Rattle.std.proofs.Common.{◌≡◌, ℕ, ◌-◌, ◌*◌, ◌/◌, ◌<◌, ◌≤◌, ◌++◌, length}
 use Rattle.std.specs.VecDeque.{deque_capacity}
-use Rattle.bitmap_bytes.specs.Chunk.{bit_in}
-use Rattle.bitmap_bytes.specs.Bits.{bit_of}
+use Rattle.bitmap_bytes.specs.Chunk.{bytes_bit}
+use Rattle.bitmap_bytes.specs.Bits.{chunks_bit}
 use Rattle.bitmap_core.proofs.bitmap.deque.append.push_whole.Given as goal
 
 abbrev pub invariant-loop-chunks : goal.invariant-loop-chunks
@@ -9,9 +9,9 @@ invariant-loop-chunks g l = record {
   capacity : l.count ≤ deque_capacity l.chunks;
   within : length l.chunks.items ≤ l.count;
   more : length l.fn.chunks.items ≤ length l.chunks.items;
-  kept : (i : ℕ) → i / (8 * g.row.N) < length l.fn.chunks.items → bit_of g.row.N l.chunks.items i ≡ bit_of g.row.N l.fn.chunks.items i;
+  kept : (i : ℕ) → i / (8 * g.row.N) < length l.fn.chunks.items → chunks_bit g.row.N l.chunks.items i ≡ chunks_bit g.row.N l.fn.chunks.items i;
   done : (i : ℕ) → length l.fn.chunks.items ≤ i / (8 * g.row.N) → i / (8 * g.row.N) < length l.chunks.items
-      → bit_of g.row.N l.chunks.items i ≡ bit_in (l.front ++ l.back) (i - l.len);
+      → chunks_bit g.row.N l.chunks.items i ≡ bytes_bit (l.front ++ l.back) (i - l.len);
 }
 
 abbrev pub decreases-loop-chunks : goal.decreases-loop-chunks

@@ -10,7 +10,7 @@ loop-i-preserved g c =
     let loop = c.loop-i.invariant in
     record {
       len = omega arith;
-      room = omega arith;
+      space = omega arith;
       bits =
           chunks-more _ _ _ _ _ _ _ _ positive (omega (arith, c.loop-i.chunks.ok.0))
           (ap (λ w. w * c.loop-i.i) c.chunk_width-width.ensures)

@@ -1,7 +1,7 @@
 use Rattle.std.proofs.Common.{◌∙◌, arith}
 use Rattle.std.proofs.lemmas.List.{length-take-le}
 use Rattle.bitmap_bytes.proofs.Chunks.Places.{IsChunkCount-ceil, fewer_chunks, index_below}
-use Rattle.bitmap_bytes.proofs.Chunks.Lists.{bit_of-take_in}
+use Rattle.bitmap_bytes.proofs.Chunks.Lists.{chunks_bit-take_in}
 use Rattle.bitmap_core.proofs.bitmap.deque.growth.shorten.Goals as goal
 
 pub clear_tail-requires : goal.clear_tail-requires
@@ -22,4 +22,4 @@ pub returns-clause-below : goal.returns-clause-below
 returns-clause-below g c = λ i s.
     let positive = c.requires.width.positive in
     c.clear_tail.ensures.below i s
-    ∙ rw (c.truncate.ensures.items, c.chunk_count.ensures) (bit_of-take_in _ _ _ i (index_below _ _ _ _ positive s (IsChunkCount-ceil _ _ positive)))
+    ∙ rw (c.truncate.ensures.items, c.chunk_count.ensures) (chunks_bit-take_in _ _ _ i (index_below _ _ _ _ positive s (IsChunkCount-ceil _ _ positive)))

@@ -7,12 +7,12 @@ use Rattle.bitmap_core.proofs.bitmap.prunable.Prunable.prune_to_bit.Goals as goa
 
 pub invariant_of-self : goal.invariant_of-self
 invariant_of-self g c =
-    let held = c.self.invariant in
+    let cached = c.self.invariant in
     let l : c.args.bit ≤ 8 * g.row.N * c.self.inside.pruned_chunks + length c.self.inside.bitmap =
     subst (λ b. c.args.bit ≤ bit_len g.row.N b) (sym c.self.view_is) c.requires in
     let f = front_of (8 * g.row.N) c.self.inside.pruned_chunks c.to_chunk_index-index.result (omega arith) in
     rw c.drop_front_chunks.ensures (record {
-      width = held.width;
+      width = cached.width;
       len = rw length-drop
-          (omega (arith, f, held.len, ap (λ x. 8 * g.row.N * x) c.to_chunk_index-index.ensures, div-add-mod c.args.bit (8 * g.row.N)));
+          (omega (arith, f, cached.len, ap (λ x. 8 * g.row.N * x) c.to_chunk_index-index.ensures, div-add-mod c.args.bit (8 * g.row.N)));
     })

@@ -8,22 +8,22 @@ use Rattle.bitmap_core.proofs.bitmap.prunable.Prunable.push_chunk.Goals as goal
 pub push_chunk-requires : goal.push_chunk-requires
 push_chunk-requires g c =
     let b : PrunedBits = record { pruned = c.self.inside.pruned_chunks; bits = c.self.inside.bitmap } in
-    let room : 8 * g.row.N * c.self.inside.pruned_chunks + length c.self.inside.bitmap + 8 * g.row.N < 2 ^ 64 =
-    subst (λ b. bit_len g.row.N b + 8 * g.row.N < 2 ^ 64) (sym c.self.view_is) c.requires.room in (
+    let space : 8 * g.row.N * c.self.inside.pruned_chunks + length c.self.inside.bitmap + 8 * g.row.N < 2 ^ 64 =
+    subst (λ b. bit_len g.row.N b + 8 * g.row.N < 2 ^ 64) (sym c.self.view_is) c.requires.space in (
       omega arith,
       (
         omega (arith, c.self.invariant.width.fits),
-        (sym (rest_of_len g.row.N b) ∙ ap (λ b. bit_len g.row.N b % (8 * g.row.N)) c.self.view_is ∙ c.requires.aligned, omega (arith, room)),
+        (sym (rest_of_len g.row.N b) ∙ ap (λ b. bit_len g.row.N b % (8 * g.row.N)) c.self.view_is ∙ c.requires.aligned, omega (arith, space)),
       ),
     )
 
 pub invariant_of-self : goal.invariant_of-self
 invariant_of-self g c =
-    let held = c.self.invariant in
-    let room : 8 * g.row.N * c.self.inside.pruned_chunks + length c.self.inside.bitmap + 8 * g.row.N < 2 ^ 64 =
-    subst (λ b. bit_len g.row.N b + 8 * g.row.N < 2 ^ 64) (sym c.self.view_is) c.requires.room in
+    let cached = c.self.invariant in
+    let space : 8 * g.row.N * c.self.inside.pruned_chunks + length c.self.inside.bitmap + 8 * g.row.N < 2 ^ 64 =
+    subst (λ b. bit_len g.row.N b + 8 * g.row.N < 2 ^ 64) (sym c.self.view_is) c.requires.space in
     (record {
-      width = held.width;
-      len = either_way c.push_chunk.result (on_ok_weaker c.push_chunk.result (fits_with_chunk _ _ _ _ _ room) c.push_chunk.ensures.ok)
-          (on_err_weaker c.push_chunk.result (λ e. rw e held.len) c.push_chunk.ensures.err);
+      width = cached.width;
+      len = either_way c.push_chunk.result (on_ok_weaker c.push_chunk.result (fits_with_chunk _ _ _ _ _ space) c.push_chunk.ensures.ok)
+          (on_err_weaker c.push_chunk.result (λ e. rw e cached.len) c.push_chunk.ensures.err);
     })

@@ -11,7 +11,7 @@ turn_chunk-requires g c =
 pub load_word-cursor-requires : goal.load_word-cursor-requires
 load_word-cursor-requires g c =
     let s = step c.requires.scan c.requires.next c.requires.inside c.ranges.end.fits in
-    (omega (arith, c.requires.scan.lawful.width.fits), (c.requires.scan.lawful.width, (s.starts, (c.requires.inside, s.room))))
+    (omega (arith, c.requires.scan.lawful.width.fits), (c.requires.scan.lawful.width, (s.starts, (c.requires.inside, s.space))))
 
 pub returns-clause-scan : goal.returns-clause-scan
 returns-clause-scan g c =

@@ -7,8 +7,8 @@ use Rattle.bitmap_core.specs.PrunedBits.{bit_len}
 use Rattle.historical_bitmap.specs.Pending.{edits_of}
 use Rattle.historical_bitmap.specs.Run.{run_entries}
 use Rattle.historical_bitmap.specs.Undo.{IsOldChunk, put_back}
-use Rattle.historical_bitmap.proofs.RunApplied.{of_other, of_run, put_twice}
-use Rattle.historical_bitmap.proofs.UndoSteps.{put_len, put_pruned}
+use Rattle.historical_bitmap.proofs.Pending.AppliedRun.{of_other, of_run, put_twice}
+use Rattle.historical_bitmap.proofs.Records.UndoneInSteps.{put_len, put_pruned}
 use Rattle.historical_bitmap.proofs.bitmap.historical.apply.write_all.Goals as goal
 
 pub write_chunks-requires : goal.write_chunks-requires

@@ -8,8 +8,8 @@ use Rattle.std.specs.Prelude.{MatchOption, nat_eq}
 use Rattle.bitmap_core.specs.PrunedBits.{bit_len}
 use Rattle.historical_bitmap.specs.Pending.{edits_of}
 use Rattle.historical_bitmap.specs.Undo.{IsOldChunk, put_back}
-use Rattle.historical_bitmap.proofs.OldStates.{same_lookup}
-use Rattle.historical_bitmap.proofs.UndoSteps.{put_one_len}
+use Rattle.historical_bitmap.proofs.History.PastStates.{same_lookup}
+use Rattle.historical_bitmap.proofs.Records.UndoneInSteps.{put_one_len}
 use Rattle.historical_bitmap.proofs.bitmap.historical.apply.write_chunks.Goals as goal
 
 -- an entry is found by its key

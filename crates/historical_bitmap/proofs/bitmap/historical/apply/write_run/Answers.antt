@@ -2,8 +2,8 @@ use Rattle.bitmap_bytes.specs.Chunk.{chunk_bit}
 use Rattle.std.proofs.Common.{◌+◌, ◌*◌, ◌<◌, [], length, Some, ap, sym, ◌∙◌, arith}
 use Rattle.std.proofs.lemmas.Nat.{mul-le}
 use Rattle.bitmap_core.specs.PrunedBits.{bit_len}
-use Rattle.historical_bitmap.proofs.RunApplied.{rest_end, rest_step}
-use Rattle.historical_bitmap.proofs.UndoSteps.{put_one_len}
+use Rattle.historical_bitmap.proofs.Pending.AppliedRun.{rest_end, rest_step}
+use Rattle.historical_bitmap.proofs.Records.UndoneInSteps.{put_one_len}
 use Rattle.historical_bitmap.proofs.bitmap.historical.apply.write_run.Goals as goal
 
 pub overflow_add-from : goal.overflow_add-from

@@ -1,6 +1,6 @@
 use Rattle.std.proofs.Common.{true, false, arith, sym, ◌∙◌}
 use Rattle.historical_bitmap.specs.Compared.{between_numbers, named_chunks}
-use Rattle.historical_bitmap.proofs.NextChanges.{change_here, change_later, change_none, change_past, differs_by}
+use Rattle.historical_bitmap.proofs.Changes.Next.{change_here, change_later, change_none, change_past, differs_by}
 use Rattle.historical_bitmap.proofs.bitmap.historical.changes.next_changed.Goals as goal
 
 pub returns-then-chunk-end : goal.returns-then-chunk-end

@@ -1,5 +1,5 @@
 use Rattle.historical_bitmap.specs.Compared.{between_numbers}
-use Rattle.historical_bitmap.proofs.NextChanges.{SearchesOn}
+use Rattle.historical_bitmap.proofs.Changes.Next.{SearchesOn}
 use Rattle.historical_bitmap.proofs.bitmap.historical.changes.next_named.Given as goal
 
 abbrev pub invariant-loop-record : goal.invariant-loop-record

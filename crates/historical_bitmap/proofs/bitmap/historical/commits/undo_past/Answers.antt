@@ -1,5 +1,5 @@
 use Rattle.std.proofs.Common.{arith}
-use Rattle.historical_bitmap.proofs.KeptCommits.{last_can_undo, last_undone}
+use Rattle.historical_bitmap.proofs.History.KeptCommits.{last_can_undo, last_undone}
 use Rattle.historical_bitmap.proofs.bitmap.historical.commits.undo_past.Goals as goal
 
 pub undo-requires : goal.undo-requires

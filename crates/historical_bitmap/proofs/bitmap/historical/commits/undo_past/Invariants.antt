@@ -1,4 +1,4 @@
-use Rattle.historical_bitmap.proofs.KeptCommits.{LeadsTo}
+use Rattle.historical_bitmap.proofs.History.KeptCommits.{LeadsTo}
 use Rattle.historical_bitmap.specs.History.{past_number, undone}
 use Rattle.historical_bitmap.proofs.bitmap.historical.commits.undo_past.Given as goal
 

@@ -1,8 +1,8 @@
 use Rattle.std.proofs.Common.{◌≡◌, ℕ, ◌*◌, ◌/◌, ◌≤◌, ap, sym, arith}
 use Rattle.bitmap_bytes.specs.Chunk.{chunk_bit}
 use Rattle.bitmap_core.specs.PrunedBits.{bit_at, bit_len}
-use Rattle.historical_bitmap.proofs.Restored.{bit_in_chunk}
-use Rattle.historical_bitmap.proofs.PendingWrites.{cut_is, zeros_past}
+use Rattle.historical_bitmap.proofs.Records.Restores.{bit_in_chunk}
+use Rattle.historical_bitmap.proofs.Pending.Writes.{cut_is, zeros_past}
 use Rattle.historical_bitmap.proofs.bitmap.historical.edited.first_chunk.Goals as goal
 use Rattle.historical_bitmap.proofs.bitmap.historical.edited.first_chunk.Goals.{then-start-total, else-start-total}
 

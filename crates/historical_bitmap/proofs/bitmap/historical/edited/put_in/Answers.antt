@@ -1,5 +1,5 @@
 use Rattle.std.proofs.Common.{ap, sym, ◌∙◌}
-use Rattle.historical_bitmap.proofs.HeldChunks.{put_nothing}
+use Rattle.historical_bitmap.proofs.EditedChunks.CachedChunks.{put_nothing}
 use Rattle.historical_bitmap.proofs.bitmap.historical.edited.put_in.Goals as goal
 
 pub returns-in_default-clause-entries : goal.returns-in_default-clause-entries

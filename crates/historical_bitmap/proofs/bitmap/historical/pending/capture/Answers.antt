@@ -1,5 +1,5 @@
 use Rattle.std.proofs.Common.{◌≡◌, ◌++◌, ◌∷◌, [], ap, ◌∙◌, arith}
-use Rattle.historical_bitmap.proofs.PendingWrites.{captured_more}
+use Rattle.historical_bitmap.proofs.Pending.Writes.{captured_more}
 use Rattle.historical_bitmap.proofs.bitmap.historical.pending.capture.Goals as goal
 
 pub loop-index-preserved : goal.loop-index-preserved

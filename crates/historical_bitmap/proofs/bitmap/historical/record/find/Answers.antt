@@ -2,7 +2,7 @@ use Rattle.std.proofs.Common.{◌+◌, ◌-◌, ◌/◌, ◌<◌, length, ap, ar
 use Rattle.std.specs.Prelude.{nat_eq}
 use Rattle.std.specs.Map.{lookup}
 use Rattle.historical_bitmap.specs.Stored.{entry_values}
-use Rattle.historical_bitmap.proofs.EntryPasses.{found_at, key_before, key_after, lookup_between, values_len}
+use Rattle.historical_bitmap.proofs.Records.EntryPasses.{found_at, key_before, key_after, lookup_between, values_len}
 use Rattle.historical_bitmap.proofs.bitmap.historical.record.find.Goals as goal
 
 pub returns-then-entry-chunk : goal.returns-then-entry-chunk

@@ -3,8 +3,8 @@ use Rattle.std.specs.Map.{keys_of}
 use Rattle.std.specs.Prelude.{Some}
 use Rattle.historical_bitmap.specs.Pending.{IsNextMember}
 use Rattle.historical_bitmap.specs.Stored.{entry_values}
-use Rattle.historical_bitmap.proofs.EntryPasses.{key_after, key_at, key_before, keys_len}
-use Rattle.historical_bitmap.proofs.NextChanges.{next_at, next_none}
+use Rattle.historical_bitmap.proofs.Records.EntryPasses.{key_after, key_at, key_before, keys_len}
+use Rattle.historical_bitmap.proofs.Changes.Next.{next_at, next_none}
 use Rattle.historical_bitmap.proofs.bitmap.historical.record.next_entry.Goals as goal
 
 pub loop-start-preserved-then-entry-from : goal.loop-start-preserved-then-entry-from

@@ -5,8 +5,8 @@ use Rattle.bitmap_core.specs.PrunedBits.{bit_len}
 use Rattle.historical_bitmap.specs.Record.{bytes_of, kept_bytes}
 use Rattle.historical_bitmap.specs.Stored.{diff_value, entry_values}
 use Rattle.historical_bitmap.specs.Undo.{put_back_one}
-use Rattle.historical_bitmap.proofs.EntryPasses.{found_at, may_put, put_taken, put_skipped}
-use Rattle.historical_bitmap.proofs.UndoSteps.{put_len, put_pruned}
+use Rattle.historical_bitmap.proofs.Records.EntryPasses.{found_at, may_put, put_taken, put_skipped}
+use Rattle.historical_bitmap.proofs.Records.UndoneInSteps.{put_len, put_pruned}
 use Rattle.historical_bitmap.proofs.bitmap.historical.undo.put_back_from.Goals as goal
 use Rattle.historical_bitmap.proofs.bitmap.historical.undo.put_back_from.Goals.{then-from-entry, else-from-entry}
 

@@ -2,35 +2,35 @@ use Rattle.std.proofs.Common.{◌≡◌, ℕ, length, ◌*◌, ◌≤◌, ap, ar
 use Rattle.std.specs.Prelude.{nat_le}
 use Rattle.std.specs.List.{filter}
 use Rattle.bitmap_core.specs.PrunedBits.{unpruned}
-use Rattle.historical_bitmap.specs.Undo.{pruned_chunks, put_back, resized}
-use Rattle.historical_bitmap.proofs.UndoSteps.{count, steps_are, whole_pruned}
+use Rattle.historical_bitmap.specs.Undo.{pruned_chunk_bytes, put_back, resized}
+use Rattle.historical_bitmap.proofs.Records.UndoneInSteps.{count, steps_are, whole_pruned}
 use Rattle.historical_bitmap.proofs.bitmap.historical.undo.undo.Goals as goal
 
 pub unprune-requires : goal.unprune-requires
 unprune-requires g c =
     let pos = c.len-len.ensures.width.positive in
-    let front : c.deref.result.now ≡ pruned_chunks c.args.diff.now c.args.newer.now.pruned =
-    c.deref.ensures.value ∙ (c.in_ok-front.ensures ∙ ap (pruned_chunks c.args.diff.now) c.pruned_chunks-pruned.ensures) in
-    (omega arith, (omega (arith, c.len-len.ensures.width.fits), omega (arith, ap length front, count g.row.N c.args.diff.now c.args.newer.now pos c.requires)))
+    let prefix : c.deref.result.now ≡ pruned_chunk_bytes c.args.diff.now c.args.newer.now.pruned =
+    c.deref.ensures.value ∙ (c.in_ok-prefix.ensures ∙ ap (pruned_chunk_bytes c.args.diff.now) c.pruned_chunks-pruned.ensures) in
+    (omega arith, (omega (arith, c.len-len.ensures.width.fits), omega (arith, ap length prefix, count g.row.N c.args.diff.now c.args.newer.now pos c.requires)))
 
 pub resize-requires : goal.resize-requires
 resize-requires g c =
     let pos = c.len-len.ensures.width.positive in
-    let front : c.deref.result.now ≡ pruned_chunks c.args.diff.now c.args.newer.now.pruned =
-    c.deref.ensures.value ∙ (c.in_ok-front.ensures ∙ ap (pruned_chunks c.args.diff.now) c.pruned_chunks-pruned.ensures) in
+    let prefix : c.deref.result.now ≡ pruned_chunk_bytes c.args.diff.now c.args.newer.now.pruned =
+    c.deref.ensures.value ∙ (c.in_ok-prefix.ensures ∙ ap (pruned_chunk_bytes c.args.diff.now) c.pruned_chunks-pruned.ensures) in
     let pruned : c.unprune.new.self.pruned ≡ c.args.diff.now.pruned =
-    ap (λ b. b.pruned) (c.in_ok-unprune.ensures.ok ∙ ap (unpruned g.row.N c.args.newer.now) front) ∙ whole_pruned g.row.N c.args.diff.now c.args.newer.now pos c.requires in
+    ap (λ b. b.pruned) (c.in_ok-unprune.ensures.ok ∙ ap (unpruned g.row.N c.args.newer.now) prefix) ∙ whole_pruned g.row.N c.args.diff.now c.args.newer.now pos c.requires in
     let fits : 8 * g.row.N * c.args.diff.now.pruned ≤ c.len-len.result = omega (arith, c.requires.fits, c.len-len.ensures.value) in
     (omega arith, subst (λ (p : ℕ). 8 * g.row.N * p ≤ c.len-len.result) (sym pruned) fits)
 
 pub returns : goal.returns
 returns g c =
-    let front : c.deref.result.now ≡ pruned_chunks c.args.diff.now c.args.newer.now.pruned =
-    c.deref.ensures.value ∙ (c.in_ok-front.ensures ∙ ap (pruned_chunks c.args.diff.now) c.pruned_chunks-pruned.ensures) in
-    let whole = unpruned g.row.N c.args.newer.now (pruned_chunks c.args.diff.now c.args.newer.now.pruned) in
+    let prefix : c.deref.result.now ≡ pruned_chunk_bytes c.args.diff.now c.args.newer.now.pruned =
+    c.deref.ensures.value ∙ (c.in_ok-prefix.ensures ∙ ap (pruned_chunk_bytes c.args.diff.now) c.pruned_chunks-pruned.ensures) in
+    let whole = unpruned g.row.N c.args.newer.now (pruned_chunk_bytes c.args.diff.now c.args.newer.now.pruned) in
     let sized : c.resize.new.bitmap ≡ resized g.row.N whole c.args.diff.now.len =
     c.in_ok-resize.ensures
-    ∙ (ap (λ b. resized g.row.N b c.len-len.result) (c.in_ok-unprune.ensures.ok ∙ ap (unpruned g.row.N c.args.newer.now) front)
+    ∙ (ap (λ b. resized g.row.N b c.len-len.result) (c.in_ok-unprune.ensures.ok ∙ ap (unpruned g.row.N c.args.newer.now) prefix)
     ∙ ap (resized g.row.N whole) c.len-len.ensures.value) in
     c.put_back_from.ensures
     ∙ (ap (λ es. put_back g.row.N c.resize.new.bitmap (filter (λ e. nat_le c.pruned_chunks-pruned.result e.0) es)) c.chunk_diffs.ensures

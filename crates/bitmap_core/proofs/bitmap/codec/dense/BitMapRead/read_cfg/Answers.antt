@@ -1,9 +1,9 @@
 use Rattle.std.proofs.Common.{arith, rules, ◌≡◌, ◌∙◌, ◌++◌, sym, ap, length}
 use Rattle.bitmap_bytes.specs.Bits.{bits}
-use Rattle.bitmap_core.specs.Spelling.{spelling}
+use Rattle.bitmap_core.specs.Encoding.{encoding}
 use Rattle.bitmap_bytes.proofs.Lists.Bits.{length-bits}
-use Rattle.bitmap_core.proofs.Texts.Spellings.{number-lt, bits_in_spelled}
-use Rattle.bitmap_core.proofs.Texts.Parts.{read_is}
+use Rattle.bitmap_core.proofs.Codec.Encodings.{number-lt, bits_in_encoded}
+use Rattle.bitmap_core.proofs.Codec.Parts.{read_is}
 use Rattle.bitmap_core.proofs.bitmap.codec.dense.BitMapRead.read_cfg.Goals as goal
 
 pub from_chunks-requires : goal.from_chunks-requires
@@ -17,7 +17,7 @@ returns-clause-found g c =
     let e = c.in_ok-len.ensures in
     let r = read_is _ _ _ _ _ _ c.requires.positive c.parts.ensures.bytes e.accepted e.len e.chunks e.rest in
     let v : c.in_ok-map.map ≡ bits g.row.N c.in_ok-len.chunks.now c.in_ok-len.len = search rules in
-    r.spelled ∙ ap (λ x. spelling g.row.N x ++ c.in_ok-len.rest.now) (sym v)
+    r.encoded ∙ ap (λ x. encoding g.row.N x ++ c.in_ok-len.rest.now) (sym v)
 
 pub returns-clause-sized : goal.returns-clause-sized
 returns-clause-sized g c =
@@ -32,5 +32,5 @@ returns-clause-sized g c =
 
 pub returns-clause-value : goal.returns-clause-value
 returns-clause-value g c =
-    bits_in_spelled _ c.args.from.now.now c.in_ok-map.map c.in_ok-len.rest.now c.requires.positive (returns-clause-sized g c)
+    bits_in_encoded _ c.args.from.now.now c.in_ok-map.map c.in_ok-len.rest.now c.requires.positive (returns-clause-sized g c)
     (returns-clause-found g c)

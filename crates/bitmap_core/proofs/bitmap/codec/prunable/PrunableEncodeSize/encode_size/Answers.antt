@@ -1,7 +1,7 @@
 use Rattle.std.proofs.Common.{arith, ap, length}
-use Rattle.bitmap_core.specs.Spelling.{spelling}
-use Rattle.bitmap_core.proofs.Pruned.Texts.{length-pruned}
-use Rattle.bitmap_core.proofs.Texts.Parts.{spelling-lt}
+use Rattle.bitmap_core.specs.Encoding.{encoding}
+use Rattle.bitmap_core.proofs.Pruned.Codec.{length-pruned}
+use Rattle.bitmap_core.proofs.Codec.Parts.{encoding-lt}
 use Rattle.bitmap_core.proofs.bitmap.codec.prunable.PrunableEncodeSize.encode_size.Goals as goal
 
 pub overflow_add-result : goal.overflow_add-result
@@ -10,9 +10,9 @@ overflow_add-result g c =
     omega (
       arith,
       c.encode_size.ensures,
-      spelling-lt _ c.retained.result.now retained.width.positive retained.width.fits (omega (arith, ap length retained.value, retained.bound)),
+      encoding-lt _ c.retained.result.now retained.width.positive retained.width.fits (omega (arith, ap length retained.value, retained.bound)),
     )
 
 pub returns : goal.returns
 returns g c =
-    omega (arith, length-pruned g.row.N c.args.self.now, c.encode_size.ensures, ap (λ x. length (spelling g.row.N x)) c.retained.ensures.value)
+    omega (arith, length-pruned g.row.N c.args.self.now, c.encode_size.ensures, ap (λ x. length (encoding g.row.N x)) c.retained.ensures.value)

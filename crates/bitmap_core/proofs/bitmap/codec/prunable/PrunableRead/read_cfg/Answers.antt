@@ -1,9 +1,9 @@
 use Rattle.std.proofs.Common.{arith, rules, ◌≡◌, ◌∙◌, ap, length}
 use Rattle.bitmap_bytes.specs.Bits.{bits}
 use Rattle.bitmap_bytes.proofs.Lists.Bits.{length-bits}
-use Rattle.bitmap_core.proofs.Texts.Spellings.{AreBytes-drop, number-lt}
-use Rattle.bitmap_core.proofs.Texts.Parts.{read_is}
-use Rattle.bitmap_core.proofs.Pruned.Texts.{pruned_read, pruned_in_spelled}
+use Rattle.bitmap_core.proofs.Codec.Encodings.{AreBytes-drop, number-lt}
+use Rattle.bitmap_core.proofs.Codec.Parts.{read_is}
+use Rattle.bitmap_core.proofs.Pruned.Codec.{pruned_read, pruned_in_encoded}
 use Rattle.bitmap_core.proofs.bitmap.codec.prunable.PrunableRead.read_cfg.Goals as goal
 
 pub from_chunks-requires : goal.from_chunks-requires
@@ -28,7 +28,7 @@ returns-clause-found g c =
     let r = read_is _ _ _ _ _ _ c.requires.positive
     (AreBytes-drop 8 c.args.from.now.now c.pruned_parts.ensures.bytes) e.bits_accepted e.len e.chunks e.rest in
     let v : c.in_ok-bits.bits ≡ bits g.row.N parts.chunks.now parts.len = search rules in
-    pruned_read _ c.args.from.now.now (bits _ _ _) parts.rest.now c.from_parts.result c.pruned_parts.ensures.bytes e.long r.spelled
+    pruned_read _ c.args.from.now.now (bits _ _ _) parts.rest.now c.from_parts.result c.pruned_parts.ensures.bytes e.long r.encoded
     (ap (λ x. x.pruned) c.from_parts.ensures ∙ e.pruned) (ap (λ x. x.bits) c.from_parts.ensures ∙ v)
 
 pub returns-clause-value : goal.returns-clause-value
@@ -38,7 +38,7 @@ returns-clause-value g c =
     let l : length c.in_ok-bits.bits ≡ parts.len =
     ap length v
     ∙ length-bits g.row.N parts.chunks.now parts.len in
-    pruned_in_spelled _ c.args.from.now.now c.from_parts.result parts.rest.now c.requires.positive
+    pruned_in_encoded _ c.args.from.now.now c.from_parts.result parts.rest.now c.requires.positive
     (omega (arith, l, ap (λ x. length x.bits) c.from_parts.ensures, parts.ensures.total))
     (omega (arith, ap (λ x. x.pruned) c.from_parts.ensures, parts.ensures.pruned, number-lt c.args.from.now.now c.pruned_parts.ensures.bytes))
     (returns-clause-found g c)

@@ -8,6 +8,6 @@ index-requires g c = omega (arith, plain_has _ _ _ _ _ c.self.view_is c.self.inv
 
 pub returns : goal.returns
 returns g c =
-    let held = c.self.invariant in
-    plain_shows _ _ _ _ _ _ held.width.positive c.self.view_is
-    (get_or_read _ _ _ (plain_has _ _ _ _ _ c.self.view_is held.count c.requires.1) c.index.ensures [])
+    let cached = c.self.invariant in
+    plain_shows _ _ _ _ _ _ cached.width.positive c.self.view_is
+    (get_or_read _ _ _ (plain_has _ _ _ _ _ c.self.view_is cached.count c.requires.1) c.index.ensures [])

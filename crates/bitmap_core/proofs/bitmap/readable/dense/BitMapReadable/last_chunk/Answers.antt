@@ -10,7 +10,7 @@ index-requires g c =
 
 pub returns-clause-chunk : goal.returns-clause-chunk
 returns-clause-chunk g c =
-    let held = c.self.invariant in
+    let cached = c.self.invariant in
     let place = c.chunk_index.ensures ∙ ap (λ x. (x - 1) / (8 * g.row.N)) c.len-last.ensures.value in
-    plain_shows _ _ _ _ _ _ held.width.positive c.self.view_is
-    (get_or_read _ _ _ (plain_has_last _ _ _ _ c.self.view_is held.count (omega arith)) (rw place at c.index.ensures) [])
+    plain_shows _ _ _ _ _ _ cached.width.positive c.self.view_is
+    (get_or_read _ _ _ (plain_has_last _ _ _ _ c.self.view_is cached.count (omega arith)) (rw place at c.index.ensures) [])

@@ -1,5 +1,5 @@
 use Rattle.std.proofs.Common.{◌≡◌, ℕ, ◌*◌, ap, arith}
-use Rattle.historical_bitmap.proofs.ChangedChunks.{shown_is}
+use Rattle.historical_bitmap.proofs.Changes.Unnamed.{shown_is}
 use Rattle.historical_bitmap.proofs.bitmap.historical.at.AtCommit.retained_bytes.Goals as goal
 
 pub returns : goal.returns

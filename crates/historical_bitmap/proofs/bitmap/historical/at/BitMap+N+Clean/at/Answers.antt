@@ -1,5 +1,5 @@
 use Rattle.std.proofs.Common.{sym}
-use Rattle.historical_bitmap.proofs.KeptCommits.{found_under}
+use Rattle.historical_bitmap.proofs.History.KeptCommits.{found_under}
 use Rattle.historical_bitmap.proofs.bitmap.historical.at.BitMap+N+Clean.at.Goals as goal
 
 pub returns-clause-value : goal.returns-clause-value

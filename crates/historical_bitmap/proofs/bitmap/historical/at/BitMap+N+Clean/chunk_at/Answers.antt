@@ -1,8 +1,8 @@
 use Rattle.std.proofs.Common.{ap, arith, sym, ◌∙◌}
 use Rattle.std.specs.Prelude.{option_copied}
 use Rattle.historical_bitmap.specs.History.{past_number}
-use Rattle.historical_bitmap.proofs.InPlace.{current_has, current_shows, entries_rise, kept_shows}
-use Rattle.historical_bitmap.proofs.KeptCommits.{can_undo_past}
+use Rattle.historical_bitmap.proofs.History.InPlace.{current_has, current_shows, entries_rise, kept_shows}
+use Rattle.historical_bitmap.proofs.History.KeptCommits.{can_undo_past}
 use Rattle.historical_bitmap.proofs.bitmap.historical.at.BitMap+N+Clean.chunk_at.Goals as goal
 
 pub first_kept-requires : goal.first_kept-requires

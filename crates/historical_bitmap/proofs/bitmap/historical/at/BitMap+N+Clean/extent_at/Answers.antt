@@ -1,7 +1,7 @@
 use Rattle.std.proofs.Common.{ap, sym, ◌∙◌}
 use Rattle.std.specs.Prelude.{option_copied}
-use Rattle.historical_bitmap.proofs.InPlace.{current_extent, first_extent}
-use Rattle.historical_bitmap.proofs.KeptCommits.{can_undo_past}
+use Rattle.historical_bitmap.proofs.History.InPlace.{current_extent, first_extent}
+use Rattle.historical_bitmap.proofs.History.KeptCommits.{can_undo_past}
 use Rattle.historical_bitmap.proofs.bitmap.historical.at.BitMap+N+Clean.extent_at.Goals as goal
 
 pub returns-in-Some : goal.returns-in-Some

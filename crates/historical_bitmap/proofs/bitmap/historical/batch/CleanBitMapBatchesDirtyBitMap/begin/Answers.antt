@@ -1,5 +1,5 @@
-use Rattle.historical_bitmap.proofs.PendingEdits.{unedited_pending}
-use Rattle.historical_bitmap.proofs.PendingMarks.{unedited_marks}
+use Rattle.historical_bitmap.proofs.Pending.Edits.{unedited_pending}
+use Rattle.historical_bitmap.proofs.Pending.MarkedChunks.{unedited_marks}
 use Rattle.historical_bitmap.proofs.bitmap.historical.batch.CleanBitMapBatchesDirtyBitMap.begin.Goals as goal
 
 pub returns : goal.returns

@@ -1,6 +1,6 @@
 use Rattle.std.proofs.Common.{arith, refl, sym}
-use Rattle.historical_bitmap.proofs.ChangedChunks.{comparing}
-use Rattle.historical_bitmap.proofs.NextChanges.{changed_fits}
+use Rattle.historical_bitmap.proofs.Changes.Unnamed.{comparing}
+use Rattle.historical_bitmap.proofs.Changes.Next.{changed_fits}
 use Rattle.historical_bitmap.proofs.bitmap.historical.changes.BitMap+N+Clean.changed_chunks.Goals as goal
 
 pub invariant_of-result : goal.invariant_of-result

@@ -1,5 +1,5 @@
 use Rattle.std.proofs.Common.{◌∙◌}
-use Rattle.historical_bitmap.proofs.KeptCommits.{kept_is, reserved_never}
+use Rattle.historical_bitmap.proofs.History.KeptCommits.{kept_is, reserved_never}
 use Rattle.historical_bitmap.proofs.bitmap.historical.commits.BitMap+N+Clean.commit_exists.Goals as goal
 
 pub returns-clause-value : goal.returns-clause-value

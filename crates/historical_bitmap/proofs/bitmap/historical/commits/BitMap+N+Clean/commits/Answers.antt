@@ -1,5 +1,5 @@
 use Rattle.std.proofs.Common.{sym, ◌∙◌}
-use Rattle.historical_bitmap.proofs.OldStates.{snapshots_numbers}
+use Rattle.historical_bitmap.proofs.History.PastStates.{snapshots_numbers}
 use Rattle.historical_bitmap.proofs.bitmap.historical.commits.BitMap+N+Clean.commits.Goals as goal
 
 pub returns-clause-items : goal.returns-clause-items

@@ -1,6 +1,6 @@
 use Rattle.std.proofs.Common.{sym, ◌∙◌, ap}
 use Rattle.std.specs.Option.{option_map}
-use Rattle.historical_bitmap.proofs.KeptCommits.{same_latest}
+use Rattle.historical_bitmap.proofs.History.KeptCommits.{same_latest}
 use Rattle.historical_bitmap.proofs.bitmap.historical.commits.BitMap+N+Clean.latest_commit.Goals as goal
 
 pub returns-in-Some : goal.returns-in-Some

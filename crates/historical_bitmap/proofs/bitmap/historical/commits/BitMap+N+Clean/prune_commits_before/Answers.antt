@@ -2,8 +2,8 @@ use Rattle.std.proofs.Common.{rules, ◌≡◌, arith, refl}
 use Rattle.std.specs.Prelude.{nat_le}
 use Rattle.std.proofs.lemmas.Map.Made.{filter_same_pairs}
 use Rattle.historical_bitmap.specs.History.{from_number}
-use Rattle.historical_bitmap.proofs.OldStates.{snapshots_from}
-use Rattle.historical_bitmap.proofs.KeptCommits.{kept_from, costs_from, same_length}
+use Rattle.historical_bitmap.proofs.History.PastStates.{snapshots_from}
+use Rattle.historical_bitmap.proofs.History.KeptCommits.{kept_from, costs_from, same_length}
 use Rattle.historical_bitmap.proofs.bitmap.historical.commits.BitMap+N+Clean.prune_commits_before.Given as given
 use Rattle.historical_bitmap.proofs.bitmap.historical.commits.BitMap+N+Clean.prune_commits_before.Goals as goal
 

@@ -2,7 +2,7 @@ use Rattle.std.proofs.Common.{rules, ◌≡◌}
 use Rattle.std.specs.Prelude.{Some, nat_le}
 use Rattle.std.proofs.lemmas.Map.Made.{filter_same_pairs}
 use Rattle.historical_bitmap.specs.History.{kept_under, snapshots, up_to_number}
-use Rattle.historical_bitmap.proofs.KeptCommits.{costs_rewound, history_rewound, kept_rewound}
+use Rattle.historical_bitmap.proofs.History.KeptCommits.{costs_rewound, history_rewound, kept_rewound}
 use Rattle.historical_bitmap.proofs.bitmap.historical.commits.BitMap+N+Clean.rewind_to.Given as given
 use Rattle.historical_bitmap.proofs.bitmap.historical.commits.BitMap+N+Clean.rewind_to.Goals as goal
 use Rattle.historical_bitmap.proofs.bitmap.historical.commits.BitMap+N+Clean.rewind_to.Goals.{After-retain}

@@ -1,5 +1,5 @@
 use Rattle.std.proofs.Common.{arith}
-use Rattle.historical_bitmap.proofs.KeptCommits.{can_undo_past, found_under}
+use Rattle.historical_bitmap.proofs.History.KeptCommits.{can_undo_past, found_under}
 use Rattle.historical_bitmap.proofs.bitmap.historical.commits.BitMap+N+Clean.undone_to.Goals as goal
 
 pub undo_past-requires : goal.undo_past-requires

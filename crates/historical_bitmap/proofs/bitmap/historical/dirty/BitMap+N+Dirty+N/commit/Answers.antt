@@ -2,7 +2,7 @@ use Rattle.std.proofs.Common.{◌≡◌, length, sym, ◌∙◌, arith}
 use Rattle.std.specs.BTreeMap.{insert_entry}
 use Rattle.std.specs.Ordering.{nat_cmp}
 use Rattle.historical_bitmap.specs.Pending.{pending_bits}
-use Rattle.historical_bitmap.proofs.NewCommits.{at_err, at_ok, kept_more, history_more, costs_more}
+use Rattle.historical_bitmap.proofs.History.AddedCommit.{at_err, at_ok, kept_more, history_more, costs_more}
 use Rattle.historical_bitmap.proofs.bitmap.historical.dirty.BitMap+N+Dirty+N.commit.Goals as goal
 use Rattle.historical_bitmap.proofs.bitmap.historical.dirty.BitMap+N+Dirty+N.commit.Given.{Over}
 use Rattle.historical_bitmap.proofs.bitmap.historical.dirty.BitMap+N+Dirty+N.commit.Goals.{After-shrink_back}
@@ -36,7 +36,7 @@ returns-clause-costs g c =
     let inserted : c.insert.new.self.entries ≡ insert_entry nat_cmp c.self.inside.commits.entries c.args.number c.in-Ok.record = at_ok c.insert.result c.insert.ensures.entries (sym c.is_err.ensures.value ∙ c.if-is_err.false) in
     rw (← c.self.view_is) (length c.in-Ok.record.entries, omega (arith, c.in-Ok.ensures.bound), costs_more g.row.N c.self.inside.commits.entries c.insert.new.self.entries c.self.inside.last c.args.number c.in-Ok.record c.self.inside.current (pending_bits g.row.N c.self.inside.current c.self.inside.state) c.len-len.ensures.width.positive c.ranges.number.fits (sym c.in_default.ensures) c.self.invariant.1 inserted)
 
--- where the record is not kept, the bitmap and the commits are as they were
+-- if the insertion of the record fails, the bitmap and the commits are unchanged
 current_again : (g : Over) (c : After-shrink_back g) → c.shrink_back.new.current ≡ c.self.inside.current
 current_again g c = c.shrink_back.ensures.undoes c.self.inside.current c.len-len.result c.in-Ok-grow.ensures.before c.in-Ok-grow.ensures.ok
 

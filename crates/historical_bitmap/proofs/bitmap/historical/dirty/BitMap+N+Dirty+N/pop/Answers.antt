@@ -2,10 +2,10 @@ use Rattle.std.proofs.Common.{◌≡◌, ℕ, ◌-◌, ◌*◌, ◌/◌, ◌<◌
 use Rattle.std.specs.Prelude.{Option}
 use Rattle.bitmap_core.specs.PrunedBits.{bit_at, last_bit}
 use Rattle.bitmap_bytes.specs.Chunk.{chunk_bit}
-use Rattle.historical_bitmap.proofs.PendingEnds.{has_last, not_edited}
+use Rattle.historical_bitmap.proofs.Pending.Ends.{has_last, not_edited}
 use Rattle.historical_bitmap.specs.Edits.Edit.{Pop}
-use Rattle.historical_bitmap.specs.Pending.{edited_chunk, layer_bit, pending_bits}
-use Rattle.historical_bitmap.proofs.DirtyEdits.{edit_fits, edit_of, last_pending, popped_none, popped_some}
+use Rattle.historical_bitmap.specs.Pending.{edited_chunk, pending_bit, pending_bits}
+use Rattle.historical_bitmap.proofs.Pending.BatchEdits.{edit_fits, edit_of, last_pending, popped_none, popped_some}
 use Rattle.historical_bitmap.proofs.bitmap.historical.dirty.BitMap+N+Dirty+N.pop.Goals as goal
 use Rattle.historical_bitmap.proofs.bitmap.historical.dirty.BitMap+N+Dirty+N.pop.Goals.{in-Some, in-None}
 
@@ -22,7 +22,7 @@ returns-clause-edit g c =
 pub returns-clause-value : goal.returns-clause-value
 returns-clause-value g c =
     let some : 0 < length (pending_bits g.row.N c.self.inside.current c.self.inside.state).bits = rw (sym c.self.view_is) at c.requires in
-    let last : last_bit (pending_bits g.row.N c.self.inside.current c.self.inside.state) ≡ layer_bit g.row.N c.self.inside.current c.self.inside.state (c.self.inside.state.len - 1) = last_pending g.row.N c.self.inside.current c.self.inside.state c.len-last.ensures.width.positive c.self.invariant.0 some in
+    let last : last_bit (pending_bits g.row.N c.self.inside.current c.self.inside.state) ≡ pending_bit g.row.N c.self.inside.current c.self.inside.state (c.self.inside.state.len - 1) = last_pending g.row.N c.self.inside.current c.self.inside.state c.len-last.ensures.width.positive c.self.invariant.0 some in
     let chunk : Option (List ℕ) = edited_chunk c.self.inside.state ((c.self.inside.state.len - 1) / (8 * g.row.N)) in
     rw (← c.self.view_is, last) (elim c.match-pop.branch [
       | in-Some w ↦ w.result-is ∙ popped_some g.row.N c.self.inside.current (c.self.inside.state.len - 1) w.in-Some.value chunk w.in-Some.ensures.bit

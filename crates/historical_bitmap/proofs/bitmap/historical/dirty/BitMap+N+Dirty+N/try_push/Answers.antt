@@ -3,9 +3,9 @@ use Rattle.bitmap_core.specs.PrunedBits.{bit_len}
 use Rattle.historical_bitmap.specs.Edits.{IsAccepted}
 use Rattle.historical_bitmap.specs.Edits.Edit.{Push}
 use Rattle.historical_bitmap.specs.Pending.{pending_bits}
-use Rattle.historical_bitmap.proofs.DirtyEdits.{past_front, tried_edit, tried_fits, tried_holds}
-use Rattle.historical_bitmap.proofs.PendingEdits.{pending_len}
-use Rattle.historical_bitmap.proofs.PendingEnds.{zero_at_len}
+use Rattle.historical_bitmap.proofs.Pending.BatchEdits.{past_prefix, tried_edit, tried_fits, tried_holds}
+use Rattle.historical_bitmap.proofs.Pending.Edits.{pending_len}
+use Rattle.historical_bitmap.proofs.Pending.Ends.{zero_at_len}
 use Rattle.historical_bitmap.proofs.bitmap.historical.dirty.BitMap+N+Dirty+N.try_push.Goals as goal
 
 pub invariant_of-self : goal.invariant_of-self
@@ -20,14 +20,14 @@ returns-clause-ok g c =
 
 pub push-requires : goal.push-requires
 push-requires g c =
-    let room : bit_len g.row.N (pending_bits g.row.N c.self.inside.current c.self.inside.state) + 1 < 2 ^ 64 = rw (sym c.self.view_is) at c.requires in (
+    let space : bit_len g.row.N (pending_bits g.row.N c.self.inside.current c.self.inside.state) + 1 < 2 ^ 64 = rw (sym c.self.view_is) at c.requires in (
       omega arith,
       (
         omega arith,
         (
-          past_front g.row.N c.self.inside.current c.self.inside.state c.self.inside.state.len c.self.invariant.0 c.self.invariant.0.front,
+          past_prefix g.row.N c.self.inside.current c.self.inside.state c.self.inside.state.len c.self.invariant.0 c.self.invariant.0.prefix,
           (
-            omega (arith, room, pending_len g.row.N c.self.inside.current c.self.inside.state c.len.ensures.width.positive c.self.invariant.0),
+            omega (arith, space, pending_len g.row.N c.self.inside.current c.self.inside.state c.len.ensures.width.positive c.self.invariant.0),
             zero_at_len g.row.N c.self.inside.current c.self.inside.state c.self.invariant.0,
           ),
         ),

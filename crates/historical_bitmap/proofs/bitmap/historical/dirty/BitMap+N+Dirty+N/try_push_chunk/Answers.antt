@@ -3,14 +3,14 @@ use Rattle.std.proofs.lemmas.List.FromFn.{length-map-range_with_len}
 use Rattle.bitmap_bytes.specs.Chunk.{chunk_bit, chunk_bits}
 use Rattle.bitmap_core.specs.PrunedBits.{bit_len}
 use Rattle.historical_bitmap.specs.Pending.{pending_bits}
-use Rattle.historical_bitmap.proofs.DirtyEdits.{tried_run, tried_run_fits, tried_run_holds}
-use Rattle.historical_bitmap.proofs.PendingEdits.{pending_len}
+use Rattle.historical_bitmap.proofs.Pending.BatchEdits.{tried_run, tried_run_fits, tried_run_holds}
+use Rattle.historical_bitmap.proofs.Pending.Edits.{pending_len}
 use Rattle.historical_bitmap.proofs.bitmap.historical.dirty.BitMap+N+Dirty+N.try_push_chunk.Goals as goal
 
 pub push_chunk-requires : goal.push_chunk-requires
 push_chunk-requires g c =
-    let room : bit_len g.row.N (pending_bits g.row.N c.self.inside.current c.self.inside.state) + 8 * g.row.N < 2 ^ 64 = rw (sym c.self.view_is) at c.requires in
-    (omega arith, (omega arith, (omega (arith, c.len.ensures.width), (c.self.invariant.0, omega (arith, room, pending_len g.row.N c.self.inside.current c.self.inside.state c.len.ensures.width.positive c.self.invariant.0)))))
+    let space : bit_len g.row.N (pending_bits g.row.N c.self.inside.current c.self.inside.state) + 8 * g.row.N < 2 ^ 64 = rw (sym c.self.view_is) at c.requires in
+    (omega arith, (omega arith, (omega (arith, c.len.ensures.width), (c.self.invariant.0, omega (arith, space, pending_len g.row.N c.self.inside.current c.self.inside.state c.len.ensures.width.positive c.self.invariant.0)))))
 
 pub invariant_of-self : goal.invariant_of-self
 invariant_of-self g c = (tried_run_fits g.row.N c.self.inside.current c.self.inside.state c.push_chunk.new.self c.len.ensures.width.positive c.self.invariant.0 c.push_chunk.result (chunk_bits g.row.N c.args.chunk.now) c.push_chunk.ensures.ok c.push_chunk.ensures.err, c.self.invariant.1)

@@ -1,7 +1,7 @@
 use Rattle.std.proofs.Common.{◌≡◌, ◌+◌, Some, None, sym, subst}
 use Rattle.historical_bitmap.specs.Pending.{Puts}
-use Rattle.historical_bitmap.proofs.EditedMaps.{on_err, on_ok, taken_again}
-use Rattle.historical_bitmap.proofs.HeldChunks.{puts_two}
+use Rattle.historical_bitmap.proofs.Lists.Maps.{on_err, on_ok, taken_again}
+use Rattle.historical_bitmap.proofs.EditedChunks.CachedChunks.{puts_two}
 use Rattle.historical_bitmap.proofs.bitmap.historical.edited.EditedChunks.write_two.Goals as goal
 
 pub returns-then-is_err-clause-err : goal.returns-then-is_err-clause-err
@@ -13,4 +13,4 @@ returns-then-is_err-clause-err g c =
 pub returns-clause-ok : goal.returns-clause-ok
 returns-clause-ok g c =
     let one = on_ok c.put-2.result _ (sym c.if-is_err.ensures.value) c.put-2.ensures.ok in
-    rw c.hold.ensures (puts_two c.args.self.now c.put.new.self c.put-2.new.self c.args.index c.args.first c.args.second c.in_ok-put.ensures.ok one)
+    rw c.cache.ensures (puts_two c.args.self.now c.put.new.self c.put-2.new.self c.args.index c.args.first c.args.second c.in_ok-put.ensures.ok one)

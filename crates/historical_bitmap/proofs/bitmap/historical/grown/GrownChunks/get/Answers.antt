@@ -1,5 +1,5 @@
 use Rattle.std.proofs.Common.{ap, sym, Some, ◌∙◌}
-use Rattle.historical_bitmap.proofs.RunChunks.{in_run, look_beside, look_in, out_run, run_order}
+use Rattle.historical_bitmap.proofs.EditedChunks.AppendedRun.{in_run, look_beside, look_in, out_run, run_order}
 use Rattle.historical_bitmap.proofs.bitmap.historical.grown.GrownChunks.get.Goals as goal
 
 pub returns-then-is_in-clause-value : goal.returns-then-is_in-clause-value

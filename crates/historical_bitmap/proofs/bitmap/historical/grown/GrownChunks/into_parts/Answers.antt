@@ -1,5 +1,5 @@
 use Rattle.std.proofs.Common.{sym}
-use Rattle.historical_bitmap.proofs.RunChunks.{run_order}
+use Rattle.historical_bitmap.proofs.EditedChunks.AppendedRun.{run_order}
 use Rattle.historical_bitmap.proofs.bitmap.historical.grown.GrownChunks.into_parts.Goals as goal
 
 pub returns-clause-sorted : goal.returns-clause-sorted

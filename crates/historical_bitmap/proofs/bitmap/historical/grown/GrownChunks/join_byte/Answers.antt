@@ -1,6 +1,6 @@
 use Rattle.std.proofs.Common.{◌∙◌, sym, subst, get_or, ◌-◌}
 use Rattle.bitmap_bytes.specs.Chunk.{IsByteJoined}
-use Rattle.historical_bitmap.proofs.RunChunks.{byte_keeps, byte_other, in_run, look_in, out_run, puts_in}
+use Rattle.historical_bitmap.proofs.EditedChunks.AppendedRun.{byte_keeps, byte_other, in_run, look_in, out_run, puts_in}
 use Rattle.historical_bitmap.proofs.bitmap.historical.grown.GrownChunks.join_byte.Goals as goal
 
 pub returns-then-is_in-clause-written : goal.returns-then-is_in-clause-written

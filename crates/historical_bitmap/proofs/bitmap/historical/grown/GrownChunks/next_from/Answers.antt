@@ -5,7 +5,7 @@ use mathlib.Core.Logic.{inl, inr}
 use Rattle.std.specs.Prelude.{max}
 use Rattle.historical_bitmap.specs.Pending.{IsNextMember}
 use Rattle.std.specs.Map.{keys_of}
-use Rattle.historical_bitmap.proofs.RunChunks.{next_before, next_other, next_run}
+use Rattle.historical_bitmap.proofs.EditedChunks.AppendedRun.{next_before, next_other, next_run}
 use Rattle.historical_bitmap.proofs.bitmap.historical.grown.GrownChunks.next_from.Goals as goal
 
 least : (low from first : ℕ) → first ≡ max low from → (q : ℕ) → low ≤ q → from ≤ q → first ≤ q

@@ -4,7 +4,7 @@ use Rattle.std.specs.Map.{lookup}
 use Rattle.bitmap_bytes.specs.Chunk.{chunk_bit}
 use Rattle.historical_bitmap.specs.Pending.{IsWritten}
 use Rattle.historical_bitmap.specs.Run.{with_run}
-use Rattle.historical_bitmap.proofs.RunChunks.{in_run, look_in, sets_in}
+use Rattle.historical_bitmap.proofs.EditedChunks.AppendedRun.{in_run, look_in, sets_in}
 use Rattle.historical_bitmap.proofs.bitmap.historical.grown.GrownChunks.push_bit.Goals as goal
 
 pub fill_bit-requires : goal.fill_bit-requires

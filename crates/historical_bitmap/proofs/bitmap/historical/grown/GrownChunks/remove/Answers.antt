@@ -2,7 +2,7 @@ use Rattle.std.proofs.Common.{◌≡◌, ◌<◌, ℕ, Some, None, [], ◌-◌, 
 use Rattle.std.specs.Prelude.{nat_eq}
 use Rattle.std.specs.Map.{lookup}
 use Rattle.historical_bitmap.specs.Run.{with_run}
-use Rattle.historical_bitmap.proofs.RunChunks.{in_run, keeps_other, look_beside, out_run, puts_other, run_order, shorter_run}
+use Rattle.historical_bitmap.proofs.EditedChunks.AppendedRun.{in_run, keeps_other, look_beside, out_run, puts_other, run_order, shorter_run}
 use Rattle.historical_bitmap.proofs.bitmap.historical.grown.GrownChunks.remove.Goals as goal
 
 pub returns-then-is_in-clause-value : goal.returns-then-is_in-clause-value

@@ -3,8 +3,8 @@ use Rattle.std.proofs.lemmas.List.{length-set}
 use Rattle.bitmap_bytes.specs.Chunk.{chunk_bit}
 use Rattle.historical_bitmap.specs.Pending.{IsWritten}
 use Rattle.historical_bitmap.specs.Run.{with_run}
-use Rattle.historical_bitmap.proofs.EditedMaps.{not_some}
-use Rattle.historical_bitmap.proofs.RunChunks.{in_run, in_some, look_beside, look_in, out_run, replaced_keeps, replaced_some, run_order, with_sorted}
+use Rattle.historical_bitmap.proofs.Lists.Maps.{not_some}
+use Rattle.historical_bitmap.proofs.EditedChunks.AppendedRun.{in_run, in_some, look_beside, look_in, out_run, replaced_keeps, replaced_some, run_order, with_sorted}
 use Rattle.historical_bitmap.proofs.bitmap.historical.grown.GrownChunks.replace_bit.Goals as goal
 
 pub returns-then-is_in-clause-bit : goal.returns-then-is_in-clause-bit

@@ -7,7 +7,7 @@ use Rattle.std.specs.Map.{keys_of}
 use Rattle.std.specs.Ordering.{nat_cmp}
 use Rattle.historical_bitmap.specs.Pending.{Puts}
 use Rattle.historical_bitmap.specs.Run.{with_run}
-use Rattle.historical_bitmap.proofs.RunChunks.{begun_run, copied_some, in_run, longer_run, look_beside, none_of, ok_map, out_run, put_keeps, puts_in, puts_other, run_order, with_sorted}
+use Rattle.historical_bitmap.proofs.EditedChunks.AppendedRun.{begun_run, copied_some, in_run, longer_run, look_beside, none_of, ok_map, out_run, put_keeps, puts_in, puts_other, run_order, with_sorted}
 use Rattle.historical_bitmap.proofs.bitmap.historical.grown.GrownChunks.write.Goals as goal
 
 pub returns-then-is_in-clause-ok : goal.returns-then-is_in-clause-ok

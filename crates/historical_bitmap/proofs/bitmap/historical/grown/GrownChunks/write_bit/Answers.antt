@@ -1,7 +1,7 @@
 use Rattle.std.proofs.Common.{ap, sym, subst, ◌∙◌}
 use Rattle.std.specs.Prelude.{is_some}
 use Rattle.historical_bitmap.specs.Pending.{IsWritten}
-use Rattle.historical_bitmap.proofs.RunChunks.{in_run, look_beside, ok_map, out_run, set_keeps, sets_in, sets_other}
+use Rattle.historical_bitmap.proofs.EditedChunks.AppendedRun.{in_run, look_beside, ok_map, out_run, set_keeps, sets_in, sets_other}
 use Rattle.historical_bitmap.proofs.bitmap.historical.grown.GrownChunks.write_bit.Goals as goal
 
 pub returns-then-is_in-clause-ok : goal.returns-then-is_in-clause-ok

@@ -1,6 +1,6 @@
 use Rattle.std.proofs.Common.{◌≡◌, ◌+◌, Some, None, sym, subst, arith}
 use Rattle.historical_bitmap.specs.Pending.{Puts}
-use Rattle.historical_bitmap.proofs.EditedMaps.{on_err, taken_again}
+use Rattle.historical_bitmap.proofs.Lists.Maps.{on_err, taken_again}
 use Rattle.historical_bitmap.proofs.bitmap.historical.grown.GrownChunks.write_two.Goals as goal
 
 pub returns-then-is_err-clause-err : goal.returns-then-is_err-clause-err

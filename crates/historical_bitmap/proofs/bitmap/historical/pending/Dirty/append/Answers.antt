@@ -3,13 +3,13 @@ use Rattle.std.proofs.Math.Nat.{mul-div-le}
 use Rattle.std.proofs.lemmas.Nat.{mul-le}
 use Rattle.std.specs.Prelude.{nat_eq}
 use Rattle.std.specs.Map.{lookup}
-use Rattle.historical_bitmap.proofs.PendingEnds.{none_past_len, past_index}
+use Rattle.historical_bitmap.proofs.Pending.Ends.{none_past_len, past_index}
 use Rattle.historical_bitmap.specs.Pending.{Puts, PutsTwo, run_bits}
-use Rattle.historical_bitmap.proofs.PendingWrites.{begun_has, rest_has, appends_one, appends_two, run_len}
+use Rattle.historical_bitmap.proofs.Pending.Writes.{begun_has, rest_has, appends_one, appends_two, run_len}
 use Rattle.historical_bitmap.proofs.bitmap.historical.pending.Dirty.append.Goals as goal
 
-pub returns-then-count-room-clause-ok : goal.returns-then-count-room-clause-ok
-returns-then-count-room-clause-ok g c =
+pub returns-then-count-space-clause-ok : goal.returns-then-count-space-clause-ok
+returns-then-count-space-clause-ok g c =
     let n = g.row.N in
     let b = c.args.current.now in
     let l = c.args.self.now in
@@ -18,10 +18,10 @@ returns-then-count-room-clause-ok g c =
     let at = c.len-len.ensures.value in
     let v = c.self.view_is in
     let index : c.chunk_index-first.result ≡ c.args.self.now.len / (8 * g.row.N) = c.chunk_index-first.ensures ∙ ap (λ (k : ℕ). k / (8 * g.row.N)) at in
-    let room : 8 * length c.args.bytes.now ≤ 8 * g.row.N - c.args.self.now.len % (8 * g.row.N) = rw (c.chunk_width.ensures, c.chunk_width-2.ensures, at) at c.if-count-room.true in
+    let space : 8 * length c.args.bytes.now ≤ 8 * g.row.N - c.args.self.now.len % (8 * g.row.N) = rw (c.chunk_width.ensures, c.chunk_width-2.ensures, at) at c.if-count-space.true in
     let has = begun_has n b l bytes pos c.chunk-begun.result c.join.new.chunk (rw index at c.chunk-begun.ensures.value) c.known.ensures.len (rw at at c.join.ensures.kept) (rw at at c.join.ensures.joined) in
     let put : Puts c.args.self.now.edited c.write.new.self (c.args.self.now.len / (8 * g.row.N)) (Some c.join.new.chunk) = subst (λ es. Puts es c.write.new.self (c.args.self.now.len / (8 * g.row.N)) (Some c.join.new.chunk)) (ap (λ l. l.edited) v) (rw index at c.in_ok-write.ensures.ok) in
-    appends_one n b l _ (run_bits bytes) pos (omega (arith, c.requires.some, run_len bytes)) (omega (arith, at, run_len bytes)) (ap (λ l. l.pruned) v) (ap (λ l. l.captured) v) c.join.new.chunk (omega (arith, room, run_len bytes)) has put
+    appends_one n b l _ (run_bits bytes) pos (omega (arith, c.requires.some, run_len bytes)) (omega (arith, at, run_len bytes)) (ap (λ l. l.pruned) v) (ap (λ l. l.captured) v) c.join.new.chunk (omega (arith, space, run_len bytes)) has put
 
 pub returns-clause-ok : goal.returns-clause-ok
 returns-clause-ok g c =
@@ -33,11 +33,11 @@ returns-clause-ok g c =
     let at = c.len-len.ensures.value in
     let v = c.self.view_is in
     let index : c.chunk_index-first.result ≡ c.args.self.now.len / (8 * g.row.N) = c.chunk_index-first.ensures ∙ ap (λ (k : ℕ). k / (8 * g.row.N)) at in
-    let room : 8 * g.row.N - c.args.self.now.len % (8 * g.row.N) < 8 * length c.args.bytes.now = rw (c.chunk_width.ensures, c.chunk_width-2.ensures, at) at c.if-count-room.false in
+    let space : 8 * g.row.N - c.args.self.now.len % (8 * g.row.N) < 8 * length c.args.bytes.now = rw (c.chunk_width.ensures, c.chunk_width-2.ensures, at) at c.if-count-space.false in
     let has = begun_has n b l bytes pos c.chunk-begun.result c.join.new.chunk (rw index at c.chunk-begun.ensures.value) c.known.ensures.len (rw at at c.join.ensures.kept) (rw at at c.join.ensures.joined) in
     let rest = rest_has n b l bytes pos c.chunk_from-rest.result c.known-2.ensures.len (rw (c.chunk_width.ensures, c.chunk_width-2.ensures, at) at c.chunk_from-rest.ensures) in
     let put : PutsTwo c.args.self.now.edited c.write_two.new.self (c.args.self.now.len / (8 * g.row.N)) c.join.new.chunk c.chunk_from-rest.result = subst (λ es. PutsTwo es c.write_two.new.self (c.args.self.now.len / (8 * g.row.N)) c.join.new.chunk c.chunk_from-rest.result) (ap (λ l. l.edited) v) (rw index at c.in_ok-write_two.ensures.ok) in
-    appends_two n b l _ (run_bits bytes) pos (omega (arith, c.requires.some, run_len bytes)) (omega (arith, at, run_len bytes)) (ap (λ l. l.pruned) v) (ap (λ l. l.captured) v) c.join.new.chunk c.chunk_from-rest.result (omega (arith, room, run_len bytes)) (omega (arith, c.requires.short, run_len bytes)) has rest put
+    appends_two n b l _ (run_bits bytes) pos (omega (arith, c.requires.some, run_len bytes)) (omega (arith, at, run_len bytes)) (ap (λ l. l.pruned) v) (ap (λ l. l.captured) v) c.join.new.chunk c.chunk_from-rest.result (omega (arith, space, run_len bytes)) (omega (arith, c.requires.short, run_len bytes)) has rest put
 
 pub write_two-requires : goal.write_two-requires
 write_two-requires g c =
@@ -53,7 +53,7 @@ write_two-requires g c =
           λ q h.
               let past : c.args.self.now.len / (8 * g.row.N) < q = omega (arith, h, index) in
               let under = past_index g.row.N c.args.self.now.len q pos past in
-              ap (λ l. lookup (nat_eq q) l.edited) c.self.view_is ∙ none_past_len g.row.N c.args.current.now c.args.self.now c.requires.layer q (omega (arith, under)),
+              ap (λ l. lookup (nat_eq q) l.edited) c.self.view_is ∙ none_past_len g.row.N c.args.current.now c.args.self.now c.requires.edits_fit q (omega (arith, under)),
         ),
       ),
     )

@@ -3,7 +3,7 @@ use mathlib.Core.Logic.{inl, inr}
 use Rattle.std.proofs.lemmas.Bool.{cases_lt}
 use Rattle.std.specs.Prelude.{max}
 use Rattle.bitmap_core.specs.PrunedBits.{bit_len}
-use Rattle.historical_bitmap.proofs.PendingNext.{next_pruned, next_edited_is, next_edited_first, next_cut}
+use Rattle.historical_bitmap.proofs.Pending.NextMarked.{next_pruned, next_edited_is, next_edited_first, next_cut}
 use Rattle.historical_bitmap.proofs.bitmap.historical.pending.Dirty.next_marked.Goals as goal
 
 pub returns-then-from-pruned_chunks : goal.returns-then-from-pruned_chunks

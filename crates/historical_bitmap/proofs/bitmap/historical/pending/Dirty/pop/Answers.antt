@@ -1,8 +1,8 @@
 use Rattle.std.proofs.Common.{◌≡◌, ℕ, ◌-◌, ◌*◌, ◌/◌, ◌%◌, ◌<◌, ◌≤◌, None, refl, sym, arith}
 use Rattle.std.specs.Prelude.{nat_eq}
 use Rattle.std.specs.Map.{lookup}
-use Rattle.historical_bitmap.proofs.PendingEnds.{past_index}
-use Rattle.historical_bitmap.proofs.PendingWrites.{pops_inside}
+use Rattle.historical_bitmap.proofs.Pending.Ends.{past_index}
+use Rattle.historical_bitmap.proofs.Pending.Writes.{pops_inside}
 use Rattle.historical_bitmap.proofs.bitmap.historical.pending.Dirty.pop.Goals as goal
 
 pub returns-clause-pops : goal.returns-clause-pops

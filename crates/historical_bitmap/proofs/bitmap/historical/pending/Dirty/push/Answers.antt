@@ -3,8 +3,8 @@ use Rattle.std.proofs.Math.Nat.{mul-div-le}
 use Rattle.std.specs.Prelude.{IfSome, nat_eq}
 use Rattle.std.specs.Map.{lookup}
 use Rattle.bitmap_bytes.specs.Chunk.{chunk_bit}
-use Rattle.historical_bitmap.proofs.PendingEnds.{index_from}
-use Rattle.historical_bitmap.proofs.PendingWrites.{writes_to}
+use Rattle.historical_bitmap.proofs.Pending.Ends.{index_from}
+use Rattle.historical_bitmap.proofs.Pending.Writes.{writes_to}
 use Rattle.historical_bitmap.proofs.bitmap.historical.pending.Dirty.push.Goals as goal
 
 pub returns-clause-ok : goal.returns-clause-ok
@@ -16,7 +16,7 @@ pub push_bit-requires : goal.push_bit-requires
 push_bit-requires g c =
     let pos = c.self.invariant.positive in
     let low : 8 * g.row.N * c.args.current.now.pruned ≤ c.self.inside.len = rw (sym c.self.view_is) at c.requires.low in
-    let room : c.self.inside.len + 1 < 2 ^ 64 = rw (sym c.self.view_is) at c.requires.fits in
+    let space : c.self.inside.len + 1 < 2 ^ 64 = rw (sym c.self.view_is) at c.requires.fits in
     let zero : IfSome (lookup (nat_eq (c.self.inside.len / (8 * g.row.N))) c.self.inside.edited) (λ bytes. chunk_bit g.row.N bytes c.self.inside.len ≡ false) = rw (sym c.self.view_is) at c.requires.zero in (
       omega (arith, c.self.invariant.fits),
       (
@@ -26,7 +26,7 @@ push_bit-requires g c =
           (
             omega (arith, c.chunk_index-index.ensures, index_from g.row.N c.args.current.now.pruned c.self.inside.len pos low),
             (
-              rw c.chunk_index-index.ensures (omega (arith, room, mul-div-le c.self.inside.len (8 * g.row.N))),
+              rw c.chunk_index-index.ensures (omega (arith, space, mul-div-le c.self.inside.len (8 * g.row.N))),
               rw c.chunk_index-index.ensures zero,
             ),
           ),

@@ -1,6 +1,6 @@
 use Rattle.std.proofs.Common.{◌≡◌, ◌-◌, ◌^◌, ◌≤◌}
 use Rattle.bitmap_core.specs.PrunedBits.{bit_len}
-use Rattle.historical_bitmap.proofs.PendingRecords.{Builds}
+use Rattle.historical_bitmap.proofs.Pending.Record.{Builds}
 use Rattle.historical_bitmap.proofs.bitmap.historical.pending.Dirty.record.Given as goal
 
 abbrev pub invariant-loop-index : goal.invariant-loop-index

@@ -1,5 +1,5 @@
 use Rattle.std.proofs.Common.{sym, refl}
-use Rattle.historical_bitmap.proofs.PendingWrites.{writes_set}
+use Rattle.historical_bitmap.proofs.Pending.Writes.{writes_set}
 use Rattle.historical_bitmap.proofs.bitmap.historical.pending.Dirty.write.Goals as goal
 
 pub returns-clause-ok : goal.returns-clause-ok

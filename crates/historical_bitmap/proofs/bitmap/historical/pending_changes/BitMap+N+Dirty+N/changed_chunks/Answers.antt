@@ -1,7 +1,7 @@
 use Rattle.std.proofs.Common.{arith, refl}
 use Rattle.historical_bitmap.specs.Pending.{pending_bits}
-use Rattle.historical_bitmap.proofs.NextChanges.{changed_fits}
-use Rattle.historical_bitmap.proofs.PendingChanges.{comparing_pending, pending_changed}
+use Rattle.historical_bitmap.proofs.Changes.Next.{changed_fits}
+use Rattle.historical_bitmap.proofs.Changes.Pending.{comparing_pending, pending_changed}
 use Rattle.historical_bitmap.proofs.bitmap.historical.pending_changes.BitMap+N+Dirty+N.changed_chunks.Goals as goal
 
 pub invariant_of-result : goal.invariant_of-result

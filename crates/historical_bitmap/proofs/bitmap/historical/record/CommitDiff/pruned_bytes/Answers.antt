@@ -1,7 +1,7 @@
 use Rattle.std.proofs.Common.{◌++◌, ap, ◌∙◌}
 use Rattle.historical_bitmap.specs.Stored.{entry_values}
 use Rattle.historical_bitmap.specs.Undo.{kept_between}
-use Rattle.historical_bitmap.proofs.EntryPasses.{kept_pruned}
+use Rattle.historical_bitmap.proofs.Records.EntryPasses.{kept_pruned}
 use Rattle.historical_bitmap.proofs.bitmap.historical.record.CommitDiff.pruned_bytes.Goals as goal
 
 pub returns : goal.returns

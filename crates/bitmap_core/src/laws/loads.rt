@@ -1,0 +1,33 @@
+//! Laws of the words that an iterator over set positions loads.
+
+ghost use Rattle.std.specs.Prelude.{◌≡◌, ◌≤◌, []};
+ghost use Rattle.std.specs.Iterator.{YieldsFirst};
+
+use crate::bitmap::readable::{OnesIter, Readable};
+
+/// A call of `next` never decreases the number of words loaded, and does not change the number of words of the range.
+pub fn step_counted<B: Readable<N>, const N: usize>(
+    positions: &mut OnesIter<'_, B, N>,
+) -> Option<u64>
+    ensures steps { YieldsFirst (λ s. s.left) positions.old result positions.new }
+    ensures grows { positions.old.loads ≤ positions.new.loads }
+    ensures range { positions.new.words ≡ positions.old.words }
+{
+    positions.step()
+}
+
+/// At any time, an iterator over set positions has loaded at most the words of its range.
+pub fn loads_within_words<B: Readable<N>, const N: usize>(positions: &OnesIter<'_, B, N>)
+    ensures { positions.now.loads ≤ positions.now.words }
+{
+    positions.loads_within_words();
+}
+
+/// Calls `next` until the iterator ends. By then it has loaded at most the words of its range.
+pub fn words_loaded_once<B: Readable<N>, const N: usize>(positions: &mut OnesIter<'_, B, N>)
+    ensures ended { positions.new.left ≡ [] }
+    ensures loads { positions.new.loads ≤ positions.old.words }
+{
+    while positions.step().is_some() {}
+    positions.loads_within_words();
+}

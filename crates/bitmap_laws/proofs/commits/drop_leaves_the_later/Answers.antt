@@ -1,7 +1,0 @@
-use Rattle.std.proofs.Common.{ap, ◌∙◌}
-use Rattle.historical_bitmap.specs.History.{kept_under}
-use Rattle.historical_bitmap.proofs.KeptUnder.{kept_from_number}
-use Rattle.bitmap_laws.proofs.commits.drop_leaves_the_later.Goals as goal
-
-pub returns-clause-states : goal.returns-clause-states
-returns-clause-states g c = λ k. ap (λ history. kept_under history k) c.prune_commits_before.ensures.history ∙ kept_from_number c.args.number k _

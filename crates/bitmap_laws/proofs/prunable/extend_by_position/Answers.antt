@@ -1,8 +1,0 @@
-use Rattle.bitmap_core.proofs.Pruned.Edits.{len_appended, bit_extended}
-use Rattle.bitmap_laws.proofs.prunable.extend_by_position.Goals as goal
-
-pub returns-clause-len : goal.returns-clause-len
-returns-clause-len c = len_appended
-
-pub returns-clause-zeros : goal.returns-clause-zeros
-returns-clause-zeros c = bit_extended

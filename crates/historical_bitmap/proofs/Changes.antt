@@ -1,0 +1,9 @@
+-- The chunks in which two states differ: the search finds exactly those, and they make one state from the other.
+-- Unnamed: a chunk without an entry in a record between two states is the same in both.
+-- Next: the next chunk that differs, searched for among the chunks with entries.
+-- Pending: a chunk that is not marked is the same in the current and the pending bitmap.
+-- Patched: the laws of the chunks that differ.
+pub mod Unnamed
+pub mod Next
+pub mod Pending
+pub mod Patched

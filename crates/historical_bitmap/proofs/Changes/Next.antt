@@ -1,0 +1,158 @@
+-- The next chunk that differs, searched for among the chunks with entries in the records.
+use Rattle.std.proofs.Common.{◌≡◌, ℕ, zero, suc, ◌+◌, ◌^◌, ◌<◌, ◌≤◌, Bool, true, false, not, List, [], ◌∷◌, ◌++◌, length, get_or, refl, ap, arith, sym, subst, ◌∙◌, append_assoc}
+use mathlib.Core.Logic.{inl, inr, ◌≢◌}
+use Rattle.std.proofs.lemmas.Bool.{cases_eq, cases_order, cases_Bool, eq-eqb, ne_eqb, lt-ltb, le-ltb, le-leb, lt-leb, false≢true}
+use Rattle.std.proofs.lemmas.List.{append-nil}
+use Rattle.std.proofs.lemmas.List.Elements.{All-head, All-tail}
+use Rattle.std.proofs.lemmas.Map.Keys.{sorted_head, sorted_tail}
+use Rattle.std.specs.BTreeMap.Range.{entries_between}
+use Rattle.std.specs.declared.cmp.Ordering.TheVariants.{Less}
+use Rattle.std.specs.declared.ops.Bound.TheVariants.{Excluded, Included}
+use Rattle.std.specs.Cmp.Lexicographic.{pointwise}
+use Rattle.std.specs.List.{AllByRecursion}
+use Rattle.std.specs.List.Sorted.{IsStrictlySortedBy}
+use Rattle.std.specs.Map.{keys_of}
+use Rattle.std.specs.Option.{option_eq}
+use Rattle.std.specs.Ordering.{nat_cmp}
+use Rattle.std.specs.Prelude.{Option, Some, None, nat_eq}
+use Rattle.std.specs.Set.{is_member}
+use Rattle.bitmap_core.specs.Meaning.{ones_between}
+use Rattle.bitmap_core.proofs.Lists.SetPositions.{ones_between-append, ones_between-false, ones_between-hit, ones_between-length}
+use Rattle.bitmap_core.specs.PrunedBits.{PrunedBits}
+use Rattle.historical_bitmap.specs.Changes.{changed_from, differs, retained_bytes}
+use Rattle.historical_bitmap.specs.Compared.{between_numbers, named_chunks, IsNextChange}
+use Rattle.historical_bitmap.specs.History.{EntriesRise}
+use Rattle.historical_bitmap.specs.Pending.{IsNextMember}
+use Rattle.historical_bitmap.specs.Record.{ReverseRecord}
+use Rattle.historical_bitmap.proofs.Lists.Members.{in_either, in_left, in_right}
+use Rattle.historical_bitmap.proofs.History.PastStates.{below}
+
+-- ---- the first of some ascending numbers that is at least a given one
+none_up_to : (x j : ℕ) (xs : List ℕ) → AllByRecursion (λ k. nat_cmp x k ≡ Less) xs → j ≤ x → is_member nat_eq xs j ≡ false
+none_up_to x j [] h l = refl
+none_up_to x j (y ∷ ys) h l = rw (ne_eqb j y (λ e. absurd (omega (arith, e, l, below x y h.0)))) (none_up_to x j ys h.1 l)
+
+not_first : (j x : ℕ) (xs : List ℕ) → j ≢ x → is_member nat_eq xs j ≡ false → is_member nat_eq (x ∷ xs) j ≡ false
+not_first j x xs ne h = rw (ne_eqb j x ne) h
+
+-- the number at an index is the first if all numbers before that index are less
+pub next_at : (xs : List ℕ) (p from : ℕ) → IsStrictlySortedBy nat_cmp xs → p < length xs
+    → ((j : ℕ) → j < p → get_or xs j 0 < from) → from ≤ get_or xs p 0 → IsNextMember xs from (Some (get_or xs p 0))
+next_at [] p from up l less h = absurd (omega (arith, l))
+next_at (x ∷ xs) zero from up l less h = (
+  h,
+  rw (eq-eqb x x refl) refl,
+  λ j f s. not_first j x xs (λ e. absurd (omega (arith, e, s))) (none_up_to x j xs (sorted_head nat_cmp x xs up) (omega (arith, s))),
+)
+next_at (x ∷ xs) (suc p) from up l less h =
+    let there = next_at xs p from (sorted_tail nat_cmp x xs up) (omega (arith, l)) (λ j s. less (suc j) (omega (arith, s))) h in
+    let first : x < from = less 0 (omega arith) in (
+      there.0,
+      in_right (x ∷ []) xs (get_or xs p 0) there.1,
+      λ j f s. not_first j x xs (λ e. absurd (omega (arith, e, f, first))) (there.2 j f s),
+    )
+
+-- if all numbers are less, there is none
+pub next_none : (xs : List ℕ) (from : ℕ) → ((j : ℕ) → j < length xs → get_or xs j 0 < from) → IsNextMember xs from None
+next_none [] from less = λ j f. refl
+next_none (x ∷ xs) from less =
+    let first : x < from = less 0 (omega arith) in
+    λ j f. not_first j x xs (λ e. absurd (omega (arith, e, f, first))) (next_none xs from (λ i l. less (suc i) (omega (arith, l))) j f)
+
+-- ---- the first of two lists
+neither : (xs ys : List ℕ) (j : ℕ) → is_member nat_eq xs j ≡ false → is_member nat_eq ys j ≡ false → is_member nat_eq (xs ++ ys) j ≡ false
+neither xs ys j f g = elim (cases_Bool (is_member nat_eq (xs ++ ys) j)) [
+  | inr e ↦ e
+  | inl e ↦ elim (in_either xs ys j e) [ inl h ↦ absurd (false≢true (sym f ∙ h)) | inr h ↦ absurd (false≢true (sym g ∙ h)) ]
+]
+
+pub next_neither : (xs ys : List ℕ) (from : ℕ) → IsNextMember xs from None → IsNextMember ys from None → IsNextMember (xs ++ ys) from None
+next_neither xs ys from f g = λ j h. neither xs ys j (f j h) (g j h)
+
+pub next_left : (xs ys : List ℕ) (from i : ℕ) → IsNextMember xs from (Some i) → ((j : ℕ) → from ≤ j → j < i → is_member nat_eq ys j ≡ false) → IsNextMember (xs ++ ys) from (Some i)
+next_left xs ys from i f none = (f.0, in_left xs ys i f.1, λ j h s. neither xs ys j (f.2 j h s) (none j h s))
+
+pub next_right : (xs ys : List ℕ) (from i : ℕ) → IsNextMember ys from (Some i) → ((j : ℕ) → from ≤ j → j < i → is_member nat_eq xs j ≡ false) → IsNextMember (xs ++ ys) from (Some i)
+next_right xs ys from i g none = (g.0, in_right xs ys i g.1, λ j h s. neither xs ys j (none j h s) (g.2 j h s))
+
+-- ---- the first of the records between two numbers
+-- the range of a map past one number, up to another
+pub between_is : {X : Type 0} (from to : ℕ) (es : List (ℕ × X)) → entries_between nat_cmp (Excluded from) (Included to) es ≡ between_numbers from to es
+between_is from to [] = refl
+between_is from to (e ∷ es) = elim (cases_order from e.0) [
+  | inl same ↦ rw (le-ltb from e.0 (omega arith), eq-eqb from e.0 same) (between_is from to es)
+  | inr (inr l) ↦ rw (le-ltb from e.0 (omega arith), ne_eqb from e.0 (λ same. absurd (omega (arith, same, l)))) (between_is from to es)
+  | inr (inl l) ↦ elim (cases_order to e.0) [
+    | inl same ↦ rw (lt-ltb from e.0 l, le-ltb to e.0 (omega arith), eq-eqb to e.0 same, le-leb e.0 to (omega arith)) (ap (λ rest. e ∷ rest) (between_is from to es))
+    | inr (inr m) ↦ rw (lt-ltb from e.0 l, le-ltb to e.0 (omega arith), ne_eqb to e.0 (λ same. absurd (omega (arith, same, m))), le-leb e.0 to (omega arith)) (ap (λ rest. e ∷ rest) (between_is from to es))
+    | inr (inl m) ↦ rw (lt-ltb from e.0 l, lt-ltb to e.0 m, lt-leb e.0 to m) (between_is from to es)
+  ]
+]
+
+-- the loop invariant of the search: the records that are left, and the first chunk that the records before them have an entry for
+pub record SearchesOn (all left : List (ℕ × ReverseRecord)) (from : ℕ) (next : Option ℕ) : Type 0 where
+  pub rise : EntriesRise left
+  pub seen : List ℕ
+  pub split : named_chunks all ≡ seen ++ named_chunks left
+  pub least : IsNextMember seen from next
+
+pub searches_all : (all left : List (ℕ × ReverseRecord)) (from : ℕ) → left ≡ all → EntriesRise all → SearchesOn all left from None
+searches_all all left from e rise = record {
+  rise = rw e rise;
+  seen = [];
+  split = ap named_chunks (sym e);
+  least = λ j f. refl;
+}
+
+pub searched_rises : (all left rest : List (ℕ × ReverseRecord)) (c : ℕ × ReverseRecord) (from : ℕ) (next : Option ℕ) → left ≡ c ∷ rest → SearchesOn all left from next → IsStrictlySortedBy nat_cmp (keys_of c.1.entries)
+searched_rises all left rest c from next e s = All-head (λ commit. IsStrictlySortedBy nat_cmp (keys_of commit.1.entries)) c rest (rw e at s.rise)
+
+pub searched_one : (all left rest : List (ℕ × ReverseRecord)) (c : ℕ × ReverseRecord) (from : ℕ) (next one least : Option ℕ) → left ≡ c ∷ rest → SearchesOn all left from next
+    → ((xs ys : List ℕ) → IsNextMember xs from next → IsNextMember ys from one → IsNextMember (xs ++ ys) from least)
+    → IsNextMember (keys_of c.1.entries) from one → SearchesOn all rest from least
+searched_one all left rest c from next one least e s joins own = record {
+  rise = All-tail (λ commit. IsStrictlySortedBy nat_cmp (keys_of commit.1.entries)) c rest (rw e at s.rise);
+  seen = s.seen ++ keys_of c.1.entries;
+  split = s.split ∙ (ap (λ cs. s.seen ++ named_chunks cs) e ∙ sym (append_assoc s.seen (keys_of c.1.entries) (named_chunks rest)));
+  least = joins s.seen (keys_of c.1.entries) s.least own;
+}
+
+pub searched : (all left : List (ℕ × ReverseRecord)) (from : ℕ) (next : Option ℕ) → left ≡ [] → SearchesOn all left from next → IsNextMember (named_chunks all) from next
+searched all left from next e s =
+    let same : named_chunks all ≡ s.seen = s.split ∙ (ap (λ cs. s.seen ++ named_chunks cs) e ∙ append-nil s.seen) in
+    subst (λ xs. IsNextMember xs from next) (sym same) s.least
+
+-- ---- the chunks that differ
+-- the test of the code: the bytes in the two states are compared
+pub differs_by : (n : ℕ) (old new : PrunedBits) (i : ℕ) (a b : Option (List ℕ)) (r : Bool) → a ≡ retained_bytes n old i → b ≡ retained_bytes n new i → r ≡ not (option_eq (pointwise nat_eq) a b) → differs n old new i ≡ r
+differs_by n old new i a b r e f h = sym (h ∙ (ap (λ o. not (option_eq (pointwise nat_eq) o b)) e ∙ ap (λ o. not (option_eq (pointwise nat_eq) (retained_bytes n old i) o)) f))
+
+-- chunks that do not differ are skipped
+pub skip : (d : ℕ → Bool) (lo mid hi : ℕ) → lo ≤ mid → mid ≤ hi → ((k : ℕ) → lo ≤ k → k < mid → d k ≡ false) → ones_between d lo hi ≡ ones_between d mid hi
+skip d lo mid hi l h none = ones_between-append d lo mid hi l h ∙ ap (λ xs. xs ++ ones_between d mid hi) (ones_between-false d lo mid none)
+
+module _ (n : ℕ) (old new : PrunedBits) (first at end : ℕ) (names : List ℕ) (unnamed : (i : ℕ) → is_member nat_eq names i ≡ false → differs n old new i ≡ false) (same : changed_from n old new at end ≡ changed_from n old new first end) where
+  -- no chunk from here on has an entry
+  pub change_none : IsNextMember names at None → IsNextChange n old new first end None
+  change_none none = sym same ∙ ones_between-false (differs n old new) at end (λ k l h. unnamed k (none k l))
+
+  -- the next chunk with an entry is past the end
+  pub change_past : (i : ℕ) → IsNextMember names at (Some i) → end ≤ i → IsNextChange n old new first end None
+  change_past i next past = sym same ∙ ones_between-false (differs n old new) at end (λ k l h. unnamed k (next.2 k l (omega (arith, h, past))))
+
+  -- the next chunk with an entry differs
+  pub change_here : (i : ℕ) → IsNextMember names at (Some i) → i < end → differs n old new i ≡ true → IsNextChange n old new first end (Some i)
+  change_here i next inside other =
+      (inside, sym same ∙ (skip (differs n old new) at i end next.0 (omega (arith, inside)) (λ k l h. unnamed k (next.2 k l h)) ∙ ones_between-hit (differs n old new) i end inside other))
+
+  -- the next chunk with an entry does not differ
+  pub change_later : (i : ℕ) → IsNextMember names at (Some i) → i < end → differs n old new i ≡ false → changed_from n old new (i + 1) end ≡ changed_from n old new first end
+  change_later i next inside alike =
+      sym (skip (differs n old new) at (i + 1) end (omega (arith, next.0)) (omega (arith, inside)) (λ k l h. elim (cases_eq k i) [
+        | inl e ↦ ap (differs n old new) e ∙ alike
+        | inr ne ↦ unnamed k (next.2 k l (omega (arith, h, ne)))
+      ])) ∙ same
+
+-- there are fewer than 2 ^ 64 chunks that differ
+pub changed_fits : (n : ℕ) (old new : PrunedBits) (first end : ℕ) → end < 2 ^ 64 → length (changed_from n old new first end) < 2 ^ 64
+changed_fits n old new first end h = omega (arith, h, ones_between-length (differs n old new) first end)

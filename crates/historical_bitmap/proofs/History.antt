@@ -1,0 +1,11 @@
+-- The kept commits: undoing their records gives each past state. The head of Lib says in which order to read.
+-- PastStates: the past states after a commit, a drop and a rewind.
+-- KeptCommits: the invariant of kept commits after a drop and a rewind, and look-ups by number.
+-- KeptUnder: which states are kept after a drop and a rewind.
+-- InPlace: a past state read in place.
+-- AddedCommit: the invariant, the history and the costs after a commit.
+pub mod PastStates
+pub mod KeptCommits
+pub mod KeptUnder
+pub mod InPlace
+pub mod AddedCommit

@@ -1,0 +1,25 @@
+-- The pending edits of a batch: what each edit does, and the record and the bitmap that a commit makes of them.
+-- Touched: a batch changes nothing outside the chunks that it touches.
+-- Edits: each edit of the pending edits is that edit of the pending bitmap, and keeps their invariant.
+-- Ends: the chunk at the pending length.
+-- MarkedChunks: which chunks are marked.
+-- Chunks: a chunk that is read with the pending edits.
+-- Record: the record that a commit makes.
+-- Applied: the pending edits, applied in steps, give the pending bitmap.
+-- AppliedRun: so they do if the appended run is applied after the other chunks.
+-- Appends: several bits appended at once.
+-- NextMarked: the next marked chunk.
+-- Writes: the writes of the code to chunks, as edits of the pending edits.
+-- BatchEdits: the edits of a batch, from those of its pending edits.
+pub mod Touched
+pub mod Edits
+pub mod Ends
+pub mod MarkedChunks
+pub mod Chunks
+pub mod Record
+pub mod Applied
+pub mod AppliedRun
+pub mod Appends
+pub mod NextMarked
+pub mod Writes
+pub mod BatchEdits
