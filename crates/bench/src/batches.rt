@@ -1,20 +1,20 @@
-//! Batches of edits of a historical bitmap. Each function answers a number that depends on what is left.
+//! Batches of edits of a historical bitmap.
 
 ghost use Rattle.std.specs.Prelude.{◌*◌, ◌^◌, ◌<◌};
 
 use historical_bitmap::bitmap::historical::{CleanBitMap, DirtyBitMap};
 use std::alloc::{AllocError, Global};
 
-/// The edits of a batch of sets.
+/// The number of edits in a batch that sets bits.
 pub const SETS: u64 = 1000;
 
-// The edits of a batch of pushes.
+// The number of edits in a batch that appends.
 const PUSHES: u64 = 4096;
 
-// Lengths stay far below what `u64` holds.
+// Lengths stay far below `u64::MAX`.
 const MOST_BITS: u64 = 1 << 40;
 
-/// What a batch edits: random bits, bits of one chunk, or bits, bytes or chunks behind the last bit.
+/// The edits of a batch: it sets random bits, sets bits of one chunk, or appends bits, bytes or chunks.
 #[derive(Clone, Copy)]
 pub enum Edits {
     SetFar,
@@ -24,19 +24,19 @@ pub enum Edits {
     PushChunk,
 }
 
-/// Positions without a pattern.
+/// Pseudorandom positions.
 #[derive(Clone, Copy)]
 pub struct Positions {
     state: u64,
 }
 
 impl Positions {
-    /// The positions of a seed.
+    /// Returns the sequence of a seed.
     pub fn from_seed(seed: u64) -> Positions {
         Positions { state: seed }
     }
 
-    /// The next position, below `2^44`.
+    /// Returns the next position, below `2^44`.
     pub fn step(&mut self) -> u64 {
         self.state = self
             .state
@@ -46,7 +46,7 @@ impl Positions {
     }
 }
 
-// Writes a bit where it is retained.
+// Sets a bit, if it is retained.
 fn set_one<const N: usize>(
     batch: &mut DirtyBitMap<N>,
     position: u64,
@@ -58,7 +58,7 @@ fn set_one<const N: usize>(
     Ok(())
 }
 
-// Appends a bit where there is room.
+// Appends a bit, if there is space.
 fn push_one<const N: usize>(batch: &mut DirtyBitMap<N>, value: bool) -> Result<(), AllocError> {
     if batch.len() < MOST_BITS {
         batch.push(value)?;
@@ -66,7 +66,7 @@ fn push_one<const N: usize>(batch: &mut DirtyBitMap<N>, value: bool) -> Result<(
     Ok(())
 }
 
-// Appends a chunk where there is room.
+// Appends a chunk, if there is space.
 fn push_one_chunk<const N: usize>(batch: &mut DirtyBitMap<N>) -> Result<(), AllocError> {
     let bits = batch.len();
     if bits < u64::MAX - 8 * N as u64 {
@@ -75,7 +75,7 @@ fn push_one_chunk<const N: usize>(batch: &mut DirtyBitMap<N>) -> Result<(), Allo
     Ok(())
 }
 
-// Writes bits at random positions.
+// Sets bits at random positions.
 fn set_far<const N: usize>(
     batch: &mut DirtyBitMap<N>,
     positions: &mut Positions,
@@ -87,7 +87,7 @@ fn set_far<const N: usize>(
     Ok(())
 }
 
-// Writes bits of the first chunk.
+// Sets bits of the first chunk.
 fn set_near<const N: usize>(batch: &mut DirtyBitMap<N>) -> Result<(), AllocError> {
     for edit in 0..SETS {
         set_one(batch, edit % 8, edit % 3 == 0)?;
@@ -123,7 +123,7 @@ fn push_chunks<const N: usize>(batch: &mut DirtyBitMap<N>) -> Result<(), AllocEr
     Ok(())
 }
 
-/// Edits a batch.
+/// Makes the edits of a batch.
 pub fn edit<const N: usize>(
     batch: &mut DirtyBitMap<N>,
     edits: Edits,
@@ -138,7 +138,7 @@ pub fn edit<const N: usize>(
     }
 }
 
-/// A bitmap of `bytes` bytes, as far as they fill whole chunks, with one commit.
+/// Returns a bitmap with one commit, of the whole chunks that `bytes` bytes fill.
 pub fn filled<const N: usize>(alloc: Global, bytes: u64) -> Result<CleanBitMap<N>, AllocError>
     requires positive { 0 < N }
     requires fits { 8 * N < 2 ^ 64 }

@@ -1,6 +1,6 @@
-//! The calls that can be timed, by name.
+//! The calls of dense and pruned bitmaps that can be timed, by name.
 
-/// What is run again and again.
+/// A call that is run many times.
 #[derive(Clone, Copy)]
 pub enum Call {
     Copy,
@@ -76,7 +76,7 @@ const NAMES: [(&str, Call); 34] = [
     ("set_bit", Call::SetBit),
 ];
 
-/// The call of a name.
+/// Returns the call that `name` names, if there is one.
 pub fn named(name: &str) -> Option<Call> {
     NAMES
         .iter()

@@ -1,4 +1,4 @@
-//! Calls that edit a bitmap. Each function answers a number that depends on what is left.
+//! Calls that edit a dense bitmap. Each function returns a number that depends on the result, so that the compiler keeps the calls.
 
 ghost use Rattle.std.specs.Prelude.{◌+◌, ◌^◌, ◌<◌, length};
 
@@ -15,7 +15,7 @@ fn push_each<const N: usize>(map: &mut BitMap<N>, bits: u64) -> Result<(), Alloc
     Ok(())
 }
 
-/// Appends as many bits as there were, one by one, to none, in memory that was used before.
+/// Empties the bitmap and appends as many bits as before, one by one. The capacity is reused.
 pub fn push<const N: usize>(map: &mut BitMap<N>, times: u64) -> Result<u64, AllocError> {
     let bits = map.len();
     for _ in 0..times {
@@ -25,7 +25,7 @@ pub fn push<const N: usize>(map: &mut BitMap<N>, times: u64) -> Result<u64, Allo
     Ok(map.count_ones())
 }
 
-// Removes each bit, one by one, and answers how many were set.
+// Removes all bits, one by one, and returns how many were set.
 fn pop_each<const N: usize>(map: &mut BitMap<N>) -> u64 {
     let mut sum: u64 = 0;
     while !map.is_empty() {
@@ -34,7 +34,7 @@ fn pop_each<const N: usize>(map: &mut BitMap<N>) -> u64 {
     sum
 }
 
-/// Removes each bit, one by one. Before the second time and those after, zeros are appended at once.
+/// Removes all bits, one by one. Each later round first appends zeros, all at once.
 pub fn pop<const N: usize>(map: &mut BitMap<N>, times: u64) -> Result<u64, AllocError> {
     let bits = map.len();
     let mut sum: u64 = 0;
@@ -45,14 +45,14 @@ pub fn pop<const N: usize>(map: &mut BitMap<N>, times: u64) -> Result<u64, Alloc
     Ok(sum)
 }
 
-// Writes each bit.
+// Sets each bit to a value.
 fn set_each<const N: usize>(map: &mut BitMap<N>, round: u64) {
     for position in 0..map.len() {
         map.set(position, (position ^ round) % 3 == 0);
     }
 }
 
-/// Writes each bit.
+/// Sets each bit to a value.
 pub fn set<const N: usize>(map: &mut BitMap<N>, times: u64) -> u64 {
     for round in 0..times {
         set_each(map, round);
@@ -60,7 +60,7 @@ pub fn set<const N: usize>(map: &mut BitMap<N>, times: u64) -> u64 {
     map.count_ones()
 }
 
-/// Inverts all bits.
+/// Flips all bits.
 pub fn flip_all<const N: usize>(map: &mut BitMap<N>, times: u64) -> u64 {
     for _ in 0..times {
         map.flip_all();
@@ -68,7 +68,7 @@ pub fn flip_all<const N: usize>(map: &mut BitMap<N>, times: u64) -> u64 {
     map.count_ones()
 }
 
-/// Sets all bits, and clears them.
+/// Sets all bits and clears all bits, in turn.
 pub fn set_all<const N: usize>(map: &mut BitMap<N>, times: u64) -> u64 {
     for round in 0..times {
         map.set_all(round % 2 == 0);
@@ -76,7 +76,7 @@ pub fn set_all<const N: usize>(map: &mut BitMap<N>, times: u64) -> u64 {
     map.count_ones()
 }
 
-/// Joins with an equal bitmap by `and`.
+/// Combines with an equal bitmap by `and`.
 pub fn and<const N: usize>(map: &mut BitMap<N>, times: u64) -> Result<u64, AllocError> {
     let other = map.clone()?;
     for _ in 0..times {
@@ -87,7 +87,7 @@ pub fn and<const N: usize>(map: &mut BitMap<N>, times: u64) -> Result<u64, Alloc
     Ok(map.count_ones())
 }
 
-/// Joins with an equal bitmap by `or`.
+/// Combines with an equal bitmap by `or`.
 pub fn or<const N: usize>(map: &mut BitMap<N>, times: u64) -> Result<u64, AllocError> {
     let other = map.clone()?;
     for _ in 0..times {
@@ -98,7 +98,7 @@ pub fn or<const N: usize>(map: &mut BitMap<N>, times: u64) -> Result<u64, AllocE
     Ok(map.count_ones())
 }
 
-/// Joins with an equal bitmap by `xor`.
+/// Combines with an equal bitmap by `xor`.
 pub fn xor<const N: usize>(map: &mut BitMap<N>, times: u64) -> Result<u64, AllocError> {
     let other = map.clone()?;
     for _ in 0..times {

@@ -1,4 +1,4 @@
-//! Calls that make a bitmap, bytes or booleans out of a bitmap. Each function answers a number that depends on them.
+//! Calls that make a bitmap, bytes or booleans from a bitmap. Each function returns a number that depends on the result.
 
 ghost use Rattle.std.specs.Prelude.{◌+◌, ◌^◌, ◌<◌, length};
 
@@ -6,7 +6,7 @@ use bitmap_core::bitmap::BitMap;
 use bitmap_core::bitmap::codec::{RangeCfg, Read, Write};
 use std::alloc::{AllocError, Global};
 
-/// Copies the bytes of the map to memory that was used before: what `write` does at least.
+/// Copies the encoding of the bitmap into existing capacity. This is a lower bound for `write`.
 pub fn copy<const N: usize>(alloc: Global, map: &BitMap<N>, times: u64) -> Result<u64, AllocError> {
     let mut bytes = Vec::new(alloc);
     map.write(&mut bytes)?;
@@ -18,7 +18,7 @@ pub fn copy<const N: usize>(alloc: Global, map: &BitMap<N>, times: u64) -> Resul
     Ok(copy.len() as u64)
 }
 
-/// Appends a bitmap to what `target` has, in memory that was used before.
+/// Appends a bitmap to the bits of `target`. The capacity is reused.
 pub fn extend<const N: usize, const M: usize>(
     map: &BitMap<N>,
     target: &mut BitMap<M>,
@@ -35,7 +35,7 @@ pub fn extend<const N: usize, const M: usize>(
     Ok(target.count_ones())
 }
 
-/// Makes zeros, as many as there are bits.
+/// Makes a bitmap of zeros of the same length.
 pub fn extend_to<const N: usize>(
     alloc: Global,
     map: &BitMap<N>,
@@ -51,7 +51,7 @@ pub fn extend_to<const N: usize>(
     Ok(sum)
 }
 
-/// Drops all bits, and appends as many zeros, in memory that was used before.
+/// Removes all bits, and appends as many zeros. The capacity is reused.
 pub fn truncate<const N: usize>(map: &mut BitMap<N>, times: u64) -> Result<u64, AllocError> {
     let bits = map.len();
     for _ in 0..times {
@@ -61,7 +61,7 @@ pub fn truncate<const N: usize>(map: &mut BitMap<N>, times: u64) -> Result<u64, 
     Ok(map.count_ones())
 }
 
-/// Clones.
+/// Clones the bitmap.
 pub fn clone<const N: usize>(map: &BitMap<N>, times: u64) -> Result<u64, AllocError> {
     let mut sum: u64 = 0;
     for _ in 0..times {
@@ -70,7 +70,7 @@ pub fn clone<const N: usize>(map: &BitMap<N>, times: u64) -> Result<u64, AllocEr
     Ok(sum)
 }
 
-/// Makes booleans.
+/// Makes a vector of booleans.
 pub fn to_bools<const N: usize>(map: &BitMap<N>, times: u64) -> Result<u64, AllocError> {
     let mut sum: u64 = 0;
     for _ in 0..times {
@@ -79,13 +79,13 @@ pub fn to_bools<const N: usize>(map: &BitMap<N>, times: u64) -> Result<u64, Allo
     Ok(sum)
 }
 
-/// Makes a bitmap out of booleans.
+/// Makes a bitmap from booleans.
 pub fn from_bools<const N: usize>(
     alloc: Global,
     map: &BitMap<N>,
     times: u64,
 ) -> Result<u64, AllocError> {
-    // Tells the proof how large `N` may be.
+    // The prover learns the bounds of `N` from this call.
     let _ = map.len();
     let bools = map.to_bools()?;
     let mut sum: u64 = 0;
@@ -95,7 +95,7 @@ pub fn from_bools<const N: usize>(
     Ok(sum)
 }
 
-/// Writes bytes to memory that was used before.
+/// Encodes the bitmap into existing capacity.
 pub fn write<const N: usize>(
     alloc: Global,
     map: &BitMap<N>,
@@ -110,9 +110,9 @@ pub fn write<const N: usize>(
     Ok(bytes.len() as u64)
 }
 
-/// Reads bytes.
+/// Decodes the bitmap.
 pub fn read<const N: usize>(alloc: Global, map: &BitMap<N>, times: u64) -> Result<u64, AllocError> {
-    // Tells the proof how large `N` may be.
+    // The prover learns the bounds of `N` from this call.
     let _ = map.len();
     let mut bytes = Vec::new(alloc);
     map.write(&mut bytes)?;

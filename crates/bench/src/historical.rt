@@ -1,4 +1,4 @@
-//! Calls of historical bitmaps, by name. Each runs on 1000 commits and more, or on a batch again and again.
+//! Calls of historical bitmaps that can be timed, by name. Each runs many batches, or reads a bitmap with 1001 commits.
 
 ghost use Rattle.std.specs.Prelude.{◌*◌, ◌^◌, ◌<◌};
 
@@ -7,10 +7,10 @@ use historical_bitmap::bitmap::Readable;
 use historical_bitmap::bitmap::historical::{AtCommit, CleanBitMap};
 use std::alloc::{AllocError, Global};
 
-/// What is run again and again: a batch that is given up or committed, or a call of a bitmap with 1000 commits and more.
+/// A call that is run many times: a batch that is aborted or committed, or a call of a bitmap with 1001 commits.
 #[derive(Clone, Copy)]
 pub enum Call {
-    GiveUp(Edits),
+    Abort(Edits),
     Commit(Edits),
     ReadOldest,
     ReadNewest,
@@ -20,11 +20,11 @@ pub enum Call {
 }
 
 const NAMES: [(&str, Call); 15] = [
-    ("batch_set_far", Call::GiveUp(Edits::SetFar)),
-    ("batch_set_near", Call::GiveUp(Edits::SetNear)),
-    ("batch_push", Call::GiveUp(Edits::Push)),
-    ("batch_push_byte", Call::GiveUp(Edits::PushByte)),
-    ("batch_push_chunk", Call::GiveUp(Edits::PushChunk)),
+    ("batch_set_far", Call::Abort(Edits::SetFar)),
+    ("batch_set_near", Call::Abort(Edits::SetNear)),
+    ("batch_push", Call::Abort(Edits::Push)),
+    ("batch_push_byte", Call::Abort(Edits::PushByte)),
+    ("batch_push_chunk", Call::Abort(Edits::PushChunk)),
     ("commit_set_far", Call::Commit(Edits::SetFar)),
     ("commit_set_near", Call::Commit(Edits::SetNear)),
     ("commit_push", Call::Commit(Edits::Push)),
@@ -37,7 +37,7 @@ const NAMES: [(&str, Call); 15] = [
     ("clone_commits", Call::Clone),
 ];
 
-/// The call of a name.
+/// Returns the call that `name` names, if there is one.
 pub fn named(name: &str) -> Option<Call> {
     NAMES
         .iter()
@@ -45,11 +45,11 @@ pub fn named(name: &str) -> Option<Call> {
         .map(|entry| entry.1)
 }
 
-// The number of the last of the commits that old states are read of.
+// The number of the last commit of the bitmap whose past states are read.
 const LAST: u64 = 1000;
 
-// A batch that is given up, each time.
-fn give_up<const N: usize>(
+// Edits a batch and aborts it, `times` times.
+fn abort_each<const N: usize>(
     mut bitmap: CleanBitMap<N>,
     edits: Edits,
     times: u64,
@@ -65,7 +65,7 @@ fn give_up<const N: usize>(
     Ok(sum.wrapping_add(bitmap.len()))
 }
 
-// A batch that is committed, each time. Older commits are dropped.
+// Edits a batch and commits it, `times` times. Earlier commits are dropped.
 fn commit_each<const N: usize>(
     mut bitmap: CleanBitMap<N>,
     edits: Edits,
@@ -81,7 +81,7 @@ fn commit_each<const N: usize>(
     Ok(bitmap.len())
 }
 
-// The bitmap with commits 1 to `LAST` of random sets after the first.
+// Adds the commits 1 to `LAST`, each of which sets random bits.
 fn with_commits<const N: usize>(mut bitmap: CleanBitMap<N>) -> Result<CleanBitMap<N>, AllocError> {
     let mut positions = Positions::from_seed(LAST);
     for number in 0..LAST {
@@ -92,7 +92,7 @@ fn with_commits<const N: usize>(mut bitmap: CleanBitMap<N>) -> Result<CleanBitMa
     Ok(bitmap)
 }
 
-// Makes a bitmap of an old state.
+// Rebuilds a past state as a bitmap.
 fn read_owned<const N: usize>(
     bitmap: &CleanBitMap<N>,
     number: u64,
@@ -107,7 +107,7 @@ fn read_owned<const N: usize>(
     Ok(sum)
 }
 
-// How many of some random bits are set.
+// Returns how many of some random bits are set.
 fn count_far<const N: usize>(found: &AtCommit<'_, N>, positions: &mut Positions) -> u64 {
     let first = found.pruned_bits();
     let bits = found.len();
@@ -121,7 +121,7 @@ fn count_far<const N: usize>(found: &AtCommit<'_, N>, positions: &mut Positions)
     sum
 }
 
-// Reads random bits of an old state in place.
+// Reads random bits of a past state in place.
 fn read_in_place<const N: usize>(bitmap: &CleanBitMap<N>, number: u64, times: u64) -> u64 {
     let mut positions = Positions::from_seed(times);
     let mut sum: u64 = 0;
@@ -133,7 +133,7 @@ fn read_in_place<const N: usize>(bitmap: &CleanBitMap<N>, number: u64, times: u6
     sum
 }
 
-// Clones.
+// Clones the bitmap with its history.
 fn clone_each<const N: usize>(bitmap: &CleanBitMap<N>, times: u64) -> Result<u64, AllocError> {
     let mut sum: u64 = 0;
     for _ in 0..times {
@@ -142,7 +142,7 @@ fn clone_each<const N: usize>(bitmap: &CleanBitMap<N>, times: u64) -> Result<u64
     Ok(sum)
 }
 
-/// Runs a call on a bitmap of `bytes` bytes, and answers a number that depends on what it answered.
+/// Runs a call `times` times on a bitmap of `bytes` bytes, and returns a number that depends on its results.
 pub fn run<const N: usize>(
     alloc: Global,
     call: Call,
@@ -154,7 +154,7 @@ pub fn run<const N: usize>(
 {
     let bitmap = filled::<N>(alloc, bytes)?;
     match call {
-        Call::GiveUp(edits) => give_up(bitmap, edits, times),
+        Call::Abort(edits) => abort_each(bitmap, edits, times),
         Call::Commit(edits) => commit_each(bitmap, edits, times),
         Call::ReadOldest => read_owned(&with_commits(bitmap)?, 0, times),
         Call::ReadNewest => read_owned(&with_commits(bitmap)?, LAST, times),

@@ -1,4 +1,4 @@
-//! Runs one call of a bitmap again and again, to be timed from outside. `tools/bench.sh` makes a table of all calls.
+//! Runs one call of a bitmap many times, so that another program can time it. `tools/bench.sh` makes a table of all calls.
 #![tactic(auto)]
 
 mod batches;
@@ -10,25 +10,25 @@ mod program;
 mod pruned;
 mod reads;
 
-use crate::program::Fault;
+use crate::program::RunError;
 use std::process::ExitCode;
 use std::{env, io};
 
-// The words after the program's name.
+// The arguments after the program's name.
 fn read_words(rt: &HostRuntime) -> Result<Vec<String>, io::Error> {
     Ok(env::args(rt)?.skip(1).collect(rt.alloc())?)
 }
 
-fn run(rt: &HostRuntime) -> Result<(), Fault> {
-    let words = read_words(rt).map_err(|_| Fault::Usage)?;
+fn run(rt: &HostRuntime) -> Result<(), RunError> {
+    let words = read_words(rt).map_err(|_| RunError::Usage)?;
     let sum = program::run(rt.alloc(), words.as_slice())?;
-    println!(rt; "{sum}").map_err(|_| Fault::CannotWrite)
+    println!(rt; "{sum}").map_err(|_| RunError::CannotWrite)
 }
 
 fn main(rt: HostRuntime) -> ExitCode {
-    let Err(fault) = run(&rt) else {
+    let Err(error) = run(&rt) else {
         return ExitCode::from(0);
     };
-    let _ = rt.eprintln(fault.text());
-    ExitCode::from(fault.status())
+    let _ = rt.eprintln(error.text());
+    ExitCode::from(error.status())
 }

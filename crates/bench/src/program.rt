@@ -1,4 +1,4 @@
-//! What a run does.
+//! A run of the program: reads the arguments, makes a bitmap and runs the call.
 
 ghost use Rattle.std.specs.Prelude.{◌*◌, ◌^◌, ◌<◌, ◌≤◌, length, IfOk};
 
@@ -7,44 +7,44 @@ use crate::{edits, growth, historical, pruned, reads};
 use bitmap_core::bitmap::BitMap;
 use std::alloc::{AllocError, Global};
 
-/// Why nothing was printed.
+/// The reason why a run prints no result.
 #[derive(Drop)]
-pub enum Fault {
+pub enum RunError {
     Usage,
     OutOfMemory,
     CannotWrite,
 }
 
-impl Fault {
-    /// What is said of it.
+impl RunError {
+    /// Returns the message for standard error.
     pub fn text(&self) -> &'static str {
         match self {
-            Fault::Usage => {
-                "bench: usage: bench CALL WIDTH BYTES TIMES, WIDTH one of 1, 3, 8, 32, BYTES at most 2^32"
+            RunError::Usage => {
+                "usage: bench CALL WIDTH BYTES TIMES (WIDTH is 1, 3, 8 or 32 bytes per chunk; BYTES is at most 2^32)"
             }
-            Fault::OutOfMemory => "bench: out of memory",
-            Fault::CannotWrite => "bench: cannot write",
+            RunError::OutOfMemory => "bench: out of memory",
+            RunError::CannotWrite => "bench: cannot write to standard output",
         }
     }
 
-    /// The exit status.
+    /// Returns the exit status.
     pub fn status(&self) -> u8 {
         match self {
-            Fault::Usage => 2,
-            Fault::OutOfMemory | Fault::CannotWrite => 3,
+            RunError::Usage => 2,
+            RunError::OutOfMemory | RunError::CannotWrite => 3,
         }
     }
 }
 
-impl From<AllocError> for Fault {
-    fn from(_error: AllocError) -> Fault {
-        Fault::OutOfMemory
+impl From<AllocError> for RunError {
+    fn from(_error: AllocError) -> RunError {
+        RunError::OutOfMemory
     }
 }
 
 const MOST_BYTES: u64 = 1 << 32;
 
-// A bitmap of `bytes` bytes. Of each eight bits four are set.
+// A bitmap of `bytes` bytes. Four of each eight bits are set.
 fn filled<const N: usize>(alloc: Global, bytes: u64) -> Result<BitMap<N>, AllocError>
     requires positive { 0 < N }
     requires fits { 8 * N < 2 ^ 64 }
@@ -64,7 +64,7 @@ fn filled<const N: usize>(alloc: Global, bytes: u64) -> Result<BitMap<N>, AllocE
     Ok(map)
 }
 
-// Runs a call on a dense or pruned bitmap of width `N`, with another of width `M` where it takes one of another width.
+// Runs a call on a dense or pruned bitmap with chunks of `N` bytes. Some calls take a second bitmap, with chunks of `M` bytes.
 fn run_at<const N: usize, const M: usize>(
     alloc: Global,
     call: Call,
@@ -116,8 +116,8 @@ fn run_at<const N: usize, const M: usize>(
     }
 }
 
-// Runs a call of a dense or pruned bitmap, at a width in words.
-fn run_call(alloc: Global, call: Call, width: &str, bytes: u64, times: u64) -> Result<u64, Fault>
+// Runs a call of a dense or pruned bitmap, with the chunk width that an argument gives.
+fn run_call(alloc: Global, call: Call, width: &str, bytes: u64, times: u64) -> Result<u64, RunError>
     requires most { bytes ≤ 2 ^ 32 }
 {
     match width.as_bytes() {
@@ -125,40 +125,40 @@ fn run_call(alloc: Global, call: Call, width: &str, bytes: u64, times: u64) -> R
         b"3" => Ok(run_at::<3, 8>(alloc, call, bytes, times)?),
         b"8" => Ok(run_at::<8, 3>(alloc, call, bytes, times)?),
         b"32" => Ok(run_at::<32, 8>(alloc, call, bytes, times)?),
-        _ => Err(Fault::Usage),
+        _ => Err(RunError::Usage),
     }
 }
 
-// Runs a call of a historical bitmap, at a width in words.
+// Runs a call of a historical bitmap, with the chunk width that an argument gives.
 fn run_historical(
     alloc: Global,
     call: historical::Call,
     width: &str,
     bytes: u64,
     times: u64,
-) -> Result<u64, Fault> {
+) -> Result<u64, RunError> {
     match width.as_bytes() {
         b"1" => Ok(historical::run::<1>(alloc, call, bytes, times)?),
         b"3" => Ok(historical::run::<3>(alloc, call, bytes, times)?),
         b"8" => Ok(historical::run::<8>(alloc, call, bytes, times)?),
         b"32" => Ok(historical::run::<32>(alloc, call, bytes, times)?),
-        _ => Err(Fault::Usage),
+        _ => Err(RunError::Usage),
     }
 }
 
-/// Runs what the words name, and answers a number that depends on what the calls answered.
-pub fn run(alloc: Global, words: &[String]) -> Result<u64, Fault> {
+/// Runs the call that the arguments name, and returns a number that depends on its results, so that the compiler keeps the call.
+pub fn run(alloc: Global, words: &[String]) -> Result<u64, RunError> {
     let [call, width, bytes, times] = words else {
-        return Err(Fault::Usage);
+        return Err(RunError::Usage);
     };
-    let bytes = bytes.as_str().parse::<u64>().map_err(|_| Fault::Usage)?;
-    let times = times.as_str().parse::<u64>().map_err(|_| Fault::Usage)?;
+    let bytes = bytes.as_str().parse::<u64>().map_err(|_| RunError::Usage)?;
+    let times = times.as_str().parse::<u64>().map_err(|_| RunError::Usage)?;
     if bytes > MOST_BYTES {
-        return Err(Fault::Usage);
+        return Err(RunError::Usage);
     }
     if let Some(call) = historical::named(call.as_str()) {
         return run_historical(alloc, call, width.as_str(), bytes, times);
     }
-    let call = named(call.as_str()).ok_or(Fault::Usage)?;
+    let call = named(call.as_str()).ok_or(RunError::Usage)?;
     run_call(alloc, call, width.as_str(), bytes, times)
 }

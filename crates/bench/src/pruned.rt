@@ -1,4 +1,4 @@
-//! Calls of bitmaps with a pruned front. Each function answers a number that depends on what its calls answered.
+//! Calls of bitmaps with a pruned prefix. Each function returns a number that depends on the results of its calls.
 
 ghost use Rattle.std.specs.Prelude.{◌≡◌, ◌+◌, ◌^◌, ◌<◌, IfOk};
 ghost use Rattle.bitmap_core.specs.PrunedBits.{bit_len, plain_bits};
@@ -16,30 +16,30 @@ fn push_each<const N: usize>(log: &mut Prunable<N>, bits: u64) -> Result<(), All
     Ok(())
 }
 
-/// Appends as many bits as the map has, one by one, in memory that was used before.
+/// Appends as many bits as the bitmap has, one by one. The capacity is reused.
 pub fn push<const N: usize>(alloc: Global, map: &BitMap<N>, times: u64) -> Result<u64, AllocError> {
     let mut log = copied(alloc, map)?;
     let bits = log.len();
     for _ in 0..times {
         log.truncate(log.pruned_bits());
-        let room = u64::MAX - log.len();
-        push_each(&mut log, bits.min(room))?;
+        let space = u64::MAX - log.len();
+        push_each(&mut log, bits.min(space))?;
     }
     Ok(log.len())
 }
 
-// The bits of a map, nothing pruned.
+// A bitmap with the same bits, nothing pruned.
 fn copied<const N: usize>(alloc: Global, map: &BitMap<N>) -> Result<Prunable<N>, AllocError>
     ensures { IfOk result (λ log. log ≡ plain_bits map.now) }
 {
-    // Tells the proof how large `N` may be.
+    // The prover learns the bounds of `N` from this call.
     let _ = map.len();
     let mut log = Prunable::new(alloc);
     log.extend_from_bitmap(map)?;
     Ok(log)
 }
 
-/// Appends the bits byte by byte, in memory that was used before, each after a test that there is room.
+/// Appends the bits byte by byte, each after a test that there is space. The capacity is reused.
 pub fn push_byte<const N: usize>(
     alloc: Global,
     map: &BitMap<N>,
@@ -58,7 +58,7 @@ pub fn push_byte<const N: usize>(
     Ok(log.len())
 }
 
-/// Appends the bits chunk by chunk, in memory that was used before, each after a test that there is room.
+/// Appends the bits chunk by chunk, each after a test that there is space. The capacity is reused.
 pub fn push_chunk<const N: usize>(
     alloc: Global,
     map: &BitMap<N>,
@@ -66,11 +66,11 @@ pub fn push_chunk<const N: usize>(
 ) -> Result<u64, AllocError> {
     let mut log = copied(alloc, map)?;
     let chunks = log.complete_chunks();
-    let room = u64::MAX - 8 * N as u64;
+    let space = u64::MAX - 8 * N as u64;
     for _ in 0..times {
         log.truncate(log.pruned_bits());
         for _ in 0..chunks {
-            if log.is_chunk_aligned() && log.len() < room {
+            if log.is_chunk_aligned() && log.len() < space {
                 log.push_chunk(&[105; N])?;
             }
         }
@@ -78,15 +78,15 @@ pub fn push_chunk<const N: usize>(
     Ok(log.len())
 }
 
-// Puts chunks back, where so many are pruned.
-fn put_back<const N: usize>(log: &mut Prunable<N>, chunks: &[[u8; N]]) -> Result<(), AllocError> {
+// Restores chunks, if at least as many are pruned.
+fn restore<const N: usize>(log: &mut Prunable<N>, chunks: &[[u8; N]]) -> Result<(), AllocError> {
     if chunks.len() <= log.pruned_chunks() {
         log.unprune(chunks)?;
     }
     Ok(())
 }
 
-// As many chunks as are whole.
+// As many chunks as the bitmap has complete ones.
 fn chunks_of<const N: usize>(alloc: Global, log: &Prunable<N>) -> Result<Vec<[u8; N]>, AllocError> {
     let mut chunks = Vec::new(alloc);
     for _ in 0..log.complete_chunks() {
@@ -95,7 +95,7 @@ fn chunks_of<const N: usize>(alloc: Global, log: &Prunable<N>) -> Result<Vec<[u8
     Ok(chunks)
 }
 
-/// Prunes chunk by chunk, and puts all chunks back at once.
+/// Prunes chunk by chunk, and restores all chunks at once.
 pub fn prune<const N: usize>(
     alloc: Global,
     map: &BitMap<N>,
@@ -108,12 +108,12 @@ pub fn prune<const N: usize>(
             log.prune_to_bit(position.min(log.len()));
         }
         log.prune_to_bit(log.len());
-        put_back(&mut log, chunks.as_slice())?;
+        restore(&mut log, chunks.as_slice())?;
     }
     Ok(log.pruned_bits())
 }
 
-/// Prunes all chunks at once, and puts them back at once.
+/// Prunes all chunks at once, and restores them at once.
 pub fn unprune<const N: usize>(
     alloc: Global,
     map: &BitMap<N>,
@@ -123,12 +123,12 @@ pub fn unprune<const N: usize>(
     let chunks = chunks_of(alloc, &log)?;
     for _ in 0..times {
         log.prune_to_bit(log.len());
-        put_back(&mut log, chunks.as_slice())?;
+        restore(&mut log, chunks.as_slice())?;
     }
     Ok(log.pruned_bits())
 }
 
-/// Asks for each retained bit, where the first chunk is pruned.
+/// Reads each retained bit of a bitmap whose first chunk is pruned.
 pub fn get_bit<const N: usize>(
     alloc: Global,
     map: &BitMap<N>,
@@ -145,14 +145,14 @@ pub fn get_bit<const N: usize>(
     Ok(sum)
 }
 
-// Writes each retained bit.
+// Sets each retained bit to a value.
 fn set_each<const N: usize>(log: &mut Prunable<N>, round: u64) {
     for position in log.pruned_bits()..log.len() {
         log.set_bit(position, (position ^ round) % 3 == 0);
     }
 }
 
-/// Writes each retained bit, where the first chunk is pruned.
+/// Sets each retained bit of a bitmap whose first chunk is pruned.
 pub fn set_bit<const N: usize>(
     alloc: Global,
     map: &BitMap<N>,

@@ -1,10 +1,10 @@
-//! Calls that leave a bitmap as it is. Each function answers what its calls answered, put together.
+//! Calls that read a bitmap. Each function returns a number that depends on all results, so that the compiler keeps the calls.
 
 use bitmap_core::bitmap::BitMap;
 use std::alloc::AllocError;
 use std::hash::{DefaultHasher, Hash, Hasher};
 
-/// Asks for each bit.
+/// Reads each bit.
 pub fn get<const N: usize>(map: &BitMap<N>, times: u64) -> u64 {
     let mut sum: u64 = 0;
     for _ in 0..times {
@@ -15,7 +15,7 @@ pub fn get<const N: usize>(map: &BitMap<N>, times: u64) -> u64 {
     sum
 }
 
-/// Compares with an equal bitmap. One bit of both changes each time, so that no answer is known from before.
+/// Compares with an equal bitmap. One bit of both changes in each round, so that no result can be reused.
 pub fn equal<const N: usize>(map: &mut BitMap<N>, times: u64) -> Result<u64, AllocError> {
     let mut other = map.clone()?;
     let mut sum: u64 = 0;
@@ -29,7 +29,7 @@ pub fn equal<const N: usize>(map: &mut BitMap<N>, times: u64) -> Result<u64, All
     Ok(sum)
 }
 
-/// Hashes.
+/// Hashes the bitmap.
 pub fn hash<const N: usize>(map: &BitMap<N>, times: u64) -> u64 {
     let mut state = DefaultHasher::new();
     for _ in 0..times {
@@ -47,7 +47,7 @@ pub fn count_ones<const N: usize>(map: &BitMap<N>, times: u64) -> u64 {
     sum
 }
 
-/// Asks whether all bits are zero, which they are, so that each is looked at.
+/// Tests whether all bits are zero. They are, so that each is read.
 pub fn is_unset<const N: usize>(map: &mut BitMap<N>, times: u64) -> u64 {
     map.set_all(false);
     let mut sum: u64 = 0;
@@ -57,7 +57,7 @@ pub fn is_unset<const N: usize>(map: &mut BitMap<N>, times: u64) -> u64 {
     sum
 }
 
-/// Goes over the bits.
+/// Iterates over the bits.
 pub fn iter<const N: usize>(map: &BitMap<N>, times: u64) -> u64 {
     let mut sum: u64 = 0;
     for _ in 0..times {
@@ -68,9 +68,9 @@ pub fn iter<const N: usize>(map: &BitMap<N>, times: u64) -> u64 {
     sum
 }
 
-/// Goes over the set positions.
+/// Iterates over the set positions.
 pub fn ones_iter<const N: usize>(map: &BitMap<N>, times: u64) -> u64 {
-    // Tells the proof how large `N` may be.
+    // The prover learns the bounds of `N` from this call.
     let _ = map.len();
     let mut sum: u64 = 0;
     for _ in 0..times {

@@ -1,14 +1,15 @@
-//! The calls on the bytes of one chunk: what each answers was worked out by hand.
+//! The functions on the bytes of one chunk, compared with results worked out by hand.
 
-use crate::asked::{equal, expect, ok};
+use crate::checks::{equal, expect, ok};
 use bitmap_core::chunk;
 use bitmap_core::chunk::whole::{And, Or, Xor};
 use bitmap_core::chunk::{facts, join, load, whole, words};
 use std::alloc::Global;
 use std::process::Abort;
 
+// Chunk index, byte index and mask of a position, in chunks of three bytes.
 #[test]
-fn places_of_positions(rt: HostRuntime) {
+fn byte_and_mask_of_positions(rt: HostRuntime) {
     equal(&rt, chunk::chunk_width::<3>(), 24);
     equal(&rt, chunk::chunk_index::<3>(23), 0);
     equal(&rt, chunk::chunk_index::<3>(24), 1);
@@ -18,12 +19,13 @@ fn places_of_positions(rt: HostRuntime) {
     equal(&rt, chunk::bit_mask(11), 8);
 }
 
+// Writes change only their bit or byte.
 #[test]
 fn one_bit_or_byte_written(rt: HostRuntime) {
     let mut bytes = [1, 2, 3];
     chunk::set_bit(&mut bytes, 23, true);
     equal(&rt, bytes, [1, 2, 0x83]);
-    // The position of a whole bitmap names bit 0 of its second chunk.
+    // Position 24 of a bitmap is bit 0 of its second chunk.
     chunk::set_bit(&mut bytes, 24, false);
     equal(&rt, bytes, [0, 2, 0x83]);
     chunk::flip_bit(&mut bytes, 9);
@@ -36,8 +38,9 @@ fn one_bit_or_byte_written(rt: HostRuntime) {
     );
 }
 
+// Clears and tests the bits from a position to the end of the chunk.
 #[test]
-fn the_end_of_a_chunk(rt: HostRuntime) {
+fn bits_from_a_position_on(rt: HostRuntime) {
     let mut bytes = [0xff; 3];
     chunk::clear_from(&mut bytes, 11);
     equal(&rt, bytes, [0xff, 7, 0]);
@@ -46,7 +49,7 @@ fn the_end_of_a_chunk(rt: HostRuntime) {
     expect(&rt, !chunk::is_set_from(&bytes, u64::MAX));
 }
 
-// The first three bits of 5 are 1, 0 and 1.
+// The lowest three bits of 5 are 1, 0 and 1.
 fn check_bools(rt: &impl Abort, alloc: Global) {
     equal(rt, chunk::from_bools::<2>(&[true, false, true]), [5, 0]);
     let mut bools = ok(rt, Vec::with_capacity(alloc, 3));
@@ -54,11 +57,13 @@ fn check_bools(rt: &impl Abort, alloc: Global) {
     expect(rt, bools.as_slice() == &[true, false, true][..]);
 }
 
+// A chunk is made from booleans, and gives the same booleans.
 #[test]
 fn booleans_of_a_chunk(rt: HostRuntime) {
     check_bools(&rt, rt.alloc());
 }
 
+// Chunks cut from a run of bytes at any bit, and joined to bits before them.
 #[test]
 fn chunks_of_a_run(rt: HostRuntime) {
     equal(
@@ -79,6 +84,7 @@ fn chunks_of_a_run(rt: HostRuntime) {
     equal(&rt, bytes, [0x5f, 0xfa]);
 }
 
+// Words of eight bytes, also where a chunk ends within a word.
 #[test]
 fn words_of_a_chunk(rt: HostRuntime) {
     equal(&rt, load::high_bits(0xff, 4), 0xf0);
@@ -91,6 +97,7 @@ fn words_of_a_chunk(rt: HostRuntime) {
     equal(&rt, load::word_below(&[0xff; 9], 64, 70), 0x3f);
 }
 
+// Flips, sets and clears all bits of a chunk.
 #[test]
 fn every_bit_at_once(rt: HostRuntime) {
     let mut bytes = [0x0f, 0];
@@ -102,6 +109,7 @@ fn every_bit_at_once(rt: HostRuntime) {
     equal(&rt, bytes, [0, 0]);
 }
 
+// Combines two chunks by and, or and xor.
 #[test]
 fn two_chunks_combined(rt: HostRuntime) {
     let mut bytes = [0x0c, 0xff];
@@ -113,6 +121,7 @@ fn two_chunks_combined(rt: HostRuntime) {
     equal(&rt, bytes, [10, 0xf0]);
 }
 
+// Counts set bits, and tests ranges of bits.
 #[test]
 fn bits_of_some_bytes(rt: HostRuntime) {
     equal(&rt, words::count_ones(&[0xff, 1, 0x80]), 10);
@@ -122,7 +131,7 @@ fn bits_of_some_bytes(rt: HostRuntime) {
     expect(&rt, words::is_unset(&[0xff], 5, 5));
 }
 
-// More bytes than the calls take one by one: by words, and by blocks of them.
+// Inputs long enough that the functions work by words, and by blocks of words.
 #[test]
 fn many_bytes(rt: HostRuntime) {
     let run = [0xf0, 0x81, 1, 0, 0, 0, 0, 0, 0x5a, 0x0c];
@@ -138,6 +147,7 @@ fn many_bytes(rt: HostRuntime) {
     equal(&rt, load::following_word::<9>(0), Some(64));
 }
 
+// The functions that only give facts to the prover leave their arguments unchanged.
 #[test]
 fn facts_change_nothing(rt: HostRuntime) {
     facts::all_known(&[[1, 2], [3, 4]]);

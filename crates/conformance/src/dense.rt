@@ -1,22 +1,21 @@
-//! The calls of a dense bitmap: what each answers was worked out by hand.
+//! The calls of a dense bitmap, compared with results worked out by hand.
 
 ghost use Rattle.std.specs.Prelude.{◌*◌, ◌^◌, ◌<◌};
 
-use crate::answers::{bitmap, hash_of};
-use crate::asked::{equal, equal_at, expect, expect_at, ok};
+use crate::checks::{equal, equal_at, expect, expect_at, ok};
+use crate::dense_helpers::{bitmap, hash_of};
 use bitmap_core::bitmap::readable::Readable;
 use bitmap_core::bitmap::{BitMap, DEFAULT_CHUNK_SIZE};
 use std::alloc::Global;
 use std::process::Abort;
 
-// Whether a bitmap has the bits that digits stand for.
-fn shows<const N: usize>(map: &BitMap<N>, digits: &[u8]) -> bool {
+// Whether the iterator yields one bit per digit, set for `1`.
+fn has_bits<const N: usize>(map: &BitMap<N>, digits: &[u8]) -> bool {
     map.iter().eq(digits.iter().map(|digit| *digit == b'1'))
 }
 
-// Whether the last chunk has zeros past the length.
+// Whether the bits of the last chunk past the length are zero.
 fn is_clean<const N: usize>(map: &BitMap<N>) -> bool {
-    // The proof learns from the length that the width of a chunk fits.
     if map.len() == 0 {
         return true;
     }
@@ -30,7 +29,7 @@ fn is_clean<const N: usize>(map: &BitMap<N>) -> bool {
     true
 }
 
-// What a reader has of a whole chunk and three bits, of which the last is set.
+// The methods of `Readable` on a whole chunk and three bits, of which the last is set.
 fn check_reader<const N: usize>(rt: &impl Abort, alloc: Global)
     requires positive { 0 < N }
     requires fits { 8 * N < 2 ^ 64 }
@@ -66,6 +65,7 @@ fn check_chunks<const N: usize>(rt: &impl Abort, alloc: Global)
     expect(rt, map == ok(rt, BitMap::<N>::ones(alloc, width)));
 }
 
+// The methods of `Readable`, at seven widths.
 #[test]
 fn readers_at_each_width(rt: HostRuntime) {
     check_reader::<1>(&rt, rt.alloc());
@@ -77,6 +77,7 @@ fn readers_at_each_width(rt: HostRuntime) {
     check_reader::<64>(&rt, rt.alloc());
 }
 
+// The constants, and a whole chunk pushed, at seven widths.
 #[test]
 fn whole_chunks_at_each_width(rt: HostRuntime) {
     equal(&rt, DEFAULT_CHUNK_SIZE, 8);
@@ -89,38 +90,58 @@ fn whole_chunks_at_each_width(rt: HostRuntime) {
     check_chunks::<64>(&rt, rt.alloc());
 }
 
+// The operators return new bitmaps, compared bit by bit.
 #[test]
-fn joins_of_five_bits(rt: HostRuntime) {
+fn five_bits_combined(rt: HostRuntime) {
     let map = bitmap::<4>(&rt, rt.alloc(), b"10110");
     let other = bitmap::<4>(&rt, rt.alloc(), b"11010");
     expect(&rt, map.len() == 5);
     expect(&rt, other.len() == 5);
-    expect(&rt, shows(&ok(&rt, &map & &other), b"10010"));
-    expect(&rt, shows(&ok(&rt, &map | &other), b"11110"));
-    expect(&rt, shows(&ok(&rt, &map ^ &other), b"01100"));
+    expect(&rt, has_bits(&ok(&rt, &map & &other), b"10010"));
+    expect(&rt, has_bits(&ok(&rt, &map | &other), b"11110"));
+    expect(&rt, has_bits(&ok(&rt, &map ^ &other), b"01100"));
     equal(&rt, map.count_ones(), 3);
     equal(&rt, map.count_zeros(), 2);
     let mut map = map;
     map.flip_all();
-    expect(&rt, shows(&map, b"01001"));
+    expect(&rt, has_bits(&map, b"01001"));
 }
 
+// `and`, `or` and `xor` of the same bits.
 #[test]
-fn joins_in_place(rt: HostRuntime) {
+fn five_bits_combined_in_place(rt: HostRuntime) {
+    let mut both = bitmap::<4>(&rt, rt.alloc(), b"10110");
+    let mut either = bitmap::<4>(&rt, rt.alloc(), b"10110");
+    let mut difference = bitmap::<4>(&rt, rt.alloc(), b"10110");
+    let other = bitmap::<4>(&rt, rt.alloc(), b"11010");
+    expect(&rt, both.len() == 5 && either.len() == 5);
+    expect(&rt, difference.len() == 5 && other.len() == 5);
+    both.and(&other);
+    either.or(&other);
+    difference.xor(&other);
+    expect(&rt, has_bits(&both, b"10010"));
+    expect(&rt, has_bits(&either, b"11110"));
+    expect(&rt, has_bits(&difference, b"01100"));
+}
+
+// The same operations in place.
+#[test]
+fn combined_in_place(rt: HostRuntime) {
     let mut map = bitmap::<3>(&rt, rt.alloc(), b"10110");
     let other = bitmap::<3>(&rt, rt.alloc(), b"11010");
     expect(&rt, map.len() == 5 && other.len() == 5);
     map.xor(&other);
-    expect(&rt, shows(&map, b"01100") && map.len() == 5);
+    expect(&rt, has_bits(&map, b"01100") && map.len() == 5);
     map.or(&other);
-    expect(&rt, shows(&map, b"11110") && map.len() == 5);
+    expect(&rt, has_bits(&map, b"11110") && map.len() == 5);
     map.and(&other);
     expect(&rt, map == other);
     expect(&rt, map.get(3) && !map.get_bit(2));
 }
 
+// The operators on bitmaps of two chunks, compared chunk by chunk.
 #[test]
-fn joins_of_two_chunks(rt: HostRuntime) {
+fn two_chunks_combined(rt: HostRuntime) {
     let mut map = BitMap::<4>::new(rt.alloc());
     let mut other = BitMap::<4>::new(rt.alloc());
     ok(&rt, map.push_chunk(&[0xff; 4]));
@@ -141,7 +162,7 @@ fn joins_of_two_chunks(rt: HostRuntime) {
     equal(&rt, either.count_ones(), 62);
 }
 
-// The bits 101, extended by ones in chunks of another width.
+// Appends ones from a bitmap with another chunk width to the bits 101.
 fn check_extended<const N: usize, const M: usize>(
     rt: &impl Abort,
     alloc: Global,
@@ -161,12 +182,14 @@ fn check_extended<const N: usize, const M: usize>(
     expect(rt, map.get_chunk(0) == want);
 }
 
+// Appends a bitmap whose chunks have another width.
 #[test]
 fn extended_by_another_width(rt: HostRuntime) {
     check_extended::<3, 8>(&rt, rt.alloc(), 9, [0xfd, 0x0f, 0]);
     check_extended::<8, 3>(&rt, rt.alloc(), 30, [0xfd, 0xff, 0xff, 0xff, 1, 0, 0, 0]);
 }
 
+// `truncate` and `extend_to`, also to a shorter length and to zero.
 #[test]
 fn shorter_and_longer(rt: HostRuntime) {
     let mut map = ok(&rt, BitMap::<3>::ones(rt.alloc(), 30));
@@ -186,6 +209,7 @@ fn shorter_and_longer(rt: HostRuntime) {
     );
 }
 
+// `is_unset` on ranges about one set bit, also on empty and reversed ranges.
 #[test]
 fn ranges_without_a_set_bit(rt: HostRuntime) {
     let mut map = ok(&rt, BitMap::<8>::zeroes(rt.alloc(), 128));
@@ -203,8 +227,9 @@ fn ranges_without_a_set_bit(rt: HostRuntime) {
     }
 }
 
+// `max_encode_size`, up to the greatest length.
 #[test]
-fn sizes_of_byte_forms(rt: HostRuntime) {
+fn maximum_encoding_sizes(rt: HostRuntime) {
     for (bits, want) in [(0, 8), (1, 12), (32, 12), (33, 16)] {
         equal_at(&rt, bits, BitMap::<4>::max_encode_size(bits), want);
     }
@@ -238,8 +263,9 @@ fn sizes_of_byte_forms(rt: HostRuntime) {
     );
 }
 
+// All bits up to 64, and else the first and the last 32.
 #[test]
-fn text_for_debugging(rt: HostRuntime) {
+fn debug_output(rt: HostRuntime) {
     let map = bitmap::<4>(&rt, rt.alloc(), b"101");
     equal(
         &rt,
@@ -266,7 +292,7 @@ fn text_for_debugging(rt: HostRuntime) {
     }
 }
 
-// Sets positions in a bitmap of zeros, and reads them back.
+// Sets `positions` in a bitmap of `len` zeros, and iterates over them.
 fn check_positions<const N: usize>(rt: &impl Abort, alloc: Global, len: u64, positions: &[u64])
     requires positive { 0 < N }
     requires fits { 8 * N < 2 ^ 64 }
@@ -280,6 +306,7 @@ fn check_positions<const N: usize>(rt: &impl Abort, alloc: Global, len: u64, pos
     equal(rt, map.count_ones(), positions.len() as u64);
 }
 
+// The iterators over set positions, within and across words and chunks.
 #[test]
 fn set_positions(rt: HostRuntime) {
     check_positions::<4>(&rt, rt.alloc(), 0, &[]);
@@ -301,6 +328,7 @@ fn set_positions(rt: HostRuntime) {
     }
 }
 
+// The first and the last set position of a range.
 #[test]
 fn set_positions_of_a_range(rt: HostRuntime) {
     let mut map = ok(&rt, BitMap::<9>::zeroes(rt.alloc(), 144));
@@ -331,8 +359,9 @@ fn set_positions_of_a_range(rt: HostRuntime) {
     }
 }
 
+// The iterator over bits, its size hint, and its end.
 #[test]
-fn bits_one_after_another(rt: HostRuntime) {
+fn bits_iterated(rt: HostRuntime) {
     let map = bitmap::<4>(&rt, rt.alloc(), b"10101");
     let mut bits = map.iter();
     equal(&rt, bits.size_hint(), (5, Some(5)));
@@ -342,14 +371,15 @@ fn bits_one_after_another(rt: HostRuntime) {
     equal(&rt, bits.next(), None);
     equal(&rt, bits.next(), None);
     equal(&rt, bits.size_hint(), (0, Some(0)));
-    expect(&rt, shows(&BitMap::<4>::new(rt.alloc()), b""));
-    expect(&rt, shows(&BitMap::<4>::default(rt.alloc()), b""));
+    expect(&rt, has_bits(&BitMap::<4>::new(rt.alloc()), b""));
+    expect(&rt, has_bits(&BitMap::<4>::default(rt.alloc()), b""));
     let across = b"101010101010101010101010101010101010101";
-    expect(&rt, shows(&bitmap::<4>(&rt, rt.alloc(), across), across));
+    expect(&rt, has_bits(&bitmap::<4>(&rt, rt.alloc(), across), across));
 }
 
+// Equal bitmaps are equal and have equal hashes. A bit or a length more makes them differ.
 #[test]
-fn equal_and_not(rt: HostRuntime) {
+fn equality_and_hashes(rt: HostRuntime) {
     let digits = b"100100100100100100100100100100100";
     let mut map = bitmap::<4>(&rt, rt.alloc(), digits);
     let other = bitmap::<4>(&rt, rt.alloc(), digits);
@@ -374,7 +404,7 @@ fn equal_and_not(rt: HostRuntime) {
     );
 }
 
-// A chunk of one byte over and over, then a set bit and an unset one.
+// Counts in a chunk that repeats `byte`, followed by a set bit and an unset one.
 fn check_counts<const N: usize>(rt: &impl Abort, alloc: Global, byte: u8, ones: u64, zeros: u64)
     requires positive { 0 < N }
     requires fits { 8 * N < 2 ^ 64 }
@@ -390,6 +420,7 @@ fn check_counts<const N: usize>(rt: &impl Abort, alloc: Global, byte: u8, ones: 
     equal_at(rt, N, map.count_zeros(), zeros);
 }
 
+// Counts of set and unset bits at three widths.
 #[test]
 fn whole_chunks_and_two_bits(rt: HostRuntime) {
     check_counts::<8>(&rt, rt.alloc(), 0xff, 65, 1);
@@ -397,6 +428,7 @@ fn whole_chunks_and_two_bits(rt: HostRuntime) {
     check_counts::<32>(&rt, rt.alloc(), 0x55, 129, 129);
 }
 
+// The bits of the last chunk past the length are zero after each edit.
 #[test]
 fn zeros_past_the_length(rt: HostRuntime) {
     for len in [0, 1, 15, 20, 27, 31, 32, 33] {
@@ -412,20 +444,22 @@ fn zeros_past_the_length(rt: HostRuntime) {
     }
 }
 
+// The same after the operators.
 #[test]
-fn zeros_past_the_length_of_joins(rt: HostRuntime) {
+fn zeros_past_the_length_of_combined_bitmaps(rt: HostRuntime) {
     for len in [1, 15, 20, 33] {
         let map = ok(&rt, BitMap::<4>::ones(rt.alloc(), len));
         let other = ok(&rt, BitMap::<4>::zeroes(rt.alloc(), len));
-        let joined = ok(&rt, &map & &other);
-        expect_at(&rt, ("and", len), is_clean(&joined));
-        let joined = ok(&rt, &map | &other);
-        expect_at(&rt, ("or", len), is_clean(&joined));
-        let joined = ok(&rt, &map ^ &other);
-        expect_at(&rt, ("xor", len), is_clean(&joined));
+        let combined = ok(&rt, &map & &other);
+        expect_at(&rt, ("and", len), is_clean(&combined));
+        let combined = ok(&rt, &map | &other);
+        expect_at(&rt, ("or", len), is_clean(&combined));
+        let combined = ok(&rt, &map ^ &other);
+        expect_at(&rt, ("xor", len), is_clean(&combined));
     }
 }
 
+// Pushes bits and removes them again in reverse order.
 #[test]
 fn pushes_and_pops(rt: HostRuntime) {
     let mut map = BitMap::<3>::new(rt.alloc());

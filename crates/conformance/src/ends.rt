@@ -1,24 +1,27 @@
-//! The ends of the positions at six widths: behind the greatest pruned front as many bits as there are positions left, and lengths that no memory has room for.
+//! The greatest positions and lengths, at six widths.
+//!
+//! The bitmaps have the greatest pruned prefix and a bit at each position that is left. Other tests ask for lengths too large to allocate.
 
 ghost use Rattle.std.specs.Prelude.{◌*◌, ◌^◌, ◌<◌};
 
-use crate::answers::holds;
-use crate::asked::{
-    chunk_at, equal, equal_at, expect, extend_from_bitmap, get_bit, get_chunk, last_chunk, ok, pop,
-    pop_chunk, prune_to_bit, push, push_byte, push_chunk, set_bit, set_full_chunk, shows, truncate,
-    unprune,
+use crate::checked_calls::{
+    chunk_at, extend_from_bitmap, get_bit, get_chunk, last_chunk, pop, pop_chunk, prune_to_bit,
+    push, push_byte, push_chunk, set_bit, set_full_chunk, truncate, unprune,
 };
-use crate::codec::written;
+use crate::checks::{equal, equal_at, expect, ok};
+use crate::codec::encoded;
+use crate::dense_helpers::holds;
 use bitmap_core::bitmap::codec::{EncodeSize, RangeCfg, Read};
 use bitmap_core::bitmap::prunable::{Error, Prunable};
 use bitmap_core::bitmap::{BitMap, Readable};
 use std::alloc::Global;
 use std::process::Abort;
+use test_support::compare::has_bits;
 
 // The last position that a bitmap can have.
 const LAST: u64 = u64::MAX - 1;
 
-// The greatest front of whole chunks, and zeros up to the greatest length, of which the first and the last are set.
+// A bitmap of the greatest length with `most` pruned chunks, the most that there can be. Its first and last bits are set.
 fn greatest<const N: usize>(rt: &impl Abort, alloc: Global, most: usize) -> Prunable<N>
     requires positive { 0 < N }
     requires fits { 8 * N < 2 ^ 64 }
@@ -36,7 +39,7 @@ fn greatest<const N: usize>(rt: &impl Abort, alloc: Global, most: usize) -> Prun
     map
 }
 
-// The set positions in ranges that are whole, of one position, empty, reversed and before the front.
+// The set positions in ranges: the whole, of one position, empty, reversed, and within the pruned prefix.
 fn check_positions<B: Readable<N>, const N: usize>(rt: &impl Abort, map: &B, first: u64) {
     equal(rt, map.len(), u64::MAX);
     expect(rt, map.ones_iter_from(0).eq([first, LAST]));
@@ -59,8 +62,8 @@ fn check_positions<B: Readable<N>, const N: usize>(rt: &impl Abort, map: &B, fir
     equal(rt, map.ones_iter_range(0..first).next(), None);
 }
 
-// What any reader is asked: the bits at both ends and beside them, the only chunk, and set positions.
-fn check_reader<B: Readable<N>, const N: usize>(rt: &impl Abort, map: &B, first: u64, room: u64) {
+// The methods of `Readable`: the bits at both ends and next to them, the only chunk, and the set positions.
+fn check_reader<B: Readable<N>, const N: usize>(rt: &impl Abort, map: &B, first: u64, space: u64) {
     expect(
         rt,
         map.len() == u64::MAX && map.pruned_bits() == first && first < LAST - 1,
@@ -71,13 +74,13 @@ fn check_reader<B: Readable<N>, const N: usize>(rt: &impl Abort, map: &B, first:
     let (chunk, used) = map.last_chunk();
     expect(
         rt,
-        used == room && map.get_chunk(map.complete_chunks()) == chunk,
+        used == space && map.get_chunk(map.complete_chunks()) == chunk,
     );
     check_positions(rt, map, first);
 }
 
-// The counts of chunks, and the only chunk by each of the calls that answer it.
-fn check_chunk<const N: usize>(rt: &impl Abort, map: &Prunable<N>, most: usize, room: u64) {
+// The numbers of chunks, and the only chunk by each call that returns it.
+fn check_chunk<const N: usize>(rt: &impl Abort, map: &Prunable<N>, most: usize, space: u64) {
     let (first, len) = (map.pruned_bits(), map.len());
     expect(rt, N <= 64 && len == u64::MAX);
     expect(
@@ -89,7 +92,7 @@ fn check_chunk<const N: usize>(rt: &impl Abort, map: &Prunable<N>, most: usize, 
         map.chunks_len() == most.saturating_add(1) && !map.is_chunk_aligned(),
     );
     let (chunk, used) = last_chunk(rt, map);
-    expect(rt, used == room && get_chunk(rt, map, most) == chunk);
+    expect(rt, used == space && get_chunk(rt, map, most) == chunk);
     expect(
         rt,
         chunk_at(rt, map, first) == chunk && chunk_at(rt, map, LAST) == chunk,
@@ -99,8 +102,8 @@ fn check_chunk<const N: usize>(rt: &impl Abort, map: &Prunable<N>, most: usize, 
     expect(rt, !Prunable::<N>::get_bit_from_chunk(&chunk, u64::MAX));
 }
 
-// Where positions stand: the first behind the front, the one before it, and the greatest number.
-fn check_places<const N: usize>(rt: &impl Abort, first: u64, most: usize, room: u64)
+// Chunk, byte and mask of the first retained position, of the one before it, and of `u64::MAX`.
+fn check_byte_and_mask<const N: usize>(rt: &impl Abort, first: u64, most: usize, space: u64)
     requires positive { 0 < N }
     requires fits { 8 * N < 2 ^ 64 }
 {
@@ -108,7 +111,7 @@ fn check_places<const N: usize>(rt: &impl Abort, first: u64, most: usize, room: 
     for (bit, chunk, byte, mask) in [
         (first - 1, most - 1, N - 1, 128),
         (first, most, 0, 1),
-        (u64::MAX, most, room as usize / 8, 128),
+        (u64::MAX, most, space as usize / 8, 128),
     ] {
         equal_at(rt, bit, Prunable::<N>::to_chunk_index(bit), chunk);
         equal_at(rt, bit, Prunable::<N>::chunk_byte_offset(bit), byte);
@@ -116,21 +119,21 @@ fn check_places<const N: usize>(rt: &impl Abort, first: u64, most: usize, room: 
     }
 }
 
-// The byte form, written and read again.
-fn check_form<const N: usize>(rt: &impl Abort, alloc: Global, map: &Prunable<N>, room: u64)
+// The encoding decodes to an equal bitmap.
+fn check_encoding<const N: usize>(rt: &impl Abort, alloc: Global, map: &Prunable<N>, space: u64)
     requires positive { 0 < N }
     requires fits { 8 * N < 2 ^ 64 }
 {
-    let out = written(rt, alloc, map);
+    let out = encoded(rt, alloc, map);
     equal(rt, out.len(), map.encode_size());
     let mut from = out.as_slice();
-    match Prunable::<N>::read_cfg(alloc, &mut from, &RangeCfg::exact(room)) {
-        Ok(read) => check_reader(rt, &read, map.pruned_bits(), room),
+    match Prunable::<N>::read_cfg(alloc, &mut from, &RangeCfg::exact(space)) {
+        Ok(read) => check_reader(rt, &read, map.pruned_bits(), space),
         Err(_) => expect(rt, false),
     }
 }
 
-// Edits at the end, each of which leaves the greatest length or no bit behind the front.
+// Edits at the end, each of which leaves the greatest length or no retained bit.
 fn check_edits<const N: usize>(
     rt: &impl Abort,
     map: &mut Prunable<N>,
@@ -160,9 +163,8 @@ fn check_edits<const N: usize>(
     );
 }
 
-// The last chunk before the greatest front, which is put back, replaced, removed, appended and pruned.
-fn check_front<const N: usize>(rt: &impl Abort, map: &mut Prunable<N>, first: u64, most: usize) {
-    let _ = map.len();
+// The last pruned chunk, which is restored, replaced, removed, appended and pruned.
+fn check_prefix<const N: usize>(rt: &impl Abort, map: &mut Prunable<N>, first: u64, most: usize) {
     expect(rt, N <= 64 && first > 0 && most > 0);
     truncate(rt, map, first);
     unprune(rt, map, &[[0xff; N]]);
@@ -184,23 +186,29 @@ fn check_front<const N: usize>(rt: &impl Abort, map: &mut Prunable<N>, first: u6
     );
 }
 
-// All of these, where the greatest front of so many chunks leaves room for so many bits.
-fn check_ends<const N: usize>(rt: &impl Abort, alloc: Global, most: usize, room: u64)
+// All of these checks. After the `most` chunks that can be pruned there is space for `space` bits.
+fn check_ends<const N: usize>(rt: &impl Abort, alloc: Global, most: usize, space: u64)
     requires positive { 0 < N }
     requires fits { 8 * N < 2 ^ 64 }
 {
     let mut map = greatest::<N>(rt, alloc, most);
     let first = map.pruned_bits();
-    check_reader(rt, &map, first, room);
-    check_chunk(rt, &map, most, room);
-    check_places::<N>(rt, first, most, room);
-    check_form(rt, alloc, &map, room);
-    check_edits(rt, &mut map, &ok(rt, BitMap::<3>::ones(alloc, room)), first);
-    check_front(rt, &mut map, first, most);
+    check_reader(rt, &map, first, space);
+    check_chunk(rt, &map, most, space);
+    check_byte_and_mask::<N>(rt, first, most, space);
+    check_encoding(rt, alloc, &map, space);
+    check_edits(
+        rt,
+        &mut map,
+        &ok(rt, BitMap::<3>::ones(alloc, space)),
+        first,
+    );
+    check_prefix(rt, &mut map, first, most);
 }
 
+// The calls at the greatest positions, at six widths.
 #[test]
-fn greatest_fronts(rt: HostRuntime) {
+fn greatest_prefixes(rt: HostRuntime) {
     check_ends::<1>(&rt, rt.alloc(), 2305843009213693951, 7);
     check_ends::<3>(&rt, rt.alloc(), 768614336404564650, 15);
     check_ends::<7>(&rt, rt.alloc(), 329406144173384850, 15);
@@ -209,7 +217,7 @@ fn greatest_fronts(rt: HostRuntime) {
     check_ends::<64>(&rt, rt.alloc(), 36028797018963967, 511);
 }
 
-// Lengths that no memory has room for: they are refused, and a bitmap stays as it was.
+// Lengths too large to allocate are errors, and leave a bitmap unchanged.
 fn check_lengths<const N: usize>(rt: &impl Abort, alloc: Global)
     requires positive { 0 < N }
     requires fits { 8 * N < 2 ^ 64 }
@@ -228,12 +236,13 @@ fn check_lengths<const N: usize>(rt: &impl Abort, alloc: Global)
     push(rt, &mut pruned, true);
     expect(
         rt,
-        pruned.extend_to(u64::MAX).is_err() && shows(rt, &pruned, 0, b"1"),
+        pruned.extend_to(u64::MAX).is_err() && has_bits(&pruned, 0, b"1"),
     );
 }
 
+// Lengths near `u64::MAX`, at six widths.
 #[test]
-fn lengths_without_memory(rt: HostRuntime) {
+fn lengths_too_large_to_allocate(rt: HostRuntime) {
     check_lengths::<1>(&rt, rt.alloc());
     check_lengths::<3>(&rt, rt.alloc());
     check_lengths::<7>(&rt, rt.alloc());

@@ -1,18 +1,22 @@
-//! Tests of the bitmaps from outside, through their public calls alone.
+//! Tests of the dense and of the pruned bitmap, through their public calls alone.
 #![tactic(auto)]
 
 #[cfg(test)]
-mod answers;
-#[cfg(test)]
-mod asked;
-#[cfg(test)]
-mod broken;
+mod allocation_failures;
 #[cfg(test)]
 mod bytes;
 #[cfg(test)]
+mod checked_calls;
+#[cfg(test)]
+mod checks;
+#[cfg(test)]
 mod codec;
 #[cfg(test)]
+mod damaged_bytes;
+#[cfg(test)]
 mod dense;
+#[cfg(test)]
+mod dense_helpers;
 #[cfg(test)]
 mod ends;
 #[cfg(test)]
@@ -20,6 +24,6 @@ mod pruned;
 #[cfg(test)]
 mod readers;
 #[cfg(test)]
-mod refused;
-#[cfg(test)]
 mod strange;
+#[cfg(test)]
+mod widths;

@@ -1,19 +1,21 @@
-//! Bitmaps with a pruned front: answers that were worked out by hand, and each public call.
+//! Bitmaps with a pruned prefix: each public call, compared with results worked out by hand.
 
 ghost use Rattle.std.specs.Prelude.{◌*◌, ◌^◌, ◌<◌};
 
-use crate::asked::{
-    chunk_at, equal, equal_at, expect, expect_at, extend_from_bitmap, get_bit, get_chunk,
-    last_chunk, of_chunks, ok, pop, pop_chunk, prune_to_bit, push, push_byte, push_chunk,
-    push_digits, set_bit, set_full_chunk, shows, truncate, unprune,
+use crate::checked_calls::{
+    chunk_at, extend_from_bitmap, get_bit, get_chunk, last_chunk, of_chunks, pop, pop_chunk,
+    prune_to_bit, push, push_byte, push_chunk, push_digits, set_bit, set_full_chunk, truncate,
+    unprune,
 };
+use crate::checks::{equal, equal_at, expect, expect_at, ok};
 use bitmap_core::bitmap::BitMap;
 use bitmap_core::bitmap::prunable::{Error, Prunable};
 use bitmap_core::bitmap::readable::Readable;
 use std::alloc::Global;
 use std::process::Abort;
+use test_support::compare::{has_bits, same_bits};
 
-// The counts of a bitmap: of bits and pruned bits, and of chunks, pruned chunks and full chunks.
+// The numbers of bits and pruned bits, and of chunks, pruned chunks and complete chunks.
 fn counts<const N: usize>(map: &Prunable<N>) -> (u64, u64, usize, usize, usize) {
     (
         map.len(),
@@ -24,20 +26,7 @@ fn counts<const N: usize>(map: &Prunable<N>) -> (u64, u64, usize, usize, usize) 
     )
 }
 
-// Whether two bitmaps have as many pruned bits, and the same bits after them.
-fn same<const N: usize>(rt: &impl Abort, map: &Prunable<N>, other: &Prunable<N>) -> bool {
-    if map.len() != other.len() || map.pruned_bits() != other.pruned_bits() {
-        return false;
-    }
-    for position in map.pruned_bits()..map.len() {
-        if get_bit(rt, map, position) != get_bit(rt, other, position) {
-            return false;
-        }
-    }
-    true
-}
-
-// Appends and edits behind a pruned chunk.
+// Appends and edits after a pruned chunk.
 fn check_edits<const N: usize>(rt: &impl Abort, alloc: Global)
     requires positive { 0 < N }
     requires fits { 8 * N < 2 ^ 64 }
@@ -61,13 +50,14 @@ fn check_edits<const N: usize>(rt: &impl Abort, alloc: Global)
         get_chunk(rt, &map, 2) == last && chunk_at(rt, &map, 2 * width + 1) == last,
     );
     expect(rt, Prunable::<N>::get_bit_from_chunk(&last, 2 * width + 1));
-    expect(rt, same(rt, &ok(rt, map.clone()), &map));
+    expect(rt, same_bits(&ok(rt, map.clone()), &map));
     expect(rt, pop(rt, &mut map) && pop(rt, &mut map));
     check_whole_chunks(rt, &mut map, width);
 }
 
-// A chunk appended as a byte and zeros, behind a pruned one and another, which is replaced. At the end two bits are left.
+// Appends a chunk as a byte and zeros, and replaces the retained chunk before it. At the end two bits are left.
 fn check_whole_chunks<const N: usize>(rt: &impl Abort, map: &mut Prunable<N>, width: u64) {
+    // The prover learns the bounds of `N` from this call.
     let _ = map.len();
     expect(rt, N <= 64 && width == 8 * N as u64);
     push_byte(rt, map, 0xa5);
@@ -81,10 +71,10 @@ fn check_whole_chunks<const N: usize>(rt: &impl Abort, map: &mut Prunable<N>, wi
     set_full_chunk(rt, map, 1, &[0x5a; N]);
     expect(rt, pop_chunk(rt, map) == last);
     truncate(rt, map, width + 2);
-    expect(rt, shows(rt, map, 1, b"01"));
+    expect(rt, has_bits(map, 1, b"01"));
 }
 
-// Pruned chunks put back.
+// Restores pruned chunks.
 fn check_put_back<const N: usize>(rt: &impl Abort, alloc: Global)
     requires positive { 0 < N }
     requires fits { 8 * N < 2 ^ 64 }
@@ -107,11 +97,11 @@ fn check_put_back<const N: usize>(rt: &impl Abort, alloc: Global)
         map.pruned_chunks() == 1 && get_chunk(rt, &map, 1) == [2; N],
     );
     unprune(rt, &mut map, &[[1; N]]);
-    expect(rt, same(rt, &map, &whole));
+    expect(rt, same_bits(&map, &whole));
 }
 
-// A front that is moved up to a chunk, and behind bits that were appended.
-fn check_fronts<const N: usize>(rt: &impl Abort, alloc: Global)
+// Prunes up to a chunk, and then up to bits that were appended.
+fn check_pruning<const N: usize>(rt: &impl Abort, alloc: Global)
     requires positive { 0 < N }
     requires fits { 8 * N < 2 ^ 64 }
 {
@@ -125,11 +115,11 @@ fn check_fronts<const N: usize>(rt: &impl Abort, alloc: Global)
     );
     extend_from_bitmap(rt, &mut map, &ok(rt, BitMap::<3>::ones(alloc, 11)));
     prune_to_bit(rt, &mut map, 3 * width);
-    expect(rt, shows(rt, &map, 3, b"11111111111"));
+    expect(rt, has_bits(&map, 3, b"11111111111"));
 }
 
-// The places of a position, and the bitmaps of no bits.
-fn check_places<const N: usize>(rt: &impl Abort, alloc: Global)
+// Chunk and byte of a position, and empty bitmaps.
+fn check_byte_and_mask<const N: usize>(rt: &impl Abort, alloc: Global)
     requires positive { 0 < N }
     requires fits { 8 * N < 2 ^ 64 }
 {
@@ -143,17 +133,18 @@ fn check_places<const N: usize>(rt: &impl Abort, alloc: Global)
     );
 }
 
-// All of these at one width.
+// All of these checks at one width.
 fn check_calls<const N: usize>(rt: &impl Abort, alloc: Global)
     requires positive { 0 < N }
     requires fits { 8 * N < 2 ^ 64 }
 {
     check_edits::<N>(rt, alloc);
     check_put_back::<N>(rt, alloc);
-    check_fronts::<N>(rt, alloc);
-    check_places::<N>(rt, alloc)
+    check_pruning::<N>(rt, alloc);
+    check_byte_and_mask::<N>(rt, alloc)
 }
 
+// Each call, at seven widths.
 #[test]
 fn each_call_at_each_width(rt: HostRuntime) {
     check_calls::<1>(&rt, rt.alloc());
@@ -165,15 +156,16 @@ fn each_call_at_each_width(rt: HostRuntime) {
     check_calls::<64>(&rt, rt.alloc());
 }
 
+// A bitmap made with pruned chunks, and the error if there are too many.
 #[test]
 fn chunks_pruned_from_the_start(rt: HostRuntime) {
     let map = ok(&rt, Prunable::<2>::new_with_pruned_chunks(rt.alloc(), 1));
     equal(&rt, counts(&map), (16, 16, 1, 1, 1));
     expect(&rt, map.is_chunk_aligned() && !map.is_empty());
-    let refused = Prunable::<4>::new_with_pruned_chunks(rt.alloc(), 576460752303423488);
+    let rejected = Prunable::<4>::new_with_pruned_chunks(rt.alloc(), 576460752303423488);
     expect(
         &rt,
-        refused.is_err_and(|why| why == Error::PrunedChunksOverflow),
+        rejected.is_err_and(|why| why == Error::PrunedChunksOverflow),
     );
     equal(
         &rt,
@@ -186,6 +178,7 @@ fn chunks_pruned_from_the_start(rt: HostRuntime) {
     );
 }
 
+// The last position of the greatest length is set and found.
 #[test]
 fn ends_of_the_positions(rt: HostRuntime) {
     let mut map = ok(
@@ -204,6 +197,7 @@ fn ends_of_the_positions(rt: HostRuntime) {
     );
 }
 
+// Prunes, pushes and removes whole chunks.
 #[test]
 fn three_chunks(rt: HostRuntime) {
     let chunks = [[1, 2, 3, 4], [5, 6, 7, 8], [9, 10, 11, 12]];
@@ -225,6 +219,7 @@ fn three_chunks(rt: HostRuntime) {
     equal(&rt, counts(&map), (64, 64, 2, 2, 2));
 }
 
+// Removes whole chunks down to none.
 #[test]
 fn chunks_popped(rt: HostRuntime) {
     let chunks = [
@@ -235,14 +230,12 @@ fn chunks_popped(rt: HostRuntime) {
     let mut map = of_chunks(&rt, rt.alloc(), &chunks);
     equal(&rt, pop_chunk(&rt, &mut map), [0x99, 0xaa, 0xbb, 0xcc]);
     equal(&rt, pop_chunk(&rt, &mut map), [0x55, 0x66, 0x77, 0x88]);
-    expect(
-        &rt,
-        shows(&rt, &map, 0, b"10001000010001001100110000100010"),
-    );
+    expect(&rt, has_bits(&map, 0, b"10001000010001001100110000100010"));
     equal(&rt, pop_chunk(&rt, &mut map), [0x11, 0x22, 0x33, 0x44]);
     expect(&rt, map.is_empty());
 }
 
+// Pruning to a position that is already pruned changes nothing.
 #[test]
 fn pruned_again(rt: HostRuntime) {
     let mut map = of_chunks(&rt, rt.alloc(), &[[1, 2, 3, 4], [5, 6, 7, 8]]);
@@ -254,6 +247,7 @@ fn pruned_again(rt: HostRuntime) {
     expect(&rt, !map.is_empty() && map.is_chunk_aligned());
 }
 
+// A partial last chunk is read, cut off and pruned up to.
 #[test]
 fn partial_last_chunks(rt: HostRuntime) {
     let mut map = of_chunks(&rt, rt.alloc(), &[[0xff; 4], [0xaa; 4]]);
@@ -264,20 +258,21 @@ fn partial_last_chunks(rt: HostRuntime) {
     equal(&rt, last_chunk(&rt, &map), ([5, 0, 0, 0], 3));
     expect(
         &rt,
-        shows(&rt, &map, 1, b"01010101010101010101010101010101101"),
+        has_bits(&map, 1, b"01010101010101010101010101010101101"),
     );
     expect(&rt, !map.is_chunk_aligned());
     truncate(&rt, &mut map, 64);
     equal(&rt, last_chunk(&rt, &map), ([0xaa; 4], 32));
     expect(&rt, map.is_chunk_aligned());
     truncate(&rt, &mut map, 35);
-    expect(&rt, shows(&rt, &map, 1, b"010"));
+    expect(&rt, has_bits(&map, 1, b"010"));
     truncate(&rt, &mut map, 32);
-    expect(&rt, shows(&rt, &map, 1, b""));
+    expect(&rt, has_bits(&map, 1, b""));
 }
 
+// Chunk index, byte offset and mask of positions, up to `u64::MAX`.
 #[test]
-fn places_of_positions(rt: HostRuntime) {
+fn byte_and_mask_of_positions(rt: HostRuntime) {
     for (bit, chunk, byte, mask) in [
         (0, 0, 0, 1),
         (1, 0, 0, 2),
@@ -313,13 +308,14 @@ fn places_of_positions(rt: HostRuntime) {
     }
 }
 
-// Replaces the last chunk of 35 bits by one with all three of its bits.
+// Replaces the last chunk of 35 bits by one in which all its three bits are set.
 #[tactic(auto, using(crate::proofs::ShownBits::zero_past_three))]
 fn set_three_bits(rt: &impl Abort, map: &mut Prunable<4>) {
     expect(rt, map.pruned_chunks() <= 1 && map.len() == 35);
     map.set_chunk_by_index(1, &[7, 0, 0, 0]);
 }
 
+// Replaces a full and a partial chunk.
 #[test]
 fn chunks_replaced(rt: HostRuntime) {
     let mut map = Prunable::<4>::new(rt.alloc());
@@ -330,22 +326,20 @@ fn chunks_replaced(rt: HostRuntime) {
     set_full_chunk(&rt, &mut map, 0, &[0xff; 4]);
     expect(&rt, map.ones_iter_from(0).eq(0..35));
     prune_to_bit(&rt, &mut map, 34);
-    expect(&rt, shows(&rt, &map, 1, b"111"));
+    expect(&rt, has_bits(&map, 1, b"111"));
     ok(&rt, map.extend_to(64));
     set_full_chunk(&rt, &mut map, 1, &[0, 0xff, 0, 0]);
-    expect(
-        &rt,
-        shows(&rt, &map, 1, b"00000000111111110000000000000000"),
-    );
+    expect(&rt, has_bits(&map, 1, b"00000000111111110000000000000000"));
 }
 
+// Pushes and removes bits, before and after a prune.
 #[test]
 fn bits_pushed_and_popped(rt: HostRuntime) {
     let mut map = Prunable::<4>::new(rt.alloc());
     push_digits(&rt, &mut map, b"101");
-    expect(&rt, shows(&rt, &map, 0, b"101"));
+    expect(&rt, has_bits(&map, 0, b"101"));
     set_bit(&rt, &mut map, 1, true);
-    expect(&rt, shows(&rt, &map, 0, b"111"));
+    expect(&rt, has_bits(&map, 0, b"111"));
     set_bit(&rt, &mut map, 1, false);
     expect(
         &rt,
@@ -363,9 +357,10 @@ fn bits_pushed_and_popped(rt: HostRuntime) {
     }
     push_byte(&rt, &mut map, 0xff);
     push_byte(&rt, &mut map, 0x01);
-    expect(&rt, shows(&rt, &map, 1, b"1111111110000000"));
+    expect(&rt, has_bits(&map, 1, b"1111111110000000"));
 }
 
+// `extend_to` appends zeros, and does nothing for a shorter length.
 #[test]
 fn zeros_appended(rt: HostRuntime) {
     let mut map = Prunable::<4>::new(rt.alloc());
@@ -382,7 +377,7 @@ fn zeros_appended(rt: HostRuntime) {
     equal(&rt, map.ones_iter_from(0).next(), None);
 }
 
-// A bitmap appended at once, and bit by bit, to zeros behind a pruned chunk.
+// Appends a bitmap at once and bit by bit, to zeros after a pruned chunk.
 fn check_appended(rt: &impl Abort, alloc: Global, source: &BitMap<8>, floor: u64) {
     expect(rt, source.len() <= 1000 && floor <= 1000);
     let mut map = ok(rt, Prunable::<16>::new_with_pruned_chunks(alloc, 1));
@@ -393,9 +388,10 @@ fn check_appended(rt: &impl Abort, alloc: Global, source: &BitMap<8>, floor: u64
         push(rt, &mut other, bit);
     }
     equal_at(rt, floor, map.len(), floor + source.len());
-    expect_at(rt, floor, same(rt, &map, &other));
+    expect_at(rt, floor, same_bits(&map, &other));
 }
 
+// `extend_from_bitmap` gives the same bits as pushing each bit.
 #[test]
 fn a_bitmap_appended_or_pushed(rt: HostRuntime) {
     let mut source = ok(&rt, BitMap::<8>::zeroes(rt.alloc(), 1000));

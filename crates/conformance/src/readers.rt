@@ -1,16 +1,17 @@
-//! Bitmaps as their readers see them: set positions, of bitmaps of this repository and of others.
+//! The methods of `Readable`, on the bitmaps of this project and on other implementations of the trait.
 
 ghost use Rattle.std.specs.Prelude.{◌≡◌, ◌*◌, ◌^◌, ◌<◌, true};
 
-use crate::asked::{equal, expect, expect_at, extend_from_bitmap, ok, prune_to_bit, push, set_bit};
+use crate::checked_calls::{extend_from_bitmap, prune_to_bit, push, set_bit};
+use crate::checks::{equal, equal_at, expect, expect_at, ok};
 use bitmap_core::bitmap::BitMap;
 use bitmap_core::bitmap::prunable::Prunable;
 use bitmap_core::bitmap::readable::Readable;
-use std::alloc::Global;
+use std::alloc::{AllocError, Global};
 use std::cell::Cell;
 use std::process::Abort;
 
-// Five set bits in one chunk, which shows set bits past the length too.
+// Five set bits in one chunk, whose bits past the length are set too.
 #[derive(Drop)]
 struct Five;
 
@@ -38,7 +39,7 @@ impl Readable<4> for Five {
     }
 }
 
-// The seven last positions of `u64`, all set.
+// A bitmap whose retained positions are the last seven below `u64::MAX`, all set.
 #[derive(Drop)]
 struct Top;
 
@@ -66,7 +67,7 @@ impl Readable<1> for Top {
     }
 }
 
-// Set bits in chunks of nine bytes, at most two chunks of them, and how often they were asked for.
+// Up to four chunks of nine bytes with all bits set. It counts the calls of its methods.
 #[derive(Drop)]
 struct Counting {
     len: u8,
@@ -104,7 +105,7 @@ impl Readable<9> for Counting {
     }
 
     fn pruned_chunks(&self) -> usize {
-        // Tells the proof that the length fits.
+        // Reading a field gives the prover the range of the length.
         let _len = self.len;
         0
     }
@@ -115,6 +116,7 @@ impl Readable<9> for Counting {
     }
 }
 
+// The iterators do not yield set bits past the length.
 #[test]
 fn bits_past_the_length_are_not_read(rt: HostRuntime) {
     let mut ones = Five.ones_iter_from(0);
@@ -125,6 +127,7 @@ fn bits_past_the_length_are_not_read(rt: HostRuntime) {
     expect(&rt, map.ones_iter_range(64..u64::MAX).eq(64..70));
 }
 
+// The iterators and reads work up to position `u64::MAX - 1`.
 #[test]
 fn positions_up_to_the_greatest(rt: HostRuntime) {
     let mut ones = Top.ones_iter_from(0);
@@ -137,8 +140,9 @@ fn positions_up_to_the_greatest(rt: HostRuntime) {
     equal(&rt, Top.pruned_bits(), 18446744073709551608);
 }
 
+// An iterator loads each chunk of its range at most once, and reads the length at most once.
 #[test]
-fn few_questions(rt: HostRuntime) {
+fn few_calls_by_iterators(rt: HostRuntime) {
     for (start, end, chunk_calls) in [(0, 144, 2), (64, 72, 1), (72, 73, 1), (5, 5, 0)] {
         let map = Counting::new(144);
         expect(&rt, map.ones_iter_range(start..end).eq(start..end));
@@ -147,8 +151,9 @@ fn few_questions(rt: HostRuntime) {
     }
 }
 
+// Set positions on both sides of the end of a word and of a chunk.
 #[test]
-fn where_words_meet_chunks(rt: HostRuntime) {
+fn word_and_chunk_boundaries(rt: HostRuntime) {
     let mut map = ok(&rt, BitMap::<9>::zeroes(rt.alloc(), 144));
     for position in [63, 64, 71, 72] {
         expect(&rt, position < map.len());
@@ -161,8 +166,8 @@ fn where_words_meet_chunks(rt: HostRuntime) {
     );
 }
 
-// Four positions, behind a pruned chunk.
-fn check_few(rt: &impl Abort, alloc: Global) {
+// Four set positions after a pruned chunk.
+fn check_four_positions(rt: &impl Abort, alloc: Global) {
     let mut sparse = Prunable::<4>::new(alloc);
     ok(rt, sparse.extend_to(96));
     expect(rt, sparse.pruned_bits() == 0 && sparse.len() == 96);
@@ -183,16 +188,18 @@ fn check_few(rt: &impl Abort, alloc: Global) {
     equal(rt, sparse.ones_iter_from(91).next(), None);
 }
 
+// The iterators begin after the pruned prefix.
 #[test]
-fn positions_behind_a_pruned_front(rt: HostRuntime) {
+fn positions_after_a_pruned_prefix(rt: HostRuntime) {
     let mut map = Prunable::<4>::new(rt.alloc());
     let ones = ok(&rt, BitMap::<4>::ones(rt.alloc(), 64));
     ok(&rt, map.extend_from_bitmap(&ones));
     prune_to_bit(&rt, &mut map, 32);
     expect(&rt, map.ones_iter_from(0).eq(32..64));
-    check_few(&rt, rt.alloc());
+    check_four_positions(&rt, rt.alloc());
 }
 
+// Set positions in the last whole chunk that there can be.
 #[test]
 fn positions_in_the_last_chunk(rt: HostRuntime) {
     let made = Prunable::<8>::new_with_pruned_chunks(rt.alloc(), 288230376151711743);
@@ -208,56 +215,99 @@ fn positions_in_the_last_chunk(rt: HostRuntime) {
     }
 }
 
-// Whether the set positions of a range are those that reading each bit finds.
-fn agrees<B: Readable<N>, const N: usize>(map: &B, start: u64, end: u64) -> bool {
-    let len = map.len();
-    let mut ones = map.ones_iter_range(start..end);
-    let mut expected = ones.next();
-    for position in start.max(map.pruned_bits())..end.min(len) {
-        if map.get_bit(position) {
-            if expected != Some(position) {
-                return false;
-            }
-            expected = ones.next();
-        }
-    }
-    expected.is_none() && ones.next().is_none()
+// The part of ascending `positions` at or above `start` and below `end`.
+fn between(positions: &[u64], start: u64, end: u64) -> &[u64] {
+    let low = positions.partition_point(|it| *it < start);
+    let high = positions.partition_point(|it| *it < end);
+    positions.get(low..high).unwrap_or(&[])
 }
 
-fn check_ranges<const N: usize>(rt: &impl Abort, alloc: Global, stride: usize)
+// Whether `position` is retained and its bit is `bit`.
+fn is_bit<B: Readable<N>, const N: usize>(map: &B, position: u64, bit: bool) -> bool {
+    map.pruned_bits() <= position && position < map.len() && map.get_bit(position) == bit
+}
+
+// The positions of set bits, found one bit at a time.
+fn positions<B: Readable<N>, const N: usize>(
+    alloc: Global,
+    map: &B,
+) -> Result<Vec<u64>, AllocError> {
+    (0..map.len())
+        .filter(|it| is_bit(map, *it, true))
+        .collect(alloc)
+}
+
+// The iterators over each range yield the positions that are found one bit at a time. `inverse` has the inverted bits.
+fn check_ranges<B: Readable<N>, const N: usize>(
+    rt: &impl Abort,
+    alloc: Global,
+    map: &B,
+    inverse: &B,
+) {
+    let len = map.len();
+    expect(rt, len < 10000);
+    let found = ok(rt, positions(alloc, map));
+    for start in 0..len + 3 {
+        for end in start.saturating_sub(1)..len + 3 {
+            let want = between(found.as_slice(), start, end);
+            let ones = map.ones_iter_range(start..end);
+            expect_at(rt, ("ones", start, end, N), ones.eq(want.iter().copied()));
+            let zeros = inverse.zeros_iter_range(start..end);
+            expect_at(rt, ("zeros", start, end, N), zeros.eq(want.iter().copied()));
+        }
+    }
+}
+
+// A chunk and 66 bits. Each word begins with two set bits, and every `period`th bit is set.
+fn spread_bits<const N: usize>(rt: &impl Abort, alloc: Global, period: u64) -> BitMap<N>
     requires positive { 0 < N }
     requires fits { 8 * N < 2 ^ 64 }
 {
-    expect(rt, N <= 64 && stride > 0);
+    expect(rt, N <= 64 && period > 0);
     let width = 8 * N as u64;
-    let len = 2 * width + 2;
-    let mut dense = BitMap::<N>::new(alloc);
-    for i in 0..len {
-        expect(rt, dense.len() < len);
-        ok(rt, dense.push(i * i % 11 < 4));
-    }
-    let mut pruned = Prunable::<N>::new(alloc);
-    extend_from_bitmap(rt, &mut pruned, &dense);
-    prune_to_bit(rt, &mut pruned, width);
-    for start in (0..len + 3).step_by(stride) {
-        for end in (0..len + 3).step_by(stride) {
-            expect_at(rt, (start, end, N), agrees(&dense, start, end));
-            expect_at(rt, (start, end, N), agrees(&pruned, start, end));
-        }
-    }
+    let bits = (0..width + 66).map(|it| it % width % 64 < 2 || it % period == 3);
+    let bits: Vec<bool> = ok(rt, bits.collect(alloc));
+    ok(rt, BitMap::from_bools(alloc, bits.as_slice()))
 }
 
+// The same bits with the first chunk pruned.
+fn pruned_copy<const N: usize>(rt: &impl Abort, alloc: Global, map: &BitMap<N>) -> Prunable<N> {
+    // The prover learns the bounds of `N` from this call.
+    let _ = map.len();
+    expect(rt, N <= 64);
+    let mut pruned = Prunable::<N>::new(alloc);
+    extend_from_bitmap(rt, &mut pruned, map);
+    prune_to_bit(rt, &mut pruned, 8 * N as u64);
+    pruned
+}
+
+// The ranges of a dense and of a pruned bitmap.
+fn check_both_ranges<const N: usize>(rt: &impl Abort, alloc: Global, period: u64)
+    requires positive { 0 < N }
+    requires fits { 8 * N < 2 ^ 64 }
+{
+    let map = spread_bits::<N>(rt, alloc, period);
+    let mut inverse = ok(rt, map.clone());
+    inverse.flip_all();
+    check_ranges(rt, alloc, &map, &inverse);
+    let pruned = pruned_copy(rt, alloc, &map);
+    let pruned_inverse = pruned_copy(rt, alloc, &inverse);
+    check_ranges(rt, alloc, &pruned, &pruned_inverse);
+}
+
+// All ranges of a bitmap of a chunk and 66 bits, at seven widths.
 #[test]
 fn each_range(rt: HostRuntime) {
-    check_ranges::<1>(&rt, rt.alloc(), 1);
-    check_ranges::<3>(&rt, rt.alloc(), 1);
-    check_ranges::<7>(&rt, rt.alloc(), 1);
-    check_ranges::<8>(&rt, rt.alloc(), 1);
-    check_ranges::<9>(&rt, rt.alloc(), 1);
-    check_ranges::<32>(&rt, rt.alloc(), 7);
-    check_ranges::<64>(&rt, rt.alloc(), 13);
+    check_both_ranges::<1>(&rt, rt.alloc(), 5);
+    check_both_ranges::<3>(&rt, rt.alloc(), 5);
+    check_both_ranges::<7>(&rt, rt.alloc(), 5);
+    check_both_ranges::<8>(&rt, rt.alloc(), 5);
+    check_both_ranges::<9>(&rt, rt.alloc(), 5);
+    check_both_ranges::<32>(&rt, rt.alloc(), 29);
+    check_both_ranges::<64>(&rt, rt.alloc(), 29);
 }
 
+// The searches and counts ignore set bits past the length.
 #[test]
 fn searches_do_not_read_bits_past_the_length(rt: HostRuntime) {
     equal(&rt, Five.next_one(4), Some(4));
@@ -270,6 +320,7 @@ fn searches_do_not_read_bits_past_the_length(rt: HostRuntime) {
     expect(&rt, Five.zeros_iter_range(0..100).next().is_none());
 }
 
+// The same if the last chunk ends within a word.
 #[test]
 fn searches_do_not_read_bits_past_a_short_word(rt: HostRuntime) {
     let map = Counting::new(70);
@@ -280,6 +331,7 @@ fn searches_do_not_read_bits_past_a_short_word(rt: HostRuntime) {
     equal(&rt, map.select_one(70), None);
 }
 
+// The searches and counts work up to position `u64::MAX - 1`.
 #[test]
 fn searches_up_to_the_greatest(rt: HostRuntime) {
     equal(&rt, Top.next_one(0), Some(18446744073709551608));
@@ -291,8 +343,8 @@ fn searches_up_to_the_greatest(rt: HostRuntime) {
     equal(&rt, Top.select_one(7), None);
 }
 
-// What one of the searches of a bitmap of 144 set bits asks for: at most so many chunks, and the length once.
-fn check_questions(rt: &impl Abort, search: u64, chunk_calls: u64) {
+// One search in a bitmap of 144 set bits loads at most `chunk_calls` chunks, and calls `len` at most once.
+fn check_calls_of_the_reader(rt: &impl Abort, search: u64, chunk_calls: u64) {
     let map = Counting::new(144);
     let found = match search {
         0 => map.next_one(143) == Some(143),
@@ -309,8 +361,9 @@ fn check_questions(rt: &impl Abort, search: u64, chunk_calls: u64) {
     expect_at(rt, search, map.len_calls.get() <= 1);
 }
 
+// A search loads few chunks, and reads the length at most once.
 #[test]
-fn few_questions_of_searches(rt: HostRuntime) {
+fn few_calls_by_searches(rt: HostRuntime) {
     for (search, chunk_calls) in [
         (0, 1),
         (1, 2),
@@ -321,77 +374,94 @@ fn few_questions_of_searches(rt: HostRuntime) {
         (6, 2),
         (7, 2),
     ] {
-        check_questions(&rt, search, chunk_calls);
+        check_calls_of_the_reader(&rt, search, chunk_calls);
     }
 }
 
-// What reading each bit of a range finds: the number of set bits, the first and the last of them, and of the others.
-#[derive(Clone, Copy)]
-struct Seen {
-    count: u64,
-    ones: (Option<u64>, Option<u64>),
-    zeros: (Option<u64>, Option<u64>),
-}
-
-fn look<B: Readable<N>, const N: usize>(map: &B, start: u64, end: u64) -> Seen {
-    let mut seen = Seen {
-        count: 0,
-        ones: (None, None),
-        zeros: (None, None),
-    };
+// The first and the last position before and after each position, of a set bit if `bit` is true, else of an unset bit.
+fn check_neighbours<B: Readable<N>, const N: usize>(rt: &impl Abort, map: &B, bit: bool) {
     let len = map.len();
-    for position in start.max(map.pruned_bits())..end.min(len) {
-        if map.get_bit(position) {
-            seen.count = seen.count.wrapping_add(1);
-            seen.ones = (seen.ones.0.or(Some(position)), Some(position));
+    expect(rt, len < 10000);
+    let mut before = None;
+    for end in 0..len + 3 {
+        let found = if bit {
+            map.prev_one(end)
         } else {
-            seen.zeros = (seen.zeros.0.or(Some(position)), Some(position));
+            map.prev_zero(end)
+        };
+        equal_at(rt, ("before", bit, end, N), found, before);
+        if is_bit(map, end, bit) {
+            before = Some(end);
         }
     }
-    seen
+    let mut after = None;
+    for start in (0..len + 3).rev() {
+        if is_bit(map, start, bit) {
+            after = Some(start);
+        }
+        let found = if bit {
+            map.next_one(start)
+        } else {
+            map.next_zero(start)
+        };
+        equal_at(rt, ("after", bit, start, N), found, after);
+    }
 }
 
-// Whether the searches and the count find in a range what reading each bit finds.
-fn searches_agree<B: Readable<N>, const N: usize>(map: &B, start: u64, end: u64) -> bool {
-    let counted = map.count_ones_range(start..end) == look(map, start, end).count;
-    let after = look(map, start, map.len());
-    let next = map.next_one(start) == after.ones.0 && map.next_zero(start) == after.zeros.0;
-    let before = look(map, 0, end);
-    let previous = map.prev_one(end) == before.ones.1 && map.prev_zero(end) == before.zeros.1;
-    let selected = before.count == 0
-        || map.select_one(before.count.wrapping_sub(1)) == before.ones.1;
-    counted && next && previous && selected
+// The set bits of each range, compared with a running count.
+fn check_counts<B: Readable<N>, const N: usize>(rt: &impl Abort, map: &B) {
+    let len = map.len();
+    expect(rt, len < 10000);
+    for start in 0..len + 3 {
+        let mut count = 0u64;
+        for end in start..len + 3 {
+            equal_at(rt, (start, end, N), map.count_ones_range(start..end), count);
+            count = count.wrapping_add(u64::from(is_bit(map, end, true)));
+        }
+    }
 }
 
-fn check_searches<const N: usize>(rt: &impl Abort, alloc: Global, stride: usize)
+// The position of the set bit of each number, and none past the last.
+fn check_selected<B: Readable<N>, const N: usize>(rt: &impl Abort, map: &B) {
+    let mut count = 0u64;
+    for position in 0..map.len() {
+        if is_bit(map, position, true) {
+            equal_at(rt, (position, N), map.select_one(count), Some(position));
+            count = count.wrapping_add(1);
+        }
+    }
+    equal(rt, map.select_one(count), None);
+}
+
+// All of these searches and counts.
+fn check_searches<B: Readable<N>, const N: usize>(rt: &impl Abort, map: &B) {
+    check_neighbours(rt, map, true);
+    check_neighbours(rt, map, false);
+    check_counts(rt, map);
+    check_selected(rt, map);
+}
+
+// The searches in a dense and in a pruned bitmap, and in their inverted bits.
+fn check_both_searches<const N: usize>(rt: &impl Abort, alloc: Global, period: u64)
     requires positive { 0 < N }
     requires fits { 8 * N < 2 ^ 64 }
 {
-    expect(rt, N <= 64 && stride > 0);
-    let width = 8 * N as u64;
-    let len = 2 * width + 2;
-    let mut dense = BitMap::<N>::new(alloc);
-    for i in 0..len {
-        expect(rt, dense.len() < len);
-        ok(rt, dense.push(i * i % 11 < 4));
-    }
-    let mut pruned = Prunable::<N>::new(alloc);
-    extend_from_bitmap(rt, &mut pruned, &dense);
-    prune_to_bit(rt, &mut pruned, width);
-    for start in (0..len + 3).step_by(stride) {
-        for end in (0..len + 3).step_by(stride) {
-            expect_at(rt, (start, end, N), searches_agree(&dense, start, end));
-            expect_at(rt, (start, end, N), searches_agree(&pruned, start, end));
-        }
-    }
+    let mut map = spread_bits::<N>(rt, alloc, period);
+    check_searches(rt, &map);
+    check_searches(rt, &pruned_copy(rt, alloc, &map));
+    map.flip_all();
+    check_searches(rt, &map);
+    check_searches(rt, &pruned_copy(rt, alloc, &map));
 }
 
+// Searches from and to each position and counts of each range, at seven widths. At the last two, few bits are set.
 #[test]
 fn each_search(rt: HostRuntime) {
-    check_searches::<1>(&rt, rt.alloc(), 1);
-    check_searches::<3>(&rt, rt.alloc(), 1);
-    check_searches::<7>(&rt, rt.alloc(), 3);
-    check_searches::<8>(&rt, rt.alloc(), 3);
-    check_searches::<9>(&rt, rt.alloc(), 5);
-    check_searches::<32>(&rt, rt.alloc(), 23);
+    check_both_searches::<1>(&rt, rt.alloc(), 5);
+    check_both_searches::<3>(&rt, rt.alloc(), 5);
+    check_both_searches::<7>(&rt, rt.alloc(), 5);
+    check_both_searches::<8>(&rt, rt.alloc(), 5);
+    check_both_searches::<9>(&rt, rt.alloc(), 5);
+    check_both_searches::<32>(&rt, rt.alloc(), 97);
+    check_both_searches::<64>(&rt, rt.alloc(), 97);
 }

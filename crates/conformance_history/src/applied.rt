@@ -1,14 +1,16 @@
-//! Batches that a closure edits, which answers so or refuses, and which may put another bitmap in place of the one that it is lent.
+//! Batches edited by a closure: it succeeds or fails, and it may replace the bitmap that it borrows by another.
 
-use crate::asked::{commit, expect, keeps, push, push_run, shows};
+use crate::checked_calls::{commit, keeps, push, push_run};
+use crate::checks::expect;
 use historical_bitmap::bitmap::historical::{ApplyError, CleanBitMap, DirtyBitMap, Error};
 use std::alloc::Global;
 use std::process::Abort;
+use test_support::compare::has_bits;
 
-// What comes of a batch whose closure may answer a number.
+// The result of a batch whose closure may return a number as its error.
 type Applied = Result<CleanBitMap<4>, (CleanBitMap<4>, ApplyError<u8>)>;
 
-// The bits 10, committed under a number.
+// The bits 10, committed at `number`.
 fn committed(rt: &impl Abort, alloc: Global, number: u64) -> CleanBitMap<4> {
     let mut map = CleanBitMap::<4>::new(alloc).into_dirty();
     push(rt, &mut map, true);
@@ -16,7 +18,7 @@ fn committed(rt: &impl Abort, alloc: Global, number: u64) -> CleanBitMap<4> {
     commit(rt, map, number)
 }
 
-// Three true bits committed under 9, and a batch begun that has pushed one more.
+// A batch that has pushed a bit after three set bits committed at 9.
 fn other(rt: &impl Abort, alloc: Global) -> DirtyBitMap<4> {
     let mut map = CleanBitMap::<4>::new(alloc).into_dirty();
     push_run(rt, &mut map, 3, true);
@@ -25,18 +27,18 @@ fn other(rt: &impl Abort, alloc: Global) -> DirtyBitMap<4> {
     map
 }
 
-// What is handed back, where the closure answered this number.
-fn given_up(rt: &impl Abort, applied: Applied, number: u8) -> Option<CleanBitMap<4>> {
+// The bitmap that the error hands back, after the closure has failed with `number`.
+fn aborted_batch(rt: &impl Abort, applied: Applied, number: u8) -> Option<CleanBitMap<4>> {
     expect(rt, applied.is_err());
     let (map, why) = applied.err()?;
     expect(
         rt,
-        matches!(why, ApplyError::Batch(answered) if answered == number),
+        matches!(why, ApplyError::Batch(returned) if returned == number),
     );
     Some(map)
 }
 
-// What is handed back, where the commit was refused for this.
+// The bitmap that the error hands back, after the commit has failed with `why`.
 fn not_committed(rt: &impl Abort, applied: Applied, why: Error) -> Option<CleanBitMap<4>> {
     expect(rt, applied.is_err());
     let (map, found) = applied.err()?;
@@ -47,6 +49,7 @@ fn not_committed(rt: &impl Abort, applied: Applied, why: Error) -> Option<CleanB
     Some(map)
 }
 
+// The commit fails, and the bitmap is unchanged.
 #[test]
 fn number_that_is_committed_already(rt: HostRuntime) {
     let applied = committed(&rt, rt.alloc(), 5).apply_batch(5, |batch| {
@@ -60,23 +63,25 @@ fn number_that_is_committed_already(rt: HostRuntime) {
     let map = not_committed(&rt, applied, why);
     expect(
         &rt,
-        map.is_some_and(|map| keeps(&map, &[5]) && shows(&rt, map.current(), 0, b"10")),
+        map.is_some_and(|map| keeps(&map, &[5]) && has_bits(map.current(), 0, b"10")),
     );
 }
 
+// The batch is aborted, and the bitmap is unchanged.
 #[test]
-fn closure_that_refuses(rt: HostRuntime) {
+fn closure_that_fails(rt: HostRuntime) {
     let applied = committed(&rt, rt.alloc(), 5).apply_batch(5, |batch| {
         push(&rt, batch, true);
         Err(7)
     });
-    let map = given_up(&rt, applied, 7);
+    let map = aborted_batch(&rt, applied, 7);
     expect(
         &rt,
-        map.is_some_and(|map| keeps(&map, &[5]) && shows(&rt, map.current(), 0, b"10")),
+        map.is_some_and(|map| keeps(&map, &[5]) && has_bits(map.current(), 0, b"10")),
     );
 }
 
+// The commit is one of the bitmap that the closure left.
 #[test]
 fn empty_bitmap_put_in_place(rt: HostRuntime) {
     let alloc = rt.alloc();
@@ -90,10 +95,11 @@ fn empty_bitmap_put_in_place(rt: HostRuntime) {
         &rt,
         map.is_some_and(|map| map.len() == 1
             && keeps(&map, &[5])
-            && shows(&rt, map.current(), 0, b"1")),
+            && has_bits(map.current(), 0, b"1")),
     );
 }
 
+// The commit fails by the last number of the other bitmap, which is handed back without its batch.
 #[test]
 fn other_bitmap_put_in_place(rt: HostRuntime) {
     let other = other(&rt, rt.alloc());
@@ -108,20 +114,21 @@ fn other_bitmap_put_in_place(rt: HostRuntime) {
     let map = not_committed(&rt, applied, why);
     expect(
         &rt,
-        map.is_some_and(|map| keeps(&map, &[9]) && shows(&rt, map.current(), 0, b"111")),
+        map.is_some_and(|map| keeps(&map, &[9]) && has_bits(map.current(), 0, b"111")),
     );
 }
 
+// The other bitmap is handed back without its batch.
 #[test]
-fn other_bitmap_put_in_place_and_refused(rt: HostRuntime) {
+fn other_bitmap_put_in_place_by_a_failing_closure(rt: HostRuntime) {
     let other = other(&rt, rt.alloc());
     let applied = committed(&rt, rt.alloc(), 1).apply_batch(5, |batch| {
         *batch = other;
         Err(7)
     });
-    let map = given_up(&rt, applied, 7);
+    let map = aborted_batch(&rt, applied, 7);
     expect(
         &rt,
-        map.is_some_and(|map| keeps(&map, &[9]) && shows(&rt, map.current(), 0, b"111")),
+        map.is_some_and(|map| keeps(&map, &[9]) && has_bits(map.current(), 0, b"111")),
     );
 }

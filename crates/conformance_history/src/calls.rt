@@ -1,22 +1,24 @@
-//! Each public call once with ample memory, and both states behind their trait.
+//! Each public call once, without failed allocations, and a clone in each of the two states.
 
-use crate::asked::{
-    commit, current_bit, current_chunk, equal, expect, keeps, ok, pending_bit, pending_chunk,
-    pending_shows, push, push_byte, set_bit, shows, was,
+use crate::checked_calls::{
+    commit, current_bit, current_chunk, had_bits, has_pending_bits, keeps, pending_bit,
+    pending_chunk, push, push_byte, set_bit,
 };
+use crate::checks::{equal, expect, ok};
 use historical_bitmap::bitmap::historical::{
     BitMap, Clean, CleanBitMap, Dirty, DirtyBitMap, Error, RewindError, State,
 };
 use std::alloc::{AllocError, Global};
 use std::process::Abort;
+use test_support::compare::has_bits;
 
-// A copy in either state.
+// A clone in either state.
 fn copy<const N: usize, S: State>(map: &BitMap<N, S>) -> Result<BitMap<N, S>, AllocError> {
     map.clone()
 }
 
-// A bitmap behind so many pruned chunks, or why there is none.
-fn behind(rt: &impl Abort, alloc: Global, pruned_chunks: usize) -> Result<u64, Error> {
+// The length of a bitmap made with `pruned_chunks` pruned chunks, or the error.
+fn with_pruned_prefix(rt: &impl Abort, alloc: Global, pruned_chunks: usize) -> Result<u64, Error> {
     let map = CleanBitMap::<4>::new_with_pruned_chunks(alloc, pruned_chunks)?;
     expect(
         rt,
@@ -25,7 +27,7 @@ fn behind(rt: &impl Abort, alloc: Global, pruned_chunks: usize) -> Result<u64, E
     Ok(map.len())
 }
 
-// A bitmap without bits and commits.
+// An empty bitmap has no bits and no commits.
 fn check_empty(rt: &impl Abort, map: &CleanBitMap<3>) {
     expect(rt, map.is_empty());
     equal(rt, (map.len(), map.pruned_chunks()), (0, 0));
@@ -33,23 +35,24 @@ fn check_empty(rt: &impl Abort, map: &CleanBitMap<3>) {
     equal(rt, map.reverse_entries(), 0);
 }
 
+// Constructors, and the error if there are too many pruned chunks.
 #[test]
 fn bitmaps_made(rt: HostRuntime) {
     check_empty(&rt, &CleanBitMap::new(rt.alloc()));
     check_empty(&rt, &CleanBitMap::default(rt.alloc()));
-    expect(&rt, behind(&rt, rt.alloc(), 0) == Ok(0));
-    expect(&rt, behind(&rt, rt.alloc(), 2) == Ok(64));
+    expect(&rt, with_pruned_prefix(&rt, rt.alloc(), 0) == Ok(0));
+    expect(&rt, with_pruned_prefix(&rt, rt.alloc(), 2) == Ok(64));
     expect(
         &rt,
-        behind(&rt, rt.alloc(), 576460752303423487) == Ok(18446744073709551584),
+        with_pruned_prefix(&rt, rt.alloc(), 576460752303423487) == Ok(18446744073709551584),
     );
     expect(
         &rt,
-        behind(&rt, rt.alloc(), 576460752303423488) == Err(Error::PrunedChunksOverflow),
+        with_pruned_prefix(&rt, rt.alloc(), 576460752303423488) == Err(Error::PrunedChunksOverflow),
     );
 }
 
-// An edit of each kind that answers the bitmap, on what the one before it answers.
+// One edit of each kind that returns the bitmap, in a chain.
 fn edit_in_a_chain(rt: &impl Abort, map: &mut DirtyBitMap<3>) -> Result<(), AllocError> {
     expect(rt, map.is_empty() && map.pruned_chunks() == 0);
     map.push_chunk(&[0xff, 0, 0x0f])?
@@ -60,11 +63,12 @@ fn edit_in_a_chain(rt: &impl Abort, map: &mut DirtyBitMap<3>) -> Result<(), Allo
     Ok(())
 }
 
+// One edit of each kind, the pending bitmap, and the committed one.
 #[test]
 fn edits_in_a_chain(rt: HostRuntime) {
     let mut map = CleanBitMap::<3>::new(rt.alloc()).into_dirty();
     ok(&rt, edit_in_a_chain(&rt, &mut map));
-    expect(&rt, pending_shows(&rt, &map, 1, b"001011001"));
+    expect(&rt, has_pending_bits(&rt, &map, 1, b"001011001"));
     expect(
         &rt,
         map.len() == 33 && !map.is_empty() && map.pruned_chunks() == 1,
@@ -76,7 +80,7 @@ fn edits_in_a_chain(rt: HostRuntime) {
     equal(&rt, pending_chunk(&rt, &map, 24), [0x34, 1, 0]);
     expect(&rt, map.pop());
     let map = commit(&rt, map, 5);
-    expect(&rt, shows(&rt, map.current(), 1, b"00101100"));
+    expect(&rt, has_bits(map.current(), 1, b"00101100"));
     expect(
         &rt,
         map.len() == 32 && !map.is_empty() && map.pruned_chunks() == 1,
@@ -88,7 +92,7 @@ fn edits_in_a_chain(rt: HostRuntime) {
     equal(&rt, current_chunk(&rt, &map, 31), [0x34, 0, 0]);
 }
 
-// What is told of the commits 3, 5 and 8, each of a byte more.
+// The commits 3, 5 and 8, each of which appends a byte.
 fn check_three_commits(rt: &impl Abort, map: &CleanBitMap<3>) {
     expect(rt, map.commit_exists(5) && !map.commit_exists(4));
     equal(rt, map.earliest_commit(), Some(3));
@@ -97,10 +101,11 @@ fn check_three_commits(rt: &impl Abort, map: &CleanBitMap<3>) {
     for want in [Some(3), Some(5), Some(8), None, None] {
         equal(rt, numbers.next(), want);
     }
-    expect(rt, was(rt, map, 5, 0, b"1100000010100000"));
+    expect(rt, had_bits(rt, map, 5, 0, b"1100000010100000"));
     expect(rt, map.reverse_entries() <= 3);
 }
 
+// The kept commits, before and after some or all are dropped.
 #[test]
 fn commits_listed_and_dropped(rt: HostRuntime) {
     let mut map = CleanBitMap::<3>::new(rt.alloc());
@@ -115,12 +120,10 @@ fn commits_listed_and_dropped(rt: HostRuntime) {
     map.clear_history();
     equal(&rt, map.commits().next(), None);
     equal(&rt, map.reverse_entries(), 0);
-    expect(
-        &rt,
-        shows(&rt, map.current(), 0, b"110000001010000000010000"),
-    );
+    expect(&rt, has_bits(map.current(), 0, b"110000001010000000010000"));
 }
 
+// Clones of a batch and of a clean bitmap have the same bits and commits.
 #[test]
 fn both_states_copied(rt: HostRuntime) {
     let mut map = CleanBitMap::<3>::new(rt.alloc()).into_dirty();
@@ -129,17 +132,18 @@ fn both_states_copied(rt: HostRuntime) {
     set_bit(&rt, &mut map, 0, false);
     push(&rt, &mut map, true);
     let batch = ok(&rt, copy::<3, Dirty<3>>(&map));
-    expect(&rt, pending_shows(&rt, &batch, 0, b"001100101"));
+    expect(&rt, has_pending_bits(&rt, &batch, 0, b"001100101"));
     let map = ok(&rt, copy::<3, Clean>(&map.abort()));
-    expect(&rt, shows(&rt, map.current(), 0, b"10110010"));
+    expect(&rt, has_bits(map.current(), 0, b"10110010"));
     expect(&rt, keeps(&map, &[6]));
     let map = commit(&rt, batch, 7);
     expect(&rt, keeps(&map, &[6, 7]));
-    expect(&rt, was(&rt, &map, 6, 0, b"10110010"));
+    expect(&rt, had_bits(&rt, &map, 6, 0, b"10110010"));
 }
 
+// The text of each error.
 #[test]
-fn refusals_in_words(rt: HostRuntime) {
+fn error_messages(rt: HostRuntime) {
     let not_above = Error::NonMonotonicCommit {
         previous: 9,
         attempted: 3,

@@ -1,11 +1,14 @@
-//! The ends of the positions and of the numbers: behind the greatest pruned front as many bits as there are positions left, at six widths.
+//! The greatest positions and commit numbers, at six widths.
+//!
+//! The bitmaps have the greatest pruned prefix, and a bit at each position that is left.
 
 ghost use Rattle.bitmap_bytes.specs.Chunk.{IsWidth};
 
-use crate::asked::{
-    commit, current_bit, current_chunk, equal, expect, go_back, keeps, ok, pending_bit,
-    pending_chunk, pop, prune_to_bit, push, push_byte, push_run, read_bit, refuse, set_bit, stay,
+use crate::checked_calls::{
+    commit, current_bit, current_chunk, failed_commit, failed_rewind, keeps, pending_bit,
+    pending_chunk, pop, prune_to_bit, push, push_byte, push_run, read_bit, rewind, set_bit,
 };
+use crate::checks::{equal, expect, ok};
 use historical_bitmap::bitmap::Readable;
 use historical_bitmap::bitmap::historical::{CleanBitMap, DirtyBitMap, Error};
 use std::alloc::Global;
@@ -14,7 +17,7 @@ use std::process::Abort;
 // The last position that a bitmap can have.
 const LAST: u64 = u64::MAX - 1;
 
-// The greatest front of whole chunks.
+// A bitmap with `chunks` pruned chunks, the most that there can be, and no bits.
 fn greatest<const N: usize>(rt: &impl Abort, alloc: Global, chunks: usize) -> Option<CleanBitMap<N>>
     requires { IsWidth N }
 {
@@ -26,14 +29,14 @@ fn greatest<const N: usize>(rt: &impl Abort, alloc: Global, chunks: usize) -> Op
     CleanBitMap::new_with_pruned_chunks(alloc, chunks).ok()
 }
 
-// Appends a bit for each position that is left, every third of them set: as many as a byte has by `push_byte`, the others one by one.
+// Appends a bit for each position that is left, every third set: the first eight by `push_byte` if there are as many, the others by `push`.
 fn fill<const N: usize>(rt: &impl Abort, map: &mut DirtyBitMap<N>) {
-    let room = u64::MAX - map.len();
-    let bytes = u64::from(room >= 8);
+    let space = u64::MAX - map.len();
+    let bytes = u64::from(space >= 8);
     if bytes == 1 {
         push_byte(rt, map, 0x49);
     }
-    for k in 8 * bytes..room {
+    for k in 8 * bytes..space {
         push(rt, map, k % 3 == 0);
     }
 }
@@ -45,7 +48,7 @@ fn empty<const N: usize>(rt: &impl Abort, map: &mut DirtyBitMap<N>, first: u64) 
     }
 }
 
-// What it is while the edits are pending, at the first position behind the front and at the last, which are set anew.
+// The pending bitmap at its first retained position and at the last, both of which are written.
 fn check_pending<const N: usize>(rt: &impl Abort, map: &mut DirtyBitMap<N>, first: u64) {
     let last = pending_bit(rt, map, LAST);
     set_bit(rt, map, LAST, !last);
@@ -61,7 +64,7 @@ fn check_pending<const N: usize>(rt: &impl Abort, map: &mut DirtyBitMap<N>, firs
     equal(rt, map.len(), u64::MAX);
 }
 
-// The bits at both ends, and set positions in ranges that are whole, of one position, empty, reversed and before the front.
+// The bits at both ends, and the set positions in ranges: the whole, of one position, empty, reversed, and within the pruned prefix.
 fn check<B: Readable<N>, const N: usize>(rt: &impl Abort, map: &B, first: u64) {
     expect(rt, map.len() == u64::MAX && first < LAST);
     let is_last_set = (LAST - first) % 3 == 0;
@@ -86,7 +89,7 @@ fn check<B: Readable<N>, const N: usize>(rt: &impl Abort, map: &B, first: u64) {
     expect(rt, map.ones_iter_range(0..first).next().is_none());
 }
 
-// The state that is kept under 7, read in place and made a bitmap.
+// The bitmap at commit 7, read in place and rebuilt.
 fn check_kept<const N: usize>(rt: &impl Abort, map: &CleanBitMap<N>, first: u64) {
     let then = map.at(7);
     expect(rt, then.is_some());
@@ -100,7 +103,7 @@ fn check_kept<const N: usize>(rt: &impl Abort, map: &CleanBitMap<N>, first: u64)
     }
 }
 
-// The same of the current bitmap, and its bits and chunks at both ends.
+// The current bitmap, and its bits and chunks at both ends.
 fn check_current<const N: usize>(rt: &impl Abort, map: &CleanBitMap<N>, first: u64) {
     equal(rt, map.len(), u64::MAX);
     check(rt, map.current(), first);
@@ -115,24 +118,24 @@ fn check_current<const N: usize>(rt: &impl Abort, map: &CleanBitMap<N>, first: u
     );
 }
 
-// Commits it, takes all bits away under the greatest number, after which there is none, and goes back.
+// Commits at 7, removes all bits, commits at the greatest number, after which no number is left, and rewinds to 7.
 fn check_commits<const N: usize>(rt: &impl Abort, map: DirtyBitMap<N>, first: u64) {
     let mut map = commit(rt, map, 7).into_dirty();
     empty(rt, &mut map, first);
-    let map = refuse(rt, map, u64::MAX, Error::ReservedCommitNumber);
+    let map = failed_commit(rt, map, u64::MAX, Error::ReservedCommitNumber);
     let map = commit(rt, map, LAST).into_dirty();
     let why = Error::NonMonotonicCommit {
         previous: LAST,
         attempted: LAST,
     };
-    let map = refuse(rt, map, LAST, why).abort();
+    let map = failed_commit(rt, map, LAST, why).abort();
     expect(rt, map.at(LAST).is_some_and(|old| old.len() == first));
     check_kept(rt, &map, first);
-    let map = go_back(rt, map, 7);
+    let map = rewind(rt, map, 7);
     check_current(rt, &map, first);
 }
 
-// The greatest front, the bits behind it, and its commits.
+// The greatest pruned prefix, the bits after it, and commits.
 fn check_ends<const N: usize>(rt: &impl Abort, alloc: Global, chunks: usize)
     requires { IsWidth N }
 {
@@ -147,8 +150,9 @@ fn check_ends<const N: usize>(rt: &impl Abort, alloc: Global, chunks: usize)
     }
 }
 
+// Edits, commits and reads at the greatest positions, at six widths.
 #[test]
-fn greatest_fronts(rt: HostRuntime) {
+fn greatest_prefixes(rt: HostRuntime) {
     check_ends::<1>(&rt, rt.alloc(), 2305843009213693951);
     check_ends::<3>(&rt, rt.alloc(), 768614336404564650);
     check_ends::<7>(&rt, rt.alloc(), 329406144173384850);
@@ -157,6 +161,7 @@ fn greatest_fronts(rt: HostRuntime) {
     check_ends::<64>(&rt, rt.alloc(), 36028797018963967);
 }
 
+// The chunk of the last position, in chunks of one byte.
 #[test]
 fn chunk_at_the_end_of_the_positions(rt: HostRuntime) {
     let made = CleanBitMap::<1>::new_with_pruned_chunks(rt.alloc(), 2305843009213693951);
@@ -166,7 +171,7 @@ fn chunk_at_the_end_of_the_positions(rt: HostRuntime) {
     equal(&rt, pending_chunk(&rt, &map, 18446744073709551614), [0x7f]);
 }
 
-// What is told of numbers where the greatest alone is kept.
+// Only the greatest number is a kept commit.
 fn check_greatest(rt: &impl Abort, map: &CleanBitMap<4>) {
     expect(
         rt,
@@ -179,6 +184,7 @@ fn check_greatest(rt: &impl Abort, map: &CleanBitMap<4>) {
     );
 }
 
+// The greatest commit number can be kept and rewound to, and no number can follow it.
 #[test]
 fn greatest_number(rt: HostRuntime) {
     let not_above = Error::NonMonotonicCommit {
@@ -188,10 +194,10 @@ fn greatest_number(rt: HostRuntime) {
     let map: DirtyBitMap<4> = CleanBitMap::new(rt.alloc()).into_dirty();
     let map = commit(&rt, map, u64::MAX - 1);
     expect(&rt, keeps(&map, &[18446744073709551614]));
-    let map = refuse(&rt, map.into_dirty(), u64::MAX, Error::ReservedCommitNumber);
-    let map = refuse(&rt, map, 0, not_above).abort();
+    let map = failed_commit(&rt, map.into_dirty(), u64::MAX, Error::ReservedCommitNumber);
+    let map = failed_commit(&rt, map, 0, not_above).abort();
     check_greatest(&rt, &map);
-    let mut map = go_back(&rt, stay(&rt, map, u64::MAX), u64::MAX - 1);
+    let mut map = rewind(&rt, failed_rewind(&rt, map, u64::MAX), u64::MAX - 1);
     equal(
         &rt,
         (

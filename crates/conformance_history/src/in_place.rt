@@ -1,24 +1,25 @@
-//! Old states read in place, beside the same states as bitmaps of their own.
+//! Past states read in place, compared with the same states rebuilt as bitmaps.
 
 ghost use Rattle.bitmap_bytes.specs.Chunk.{IsWidth};
 
-use crate::asked::{
-    commit, equal, expect, expect_at, front, ok, pop, prune_to_bit, push_byte, push_chunk,
-    push_run, reads_alike, set_bit,
+use crate::checked_calls::{
+    commit, pending_pruned_bits, pop, prune_to_bit, push_byte, push_chunk, push_run, set_bit,
 };
+use crate::checks::{equal, expect, expect_at, ok};
 use historical_bitmap::bitmap::historical::{CleanBitMap, DirtyBitMap};
 use historical_bitmap::bitmap::{Prunable, Readable};
 use std::alloc::{AllocError, Global};
 use std::process::Abort;
+use test_support::compare::same_bits;
 
-// A chunk whose bytes are all as given, pushed so many times.
+// Pushes `count` chunks whose bytes are all `byte`.
 fn push_chunks<const N: usize>(rt: &impl Abort, map: &mut DirtyBitMap<N>, count: u64, byte: u8) {
     for _ in 0..count {
         push_chunk(rt, map, &[byte; N]);
     }
 }
 
-// The bits of so many chunks removed.
+// Removes the bits of `count` chunks.
 fn pop_chunks<const N: usize>(rt: &impl Abort, map: &mut DirtyBitMap<N>, count: usize) {
     for _ in 0..count {
         for _ in 0..N {
@@ -29,16 +30,16 @@ fn pop_chunks<const N: usize>(rt: &impl Abort, map: &mut DirtyBitMap<N>, count: 
     }
 }
 
-// The bit before the last one set, where it is retained.
-fn set_near_end<const N: usize>(rt: &impl Abort, map: &mut DirtyBitMap<N>) {
-    if front(rt, map) < map.len() {
+// Sets the last bit, if it is retained.
+fn set_last_bit<const N: usize>(rt: &impl Abort, map: &mut DirtyBitMap<N>) {
+    if pending_pruned_bits(rt, map) < map.len() {
         let last = map.len() - 1;
         set_bit(rt, map, last, true);
     }
 }
 
-// Four commits: of three chunks and five bits; of one popped down and written anew behind a pruned one; of chunks that are
-// appended and then pruned, past the old end; and of a byte across what stands.
+// Four commits. The first has three chunks and five bits. The second removes a chunk of bits, appends bits and prunes a chunk.
+// The third appends chunks and prunes up to its end. The fourth appends a byte.
 fn four_commits<const N: usize>(rt: &impl Abort, alloc: Global) -> CleanBitMap<N>
     requires { IsWidth N }
 {
@@ -48,7 +49,7 @@ fn four_commits<const N: usize>(rt: &impl Abort, alloc: Global) -> CleanBitMap<N
     let mut map = commit(rt, map, 1).into_dirty();
     pop_chunks(rt, &mut map, 1);
     push_run(rt, &mut map, 9, false);
-    set_near_end(rt, &mut map);
+    set_last_bit(rt, &mut map);
     let second = N as u64 * 8;
     prune_to_bit(rt, &mut map, second);
     let mut map = commit(rt, map, 4).into_dirty();
@@ -57,52 +58,53 @@ fn four_commits<const N: usize>(rt: &impl Abort, alloc: Global) -> CleanBitMap<N
     prune_to_bit(rt, &mut map, end);
     let mut map = commit(rt, map, 5).into_dirty();
     push_byte(rt, &mut map, 0x3c);
-    set_near_end(rt, &mut map);
+    set_last_bit(rt, &mut map);
     commit(rt, map, 9)
 }
 
 // Whether two bitmaps have the same set positions in a range.
-fn range_alike<A: Readable<N>, B: Readable<N>, const N: usize>(
+fn same_range<A: Readable<N>, B: Readable<N>, const N: usize>(
     map: &A,
     other: &B,
     from: u64,
     to: u64,
 ) -> bool {
+    // The prover learns the bounds of `N` from this call.
     let _ = map.len();
     map.ones_iter_range(from..to)
         .eq(other.ones_iter_range(from..to))
 }
 
-// The same in each range that begins at a position and ends at one of some positions.
-fn ranges_from_alike<A: Readable<N>, B: Readable<N>, const N: usize>(
+// The same in each range from `from` to one of `positions`.
+fn same_ranges_from<A: Readable<N>, B: Readable<N>, const N: usize>(
     map: &A,
     other: &B,
     from: u64,
     positions: &[u64],
 ) -> bool {
     for to in positions {
-        if !range_alike(map, other, from, *to) {
+        if !same_range(map, other, from, *to) {
             return false;
         }
     }
     true
 }
 
-// The same in each range with both ends among some positions.
-fn ranges_alike<A: Readable<N>, B: Readable<N>, const N: usize>(
+// The same in each range between two of `positions`.
+fn same_ranges<A: Readable<N>, B: Readable<N>, const N: usize>(
     map: &A,
     other: &B,
     positions: &[u64],
 ) -> bool {
     for from in positions {
-        if !ranges_from_alike(map, other, *from, positions) {
+        if !same_ranges_from(map, other, *from, positions) {
             return false;
         }
     }
     true
 }
 
-// Positions about the ends of the bitmap and of `u64`, and in each chunk.
+// Positions near both ends of the bitmap and near `u64::MAX`, and some between.
 fn ends<const N: usize>(alloc: Global, map: &Prunable<N>) -> Result<Vec<u64>, AllocError> {
     let first = map.pruned_bits();
     let last = map.len();
@@ -120,8 +122,8 @@ fn ends<const N: usize>(alloc: Global, map: &Prunable<N>) -> Result<Vec<u64>, Al
     Ok(positions)
 }
 
-// Each kept state read both ways.
-fn read_both_ways<const N: usize>(rt: &impl Abort, alloc: Global)
+// Compares each past state, read in place and rebuilt.
+fn check_read_both_ways<const N: usize>(rt: &impl Abort, alloc: Global)
     requires { IsWidth N }
 {
     let map = four_commits::<N>(rt, alloc);
@@ -129,8 +131,8 @@ fn read_both_ways<const N: usize>(rt: &impl Abort, alloc: Global)
         match (ok(rt, map.get_at_commit(number)), map.at(number)) {
             (Some(old), Some(then)) => {
                 let positions = ok(rt, ends(alloc, &old));
-                expect_at(rt, number, reads_alike(rt, &then, &old));
-                expect_at(rt, number, ranges_alike(&then, &old, positions.as_slice()));
+                expect_at(rt, number, same_bits(&then, &old));
+                expect_at(rt, number, same_ranges(&then, &old, positions.as_slice()));
             }
             _ => expect_at(rt, number, false),
         }
@@ -142,36 +144,42 @@ fn read_both_ways<const N: usize>(rt: &impl Abort, alloc: Global)
 
 #[test]
 fn chunks_of_1(rt: HostRuntime) {
-    read_both_ways::<1>(&rt, rt.alloc());
+    check_read_both_ways::<1>(&rt, rt.alloc());
 }
 
 #[test]
 fn chunks_of_3(rt: HostRuntime) {
-    read_both_ways::<3>(&rt, rt.alloc());
+    check_read_both_ways::<3>(&rt, rt.alloc());
 }
 
 #[test]
 fn chunks_of_4(rt: HostRuntime) {
-    read_both_ways::<4>(&rt, rt.alloc());
+    check_read_both_ways::<4>(&rt, rt.alloc());
+}
+
+#[test]
+fn chunks_of_7(rt: HostRuntime) {
+    check_read_both_ways::<7>(&rt, rt.alloc());
 }
 
 #[test]
 fn chunks_of_9(rt: HostRuntime) {
-    read_both_ways::<9>(&rt, rt.alloc());
+    check_read_both_ways::<9>(&rt, rt.alloc());
 }
 
 #[test]
 fn chunks_of_32(rt: HostRuntime) {
-    read_both_ways::<32>(&rt, rt.alloc());
+    check_read_both_ways::<32>(&rt, rt.alloc());
 }
 
 #[test]
 fn chunks_of_64(rt: HostRuntime) {
-    read_both_ways::<64>(&rt, rt.alloc());
+    check_read_both_ways::<64>(&rt, rt.alloc());
 }
 
+// A past state read in place after a prune and an edit.
 #[test]
-fn a_state_from_before_two_more(rt: HostRuntime) {
+fn past_state_two_commits_ago(rt: HostRuntime) {
     let mut map = CleanBitMap::<1>::new(rt.alloc()).into_dirty();
     push_byte(&rt, &mut map, 0x4d);
     push_byte(&rt, &mut map, 0xae);

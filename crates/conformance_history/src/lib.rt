@@ -1,15 +1,19 @@
-//! Tests of the bitmaps that keep their history from outside, through their public calls alone.
+//! Tests of the historical bitmaps, through their public calls alone.
 #![tactic(auto)]
 
 #[cfg(test)]
+mod allocation_failures;
+#[cfg(test)]
 mod applied;
 #[cfg(test)]
-mod asked;
-#[cfg(test)]
 mod calls;
+#[cfg(test)]
+mod checked_calls;
+#[cfg(test)]
+mod checks;
+#[cfg(test)]
+mod chunks;
 #[cfg(test)]
 mod ends;
 #[cfg(test)]
 mod in_place;
-#[cfg(test)]
-mod refused;

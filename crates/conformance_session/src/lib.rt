@@ -1,11 +1,15 @@
-//! Tests of sessions from outside, through their public calls alone.
+//! Tests of sessions, through their public calls alone.
 #![tactic(auto)]
 
 #[cfg(test)]
-mod asked;
+mod allocation_failures;
+#[cfg(test)]
+mod batches;
+#[cfg(test)]
+mod checks;
+#[cfg(test)]
+mod commands;
 #[cfg(test)]
 mod ends;
 #[cfg(test)]
 mod lists;
-#[cfg(test)]
-mod refused;

@@ -1,12 +1,13 @@
-//! Lists of commands.
+//! Runs of several commands.
 
-use crate::asked::expect;
+use crate::checks::expect;
 use bitmap_session::command::Command;
 use bitmap_session::reply::Reply;
 use bitmap_session::session::Session;
 
+// A batch and its replies continue from one run to the next.
 #[test]
-fn lists_that_are_run_one_after_the_other_are_one_run(rt: HostRuntime) {
+fn two_runs_equal_one_run_of_both_lists(rt: HostRuntime) {
     let mut session = Session::<3>::new(rt.alloc());
     let mut replies = Vec::new(rt.alloc());
     let first = session.run(&[Command::Begin, Command::Push(true)], &mut replies);

@@ -1,20 +1,21 @@
-//! Calls on a bitmap with a pruned front that take no memory.
+//! Calls of a bitmap with a pruned prefix that do not allocate.
 
 ghost use Rattle.std.specs.Prelude.{◌*◌, ◌^◌, ◌<◌};
 
-use crate::asked::{
-    chunk_at, equal, expect, get_bit, get_chunk, last_chunk, pop, pop_chunk, prune_to_bit, set_bit,
+use crate::checked_calls::{
+    chunk_at, get_bit, get_chunk, last_chunk, pop, pop_chunk, prune_to_bit, set_bit,
     set_full_chunk, truncate, try_extend_from_bitmap, try_push, try_push_byte, try_unprune,
 };
+use crate::checks::{equal, expect};
 use bitmap_core::bitmap::BitMap;
 use bitmap_core::bitmap::prunable::Prunable;
 use std::alloc::Global;
 use std::process::Abort;
 
-// How often a bitmap slides below: its chunks then lie at each place of their ring, also across its end.
+// How often a bitmap slides below. Its chunks then have been at each place of the deque, also wrapped.
 pub const SLIDES: u64 = 9;
 
-// Three whole chunks behind two pruned ones, of whose positions each third is set, unless their memory is refused.
+// Three whole chunks after two pruned ones, every third position set, or `None` if an allocation fails.
 pub fn thirds<const N: usize>(rt: &impl Abort, alloc: Global) -> Option<Prunable<N>>
     requires positive { 0 < N }
     requires fits { 8 * N < 2 ^ 64 }
@@ -27,14 +28,14 @@ pub fn thirds<const N: usize>(rt: &impl Abort, alloc: Global) -> Option<Prunable
     Some(map)
 }
 
-// Sets each third position from one on.
+// Sets the positions from `first` on that are multiples of three, and clears the others.
 fn set_thirds<const N: usize>(rt: &impl Abort, map: &mut Prunable<N>, first: u64) {
     for position in first..map.len() {
         set_bit(rt, map, position, position % 3 == 0);
     }
 }
 
-// Drops the first of some whole chunks, and appends another, for which the ring has room.
+// Prunes the first of some whole chunks, and appends another, for which the deque has capacity.
 pub fn slide<const N: usize>(rt: &impl Abort, map: &mut Prunable<N>) {
     let len = map.len();
     expect(
@@ -48,7 +49,7 @@ pub fn slide<const N: usize>(rt: &impl Abort, map: &mut Prunable<N>) {
     set_thirds(rt, map, len);
 }
 
-// What is asked of three whole chunks.
+// The reads of three whole chunks.
 fn check_reads<const N: usize>(rt: &impl Abort, map: &Prunable<N>) {
     let (first, len) = (map.pruned_bits(), map.len());
     let pruned = map.pruned_chunks();
@@ -72,7 +73,7 @@ fn check_reads<const N: usize>(rt: &impl Abort, map: &Prunable<N>) {
     expect(rt, last_chunk(rt, map).0 == get_chunk(rt, map, pruned + 2));
 }
 
-// Each edit that adds no chunk. It leaves the three chunks as they were.
+// Each edit that adds no chunk. At the end the three chunks are as before.
 fn check_edits<const N: usize>(rt: &impl Abort, map: &mut Prunable<N>, two: &BitMap<3>) {
     let (first, len) = (map.pruned_bits(), map.len());
     expect(rt, 9 < len && len < 100_000);
@@ -101,7 +102,7 @@ fn check_edits<const N: usize>(rt: &impl Abort, map: &mut Prunable<N>, two: &Bit
     prune_to_bit(rt, map, first);
 }
 
-// A bitmap that slides, read and edited at each place.
+// A bitmap that slides, and is read and edited at each place.
 fn check_width<const N: usize>(rt: &impl Abort, alloc: Global)
     requires positive { 0 < N }
     requires fits { 8 * N < 2 ^ 64 }
@@ -122,7 +123,7 @@ fn check_width<const N: usize>(rt: &impl Abort, alloc: Global)
     expect(rt, pop_chunk(rt, &mut map) == chunk);
 }
 
-// A byte that is appended to a chunk with room for it.
+// Appends a byte to a chunk with space for it.
 fn check_byte<const N: usize>(rt: &impl Abort, alloc: Global)
     requires positive { 0 < N }
     requires fits { 8 * N < 2 ^ 64 }
@@ -157,6 +158,7 @@ fn byte_appended_to_an_open_chunk(rt: HostRuntime) {
     check_byte::<32>(&rt, rt.alloc());
 }
 
+// Bitmaps that are empty or completely pruned.
 #[test]
 fn nothing_retained(rt: HostRuntime) {
     expect(&rt, Prunable::<9>::new(rt.alloc()).is_empty());
@@ -177,8 +179,9 @@ fn nothing_retained(rt: HostRuntime) {
     expect(&rt, map.len() == 504 && map.pruned_chunks() == 7);
 }
 
+// Functions without a bitmap.
 #[test]
-fn places(rt: HostRuntime) {
+fn byte_and_mask_of_positions(rt: HostRuntime) {
     equal(&rt, Prunable::<9>::to_chunk_index(145), 2);
     equal(&rt, Prunable::<9>::chunk_byte_offset(143), 8);
     equal(&rt, Prunable::<9>::chunk_byte_bitmask(143), 128);

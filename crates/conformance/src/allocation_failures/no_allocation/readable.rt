@@ -1,15 +1,15 @@
-//! What readers of any bitmap ask. It takes no memory.
+//! The methods of `Readable`, none of which allocates.
 
 ghost use Rattle.std.specs.Prelude.{◌*◌, ◌^◌, ◌<◌};
 
-use crate::asked::{equal, expect};
-use crate::refused::no_memory;
-use crate::refused::no_memory::pruned::{SLIDES, slide};
+use crate::allocation_failures::no_allocation;
+use crate::allocation_failures::no_allocation::pruned::{SLIDES, slide};
+use crate::checks::{equal, expect};
 use bitmap_core::bitmap::readable::Readable;
 use std::alloc::Global;
 use std::process::Abort;
 
-// Each function of the trait, over a bitmap with some retained bit, of which each third is set.
+// Each method of the trait, on a bitmap with at least one retained bit, every third position set.
 fn check_reader<B: Readable<N>, const N: usize>(rt: &impl Abort, map: &B) {
     let (first, len, pruned) = (map.pruned_bits(), map.len(), map.pruned_chunks());
     let width = 8 * N as u64;
@@ -29,7 +29,7 @@ fn check_reader<B: Readable<N>, const N: usize>(rt: &impl Abort, map: &B) {
     check_ones(rt, map);
 }
 
-// The set positions from each position, to their end and past it.
+// The set positions from each position on, to the end of the iterator and past it.
 fn check_ones<B: Readable<N>, const N: usize>(rt: &impl Abort, map: &B) {
     let (first, len) = (map.pruned_bits(), map.len());
     expect(rt, len < 100_000);
@@ -42,15 +42,15 @@ fn check_ones<B: Readable<N>, const N: usize>(rt: &impl Abort, map: &B) {
     expect(rt, ones.next().is_none() && ones.next().is_none());
 }
 
-// Both bitmaps of one width, the one with a pruned front at each place of its ring.
+// Both bitmaps of one width. The pruned one is read at each place of its deque.
 fn check_width<const N: usize>(rt: &impl Abort, alloc: Global, len: u64)
     requires positive { 0 < N }
     requires fits { 8 * N < 2 ^ 64 }
 {
-    let Some(dense) = no_memory::thirds::<N>(rt, alloc, len) else {
+    let Some(dense) = no_allocation::thirds::<N>(rt, alloc, len) else {
         return;
     };
-    let Some(mut pruned) = no_memory::pruned::thirds::<N>(rt, alloc) else {
+    let Some(mut pruned) = no_allocation::pruned::thirds::<N>(rt, alloc) else {
         return;
     };
     check_reader(rt, &dense);
@@ -61,7 +61,7 @@ fn check_width<const N: usize>(rt: &impl Abort, alloc: Global, len: u64)
 }
 
 #[test]
-fn reader_of_either(rt: HostRuntime) {
+fn readers(rt: HostRuntime) {
     check_width::<1>(&rt, rt.alloc(), 27);
     check_width::<3>(&rt, rt.alloc(), 64);
     check_width::<8>(&rt, rt.alloc(), 192);

@@ -1,41 +1,43 @@
-//! A bitmap with a pruned front.
+//! A bitmap with a pruned prefix.
 
-use crate::asked::{
-    expect, pop, prune_to_bit, set_bit, shows, truncate, try_extend_from_bitmap, try_push,
-    try_push_byte, try_push_chunk, try_unprune,
+use crate::checked_calls::{
+    pop, prune_to_bit, set_bit, truncate, try_extend_from_bitmap, try_push, try_push_byte,
+    try_push_chunk, try_unprune,
 };
+use crate::checks::expect;
 use bitmap_core::bitmap::BitMap;
 use bitmap_core::bitmap::prunable::Prunable;
 use std::alloc::Global;
 use std::process::Abort;
+use test_support::compare::has_bits;
 
-// What stands behind two pruned chunks of one byte before a call, as digits.
+// The bits after two pruned chunks of one byte before a call, as digits.
 const DIGITS: &[u8] = b"1011001001110101";
 
-// The same, as booleans.
+// The same bits, as booleans.
 const BOOLS: [bool; 16] = [
     true, false, true, true, false, false, true, false, false, true, true, true, false, true,
     false, true,
 ];
 
-// The bitmap before a call, unless its memory is refused. Its two chunks fill their ring, and lie across its end.
+// The bitmap before a call, or `None` if an allocation fails. Its two chunks fill the deque, which has wrapped.
 fn set_up(rt: &impl Abort, alloc: Global) -> Option<Prunable<1>> {
-    let mut roomy = Prunable::<1>::new_with_pruned_chunks(alloc, 1).ok()?;
-    try_push_chunk(rt, &mut roomy, &[0xff]).ok()?;
-    try_push_chunk(rt, &mut roomy, &[0x4d]).ok()?;
-    let mut map = roomy.clone().ok()?;
+    let mut has_capacity = Prunable::<1>::new_with_pruned_chunks(alloc, 1).ok()?;
+    try_push_chunk(rt, &mut has_capacity, &[0xff]).ok()?;
+    try_push_chunk(rt, &mut has_capacity, &[0x4d]).ok()?;
+    let mut map = has_capacity.clone().ok()?;
     prune_to_bit(rt, &mut map, 16);
     try_push_chunk(rt, &mut map, &[0xae]).ok()?;
     Some(map)
 }
 
-// Uses a bitmap of those bits, and perhaps more, by calls that take no memory.
+// Uses a bitmap that begins with those bits, by calls that do not allocate.
 fn use_further(rt: &impl Abort, map: &mut Prunable<1>) {
     truncate(rt, map, 20);
     set_bit(rt, map, 17, true);
     expect(rt, pop(rt, map));
     expect(rt, try_push(rt, map, false).is_ok());
-    expect(rt, shows(rt, map, map.pruned_chunks(), b"1110"));
+    expect(rt, has_bits(map, map.pruned_chunks(), b"1110"));
 }
 
 #[test]
@@ -44,10 +46,10 @@ fn clone(rt: HostRuntime) {
         return;
     };
     if let Ok(mut copy) = map.clone() {
-        expect(&rt, shows(&rt, &copy, 2, DIGITS));
+        expect(&rt, has_bits(&copy, 2, DIGITS));
         use_further(&rt, &mut copy);
     }
-    expect(&rt, shows(&rt, &map, 2, DIGITS));
+    expect(&rt, has_bits(&map, 2, DIGITS));
     use_further(&rt, &mut map);
 }
 
@@ -56,17 +58,13 @@ fn bit_pushed(rt: HostRuntime) {
     let Some(mut map) = set_up(&rt, rt.alloc()) else {
         return;
     };
-    let refused = try_push(&rt, &mut map, true).is_err()
+    let failed = try_push(&rt, &mut map, true).is_err()
         && {
-            expect(&rt, shows(&rt, &map, 2, DIGITS));
+            expect(&rt, has_bits(&map, 2, DIGITS));
             try_push(&rt, &mut map, true).is_err()
         };
-    let after: &[u8] = if refused {
-        DIGITS
-    } else {
-        b"10110010011101011"
-    };
-    expect(&rt, shows(&rt, &map, 2, after));
+    let after: &[u8] = if failed { DIGITS } else { b"10110010011101011" };
+    expect(&rt, has_bits(&map, 2, after));
     use_further(&rt, &mut map);
 }
 
@@ -75,17 +73,17 @@ fn byte_pushed(rt: HostRuntime) {
     let Some(mut map) = set_up(&rt, rt.alloc()) else {
         return;
     };
-    let refused = try_push_byte(&rt, &mut map, 0x4d).is_err()
+    let failed = try_push_byte(&rt, &mut map, 0x4d).is_err()
         && {
-            expect(&rt, shows(&rt, &map, 2, DIGITS));
+            expect(&rt, has_bits(&map, 2, DIGITS));
             try_push_byte(&rt, &mut map, 0x4d).is_err()
         };
-    let after: &[u8] = if refused {
+    let after: &[u8] = if failed {
         DIGITS
     } else {
         b"101100100111010110110010"
     };
-    expect(&rt, shows(&rt, &map, 2, after));
+    expect(&rt, has_bits(&map, 2, after));
     use_further(&rt, &mut map);
 }
 
@@ -94,17 +92,17 @@ fn chunk_pushed(rt: HostRuntime) {
     let Some(mut map) = set_up(&rt, rt.alloc()) else {
         return;
     };
-    let refused = try_push_chunk(&rt, &mut map, &[0x4d]).is_err()
+    let failed = try_push_chunk(&rt, &mut map, &[0x4d]).is_err()
         && {
-            expect(&rt, shows(&rt, &map, 2, DIGITS));
+            expect(&rt, has_bits(&map, 2, DIGITS));
             try_push_chunk(&rt, &mut map, &[0x4d]).is_err()
         };
-    let after: &[u8] = if refused {
+    let after: &[u8] = if failed {
         DIGITS
     } else {
         b"101100100111010110110010"
     };
-    expect(&rt, shows(&rt, &map, 2, after));
+    expect(&rt, has_bits(&map, 2, after));
     use_further(&rt, &mut map);
 }
 
@@ -113,17 +111,17 @@ fn zeros_appended(rt: HostRuntime) {
     let Some(mut map) = set_up(&rt, rt.alloc()) else {
         return;
     };
-    let refused = map.extend_to(55).is_err()
+    let failed = map.extend_to(55).is_err()
         && {
-            expect(&rt, shows(&rt, &map, 2, DIGITS));
+            expect(&rt, has_bits(&map, 2, DIGITS));
             map.extend_to(55).is_err()
         };
-    let after: &[u8] = if refused {
+    let after: &[u8] = if failed {
         DIGITS
     } else {
         b"101100100111010100000000000000000000000"
     };
-    expect(&rt, shows(&rt, &map, 2, after));
+    expect(&rt, has_bits(&map, 2, after));
     use_further(&rt, &mut map);
 }
 
@@ -135,17 +133,17 @@ fn bitmap_appended(rt: HostRuntime) {
     let Ok(other) = BitMap::<3>::from_bools(rt.alloc(), &BOOLS) else {
         return;
     };
-    let refused = try_extend_from_bitmap(&rt, &mut map, &other).is_err()
+    let failed = try_extend_from_bitmap(&rt, &mut map, &other).is_err()
         && {
-            expect(&rt, shows(&rt, &map, 2, DIGITS));
+            expect(&rt, has_bits(&map, 2, DIGITS));
             try_extend_from_bitmap(&rt, &mut map, &other).is_err()
         };
-    let after: &[u8] = if refused {
+    let after: &[u8] = if failed {
         DIGITS
     } else {
         b"10110010011101011011001001110101"
     };
-    expect(&rt, shows(&rt, &map, 2, after));
+    expect(&rt, has_bits(&map, 2, after));
     use_further(&rt, &mut map);
 }
 
@@ -155,18 +153,15 @@ fn chunks_put_back(rt: HostRuntime) {
         return;
     };
     let chunks = [[0x0f], [0x33]];
-    let refused = try_unprune(&rt, &mut map, &chunks).is_err()
+    let failed = try_unprune(&rt, &mut map, &chunks).is_err()
         && {
-            expect(&rt, shows(&rt, &map, 2, DIGITS));
+            expect(&rt, has_bits(&map, 2, DIGITS));
             try_unprune(&rt, &mut map, &chunks).is_err()
         };
-    if !refused {
-        expect(
-            &rt,
-            shows(&rt, &map, 0, b"11110000110011001011001001110101"),
-        );
+    if !failed {
+        expect(&rt, has_bits(&map, 0, b"11110000110011001011001001110101"));
         prune_to_bit(&rt, &mut map, 16);
     }
-    expect(&rt, shows(&rt, &map, 2, DIGITS));
+    expect(&rt, has_bits(&map, 2, DIGITS));
     use_further(&rt, &mut map);
 }

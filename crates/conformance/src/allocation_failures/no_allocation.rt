@@ -1,7 +1,7 @@
-//! Calls that take no memory.
+//! Calls that do not allocate.
 //!
-//! All requests of a scenario here are those of its set-up. Their number stands in tools/requests.txt, so a call that
-//! begins to take memory shows there, whether or not it hands a refusal on.
+//! All allocations of a scenario here are those of its set-up. A table of the tools has their number, so a new allocation of a
+//! call is noticed there, whether or not the call returns the error.
 
 ghost use Rattle.std.specs.Prelude.{◌*◌, ◌^◌, ◌<◌};
 
@@ -9,15 +9,15 @@ mod codec;
 mod pruned;
 mod readable;
 
-use crate::answers::{hash_of, holds};
-use crate::asked::{equal, expect};
+use crate::checks::{equal, expect};
+use crate::dense_helpers::{hash_of, holds};
 use bitmap_core::bitmap::BitMap;
 use std::alloc::Global;
 use std::fmt;
 use std::fmt::Write;
 use std::process::Abort;
 
-// Takes text and keeps its length alone.
+// A sink for text that keeps only its length.
 #[derive(Drop)]
 struct Length {
     bytes: usize,
@@ -30,7 +30,7 @@ impl Write for Length {
     }
 }
 
-// So many bits, of which each third is set, unless their memory is refused.
+// A bitmap of `len` bits, every third of them set, or `None` if an allocation fails.
 fn thirds<const N: usize>(rt: &impl Abort, alloc: Global, len: u64) -> Option<BitMap<N>>
     requires positive { 0 < N }
     requires fits { 8 * N < 2 ^ 64 }
@@ -43,7 +43,7 @@ fn thirds<const N: usize>(rt: &impl Abort, alloc: Global, len: u64) -> Option<Bi
     Some(map)
 }
 
-// What is asked of each bit, and of all of them in turn, where each third is set.
+// The reads of single bits, and the iterators, of such a bitmap.
 fn check_each<const N: usize>(rt: &impl Abort, map: &BitMap<N>, len: u64) {
     expect(rt, map.len() == len);
     for position in 0..len {
@@ -60,7 +60,7 @@ fn check_each<const N: usize>(rt: &impl Abort, map: &BitMap<N>, len: u64) {
     expect(rt, map.ones_iter().eq((0..len).step_by(3)));
 }
 
-// What is asked of a bitmap as a whole, or of a part of it, where each third of its bits is set.
+// The reads of the whole of such a bitmap, or of a range.
 fn check_reads<const N: usize>(rt: &impl Abort, map: &BitMap<N>, len: u64) {
     expect(rt, map.len() == len && len > 8);
     expect(
@@ -83,7 +83,7 @@ fn check_reads<const N: usize>(rt: &impl Abort, map: &BitMap<N>, len: u64) {
     equal(rt, text.bytes as u64, if len > 64 { 75 } else { len + 8 });
 }
 
-// What is asked of one bitmap, and of two that have the same bits or do not.
+// The reads of one bitmap, and the comparisons of two.
 fn check_whole<const N: usize>(rt: &impl Abort, alloc: Global, len: u64)
     requires positive { 0 < N }
     requires fits { 8 * N < 2 ^ 64 }
@@ -101,8 +101,8 @@ fn check_whole<const N: usize>(rt: &impl Abort, alloc: Global, len: u64)
     expect(rt, map != other);
 }
 
-// Bitmaps of as many bits joined in place.
-fn check_joins<const N: usize>(rt: &impl Abort, map: &mut BitMap<N>, other: &BitMap<N>) {
+// Two bitmaps of the same length combined in place.
+fn check_combined<const N: usize>(rt: &impl Abort, map: &mut BitMap<N>, other: &BitMap<N>) {
     map.flip_all();
     expect(rt, map.len() == other.len());
     map.or(other);
@@ -113,7 +113,7 @@ fn check_joins<const N: usize>(rt: &impl Abort, map: &mut BitMap<N>, other: &Bit
     expect(rt, map.count_ones() == 0);
 }
 
-// Single bits changed and taken from the end, and the front kept. Two bits are left.
+// Single bits changed, and bits removed from the end. Two bits are left.
 fn check_changes<const N: usize>(rt: &impl Abort, map: &mut BitMap<N>, len: u64) {
     expect(rt, map.len() == len && len > 8);
     map.set(0, true);
@@ -127,7 +127,7 @@ fn check_changes<const N: usize>(rt: &impl Abort, map: &mut BitMap<N>, len: u64)
     expect(rt, holds(map, &[true, true], &[]));
 }
 
-// Each edit in place.
+// All edits in place.
 fn check_edits<const N: usize>(rt: &impl Abort, alloc: Global, len: u64)
     requires positive { 0 < N }
     requires fits { 8 * N < 2 ^ 64 }
@@ -138,11 +138,11 @@ fn check_edits<const N: usize>(rt: &impl Abort, alloc: Global, len: u64)
     let Some(other) = thirds::<N>(rt, alloc, len) else {
         return;
     };
-    check_joins(rt, &mut map, &other);
+    check_combined(rt, &mut map, &other);
     check_changes(rt, &mut map, len);
 }
 
-// Each way to append bits to the last chunk, which has room for them.
+// Each way to append bits to the last chunk, which has space for them.
 fn check_appends<const N: usize>(rt: &impl Abort, alloc: Global, len: u64)
     requires positive { 0 < N }
     requires fits { 8 * N < 2 ^ 64 }
@@ -165,7 +165,7 @@ fn check_appends<const N: usize>(rt: &impl Abort, alloc: Global, len: u64)
     check_reads(rt, &map, len);
 }
 
-// Bitmaps made without bits.
+// Empty bitmaps.
 fn check_no_bits<const N: usize>(rt: &impl Abort, alloc: Global)
     requires positive { 0 < N }
     requires fits { 8 * N < 2 ^ 64 }
@@ -190,7 +190,7 @@ fn check_no_bits<const N: usize>(rt: &impl Abort, alloc: Global)
     );
 }
 
-// No bits appended to two full chunks.
+// Appends no bits to two full chunks.
 fn check_full<const N: usize>(rt: &impl Abort, alloc: Global)
     requires positive { 0 < N }
     requires fits { 8 * N < 2 ^ 64 }
@@ -251,8 +251,9 @@ fn no_bits_appended(rt: HostRuntime) {
     check_full::<32>(&rt, rt.alloc());
 }
 
+// Functions without a bitmap.
 #[test]
-fn sizes_and_places(rt: HostRuntime) {
+fn sizes_and_chunk_positions(rt: HostRuntime) {
     equal(&rt, BitMap::<1>::max_encode_size(17), 11);
     equal(&rt, BitMap::<9>::max_encode_size(145), 35);
     expect(&rt, BitMap::<1>::get_bit_from_chunk(&[4], 10));

@@ -1,12 +1,13 @@
-//! A batch applied by a closure, where a request of the closure or of its commit is refused.
+//! A batch applied by a closure, while an allocation of the closure or of the commit fails.
 
-use crate::asked::{expect, pop, try_push, try_set_bit};
-use crate::refused::{check_committed, check_ten, ten};
+use crate::allocation_failures::{check_committed, check_ten, ten};
+use crate::checked_calls::{pop, try_push, try_set_bit};
+use crate::checks::expect;
 use historical_bitmap::bitmap::historical::{ApplyError, CleanBitMap, Error};
 use std::alloc::AllocError;
 use std::process::Abort;
 
-// Clears the first bit of the bits 10 and appends one, under 2. Refused, the bitmap is handed back.
+// Clears the first bit of the bits 10, appends a set bit, and commits at 2. On failure returns the bitmap that the error hands back.
 fn apply(rt: &impl Abort, map: CleanBitMap<4>) -> Result<CleanBitMap<4>, CleanBitMap<4>> {
     let mut is_edited = false;
     let applied = map.apply_batch(2, |batch| -> Result<(), AllocError> {

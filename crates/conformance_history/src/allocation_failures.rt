@@ -1,25 +1,26 @@
-//! Requests for memory that are refused.
+//! Scenarios for runs in which allocations fail.
 //!
-//! Each test is a scenario for runs in which requests are refused. It is over where its set-up is refused.
-//! After a refused call the value is as before, and is used further. Run by itself, a scenario has ample memory.
+//! A tool runs each test many times, and makes another allocation fail in each run. A test ends early if its set-up fails.
+//! After a failed call the test shows that the value is unchanged and can be used. As a plain test, no allocation fails.
 
 mod applied;
-mod no_memory;
+mod no_allocation;
 
-use crate::asked::{
-    equal, expect, front, get_bit, keeps, pending_shows, pop, pop_run, refuse, shows, shows_runs,
-    try_commit, try_prune_to_bit, try_push, try_push_byte, try_push_chunk, try_push_run,
-    try_set_bit, try_was,
+use crate::checked_calls::{
+    failed_commit, has_pending_bits, keeps, pending_pruned_bits, pop, pop_run, try_commit,
+    try_had_bits, try_prune_to_bit, try_push, try_push_byte, try_push_chunk, try_push_run,
+    try_set_bit,
 };
-use historical_bitmap::bitmap::Prunable;
+use crate::checks::{equal, expect};
 use historical_bitmap::bitmap::historical::{CleanBitMap, DirtyBitMap, Error, RewindError};
 use std::alloc::{AllocError, Global};
 use std::process::Abort;
+use test_support::compare::{has_bits, has_runs, same_bits};
 
-// The pending bits of `begun`, behind one pruned chunk.
+// The pending bits of `batch_begun`, after one pruned chunk.
 const PENDING: &[u8] = b"011101011111000";
 
-// Two commits of bytes, the second of which prunes one. Unless its memory is refused.
+// Two commits of bytes, the second of which prunes one byte, or `None` if an allocation fails.
 fn committed(rt: &impl Abort, alloc: Global) -> Option<CleanBitMap<1>> {
     let mut map = CleanBitMap::<1>::new(alloc).into_dirty();
     try_push_byte(rt, &mut map, 0x4d).ok()?;
@@ -30,35 +31,17 @@ fn committed(rt: &impl Abort, alloc: Global) -> Option<CleanBitMap<1>> {
     try_commit(rt, map, 2).ok()
 }
 
-// The same with a batch begun, which has popped a bit, and a copy from before the batch.
-fn begun(rt: &impl Abort, alloc: Global) -> Option<(DirtyBitMap<1>, CleanBitMap<1>)> {
+// A batch on `committed` that has removed a bit, and a copy from before the batch.
+fn batch_begun(rt: &impl Abort, alloc: Global) -> Option<(DirtyBitMap<1>, CleanBitMap<1>)> {
     let before = committed(rt, alloc)?;
     let mut map = before.clone().ok()?.into_dirty();
     expect(rt, !pop(rt, &mut map));
-    expect(rt, pending_shows(rt, &map, 1, PENDING));
+    expect(rt, has_pending_bits(rt, &map, 1, PENDING));
     Some((map, before))
 }
 
-// Whether two bitmaps have as many pruned chunks, and the same bits behind them.
-fn same<const N: usize>(rt: &impl Abort, map: &Prunable<N>, other: &Prunable<N>) -> bool {
-    if map.len() != other.len() || map.pruned_chunks() != other.pruned_chunks() {
-        return false;
-    }
-    for position in map.pruned_bits()..map.len() {
-        if get_bit(rt, map, position) != get_bit(rt, other, position) {
-            return false;
-        }
-    }
-    true
-}
-
-// Whether a number is kept with the same bitmap in both, as far as there is memory to read them.
-fn same_at<const N: usize>(
-    rt: &impl Abort,
-    map: &CleanBitMap<N>,
-    other: &CleanBitMap<N>,
-    number: u64,
-) -> bool {
+// Whether both keep the same bitmap at a commit. A failed allocation counts as true.
+fn same_at<const N: usize>(map: &CleanBitMap<N>, other: &CleanBitMap<N>, number: u64) -> bool {
     let Ok(found) = map.get_at_commit(number) else {
         return true;
     };
@@ -66,143 +49,137 @@ fn same_at<const N: usize>(
         return true;
     };
     match (found, wanted) {
-        (Some(found), Some(wanted)) => same(rt, &found, &wanted),
+        (Some(found), Some(wanted)) => same_bits(&found, &wanted),
         _ => false,
     }
 }
 
-// Whether two bitmaps are the same, with their histories.
-fn same_history<const N: usize>(
-    rt: &impl Abort,
-    map: &CleanBitMap<N>,
-    other: &CleanBitMap<N>,
-) -> bool {
+// Whether two bitmaps are the same, and their histories too.
+fn same_history<const N: usize>(map: &CleanBitMap<N>, other: &CleanBitMap<N>) -> bool {
     for number in other.commits() {
-        if !same_at(rt, map, other, number) {
+        if !same_at(map, other, number) {
             return false;
         }
     }
-    same(rt, map.current(), other.current())
+    same_bits(map.current(), other.current())
         && map.commits().eq(other.commits())
         && map.reverse_entries() == other.reverse_entries()
 }
 
-// Uses a batch on `committed` further: it is given up, which leaves what was before it, and its commits are dropped.
+// Aborts a batch on `committed`, which leaves the bitmap from before it, drops a commit, and begins another batch.
 fn use_further(rt: &impl Abort, map: DirtyBitMap<1>, before: &CleanBitMap<1>) {
     let mut map = map.abort();
-    expect(rt, same_history(rt, &map, before));
+    expect(rt, same_history(&map, before));
     equal(rt, map.prune_commits_before(2), 1);
     expect(rt, map.commits().eq([2].iter().copied()));
     let mut map = map.into_dirty();
     expect(rt, !pop(rt, &mut map));
-    expect(rt, pending_shows(rt, &map, 1, PENDING));
+    expect(rt, has_pending_bits(rt, &map, 1, PENDING));
 }
 
+// After a failed edit the pending bitmap is unchanged.
 #[test]
 fn bit_set(rt: HostRuntime) {
-    let Some((mut map, before)) = begun(&rt, rt.alloc()) else {
+    let Some((mut map, before)) = batch_begun(&rt, rt.alloc()) else {
         return;
     };
-    let refused = try_set_bit(&rt, &mut map, 8, true).is_err()
+    let failed = try_set_bit(&rt, &mut map, 8, true).is_err()
         && {
-            expect(&rt, pending_shows(&rt, &map, 1, PENDING));
+            expect(&rt, has_pending_bits(&rt, &map, 1, PENDING));
             try_set_bit(&rt, &mut map, 8, true).is_err()
         };
-    let after: &[u8] = if refused { PENDING } else { b"111101011111000" };
-    expect(&rt, pending_shows(&rt, &map, 1, after));
+    let after: &[u8] = if failed { PENDING } else { b"111101011111000" };
+    expect(&rt, has_pending_bits(&rt, &map, 1, after));
     use_further(&rt, map, &before);
 }
 
 #[test]
 fn bit_pushed(rt: HostRuntime) {
-    let Some((mut map, before)) = begun(&rt, rt.alloc()) else {
+    let Some((mut map, before)) = batch_begun(&rt, rt.alloc()) else {
         return;
     };
-    let refused = try_push(&rt, &mut map, true).is_err()
+    let failed = try_push(&rt, &mut map, true).is_err()
         && {
-            expect(&rt, pending_shows(&rt, &map, 1, PENDING));
+            expect(&rt, has_pending_bits(&rt, &map, 1, PENDING));
             try_push(&rt, &mut map, true).is_err()
         };
-    let after: &[u8] = if refused {
-        PENDING
-    } else {
-        b"0111010111110001"
-    };
-    expect(&rt, pending_shows(&rt, &map, 1, after));
+    let after: &[u8] = if failed { PENDING } else { b"0111010111110001" };
+    expect(&rt, has_pending_bits(&rt, &map, 1, after));
     use_further(&rt, map, &before);
 }
 
 #[test]
 fn byte_pushed(rt: HostRuntime) {
-    let Some((mut map, before)) = begun(&rt, rt.alloc()) else {
+    let Some((mut map, before)) = batch_begun(&rt, rt.alloc()) else {
         return;
     };
-    let refused = try_push_byte(&rt, &mut map, 0x4d).is_err()
+    let failed = try_push_byte(&rt, &mut map, 0x4d).is_err()
         && {
-            expect(&rt, pending_shows(&rt, &map, 1, PENDING));
+            expect(&rt, has_pending_bits(&rt, &map, 1, PENDING));
             try_push_byte(&rt, &mut map, 0x4d).is_err()
         };
-    let after: &[u8] = if refused {
+    let after: &[u8] = if failed {
         PENDING
     } else {
         b"01110101111100010110010"
     };
-    expect(&rt, pending_shows(&rt, &map, 1, after));
+    expect(&rt, has_pending_bits(&rt, &map, 1, after));
     use_further(&rt, map, &before);
 }
 
 #[test]
 fn chunk_pushed(rt: HostRuntime) {
-    let Some((mut map, before)) = begun(&rt, rt.alloc()) else {
+    let Some((mut map, before)) = batch_begun(&rt, rt.alloc()) else {
         return;
     };
-    let refused = try_push_chunk(&rt, &mut map, &[0x4d]).is_err()
+    let failed = try_push_chunk(&rt, &mut map, &[0x4d]).is_err()
         && {
-            expect(&rt, pending_shows(&rt, &map, 1, PENDING));
+            expect(&rt, has_pending_bits(&rt, &map, 1, PENDING));
             try_push_chunk(&rt, &mut map, &[0x4d]).is_err()
         };
-    let after: &[u8] = if refused {
+    let after: &[u8] = if failed {
         PENDING
     } else {
         b"01110101111100010110010"
     };
-    expect(&rt, pending_shows(&rt, &map, 1, after));
+    expect(&rt, has_pending_bits(&rt, &map, 1, after));
     use_further(&rt, map, &before);
 }
 
 #[test]
-fn front_pruned(rt: HostRuntime) {
-    let Some((mut map, before)) = begun(&rt, rt.alloc()) else {
+fn chunks_pruned(rt: HostRuntime) {
+    let Some((mut map, before)) = batch_begun(&rt, rt.alloc()) else {
         return;
     };
-    let refused = try_prune_to_bit(&rt, &mut map, 16).is_err()
+    let failed = try_prune_to_bit(&rt, &mut map, 16).is_err()
         && {
-            expect(&rt, pending_shows(&rt, &map, 1, PENDING));
+            expect(&rt, has_pending_bits(&rt, &map, 1, PENDING));
             try_prune_to_bit(&rt, &mut map, 16).is_err()
         };
-    if refused {
-        expect(&rt, pending_shows(&rt, &map, 1, PENDING));
+    if failed {
+        expect(&rt, has_pending_bits(&rt, &map, 1, PENDING));
     } else {
-        expect(&rt, pending_shows(&rt, &map, 2, b"1111000"));
+        expect(&rt, has_pending_bits(&rt, &map, 2, b"1111000"));
     }
     use_further(&rt, map, &before);
 }
 
-// What is left of three chunks of ones that are committed under 1, after a batch that prunes two or, refused, none.
-fn check_after_a_prune(rt: &impl Abort, map: &CleanBitMap<4>, refused: bool) {
-    let pruned = if refused { 0 } else { 2 };
-    let count = if refused { 96 } else { 32 };
-    expect(rt, shows_runs(rt, map.current(), pruned, &[(count, true)]));
+// Three chunks of ones are committed at 1. The batch committed at 2 prunes two of them, or none if `failed`.
+fn check_after_a_prune(rt: &impl Abort, map: &CleanBitMap<4>, failed: bool) {
+    let pruned = if failed { 0 } else { 2 };
+    let count = if failed { 96 } else { 32 };
+    expect(rt, has_runs(map.current(), pruned, &[(count, true)]));
     if let Ok(Some(old)) = map.get_at_commit(1) {
-        expect(rt, shows_runs(rt, &old, 0, &[(96, true)]));
+        expect(rt, has_runs(&old, 0, &[(96, true)]));
     }
     if let Ok(Some(old)) = map.get_at_commit(2) {
-        expect(rt, same(rt, &old, map.current()));
+        expect(rt, same_bits(&old, map.current()));
     }
 }
 
+// A batch whose prune failed can be committed.
 #[test]
-fn batch_committed_after_a_refused_prune(rt: HostRuntime) {
+fn batch_committed_after_a_failed_prune(rt: HostRuntime) {
     let mut map = CleanBitMap::<4>::new(rt.alloc()).into_dirty();
     if try_push_run(&rt, &mut map, 96, true).is_err() {
         return;
@@ -211,14 +188,14 @@ fn batch_committed_after_a_refused_prune(rt: HostRuntime) {
         return;
     };
     let mut map = map.into_dirty();
-    let refused = try_prune_to_bit(&rt, &mut map, 64).is_err();
+    let failed = try_prune_to_bit(&rt, &mut map, 64).is_err();
     let Ok(map) = try_commit(&rt, map, 2) else {
         return;
     };
-    check_after_a_prune(&rt, &map, refused);
+    check_after_a_prune(&rt, &map, failed);
 }
 
-// A batch on sixteen bytes of ones that has set the first bit of so many chunks, and popped four bits.
+// A batch on sixteen bytes of ones that has written the first bit of `chunks` chunks, and removed four bits.
 fn edited(rt: &impl Abort, alloc: Global, chunks: u64) -> Option<DirtyBitMap<1>> {
     let mut map = CleanBitMap::<1>::new(alloc).into_dirty();
     for _ in 0..16 {
@@ -232,26 +209,27 @@ fn edited(rt: &impl Abort, alloc: Global, chunks: u64) -> Option<DirtyBitMap<1>>
     Some(map)
 }
 
-// A byte of zeros pushed across two chunks that are not edited, where so many others are.
+// Pushes a byte of zeros across two chunks that are not edited, while `chunks` others are.
 fn push_across(rt: &impl Abort, alloc: Global, chunks: u64) {
     let Some(mut map) = edited(rt, alloc, chunks) else {
         return;
     };
-    let refused = try_push_byte(rt, &mut map, 0).is_err()
+    let failed = try_push_byte(rt, &mut map, 0).is_err()
         && {
             equal(rt, map.len(), 124);
             try_push_byte(rt, &mut map, 0).is_err()
         };
-    equal(rt, map.len(), if refused { 124 } else { 132 });
-    if !refused {
+    equal(rt, map.len(), if failed { 124 } else { 132 });
+    if !failed {
         pop_run(rt, &mut map, 8, false);
     }
     pop_run(rt, &mut map, 124, true);
     expect(rt, map.is_empty());
     let map = map.abort();
-    expect(rt, shows_runs(rt, map.current(), 0, &[(128, true)]));
+    expect(rt, has_runs(map.current(), 0, &[(128, true)]));
 }
 
+// A byte that needs two more edited chunks is appended completely or not at all.
 #[test]
 fn byte_pushed_across_chunks(rt: HostRuntime) {
     for chunks in 0..13 {
@@ -259,7 +237,7 @@ fn byte_pushed_across_chunks(rt: HostRuntime) {
     }
 }
 
-// The bits 10, committed under 1. Unless its memory is refused.
+// The bits 10, committed at 1, or `None` if an allocation fails.
 fn ten(rt: &impl Abort, alloc: Global) -> Option<CleanBitMap<4>> {
     let mut map = CleanBitMap::<4>::new(alloc).into_dirty();
     try_push(rt, &mut map, true).ok()?;
@@ -267,7 +245,7 @@ fn ten(rt: &impl Abort, alloc: Global) -> Option<CleanBitMap<4>> {
     try_commit(rt, map, 1).ok()
 }
 
-// The same with a batch that clears the first bit and appends one.
+// A batch on `ten` that clears the first bit and appends a set one.
 fn cleared_and_appended(rt: &impl Abort, alloc: Global) -> Option<DirtyBitMap<4>> {
     let mut map = ten(rt, alloc)?.into_dirty();
     try_set_bit(rt, &mut map, 0, false).ok()?;
@@ -275,33 +253,34 @@ fn cleared_and_appended(rt: &impl Abort, alloc: Global) -> Option<DirtyBitMap<4>
     Some(map)
 }
 
-// What a bitmap answers with that batch committed under 2.
+// The bitmap after that batch is committed at 2.
 fn check_committed(rt: &impl Abort, map: &CleanBitMap<4>) {
     expect(rt, map.commits().eq([1, 2].iter().copied()));
-    expect(rt, shows(rt, map.current(), 0, b"001"));
+    expect(rt, has_bits(map.current(), 0, b"001"));
     expect(rt, map.reverse_entries() <= 2);
     expect(rt, map.get_at_commit(3).is_ok_and(|old| old.is_none()));
     if let Ok(old) = map.get_at_commit(1) {
-        expect(rt, old.is_some_and(|old| shows(rt, &old, 0, b"10")));
+        expect(rt, old.is_some_and(|old| has_bits(&old, 0, b"10")));
     }
     if let Ok(old) = map.get_at_commit(2) {
-        expect(rt, old.is_some_and(|old| shows(rt, &old, 0, b"001")));
+        expect(rt, old.is_some_and(|old| has_bits(&old, 0, b"001")));
     }
 }
 
-// What it answers with that batch given up.
-fn check_given_up(rt: &impl Abort, map: DirtyBitMap<4>) {
-    expect(rt, pending_shows(rt, &map, 0, b"001"));
+// The bitmap after that batch is aborted.
+fn check_aborted(rt: &impl Abort, map: DirtyBitMap<4>) {
+    expect(rt, has_pending_bits(rt, &map, 0, b"001"));
     check_ten(rt, &map.abort());
 }
 
-// What it answers without that batch.
+// The bitmap without that batch.
 fn check_ten(rt: &impl Abort, map: &CleanBitMap<4>) {
     expect(rt, map.commits().eq([1].iter().copied()));
-    expect(rt, shows(rt, map.current(), 0, b"10"));
+    expect(rt, has_bits(map.current(), 0, b"10"));
     expect(rt, map.reverse_entries() <= 1);
 }
 
+// A failed commit hands back the batch, which can be committed or aborted.
 #[test]
 fn batch_committed(rt: HostRuntime) {
     let Some(map) = cleared_and_appended(&rt, rt.alloc()) else {
@@ -311,24 +290,24 @@ fn batch_committed(rt: HostRuntime) {
         Ok(map) => check_committed(&rt, &map),
         Err((map, why)) => {
             expect(&rt, why == Error::Memory(AllocError));
-            expect(&rt, pending_shows(&rt, &map, 0, b"001"));
+            expect(&rt, has_pending_bits(&rt, &map, 0, b"001"));
             match map.commit(2) {
                 Ok(map) => check_committed(&rt, &map),
                 Err((map, why)) => {
                     expect(&rt, why == Error::Memory(AllocError));
-                    check_given_up(&rt, map);
+                    check_aborted(&rt, map);
                 }
             }
         }
     }
 }
 
-// A batch on `committed` that removes the last chunk, sets a bit of the one before it, and prunes that one.
+// A batch on `committed` that removes the last chunk, sets a bit of the chunk before it, and prunes that chunk.
 fn removed_set_and_pruned(
     rt: &impl Abort,
     alloc: Global,
 ) -> Option<(DirtyBitMap<1>, CleanBitMap<1>)> {
-    let (mut map, before) = begun(rt, alloc)?;
+    let (mut map, before) = batch_begun(rt, alloc)?;
     pop_run(rt, &mut map, 3, false);
     pop_run(rt, &mut map, 4, true);
     try_set_bit(rt, &mut map, 8, true).ok()?;
@@ -336,35 +315,34 @@ fn removed_set_and_pruned(
     Some((map, before))
 }
 
-// Whether a number is kept with such a bitmap, as far as there is memory to read it.
-fn was_found(
-    rt: &impl Abort,
+// Whether the bitmap at a commit has these pruned chunks and digits. A failed allocation counts as true.
+fn had_bits_if_allocated(
     map: &CleanBitMap<1>,
     number: u64,
     pruned_chunks: usize,
     digits: &[u8],
 ) -> bool {
-    try_was(rt, map, number, pruned_chunks, digits).unwrap_or(true)
+    try_had_bits(map, number, pruned_chunks, digits).unwrap_or(true)
 }
 
-// What a bitmap answers with that batch committed under 3.
+// The bitmap after that batch is committed at 3.
 fn check_removed(rt: &impl Abort, map: &CleanBitMap<1>) {
     expect(
         rt,
-        keeps(map, &[1, 2, 3]) && shows(rt, map.current(), 2, b""),
+        keeps(map, &[1, 2, 3]) && has_bits(map.current(), 2, b""),
     );
-    expect(rt, was_found(rt, map, 1, 0, b"1011001001110101"));
-    expect(rt, was_found(rt, map, 2, 1, b"0111010111110000"));
-    expect(rt, was_found(rt, map, 3, 2, b""));
+    expect(rt, had_bits_if_allocated(map, 1, 0, b"1011001001110101"));
+    expect(rt, had_bits_if_allocated(map, 2, 1, b"0111010111110000"));
+    expect(rt, had_bits_if_allocated(map, 3, 2, b""));
     expect(
         rt,
-        keeps(map, &[1, 2, 3]) && shows(rt, map.current(), 2, b""),
+        keeps(map, &[1, 2, 3]) && has_bits(map.current(), 2, b""),
     );
 }
 
-// What is left of it where its commit is refused: the batch, which is given up.
+// The batch after its commit has failed. It is unchanged, and is aborted.
 fn check_not_removed(rt: &impl Abort, map: DirtyBitMap<1>, before: &CleanBitMap<1>) {
-    expect(rt, pending_shows(rt, &map, 2, b""));
+    expect(rt, has_pending_bits(rt, &map, 2, b""));
     use_further(rt, map, before);
 }
 
@@ -377,7 +355,7 @@ fn chunks_removed_and_pruned_committed(rt: HostRuntime) {
         Ok(map) => check_removed(&rt, &map),
         Err((map, why)) => {
             expect(&rt, why == Error::Memory(AllocError));
-            expect(&rt, pending_shows(&rt, &map, 2, b""));
+            expect(&rt, has_pending_bits(&rt, &map, 2, b""));
             match map.commit(3) {
                 Ok(map) => check_removed(&rt, &map),
                 Err((map, why)) => {
@@ -389,7 +367,7 @@ fn chunks_removed_and_pruned_committed(rt: HostRuntime) {
     }
 }
 
-// What is pending in `begun` after each of the edits below.
+// The pending bitmap of `batch_begun` after each of the edits below: its pruned chunks and its bits.
 const FURTHER: [(usize, &[u8]); 5] = [
     (1, b"111101011111000"),
     (1, b"0111010111110001"),
@@ -398,11 +376,11 @@ const FURTHER: [(usize, &[u8]); 5] = [
     (2, b"1111000"),
 ];
 
-// Makes one of five edits in a chain, behind an edit that drops nothing and takes no memory.
+// Makes one of five edits in a chain, after an edit that prunes nothing and does not allocate.
 fn edit_further(rt: &impl Abort, map: &mut DirtyBitMap<1>, which: usize) -> Result<(), AllocError> {
     expect(
         rt,
-        front(rt, map) <= 8 && 16 <= map.len() && map.len() < 1000,
+        pending_pruned_bits(rt, map) <= 8 && 16 <= map.len() && map.len() < 1000,
     );
     let edit = map.prune_to_bit(0)?;
     let _ = match which {
@@ -416,21 +394,17 @@ fn edit_further(rt: &impl Abort, map: &mut DirtyBitMap<1>, which: usize) -> Resu
 }
 
 fn check_further(rt: &impl Abort, alloc: Global, which: usize) {
-    let Some((mut map, before)) = begun(rt, alloc) else {
+    let Some((mut map, before)) = batch_begun(rt, alloc) else {
         return;
     };
-    let refused = edit_further(rt, &mut map, which).is_err()
+    let failed = edit_further(rt, &mut map, which).is_err()
         && {
-            expect(rt, pending_shows(rt, &map, 1, PENDING));
+            expect(rt, has_pending_bits(rt, &map, 1, PENDING));
             edit_further(rt, &mut map, which).is_err()
         };
     expect(rt, which < 5);
-    let (pruned_chunks, digits) = if refused {
-        (1, PENDING)
-    } else {
-        FURTHER[which]
-    };
-    expect(rt, pending_shows(rt, &map, pruned_chunks, digits));
+    let (pruned_chunks, digits) = if failed { (1, PENDING) } else { FURTHER[which] };
+    expect(rt, has_pending_bits(rt, &map, pruned_chunks, digits));
     use_further(rt, map, &before);
 }
 
@@ -441,14 +415,14 @@ fn edits_in_a_chain(rt: HostRuntime) {
     }
 }
 
-// Forty set bits that are committed under 7, with no commit before.
+// Forty set bits committed at 7, the first commit.
 fn check_first(rt: &impl Abort, map: &CleanBitMap<1>) {
-    expect(rt, shows_runs(rt, map.current(), 0, &[(40, true)]));
+    expect(rt, has_runs(map.current(), 0, &[(40, true)]));
     expect(rt, keeps(map, &[7]));
     expect(rt, map.reverse_entries() <= 5);
 }
 
-// The same forty bits handed back, as there was no memory to commit them.
+// The same forty bits, in the batch that a failed commit returns.
 fn check_handed_back(rt: &impl Abort, mut map: DirtyBitMap<1>, why: Error) {
     expect(rt, why == Error::Memory(AllocError));
     pop_run(rt, &mut map, 40, true);
@@ -457,6 +431,7 @@ fn check_handed_back(rt: &impl Abort, mut map: DirtyBitMap<1>, why: Error) {
     equal(rt, map.reverse_entries(), 0);
 }
 
+// The first commit of a bitmap.
 #[test]
 fn first_batch_committed(rt: HostRuntime) {
     let mut map = CleanBitMap::<1>::new(rt.alloc()).into_dirty();
@@ -469,42 +444,44 @@ fn first_batch_committed(rt: HostRuntime) {
     }
 }
 
+// A failed rebuild of a past state leaves the bitmap unchanged.
 #[test]
-fn old_state_read(rt: HostRuntime) {
+fn past_state_read(rt: HostRuntime) {
     let Some(map) = committed(&rt, rt.alloc()) else {
         return;
     };
     if let Ok(old) = map.get_at_commit(1) {
         expect(
             &rt,
-            old.is_some_and(|old| shows(&rt, &old, 0, b"1011001001110101")),
+            old.is_some_and(|old| has_bits(&old, 0, b"1011001001110101")),
         );
     }
     if let Ok(old) = map.get_at_commit(2) {
         expect(
             &rt,
-            old.is_some_and(|old| shows(&rt, &old, 1, b"0111010111110000")),
+            old.is_some_and(|old| has_bits(&old, 1, b"0111010111110000")),
         );
     }
-    expect(&rt, shows(&rt, map.current(), 1, b"0111010111110000"));
+    expect(&rt, has_bits(map.current(), 1, b"0111010111110000"));
     expect(&rt, map.commits().eq([1, 2].iter().copied()));
 }
 
-// What `committed` answers once it has gone back to 1. A batch on it is not committed under 1 again, and is edited.
-fn check_gone_back(rt: &impl Abort, map: CleanBitMap<1>) {
-    expect(rt, shows(rt, map.current(), 0, b"1011001001110101"));
+// `committed` after it is rewound to 1. A batch on it cannot be committed at 1 again, and can be edited.
+fn check_rewound(rt: &impl Abort, map: CleanBitMap<1>) {
+    expect(rt, has_bits(map.current(), 0, b"1011001001110101"));
     expect(rt, keeps(&map, &[1]) && map.reverse_entries() <= 2);
     let why = Error::NonMonotonicCommit {
         previous: 1,
         attempted: 1,
     };
-    let mut map = refuse(rt, map.into_dirty(), 1, why);
+    let mut map = failed_commit(rt, map.into_dirty(), 1, why);
     expect(rt, pop(rt, &mut map));
-    expect(rt, pending_shows(rt, &map, 0, b"101100100111010"));
+    expect(rt, has_pending_bits(rt, &map, 0, b"101100100111010"));
 }
 
+// A failed rewind hands back the bitmap with all its commits.
 #[test]
-fn gone_back(rt: HostRuntime) {
+fn rewound_to(rt: HostRuntime) {
     let Some(map) = committed(&rt, rt.alloc()) else {
         return;
     };
@@ -512,12 +489,12 @@ fn gone_back(rt: HostRuntime) {
         return;
     };
     match map.rewind_to(1) {
-        Ok(map) => check_gone_back(&rt, map),
+        Ok(map) => check_rewound(&rt, map),
         Err((map, why)) => {
             expect(&rt, why == RewindError::Memory(AllocError));
-            expect(&rt, same_history(&rt, &map, &before));
+            expect(&rt, same_history(&map, &before));
             match map.rewind_to(1) {
-                Ok(map) => check_gone_back(&rt, map),
+                Ok(map) => check_rewound(&rt, map),
                 Err((map, why)) => {
                     expect(&rt, why == RewindError::Memory(AllocError));
                     let mut map = map.into_dirty();
@@ -535,18 +512,18 @@ fn clean_bitmap_copied(rt: HostRuntime) {
         return;
     };
     if let Ok(copy) = map.clone() {
-        expect(&rt, same_history(&rt, &copy, &map));
+        expect(&rt, same_history(&copy, &map));
         let mut copy = copy.into_dirty();
         expect(&rt, !pop(&rt, &mut copy));
         use_further(&rt, copy, &map);
     }
-    expect(&rt, shows(&rt, map.current(), 1, b"0111010111110000"));
+    expect(&rt, has_bits(map.current(), 1, b"0111010111110000"));
     expect(&rt, map.commits().eq([1, 2].iter().copied()));
 }
 
 #[test]
 fn dirty_bitmap_copied(rt: HostRuntime) {
-    let Some((mut map, before)) = begun(&rt, rt.alloc()) else {
+    let Some((mut map, before)) = batch_begun(&rt, rt.alloc()) else {
         return;
     };
     if try_set_bit(&rt, &mut map, 8, true).is_err()
@@ -555,9 +532,9 @@ fn dirty_bitmap_copied(rt: HostRuntime) {
         return;
     }
     if let Ok(copy) = map.clone() {
-        expect(&rt, pending_shows(&rt, &copy, 2, b"1111000"));
+        expect(&rt, has_pending_bits(&rt, &copy, 2, b"1111000"));
         use_further(&rt, copy, &before);
     }
-    expect(&rt, pending_shows(&rt, &map, 2, b"1111000"));
+    expect(&rt, has_pending_bits(&rt, &map, 2, b"1111000"));
     use_further(&rt, map, &before);
 }

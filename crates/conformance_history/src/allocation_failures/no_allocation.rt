@@ -1,17 +1,19 @@
-//! Calls that take no memory: where every request is refused they answer as they do with ample memory.
+//! Calls that do not allocate. They give the same results while every allocation after the set-up fails.
 
-use crate::asked::{
-    current_bit, current_chunk, equal, expect, expect_at, keeps, pending_bit, pending_chunk,
-    pending_shows, pop, pop_run, read_bit, refuse, shows, stay, try_commit, try_prune_to_bit,
-    try_push, try_push_byte, try_push_run, try_set_bit,
+use crate::allocation_failures::{PENDING, batch_begun, committed};
+use crate::checked_calls::{
+    current_bit, current_chunk, failed_commit, failed_rewind, has_pending_bits, keeps, pending_bit,
+    pending_chunk, pop, pop_run, read_bit, try_commit, try_prune_to_bit, try_push, try_push_byte,
+    try_push_run, try_set_bit,
 };
-use crate::refused::{PENDING, begun, committed};
+use crate::checks::{equal, expect, expect_at};
 use historical_bitmap::bitmap::Readable;
 use historical_bitmap::bitmap::historical::{ApplyError, CleanBitMap, DirtyBitMap, Error};
 use std::alloc::Global;
 use std::process::Abort;
+use test_support::compare::has_bits;
 
-// A batch on one chunk of 32 true bits, unless its memory is refused.
+// A batch on one chunk of 32 set bits, or `None` if an allocation fails.
 fn one_chunk(rt: &impl Abort, alloc: Global) -> Option<DirtyBitMap<4>> {
     let mut map = CleanBitMap::<4>::new(alloc).into_dirty();
     try_push_run(rt, &mut map, 32, true).ok()?;
@@ -71,14 +73,14 @@ fn edited_chunk_filled(rt: HostRuntime) {
 }
 
 #[test]
-fn front_pruned_no_further(rt: HostRuntime) {
-    let Some((mut map, _before)) = begun(&rt, rt.alloc()) else {
+fn nothing_more_pruned(rt: HostRuntime) {
+    let Some((mut map, _before)) = batch_begun(&rt, rt.alloc()) else {
         return;
     };
     for bit in 0..16 {
         expect_at(&rt, bit, try_prune_to_bit(&rt, &mut map, bit).is_ok());
     }
-    expect(&rt, pending_shows(&rt, &map, 1, PENDING));
+    expect(&rt, has_pending_bits(&rt, &map, 1, PENDING));
 }
 
 #[test]
@@ -90,10 +92,10 @@ fn values_made(rt: HostRuntime) {
         &rt,
         made.is_ok_and(|map| map.into_dirty().abort().pruned_chunks() == 3),
     );
-    let refused = CleanBitMap::<4>::new_with_pruned_chunks(rt.alloc(), 576460752303423488);
+    let rejected = CleanBitMap::<4>::new_with_pruned_chunks(rt.alloc(), 576460752303423488);
     expect(
         &rt,
-        refused.is_err_and(|why| why == Error::PrunedChunksOverflow),
+        rejected.is_err_and(|why| why == Error::PrunedChunksOverflow),
     );
 }
 
@@ -108,12 +110,12 @@ fn current_bitmap_read(rt: HostRuntime) {
     );
     expect(&rt, current_bit(&rt, &map, 9) && !current_bit(&rt, &map, 8));
     equal(&rt, current_chunk(&rt, &map, 23), [0x0f]);
-    expect(&rt, shows(&rt, map.current(), 1, b"0111010111110000"));
+    expect(&rt, has_bits(map.current(), 1, b"0111010111110000"));
 }
 
 #[test]
 fn pending_bitmap_read(rt: HostRuntime) {
-    let Some((map, _before)) = begun(&rt, rt.alloc()) else {
+    let Some((map, _before)) = batch_begun(&rt, rt.alloc()) else {
         return;
     };
     expect(
@@ -126,62 +128,62 @@ fn pending_bitmap_read(rt: HostRuntime) {
 }
 
 #[test]
-fn numbers_refused(rt: HostRuntime) {
-    let Some((map, _before)) = begun(&rt, rt.alloc()) else {
+fn commits_that_fail(rt: HostRuntime) {
+    let Some((map, _before)) = batch_begun(&rt, rt.alloc()) else {
         return;
     };
-    let map = refuse(&rt, map, u64::MAX, Error::ReservedCommitNumber);
+    let map = failed_commit(&rt, map, u64::MAX, Error::ReservedCommitNumber);
     let why = Error::NonMonotonicCommit {
         previous: 2,
         attempted: 2,
     };
-    let map = refuse(&rt, map, 2, why);
-    expect(&rt, pending_shows(&rt, &map, 1, PENDING));
+    let map = failed_commit(&rt, map, 2, why);
+    expect(&rt, has_pending_bits(&rt, &map, 1, PENDING));
 }
 
-// Applies a batch that removes a bit and answers so, and answers what is handed back with the refusal.
-fn refuse_batch(
+// Applies a batch that removes a bit and returns `returned`. It fails, and the error and its bitmap are returned.
+fn failed_batch(
     rt: &impl Abort,
     map: CleanBitMap<1>,
     number: u64,
-    answer: Result<(), u8>,
+    returned: Result<(), u8>,
 ) -> Option<(CleanBitMap<1>, ApplyError<u8>)> {
     let applied = map.apply_batch(number, |batch| {
         expect(rt, !pop(rt, batch));
-        answer
+        returned
     });
     expect_at(rt, number, applied.is_err());
     applied.err()
 }
 
-// Applies batches that are refused, and answers the bitmap that is handed back.
-fn refuse_batches(rt: &impl Abort, map: CleanBitMap<1>) -> Option<CleanBitMap<1>> {
-    let (map, why) = refuse_batch(rt, map, u64::MAX, Ok(()))?;
+// Applies batches that fail, and returns the bitmap that the last error hands back.
+fn failed_batches(rt: &impl Abort, map: CleanBitMap<1>) -> Option<CleanBitMap<1>> {
+    let (map, why) = failed_batch(rt, map, u64::MAX, Ok(()))?;
     expect(
         rt,
         matches!(why, ApplyError::Commit(why) if why == Error::ReservedCommitNumber),
     );
-    let (map, why) = refuse_batch(rt, map, 2, Ok(()))?;
+    let (map, why) = failed_batch(rt, map, 2, Ok(()))?;
     let wanted = Error::NonMonotonicCommit {
         previous: 2,
         attempted: 2,
     };
     expect(rt, matches!(why, ApplyError::Commit(why) if why == wanted));
-    let (map, why) = refuse_batch(rt, map, 3, Err(7))?;
+    let (map, why) = failed_batch(rt, map, 3, Err(7))?;
     expect(rt, matches!(why, ApplyError::Batch(7)));
     Some(map)
 }
 
 #[test]
-fn batches_refused(rt: HostRuntime) {
+fn batches_that_fail(rt: HostRuntime) {
     let Some(map) = committed(&rt, rt.alloc()) else {
         return;
     };
-    let map = refuse_batches(&rt, map);
+    let map = failed_batches(&rt, map);
     expect(
         &rt,
         map.is_some_and(|map| keeps(&map, &[1, 2])
-            && shows(&rt, map.current(), 1, b"0111010111110000")),
+            && has_bits(map.current(), 1, b"0111010111110000")),
     );
 }
 
@@ -200,7 +202,7 @@ fn number_not_kept(rt: HostRuntime) {
 }
 
 #[test]
-fn old_state_read_in_place(rt: HostRuntime) {
+fn past_state_read_in_place(rt: HostRuntime) {
     let Some(map) = committed(&rt, rt.alloc()) else {
         return;
     };
@@ -221,15 +223,15 @@ fn old_state_read_in_place(rt: HostRuntime) {
 }
 
 #[test]
-fn number_not_gone_back_to(rt: HostRuntime) {
+fn number_not_rewound_to(rt: HostRuntime) {
     let Some(mut map) = committed(&rt, rt.alloc()) else {
         return;
     };
     for number in [0, 3, u64::MAX] {
-        map = stay(&rt, map, number);
+        map = failed_rewind(&rt, map, number);
     }
     expect(&rt, keeps(&map, &[1, 2]) && map.reverse_entries() <= 4);
-    expect(&rt, shows(&rt, map.current(), 1, b"0111010111110000"));
+    expect(&rt, has_bits(map.current(), 1, b"0111010111110000"));
 }
 
 #[test]
@@ -251,5 +253,5 @@ fn commits_listed_and_dropped(rt: HostRuntime) {
     expect(&rt, keeps(&map, &[2]));
     map.clear_history();
     expect(&rt, keeps(&map, &[]) && map.reverse_entries() == 0);
-    expect(&rt, shows(&rt, map.current(), 1, b"0111010111110000"));
+    expect(&rt, has_bits(map.current(), 1, b"0111010111110000"));
 }

@@ -1,30 +1,30 @@
-//! Requests for memory that are refused.
+//! Scenarios for runs in which allocations fail.
 //!
-//! Each test is a scenario for runs in which requests are refused. It is over where its set-up is refused.
-//! After a refused call the value is as before, and is used further. Run by itself, a scenario has ample memory.
+//! A tool runs each test many times, and makes another allocation fail in each run. A test ends early if its set-up fails.
+//! After a failed call the test shows that the value is unchanged and can be used. As a plain test, no allocation fails.
 
 mod codec;
-mod no_memory;
+mod no_allocation;
 mod pruned;
 
-use crate::answers::holds;
-use crate::asked::{equal_at, expect, expect_at};
+use crate::checks::{equal_at, expect, expect_at};
+use crate::dense_helpers::holds;
 use bitmap_core::bitmap::BitMap;
 use std::process::Abort;
 
-// What a bitmap has before a call. In chunks of one byte it fills two, so that one bit more takes memory.
+// The bits of a bitmap before a call. They fill two chunks of one byte, so one more bit needs an allocation.
 const BITS: [bool; 16] = [
     true, false, true, true, false, false, true, false, false, true, true, true, false, true,
     false, true,
 ];
 
-// As many bits, which pair with those in all four ways.
+// As many bits. With `BITS` they make all four pairs.
 const OTHERS: [bool; 16] = [
     true, true, false, true, true, false, false, false, true, true, false, true, false, false,
     true, false,
 ];
 
-// Uses a bitmap that begins with `BITS` by calls that take no memory.
+// Uses a bitmap that begins with `BITS`, by calls that do not allocate.
 fn use_further<const N: usize>(rt: &impl Abort, map: &mut BitMap<N>) {
     expect(rt, map.len() >= 16);
     map.truncate(4);
@@ -147,12 +147,12 @@ fn push(rt: HostRuntime) {
     let Ok(mut map) = BitMap::<1>::from_bools(rt.alloc(), &BITS) else {
         return;
     };
-    let refused = map.push(true).is_err()
+    let failed = map.push(true).is_err()
         && {
             expect(&rt, holds(&map, &BITS, &[]));
             map.push(true).is_err()
         };
-    let added: &[bool] = if refused { &[] } else { &[true] };
+    let added: &[bool] = if failed { &[] } else { &[true] };
     expect(&rt, holds(&map, &BITS, added));
     use_further(&rt, &mut map);
 }
@@ -162,12 +162,12 @@ fn extend_to(rt: HostRuntime) {
     let Ok(mut map) = BitMap::<1>::from_bools(rt.alloc(), &BITS) else {
         return;
     };
-    let refused = map.extend_to(39).is_err()
+    let failed = map.extend_to(39).is_err()
         && {
             expect(&rt, holds(&map, &BITS, &[]));
             map.extend_to(39).is_err()
         };
-    let added: &[bool] = if refused { &[] } else { &[false; 23] };
+    let added: &[bool] = if failed { &[] } else { &[false; 23] };
     expect(&rt, holds(&map, &BITS, added));
     use_further(&rt, &mut map);
 }
@@ -178,12 +178,12 @@ fn push_chunk(rt: HostRuntime) {
         return;
     };
     let chunk = [0b0100_1101];
-    let refused = map.push_chunk(&chunk).is_err()
+    let failed = map.push_chunk(&chunk).is_err()
         && {
             expect(&rt, holds(&map, &BITS, &[]));
             map.push_chunk(&chunk).is_err()
         };
-    let added: &[bool] = if refused {
+    let added: &[bool] = if failed {
         &[]
     } else {
         &[true, false, true, true, false, false, true, false]
@@ -200,17 +200,18 @@ fn extend_from_bitmap(rt: HostRuntime) {
     let Ok(other) = BitMap::<8>::from_bools(rt.alloc(), &OTHERS) else {
         return;
     };
-    let refused = map.extend_from_bitmap(&other).is_err()
+    let failed = map.extend_from_bitmap(&other).is_err()
         && {
             expect(&rt, holds(&map, &BITS, &[]));
             map.extend_from_bitmap(&other).is_err()
         };
-    let added: &[bool] = if refused { &[] } else { &OTHERS };
+    let added: &[bool] = if failed { &[] } else { &OTHERS };
     expect(&rt, holds(&map, &BITS, added));
     expect(&rt, holds(&other, &OTHERS, &[]));
     use_further(&rt, &mut map);
 }
 
+// Pushes up to the requested capacity do not fail.
 #[test]
 fn pushes_within_the_capacity(rt: HostRuntime) {
     let Ok(mut map) = BitMap::<1>::with_capacity(rt.alloc(), 20) else {

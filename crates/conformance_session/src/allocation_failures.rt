@@ -1,0 +1,110 @@
+//! Scenarios for runs in which allocations fail.
+//!
+//! A tool runs each test many times, and makes another allocation fail in each run. As a plain test, no allocation fails.
+
+use crate::checks::{equal, expect};
+use bitmap_core::bitmap::Readable;
+use bitmap_session::command::Command;
+use bitmap_session::reply::{Refusal, Reply};
+use bitmap_session::session::Session;
+
+// Whether the session replies `len` as its length. A failed allocation counts as true.
+fn has_len(session: &mut Session<4>, replies: &mut Vec<Reply<4>>, len: u64) -> bool {
+    session.run(&[Command::Len], replies).is_err()
+        || matches!(replies.last(), Some(Reply::Number(number)) if *number == len)
+}
+
+// If the space for the replies cannot be allocated, no command has run, and the replies are unchanged.
+#[test]
+fn space_for_the_replies(rt: HostRuntime) {
+    let mut session = Session::<4>::new(rt.alloc());
+    let mut replies = Vec::new(rt.alloc());
+    let first = [Command::Begin, Command::Push(true)];
+    if session.run(&first, &mut replies).is_err() {
+        expect(&rt, replies.is_empty());
+        expect(&rt, has_len(&mut session, &mut replies, 0));
+        return;
+    }
+    let len = u64::from(matches!(replies.last(), Some(Reply::Done)));
+    let then = [
+        Command::Abort,
+        Command::Begin,
+        Command::Len,
+        Command::Len,
+        Command::Len,
+        Command::Len,
+    ];
+    let failed = session.run(&then, &mut replies).is_err();
+    equal(&rt, replies.len(), if failed { 2 } else { 8 });
+    expect(
+        &rt,
+        has_len(&mut session, &mut replies, if failed { len } else { 0 }),
+    );
+}
+
+// A batch of 96 ones committed as 1, and a second batch begun. Returns whether each command is done.
+fn begin_after_three_chunks(session: &mut Session<4>, replies: &mut Vec<Reply<4>>) -> bool {
+    let commands = [
+        Command::Begin,
+        Command::PushChunk([0xff; 4]),
+        Command::PushChunk([0xff; 4]),
+        Command::PushChunk([0xff; 4]),
+        Command::Commit(1),
+        Command::Begin,
+    ];
+    session.run(&commands, replies).is_ok()
+        && replies.iter().all(|reply| matches!(reply, Reply::Done))
+}
+
+fn is_refused(reply: &Reply<4>) -> bool {
+    matches!(reply, Reply::Refused(Refusal::NoMemory))
+}
+
+fn is_number(reply: &Reply<4>, want: u64) -> bool {
+    matches!(reply, Reply::Number(number) if *number == want)
+}
+
+// Whether the first commit is read as 96 ones, or cannot be read because an allocation fails or the batch is not committed.
+fn is_first_commit(reply: &Reply<4>, committed: bool) -> bool {
+    match reply {
+        Reply::Snapshot(Some(bitmap)) => {
+            bitmap.pruned_chunks() == 0 && bitmap.len() == 96 && bitmap.ones_iter_from(0).eq(0..96)
+        }
+        Reply::Refused(Refusal::NoMemory) => true,
+        Reply::Refused(Refusal::WrongMode) => !committed,
+        _ => false,
+    }
+}
+
+// A `Prune` that is refused because an allocation fails prunes nothing, and the batch is committed without it.
+#[test]
+fn prune_of_two_chunks(rt: HostRuntime) {
+    let mut session = Session::<4>::new(rt.alloc());
+    let mut replies = Vec::new(rt.alloc());
+    if !begin_after_three_chunks(&mut session, &mut replies) {
+        return;
+    }
+    let mut replies = Vec::new(rt.alloc());
+    let commands = [
+        Command::Prune(64),
+        Command::Commit(2),
+        Command::PrunedChunks,
+        Command::Len,
+        Command::At(1),
+    ];
+    if session.run(&commands, &mut replies).is_err() {
+        return;
+    }
+    let [prune, commit, pruned, len, first] = replies.as_slice() else {
+        panic!(rt; "another number of replies");
+    };
+    let committed = matches!(commit, Reply::Done);
+    expect(&rt, is_refused(prune) || matches!(prune, Reply::Done));
+    expect(&rt, is_refused(commit) || committed);
+    expect(
+        &rt,
+        is_number(pruned, if is_refused(prune) { 0 } else { 2 }),
+    );
+    expect(&rt, is_number(len, 96));
+    expect(&rt, is_first_commit(first, committed));
+}
