@@ -1,19 +1,19 @@
 #!/usr/bin/env bash
-# Prints what each call costs. Of a dense or a pruned bitmap: in nanoseconds a bit, at four widths of a chunk and on bitmaps
-# of 64 MB and of 1 MB. Of a historical one: in nanoseconds an edit, a read or an old state, on 2^20 bits at two widths.
-# A cost is the best of RUNS runs (5 where it is not given), less the best of as many runs without the call.
-# `copy` is what it costs to copy as many bytes to memory that was used before: no call that makes as many can be faster.
+# Prints the cost of each call, in nanoseconds: of a dense or a pruned bitmap per bit, at four chunk widths and on bitmaps of 64 MB and of
+# 1 MB; of a historical bitmap per edit, per read or per past state, on 2^20 bits at two chunk widths.
+# A cost is the shortest of RUNS runs (5 by default), less the shortest of as many runs without the call.
+# `copy` copies as many bytes into memory that was used before: no call that writes as many bytes can be faster.
 # Usage: tools/bench.sh [RUNS [CALL..]]
 set -euo pipefail
 cd "$(dirname "$0")/.."
 
 runs=${1:-5}
 wanted=" ${*:2} "
-# Calls that take about a nanosecond a bit, and then those that go by words.
+# Calls that take about a nanosecond per bit, and calls that work on whole words.
 slow=(push pop get set iter ones_iter to_bools from_bools hash prunable_push push_byte get_bit set_bit)
 fast=(copy flip_all set_all and or xor equal count_ones is_unset extend_same extend_same_shifted extend_other
     extend_other_shifted extend_to truncate clone write read push_chunk prune unprune)
-# Calls of a historical bitmap: the name, how often it is called, and the edits, the bits or the states of one call.
+# Calls of a historical bitmap: the name, the number of calls, and the edits, bits or past states per call.
 historical=("batch_set_far 2000 1000" "batch_set_near 20000 1000" "batch_push 5000 4096" "batch_push_byte 2000 4096"
     "batch_push_chunk 200 4096" "commit_set_far 2000 1000" "commit_set_near 20000 1000" "commit_push 2000 4096"
     "commit_push_byte 300 4096" "commit_push_chunk 20 4096" "read_oldest 50 1" "read_newest 20000 1"
@@ -24,12 +24,12 @@ if [ ! -x "$bench" ]; then
     (cd crates/bench && rt run -- copy 1 1 0) >/dev/null
 fi
 
-# Whether a call is asked for: each is where none is named.
+# Whether a call is measured: each one, if none is named.
 is_wanted() {
     [[ $wanted == "  " || $wanted == *" $1 "* ]]
 }
 
-# The nanoseconds of the best run with these words.
+# The nanoseconds of the shortest run with these arguments.
 best() {
     local least= start took
     for ((k = 0; k < runs; k++)); do
@@ -43,15 +43,16 @@ best() {
     echo "$least"
 }
 
-# The cost of call $1 at width $2 on $3 bytes, called $4 times, in nanoseconds a unit, of which there are $5 in all.
+# The cost of call $1 at width $2 on $3 bytes, called $4 times, in nanoseconds per unit, of which there are $5 in all.
 cost() {
     local with without
     with=$(best "$1" "$2" "$3" "$4")
     without=$(best "$1" "$2" "$3" 0)
-    awk -v took=$((with - without)) -v units="$5" 'BEGIN { printf " %.3f |", took / units }'
+    # Adding 0 to a cost that is rounded to -0.000 makes it 0.000.
+    awk -v took=$((with - without)) -v units="$5" 'BEGIN { printf " %.3f |", sprintf("%.3f", took / units) + 0 }'
 }
 
-# The row of a dense or a pruned bitmap: call $1, called $2 times on 64 MB.
+# The row of a call of a dense or a pruned bitmap: call $1, called $2 times on 64 MB.
 print_row() {
     local large=$((64 << 20)) small=$((1 << 20)) width
     printf '| %s |' "$1"
@@ -64,7 +65,7 @@ print_row() {
     echo
 }
 
-echo "| ns a bit | 64 MB, width 1 | 3 | 8 | 32 | 1 MB, width 1 | 3 | 8 | 32 |"
+echo "| ns per bit | 64 MB, width 1 | 3 | 8 | 32 | 1 MB, width 1 | 3 | 8 | 32 |"
 echo "|---|---|---|---|---|---|---|---|---|"
 for call in "${fast[@]}"; do
     if is_wanted "$call"; then print_row "$call" 16; fi

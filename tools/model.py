@@ -1,4 +1,4 @@
-"""The machine of docs/SCRIPT.md, over lists: it keeps every committed bitmap whole."""
+"""The reference model: it runs the commands of docs/SCRIPT.md on lists of bits, and keeps a whole copy of every committed bitmap."""
 
 from typing import NamedTuple, Optional
 
@@ -7,7 +7,7 @@ DIGITS = bytes.maketrans(bytes([0, 1]), b"01")
 
 
 class Refused(Exception):
-    """Why a command is refused, as it is printed."""
+    """The reason why a command is refused, as it is printed."""
 
 
 class Bitmap(NamedTuple):
@@ -17,57 +17,58 @@ class Bitmap(NamedTuple):
 
 class Commit(NamedTuple):
     bitmap: Bitmap
-    most: int  # entries that its record may have
+    most: int  # the most entries that its reverse record may have
 
 
 class State(NamedTuple):
     current: Bitmap = Bitmap()
     pending: Optional[Bitmap] = None
-    touched: frozenset = frozenset()  # chunks that the batch has touched
-    history: dict = {}  # from numbers to commits, ascending
-    last: Optional[int] = None
+    touched: frozenset = frozenset()  # the chunks that the batch has touched
+    history: dict = {}  # the kept commits by number, ascending
+    last: Optional[int] = None  # the number last committed or rewound to
 
 
 class Step(NamedTuple):
-    """What comes of a command: the line that is printed, or how many entries it may tell, and the state after it."""
+    """The result of a command: the printed line, or the most entries that it may print, and the state after it."""
 
     reply: object
     state: State
-    may_lack: bool = False  # whether want of memory may be told instead, which leaves the state as it was
+    allocates: bool = False  # the command may run out of memory instead, which leaves the state as it was
 
 
 def bits_of(data):
-    """The bits of some bytes, the lowest of each byte first."""
+    """The bits of some bytes, the lowest bit of each byte first."""
     return tuple(byte >> place & 1 for byte in data for place in range(8))
 
 
 def bytes_of(bits):
-    """The bytes of some bits, with zeros behind the last."""
-    return bytes(sum(bit << place for place, bit in enumerate(bits[at : at + 8])) for at in range(0, len(bits), 8))
+    """The bytes of some bits. The last byte is filled with zeros."""
+    digits = bytes(reversed(bits)).translate(DIGITS)
+    return int(digits or b"0", 2).to_bytes(-(-len(bits) // 8), "little")
 
 
 def admits(ends, number):
-    """Whether a range admits a number."""
+    """Whether a range of the script language contains a number."""
     kind, *ends = ends.split(":")
     low, high = int(ends[0]) if ends else 0, int(ends[-1]) if ends else LAST
     return (kind == "most" or low <= number) and (kind == "least" or number <= high)
 
 
-class Machine:
+class Model:
     """Runs commands on bitmaps whose chunks have `width` bytes."""
 
     EDITS = {"push", "push-byte", "push-chunk", "pop", "set", "prune", "commit", "abort"}
     EITHER = {"len", "pruned-chunks", "get", "chunk", "decode"}
-    # commands whose words are hexadecimal digits or a range, and no numbers
-    TEXTS = {"push-byte", "push-chunk", "decode"}
+    # The arguments of these commands are hexadecimal digits or a range, not numbers.
+    WITHOUT_NUMBERS = {"push-byte", "push-chunk", "decode"}
 
     def __init__(self, width):
         self.width, self.chunk_bits = width, 8 * width
 
     def step(self, state, words):
-        """What comes of a command, given as its words."""
+        """The result of a command, which is given as its words."""
         name, *given = words
-        if name not in self.TEXTS:
+        if name not in self.WITHOUT_NUMBERS:
             given = [int(word) for word in given]
         try:
             if name not in self.EITHER and (name in self.EDITS) != (state.pending is not None):
@@ -85,8 +86,12 @@ class Machine:
     def length(self, bitmap):
         return self.first(bitmap) + len(bitmap.bits)
 
-    def place(self, bitmap, position):
-        """Where a position stands among the retained bits."""
+    def chunks(self, bitmap):
+        """The number of chunks, pruned or retained."""
+        return -(-self.length(bitmap) // self.chunk_bits)
+
+    def index(self, bitmap, position):
+        """The index of a position among the retained bits."""
         if position >= self.length(bitmap):
             raise Refused("out-of-bounds")
         if position < self.first(bitmap):
@@ -101,17 +106,17 @@ class Machine:
         found = (first + at for at, bit in enumerate(bitmap.bits) if bit)
         return "positions" + "".join(f" {position}" for position in found if start <= position < end)
 
-    def spelled(self, bitmap):
+    def encoded(self, bitmap):
         data = bytes_of(bitmap.bits)
         data += bytes(-len(data) % self.width)
         return f"bytes {(bitmap.pruned.to_bytes(8, 'big') + len(bitmap.bits).to_bytes(8, 'big') + data).hex()}"
 
-    def read(self, data, ends):
-        """The bitmap that bytes begin with, and how many stand behind it."""
+    def decoded(self, data, ends):
+        """The bitmap that some bytes begin with, and the number of bytes after it."""
         pruned, count = int.from_bytes(data[:8], "big"), int.from_bytes(data[8:16], "big")
         end = 16 + -(-count // self.chunk_bits) * self.width
         bits = bits_of(data[16:end])
-        faults = (
+        errors = (
             (len(data) < 8, "end-of-buffer"),
             (self.chunk_bits * pruned > LAST, "invalid Prunable: pruned_chunks would overflow when computing pruned_bits"),
             (len(data) < 16, "end-of-buffer"),
@@ -120,21 +125,21 @@ class Machine:
             (any(bits[count:]), "invalid BitMap: Invalid trailing bits in encoded data"),
             (self.chunk_bits * pruned + count > LAST, "invalid Prunable: total bitmap length (pruned + unpruned) would overflow u64"),
         )
-        for is_so, fault in faults:
-            if is_so:
-                raise Refused(f"codec {fault}")
+        for holds, error in errors:
+            if holds:
+                raise Refused(f"codec {error}")
         return Bitmap(pruned, bits[:count]), len(data) - end
 
-    # Commands in a batch
+    # Commands that need a batch
 
-    def edited(self, state, bitmap, touched, reply="done", may_lack=True):
-        return Step(reply, state._replace(pending=bitmap, touched=state.touched | set(touched)), may_lack)
+    def edited(self, state, bitmap, touched, reply="done", allocates=True):
+        return Step(reply, state._replace(pending=bitmap, touched=state.touched | set(touched)), allocates)
 
     def append(self, state, bits):
         start = self.length(state.pending)
         if start + len(bits) > LAST:
             raise Refused("too-long")
-        touched = {position // self.chunk_bits for position in range(start, start + len(bits))}
+        touched = range(start // self.chunk_bits, (start + len(bits) - 1) // self.chunk_bits + 1)
         return self.edited(state, state.pending._replace(bits=state.pending.bits + bits), touched)
 
     def push(self, state, bit):
@@ -151,33 +156,38 @@ class Machine:
         if not bits:
             raise Refused("no-retained-bit")
         bitmap = state.pending._replace(bits=bits[:-1])
-        return self.edited(state, bitmap, {self.length(bitmap) // self.chunk_bits}, f"bit {bits[-1]}", may_lack=False)
+        return self.edited(state, bitmap, {self.length(bitmap) // self.chunk_bits}, f"bit {bits[-1]}", allocates=False)
 
     def set(self, state, position, bit):
-        at, bits = self.place(state.pending, position), state.pending.bits
+        at, bits = self.index(state.pending, position), state.pending.bits
         bitmap = state.pending._replace(bits=bits[:at] + (bit,) + bits[at + 1 :])
         return self.edited(state, bitmap, {position // self.chunk_bits})
 
     def prune(self, state, position):
-        old = state.pending
-        if position > self.length(old):
+        before = state.pending
+        if position > self.length(before):
             raise Refused("out-of-bounds")
-        pruned = max(old.pruned, position // self.chunk_bits)
-        bits = old.bits[(pruned - old.pruned) * self.chunk_bits :]
-        return self.edited(state, Bitmap(pruned, bits), range(old.pruned, pruned), may_lack=pruned > old.pruned)
+        pruned = max(before.pruned, position // self.chunk_bits)
+        bits = before.bits[(pruned - before.pruned) * self.chunk_bits :]
+        return self.edited(state, Bitmap(pruned, bits), range(before.pruned, pruned), allocates=pruned > before.pruned)
+
+    def most_entries(self, state):
+        """The most entries of a commit's reverse record: one per touched chunk, and one more if the batch has popped down to whole chunks."""
+        length = self.length(state.pending)
+        return len(state.touched) + (length % self.chunk_bits == 0 and length < self.length(state.current))
 
     def commit(self, state, number):
         if number == LAST:
             raise Refused("reserved-commit-number")
         if state.last is not None and number <= state.last:
             raise Refused(f"non-monotonic-commit {state.last} {number}")
-        kept = {**state.history, number: Commit(state.pending, len(state.touched) + 1)}
+        kept = {**state.history, number: Commit(state.pending, self.most_entries(state))}
         return Step("done", State(current=state.pending, history=kept, last=number), True)
 
     def abort(self, state):
         return Step("done", state._replace(pending=None, touched=frozenset()))
 
-    # Commands with a batch or without
+    # Commands that run with and without a batch
 
     def len(self, state):
         return Step(f"number {self.length(state.pending or state.current)}", state)
@@ -187,18 +197,18 @@ class Machine:
 
     def get(self, state, position):
         bitmap = state.pending or state.current
-        return Step(f"bit {bitmap.bits[self.place(bitmap, position)]}", state)
+        return Step(f"bit {bitmap.bits[self.index(bitmap, position)]}", state)
 
     def chunk(self, state, position):
         bitmap = state.pending or state.current
-        start = self.place(bitmap, position) // self.chunk_bits * self.chunk_bits
+        start = self.index(bitmap, position) // self.chunk_bits * self.chunk_bits
         return Step(f"chunk {bytes_of(bitmap.bits[start : start + self.chunk_bits]).ljust(self.width, bytes(1)).hex()}", state)
 
     def decode(self, state, digits, ends):
-        bitmap, left = self.read(bytes.fromhex(digits.strip("-")), ends)
+        bitmap, left = self.decoded(bytes.fromhex(digits.strip("-")), ends)
         return Step(f"read {self.shown(bitmap)} {left}", state, True)
 
-    # Commands without a batch
+    # Commands that need that there is no batch
 
     def start(self, _state, chunks):
         if self.chunk_bits * chunks > LAST:
@@ -218,21 +228,21 @@ class Machine:
         return Step(self.set_positions(state.current, start, end), state, True)
 
     def encode(self, state):
-        return Step(self.spelled(state.current), state, True)
+        return Step(self.encoded(state.current), state, True)
 
-    def old(self, state, number, show):
+    def past(self, state, number, show):
         if number not in state.history:
             return Step("none", state)
         return Step(show(state.history[number].bitmap), state, True)
 
     def at(self, state, number):
-        return self.old(state, number, lambda bitmap: f"bitmap {self.shown(bitmap)}")
+        return self.past(state, number, lambda bitmap: f"bitmap {self.shown(bitmap)}")
 
     def ones_at(self, state, number, start, end):
-        return self.old(state, number, lambda bitmap: self.set_positions(bitmap, start, end))
+        return self.past(state, number, lambda bitmap: self.set_positions(bitmap, start, end))
 
     def encode_at(self, state, number):
-        return self.old(state, number, self.spelled)
+        return self.past(state, number, self.encoded)
 
     def commits(self, state):
         return Step("positions" + "".join(f" {number}" for number in state.history), state, True)

@@ -1,0 +1,148 @@
+#!/usr/bin/env python3
+"""Checks the documents and doc comments.
+
+- Each Rust example is in the crate `uses`, word for word and with its imports, so that it is proved and tested.
+- Each relative link of a document leads to a file, and to a heading if it names one.
+- Each document exists and has at most so many words.
+"""
+
+import re
+import sys
+from pathlib import Path
+from typing import NamedTuple
+
+TOP = Path(__file__).resolve().parent.parent
+USES = TOP / "crates/uses"
+MOST_WORDS = {
+    "README.md": 900,
+    "CONTRIBUTING.md": 500,
+    "docs/GUIDE.md": 1800,
+    "docs/TRUST.md": 1500,
+    "docs/ARCHITECTURE.md": 1500,
+    "docs/DECISIONS.md": 1200,
+    "docs/DIFFERENCES.md": 900,
+    "docs/SCRIPT.md": 1300,
+    "docs/BENCHMARKS.md": 600,
+}
+
+
+class Example(NamedTuple):
+    place: str
+    lines: list
+
+
+def sources(folder):
+    return [path for path in sorted(folder.rglob("*.rt")) if "out" not in path.relative_to(TOP).parts]
+
+
+def documents():
+    return sorted([*TOP.glob("*.md"), *TOP.glob("docs/*.md")])
+
+
+def lines_of(path):
+    return path.read_text().split("\n")
+
+
+def doc_lines(path):
+    """The numbered lines of a document, or those of a source's doc comments without their marks."""
+    for number, line in enumerate(lines_of(path), 1):
+        comment = re.match(r" *//[/!] ?(.*)", line)
+        if path.suffix == ".md":
+            yield number, line
+        elif comment:
+            yield number, comment[1]
+
+
+def fences(path):
+    """The fenced blocks of a text: the word after the opening fence, the line's number and the lines in between."""
+    block = None
+    for number, line in doc_lines(path):
+        if line.startswith("```"):
+            if block is None:
+                block = line[3:], number, []
+            else:
+                yield block
+                block = None
+        elif block is not None:
+            block[2].append(line)
+    if block is not None:
+        sys.exit(f"{path.relative_to(TOP)}:{block[1]}: the fence has no end")
+
+
+def examples(path):
+    """The Rust examples: a fence is one with the word `rust` in a document, and without a word in a doc comment."""
+    word = "rust" if path.suffix == ".md" else ""
+    return [Example(f"{path.relative_to(TOP)}:{number}", lines) for found, number, lines in fences(path) if found == word]
+
+
+def agreeing(example, lines, start):
+    """How many lines of the example are at line `start` of a source, where they may be indented."""
+    indent = lines[start].removesuffix(example[0])
+    if indent.strip():
+        return 0
+    for count, (wanted, line) in enumerate(zip(example, lines[start:])):
+        if line != (indent + wanted if wanted else ""):
+            return count
+    return min(len(example), len(lines) - start)
+
+
+def example_errors(example, callers):
+    if not any(line.startswith("use ") for line in example.lines):
+        return [f"{example.place}: the example does not show its imports"]
+    found = max(agreeing(example.lines, lines, start) for lines in callers for start in range(len(lines)))
+    if found == len(example.lines):
+        return []
+    return [f"{example.place}: the example is not in crates/uses/src, from this line on: {example.lines[found]}"]
+
+
+def without_code(path):
+    """The text of a document without its fenced blocks and the text between backquotes."""
+    return re.sub(r"`[^`\n]*`", "", re.sub(r"^```.*?^```", "", path.read_text(), flags=re.DOTALL | re.MULTILINE))
+
+
+def anchors(path):
+    """The anchors of a document's headings."""
+    headings = re.findall(r"^#+ +(.+?) *$", re.sub(r"^```.*?^```", "", path.read_text(), flags=re.DOTALL | re.MULTILINE), re.MULTILINE)
+    return {re.sub(r"[^\w\- ]", "", heading.lower()).replace(" ", "-") for heading in headings}
+
+
+def links(path):
+    """The relative links of a document."""
+    targets = re.findall(r"\]\(([^)\s]+)\)", without_code(path))
+    return [target for target in targets if not re.match(r"[a-z]+:", target)]
+
+
+def link_errors(path, link):
+    name, _, anchor = link.partition("#")
+    target = path.parent / name if name else path
+    if not target.exists():
+        return [f"{path.relative_to(TOP)}: the link leads to no file: {link}"]
+    if anchor and anchor not in anchors(target):
+        return [f"{path.relative_to(TOP)}: the link leads to no heading: {link}"]
+    return []
+
+
+def length_errors(name, most):
+    path = TOP / name
+    if not path.exists():
+        return [f"{name}: missing"]
+    words = len(path.read_text().split())
+    return [f"{name}: {words} words, more than {most}"] if words > most else []
+
+
+def main():
+    texts = [path for path in sources(TOP / "crates") if USES not in path.parents] + documents()
+    callers = [lines_of(path) for path in sources(USES / "src")]
+    all_examples = [example for path in texts for example in examples(path)]
+    all_links = [(path, link) for path in documents() for link in links(path)]
+    errors = [error for example in all_examples for error in example_errors(example, callers)]
+    errors += [error for path, link in all_links for error in link_errors(path, link)]
+    errors += [error for name, most in MOST_WORDS.items() for error in length_errors(name, most)]
+    for error in errors:
+        print(error)
+    print(f"documents: {len(all_examples)} examples, {len(all_links)} links, {len(MOST_WORDS)} lengths, {len(errors)} errors")
+    return 1 if errors else 0
+
+
+if __name__ == "__main__":
+    sys.exit(main())
