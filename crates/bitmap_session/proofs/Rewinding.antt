@@ -234,7 +234,7 @@ kept_before : (number : ℕ) (bitmap : PrunedBits) (left es : History) → All (
     → filter (λ e. is_some (kept_under (up_to_number number left) e.0)) (es ++ (number, bitmap) ∷ []) ≡ filter (λ e. is_some (kept_under left e.0)) (es ++ (number, bitmap) ∷ [])
 kept_before number bitmap left es h =
     let last : filter (λ e. is_some (kept_under (up_to_number number left) e.0)) ((number, bitmap) ∷ []) ≡ filter (λ e. is_some (kept_under left e.0)) ((number, bitmap) ∷ []) =
-        rw (same_kept number number left (omega arith)) refl in
+    rw (same_kept number number left (omega arith)) refl in
     filter-append (λ e. is_some (kept_under (up_to_number number left) e.0)) es ((number, bitmap) ∷ [])
     ∙ (ap (λ xs. xs ++ filter (λ e. is_some (kept_under (up_to_number number left) e.0)) ((number, bitmap) ∷ [])) (still_kept number left es h)
     ∙ (ap (λ xs. filter (λ e. is_some (kept_under left e.0)) es ++ xs) last

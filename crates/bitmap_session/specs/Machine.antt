@@ -1,9 +1,8 @@
 -- The abstract machine of a session: its states, its replies, its steps and its runs. It keeps every committed bitmap as a whole list of bits.
-use Rattle.std.specs.Prelude.{◌≡◌, ℕ, ◌+◌, ◌-◌, ◌*◌, ◌/◌, ◌%◌, ◌^◌, ◌≤◌, Bool, true, false, not, ◌==◌, ◌&&◌, ◌⊎◌, List, [], ◌∷◌, ◌++◌, length, Option, Some, None, nat_lt, nat_le, nat_eq, IsTrue, MatchOption, if◌then◌else◌, unwrap_or, is_some, option_and_then}
+use Rattle.std.specs.Prelude.{◌≡◌, ℕ, ◌+◌, ◌-◌, ◌*◌, ◌/◌, ◌^◌, ◌≤◌, Bool, true, false, not, ◌==◌, ◌&&◌, ◌⊎◌, List, [], ◌∷◌, ◌++◌, length, Option, Some, None, nat_lt, nat_le, IsTrue, MatchOption, if◌then◌else◌, unwrap_or, is_some, option_and_then}
 use Rattle.std.specs.List.{sum_by}
 use Rattle.std.specs.Map.{keys_of}
 use Rattle.std.specs.Option.{option_or, option_map}
-use Rattle.std.specs.Set.{distinct_count}
 use Rattle.bitmap_bytes.specs.Chunk.{byte_bits, chunk_bits}
 use Rattle.bitmap_core.specs.PrunedBits.{PrunedBits, pruned_bits, bit_len, bit_at, chunk, last_bit}
 use Rattle.bitmap_core.specs.Meaning.{ones, pruned_meaning}

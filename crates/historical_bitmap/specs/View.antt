@@ -1,7 +1,6 @@
 -- A historical bitmap, clean or with pending edits, as contracts describe it. A chunk has n bytes.
-use Rattle.std.specs.Prelude.{⊤, ◌≡◌, ℕ, ◌+◌, ◌-◌, ◌*◌, ◌%◌, ◌/◌, ◌^◌, ◌++◌, Bool, List, Option, Some, None, IsSome, nat_lt, nat_le, nat_eq, ◌==◌, ◌&&◌, if◌then◌else◌}
-use Rattle.std.specs.Set.{distinct_count}
-use Rattle.bitmap_core.specs.PrunedBits.{PrunedBits, bit_len}
+use Rattle.std.specs.Prelude.{⊤, ◌≡◌, ℕ, ◌-◌, ◌*◌, ◌/◌, ◌^◌, ◌++◌, List, Option, Some, None, IsSome, nat_le, ◌==◌, if◌then◌else◌}
+use Rattle.bitmap_core.specs.PrunedBits.{PrunedBits}
 use Rattle.historical_bitmap.specs.declared.bitmap.historical.error.Error.{Error}
 use Rattle.historical_bitmap.specs.declared.bitmap.historical.error.Error.TheVariants.{NonMonotonicCommit, ReservedCommitNumber}
 use Rattle.historical_bitmap.specs.Edits.{Edit, IsWithin, after, after_all, touches, touched}

@@ -1,6 +1,4 @@
-use Rattle.std.proofs.Common.{◌≡◌, Some, sym, ◌∙◌}
-use Rattle.std.specs.Prelude.{nat_eq}
-use Rattle.std.specs.Map.{lookup}
+use Rattle.std.proofs.Common.{sym, ◌∙◌}
 use Rattle.historical_bitmap.proofs.EditedChunks.CachedChunks.{cache_same}
 use Rattle.historical_bitmap.proofs.bitmap.historical.edited.EditedChunks.cache_present.Goals as goal
 
