@@ -12,13 +12,11 @@ use Rattle.bitmap_core.specs.Decoding.{DecodeError, admits, is_past_64, pruned_e
 use Rattle.historical_bitmap.specs.Cost.{most_cost}
 use Rattle.historical_bitmap.specs.Edits.{Edit, after_all, pushes, touched, touches}
 use Rattle.historical_bitmap.specs.History.{snapshots, costs, from_number, kept_under, up_to_number}
-use Rattle.historical_bitmap.specs.Pending.{PendingEdits, unedited}
+use Rattle.historical_bitmap.specs.Pending.{PendingEdits}
 use Rattle.historical_bitmap.specs.Record.{ReverseRecord}
 use Rattle.historical_bitmap.specs.declared.bitmap.historical.error.Error.{Error}
 use Rattle.historical_bitmap.specs.declared.bitmap.historical.error.Error.TheVariants.{Memory}
-use Rattle.historical_bitmap.specs.View.{View, IsEditOf, IsRunOf, commit_error, commit_error_after, costs_of, history_of, marked_of, pending_of}
-use Rattle.historical_bitmap.proofs.Pending.Edits.{unedited_pending}
-use Rattle.historical_bitmap.proofs.Pending.MarkedChunks.{unedited_marks}
+use Rattle.historical_bitmap.specs.View.{View, IsBatchOn, IsEditOf, IsRunOf, commit_error, commit_error_after, costs_of, history_of, marked_of, pending_of}
 use Rattle.bitmap_session.specs.declared.command.Command.{Command}
 use Rattle.bitmap_session.specs.declared.command.Command.TheVariants.{Start, Begin, Push, PushByte, PushChunk, Pop, Set, Prune, Commit, Abort, Rewind, Len, PrunedChunks, Get, Chunk, Ones, Encode, At, OnesAt, EncodeAt, Decode, Commits, Exists, Latest, Earliest, DropBefore, Clear, Entries}
 use Rattle.bitmap_session.specs.Replies.{ReplyValue, Refusal}
@@ -231,17 +229,25 @@ pub prune_accepted : (N : ℕ) (old new : View PendingEdits) (position : ℕ)
     → StepTo N Agrees (dirty N old) (Prune position) Done (dirty N new)
 prune_accepted N old new position within h = rw within (inl (refl, (0, omega arith, run_agrees N old new _ (as_run N old new _ h))))
 
--- a batch begins with the current bitmap pending and no chunk marked
-pub begun : (N : ℕ) (bitmap : View ⊤)
-    → StepTo N Agrees (clean N bitmap) Begin Done (dirty N (record { current = bitmap.current; commits = bitmap.commits; last = bitmap.last; state = unedited N bitmap.current }))
-begun N bitmap = inl (
+-- a batch begins with the commits and the last number of a bitmap, whose current bitmap is pending, and with no chunk marked
+pub begun : (N : ℕ) (bitmap : View ⊤) (batch : View PendingEdits)
+    → IsBatchOn bitmap batch
+    → pending_of N batch ≡ bitmap.current
+    → marked_of N batch ≡ []
+    → StepTo N Agrees (clean N bitmap) Begin Done (dirty N batch)
+begun N bitmap batch on pending marks = inl (
   refl,
   (
     0,
     omega arith,
     record {
-      same = same_state _ _ _ _ _ _ _ _ _ _ refl (ap (λ b. Some b) (unedited_pending N bitmap.current)) refl refl refl;
-      within = rw (unedited_marks N bitmap.current) (λ q h. h);
+      same = same_state _ _ _ _ _ _ _ _ _ _
+          on.current
+          (ap (λ b. Some b) pending)
+          (same_history N _ _ _ _ on.current on.commits)
+          (ap (λ xs. costs xs) on.commits)
+          on.last;
+      within = rw marks (λ q h. h);
     },
   ),
 )

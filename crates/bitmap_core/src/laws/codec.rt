@@ -62,7 +62,8 @@ pub fn equal_where_encoded_alike<const N: usize>(a: &BitMap<N>, b: &BitMap<N>) -
 
 /// If an input begins with the encoding of a bitmap, a successful read returns that bitmap.
 ///
-/// It leaves the bytes after the encoding.
+/// It leaves the bytes after the encoding. By the definitions that the contract of `read_cfg` names, such an input encodes that bitmap,
+/// and has no decode error if the range admits the length.
 ///
 /// # Errors
 ///
@@ -73,6 +74,8 @@ pub fn bits_are_read_again<const N: usize>(
     from: &mut &[u8],
     range: &RangeCfg,
 ) -> Result<BitMap<N>, CodecError>
+    ensures encoded { (rest : List ℕ) → from.old.now ≡ encoding N map.now ++ rest → bits_in from.old.now ≡ map.now }
+    ensures accepted { (rest : List ℕ) → from.old.now ≡ encoding N map.now ++ rest → admits range.now (length map.now) ≡ true → bits_error N (admits range.now) from.old.now ≡ None }
     ensures found { (rest : List ℕ) → from.old.now ≡ encoding N map.now ++ rest → IfOk result (λ v. (v ≡ map.now) × (from.new.now ≡ rest)) }
     ensures refused { (rest : List ℕ) → from.old.now ≡ encoding N map.now ++ rest → admits range.now (length map.now) ≡ true → IfErr result (λ e. e ≡ CodecError.OutOfMemory) }
     ensures unmoved { OnErr result (from.new ≡ from.old) }
@@ -83,7 +86,8 @@ pub fn bits_are_read_again<const N: usize>(
 
 /// If an input begins with the encoding of a bitmap with a pruned prefix, a successful read returns that bitmap.
 ///
-/// It leaves the bytes after the encoding.
+/// It leaves the bytes after the encoding. By the definitions that the contract of `read_cfg` names, such an input encodes that bitmap,
+/// and has no decode error if the range admits the number of retained bits.
 ///
 /// # Errors
 ///
@@ -94,6 +98,8 @@ pub fn pruned_bits_are_read_again<const N: usize>(
     from: &mut &[u8],
     range: &RangeCfg,
 ) -> Result<Prunable<N>, CodecError>
+    ensures encoded { (rest : List ℕ) → from.old.now ≡ pruned_encoding N map.now ++ rest → pruned_in from.old.now ≡ map.now }
+    ensures accepted { (rest : List ℕ) → from.old.now ≡ pruned_encoding N map.now ++ rest → admits range.now (length map.now.bits) ≡ true → pruned_error N (admits range.now) from.old.now ≡ None }
     ensures found { (rest : List ℕ) → from.old.now ≡ pruned_encoding N map.now ++ rest → IfOk result (λ b. (b ≡ map.now) × (from.new.now ≡ rest)) }
     ensures refused { (rest : List ℕ) → from.old.now ≡ pruned_encoding N map.now ++ rest → admits range.now (length map.now.bits) ≡ true → IfErr result (λ e. e ≡ CodecError.OutOfMemory) }
     ensures unmoved { OnErr result (from.new ≡ from.old) }

@@ -4,6 +4,7 @@ ghost use Rattle.std.specs.Prelude.{◌≡◌, ℕ, ◌*◌, ◌/◌, ◌^◌, �
 ghost use Rattle.bitmap_bytes.specs.Chunk.{IsWidth};
 ghost use Rattle.bitmap_core.specs.PrunedBits.{bit_at, bit_len, chunk, IsRetained};
 ghost use Rattle.historical_bitmap.specs.Pending.{unedited};
+ghost use Rattle.historical_bitmap.specs.View.{marked_of, pending_of};
 ghost use Rattle.historical_bitmap.specs.declared.bitmap.historical.error.Error.TheVariants.{PrunedChunksOverflow};
 
 use crate::bitmap::historical::BitMap;
@@ -63,11 +64,13 @@ impl<const N: usize> BitMap<N, Clean> {
         }
     }
 
-    /// Turns the bitmap into a batch with no pending edits.
+    /// Turns the bitmap into a batch with no pending edits: the pending bitmap is the current one, and no chunk is marked.
     ///
     /// Does not allocate; constant time.
     pub fn into_dirty(self) -> BitMap<N, Dirty<N>>
-        ensures { result ≡ record { current = self.entry.current; commits = self.entry.commits; last = self.entry.last; state = unedited N self.entry.current } }
+        ensures value { result ≡ record { current = self.entry.current; commits = self.entry.commits; last = self.entry.last; state = unedited N self.entry.current } }
+        ensures pending { pending_of N result ≡ self.entry.current }
+        ensures marks { marked_of N result ≡ [] }
     {
         let state = Dirty::new(self.state.allocator(), &self.current);
         BitMap {

@@ -1,6 +1,6 @@
 //! The commits of a historical bitmap: reading what is kept under a number, listing, dropping and rewinding.
 
-ghost use Rattle.std.specs.Prelude.{◌≡◌, ℕ, ◌+◌, ◌-◌, ◌^◌, [], length, None, Some, Ok, is_some, IsSome, nat_le, IfErr, IfOk, OnOk, if◌then◌else◌, alloc_error};
+ghost use Rattle.std.specs.Prelude.{◌≡◌, ℕ, ◌+◌, ◌-◌, ◌^◌, [], length, None, Some, Ok, is_some, IsSome, IfErr, IfOk, OnOk, if◌then◌else◌, alloc_error};
 ghost use Rattle.std.specs.List.{sum_by};
 ghost use Rattle.std.specs.Map.{keys_of};
 ghost use Rattle.historical_bitmap.specs.History.{AllCanUndo, earliest, from_number, kept_under, latest, past_number, RiseInNumber, undone, up_to_number};
@@ -74,6 +74,50 @@ fn undo_past<const N: usize>(
     Ok(())
 }
 
+// Returns the least number of some commits, or `None` if there are none.
+fn first_number<const N: usize>(commits: &BTreeMap<u64, CommitDiff<N>>) -> Option<u64>
+    ensures { result ≡ earliest commits.now.entries }
+{
+    match commits.first_key_value() {
+        Some((number, _)) => Some(*number),
+        None => None,
+    }
+}
+
+// Returns the greatest number of some commits, or `None` if there are none.
+fn last_number<const N: usize>(commits: &BTreeMap<u64, CommitDiff<N>>) -> Option<u64>
+    ensures { result ≡ latest commits.now.entries }
+{
+    match commits.last_key_value() {
+        Some((number, _)) => Some(*number),
+        None => None,
+    }
+}
+
+// Drops the commits whose numbers are below a number, from the first on. Looks at these and at one more. Does not allocate.
+fn drop_before<const N: usize>(commits: &mut BTreeMap<u64, CommitDiff<N>>, number: u64)
+    ensures { commits.new.entries ≡ from_number number commits.old.entries }
+{
+    while let Some(first) = first_number(commits) {
+        if first >= number {
+            return;
+        }
+        let _ = commits.pop_first();
+    }
+}
+
+// Drops the commits whose numbers are above a number, from the last on. Looks at these and at one more. Does not allocate.
+fn drop_past<const N: usize>(commits: &mut BTreeMap<u64, CommitDiff<N>>, number: u64)
+    ensures { commits.new.entries ≡ up_to_number number commits.old.entries }
+{
+    while let Some(last) = last_number(commits) {
+        if last <= number {
+            return;
+        }
+        let _ = commits.pop_last();
+    }
+}
+
 // Returns the total number of entries of some reverse records.
 fn count_entries<const N: usize>(commits: &BTreeMap<u64, CommitDiff<N>>) -> u128
     ensures { result ≡ sum_by (λ commit. length commit.1.entries) commits.now.entries }
@@ -140,10 +184,7 @@ impl<const N: usize> BitMap<N, Clean> {
     pub fn latest_commit(&self) -> Option<u64>
         ensures { result ≡ latest (history_of N self.now) }
     {
-        match self.commits.last_key_value() {
-            Some((number, _)) => Some(*number),
-            None => None,
-        }
+        last_number(&self.commits)
     }
 
     /// Returns the least number of a kept commit, or `None` if no commit is kept.
@@ -152,10 +193,7 @@ impl<const N: usize> BitMap<N, Clean> {
     pub fn earliest_commit(&self) -> Option<u64>
         ensures { result ≡ earliest (history_of N self.now) }
     {
-        match self.commits.first_key_value() {
-            Some((number, _)) => Some(*number),
-            None => None,
-        }
+        first_number(&self.commits)
     }
 
     /// Returns an iterator over the numbers of the kept commits, ascending, each once.
@@ -178,7 +216,7 @@ impl<const N: usize> BitMap<N, Clean> {
     /// The current bitmap, the other commits and the last number are unchanged. Does not allocate.
     ///
     /// # Complexity
-    /// Visits every kept commit, and frees the reverse records of the dropped ones.
+    /// Per dropped commit, logarithmic in the kept commits, and linear in the entries of its reverse record, which is freed.
     pub fn prune_commits_before(&mut self, number: u64) -> usize
         ensures value { self.new ≡ record self.old { commits = from_number number self.old.commits } }
         ensures history { history_of N self.new ≡ from_number number (history_of N self.old) }
@@ -186,12 +224,7 @@ impl<const N: usize> BitMap<N, Clean> {
         ensures count { result + length (history_of N self.new) ≡ length (history_of N self.old) }
     {
         let before = self.commits.len();
-        self.commits.retain(
-            |kept: &u64, _record: &mut CommitDiff<N>| -> bool
-                ensures kept { result ≡ nat_le number kept.entry.now }
-                ensures same { _record.exit.now ≡ _record.entry.now }
-            { *kept >= number },
-        );
+        drop_before(&mut self.commits, number);
         before - self.commits.len()
     }
 
@@ -207,7 +240,7 @@ impl<const N: usize> BitMap<N, Clean> {
     /// Allocates a bitmap, as `get_at_commit` does. Does not allocate if the number is not kept.
     ///
     /// # Complexity
-    /// That of `get_at_commit`, and it visits every kept commit.
+    /// That of `get_at_commit`, and per dropped commit logarithmic in the kept commits.
     ///
     /// # Examples
     /// ```
@@ -246,12 +279,7 @@ impl<const N: usize> BitMap<N, Clean> {
             return Err((self, RewindError::Memory(AllocError)));
         };
         let mut commits = self.commits;
-        commits.retain(
-            |kept: &u64, _record: &mut CommitDiff<N>| -> bool
-                ensures kept { result ≡ nat_le kept.entry.now number }
-                ensures same { _record.exit.now ≡ _record.entry.now }
-            { *kept <= number },
-        );
+        drop_past(&mut commits, number);
         Ok(BitMap {
             current,
             commits,

@@ -1,6 +1,16 @@
+use Rattle.std.proofs.Common.{sym}
 use Rattle.bitmap_core.specs.Decoding.{admits}
+use Rattle.bitmap_core.proofs.Codec.Encodings.{bits_in_encoded}
 use Rattle.bitmap_core.proofs.Codec.ReadAgain.{read_again, err_is_memory, encoded_none}
 use Rattle.bitmap_core.proofs.laws.codec.bits_are_read_again.Goals as goal
+
+pub returns-clause-encoded : goal.returns-clause-encoded
+returns-clause-encoded g c = λ rest e.
+    sym (bits_in_encoded g.row.N c.args.from.now.now c.args.map.now rest c.len.ensures.width.positive c.len.ensures.bound e)
+
+pub returns-clause-accepted : goal.returns-clause-accepted
+returns-clause-accepted g c = λ rest e a.
+    encoded_none g.row.N (admits _) c.args.from.now.now c.args.map.now rest c.len.ensures.width.positive c.len.ensures.bound a e
 
 pub returns-clause-found : goal.returns-clause-found
 returns-clause-found g c = λ rest e.

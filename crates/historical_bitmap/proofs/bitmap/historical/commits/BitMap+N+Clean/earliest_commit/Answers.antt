@@ -1,7 +1,6 @@
-use Rattle.std.proofs.Common.{sym, ◌∙◌, ap}
-use Rattle.std.specs.Option.{option_map}
+use Rattle.std.proofs.Common.{sym, ◌∙◌}
 use Rattle.historical_bitmap.proofs.History.KeptCommits.{same_number}
 use Rattle.historical_bitmap.proofs.bitmap.historical.commits.BitMap+N+Clean.earliest_commit.Goals as goal
 
-pub returns-in-Some : goal.returns-in-Some
-returns-in-Some g c = rw (← c.self.view_is) (sym (same_number g.row.N 0 c.self.inside.commits.entries c.self.inside.current ∙ ap (λ e. option_map (λ p. p.0) e) c.in-Some.ensures.first))
+pub returns : goal.returns
+returns g c = rw (← c.self.view_is) (c.first_number.ensures ∙ sym (same_number g.row.N 0 c.self.inside.commits.entries c.self.inside.current))
