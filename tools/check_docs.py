@@ -3,6 +3,8 @@
 
 - Each Rust example is in the crate `uses`, word for word and with its imports, so that it is proved and tested.
 - Each relative link of a document leads to a file, and to a heading if it names one.
+- Each file that a document names exists.
+- Each mutant that a table names exists, and each clause that a table names is the label of a clause.
 - Each document exists and has at most so many words.
 """
 
@@ -122,6 +124,52 @@ def link_errors(path, link):
     return []
 
 
+def with_choices(name):
+    """The names that a name with one choice in braces means, such as `{a,b}.rt`."""
+    choice = re.fullmatch(r"(.*)\{([^}]*)\}(.*)", name)
+    return [choice[1] + word + choice[3] for word in choice[2].split(",")] if choice else [name]
+
+
+def file_errors(path, files):
+    """The files that a document names and the repository lacks. A name may leave out the folders before it."""
+    names = [name for name in re.findall(r"`([\w./{},-]+\.(?:antt|c|edit|py|rt|script|sh|txt))`", path.read_text()) if "NAME" not in name]
+    wanted = [one for name in names for one in with_choices(name.removeprefix("../"))]
+    return [f"{path.relative_to(TOP)}: there is no file {name}" for name in wanted if not any(f"/{file}".endswith(f"/{name}") for file in files)]
+
+
+def table_cells(path):
+    """The cells of the tables of a document, each with the heading of its column."""
+    heads = []
+    for line in lines_of(path):
+        cells = [cell.strip() for cell in line.replace("\\|", "").strip("|").split("|")] if line.startswith("|") else []
+        if not cells:
+            heads = []
+        elif not heads:
+            heads = cells
+        else:
+            yield from zip(heads, cells)
+
+
+def name_errors(path, mutants, labels):
+    """The mutants and clauses that the tables of a document name and the repository lacks."""
+    place = path.relative_to(TOP)
+    for head, cell in table_cells(path):
+        if head == "Mutant":
+            yield from (f"{place}: there is no mutant {name}" for name in re.findall(r"`(\w+)`", cell) if name not in mutants)
+        if head in ("Promise", "Clause"):
+            groups = re.findall(r"\(([^()]*)\)", cell) if head == "Promise" else [cell]
+            names = [name for group in groups for name in re.findall(r"`((?:\w+::)*[a-z]\w*)`", group)]
+            yield from (f"{place}: there is no clause {name}" for name in names if name not in labels)
+
+
+def known_labels():
+    """The labels of clauses, and the names of the public functions: a law is named by its function."""
+    texts = [path.read_text() for path in sources(TOP / "crates")]
+    found = [re.findall(r"(?:ensures\*?|fn) (\w+)", text) for text in texts]
+    calls = {f"{kind}::{name}" for text in texts for kind in re.findall(r"impl.*? (\w+)(?:<.*?>)? ?\{", text) for name in re.findall(r"fn (\w+)", text)}
+    return {name for names in found for name in names} | calls
+
+
 def length_errors(name, most):
     path = TOP / name
     if not path.exists():
@@ -135,8 +183,13 @@ def main():
     callers = [lines_of(path) for path in sources(USES / "src")]
     all_examples = [example for path in texts for example in examples(path)]
     all_links = [(path, link) for path in documents() for link in links(path)]
+    files = [str(path.relative_to(TOP)) for path in TOP.rglob("*") if path.is_file() and "out" not in path.relative_to(TOP).parts]
+    mutants = {path.stem for path in TOP.glob("crates/*/must-fail/*.edit")}
+    labels = known_labels()
     errors = [error for example in all_examples for error in example_errors(example, callers)]
     errors += [error for path, link in all_links for error in link_errors(path, link)]
+    errors += [error for path in documents() for error in file_errors(path, files)]
+    errors += [error for path in documents() for error in name_errors(path, mutants, labels)]
     errors += [error for name, most in MOST_WORDS.items() for error in length_errors(name, most)]
     for error in errors:
         print(error)

@@ -6,7 +6,7 @@ use Rattle.std.proofs.lemmas.Map.Keys.{sorted_head, sorted_tail}
 use Rattle.std.specs.Map.{keys_of}
 use Rattle.std.specs.Option.{option_map}
 use Rattle.std.specs.Ordering.{nat_cmp}
-use Rattle.std.specs.Prelude.{Option, Some, None, nat_le, slice_get}
+use Rattle.std.specs.Prelude.{IfNone, IfSome, Option, Some, None, nat_le, slice_get}
 use Rattle.historical_bitmap.specs.History.{earliest, from_number, latest, RiseInNumber, up_to_number}
 use Rattle.historical_bitmap.proofs.History.PastStates.{below, from_above}
 
@@ -69,3 +69,48 @@ up_to_rest m a cs c e l =
     let greatest = latest-push cs c in
     let same : c.0 ≡ a = cc in
     filter-append (λ commit. nat_le commit.0 m) cs (c ∷ []) ∙ rw (lt-leb c.0 m (omega arith)) (append-nil (up_to_number m cs))
+
+-- ---- the loops
+-- the commits that are left have those from a number on that all have, and their numbers ascend
+pub record LeavesFrom {X : Type 0} (m : ℕ) (all left : List (ℕ × X)) : Type 0 where
+  pub rise : RiseInNumber left
+  pub same : from_number m left ≡ from_number m all
+
+-- the commits that are left have those up to a number that all have, and their numbers ascend
+pub record LeavesUpTo {X : Type 0} (m : ℕ) (all left : List (ℕ × X)) : Type 0 where
+  pub rise : RiseInNumber left
+  pub same : up_to_number m left ≡ up_to_number m all
+
+-- the first commit is dropped
+pub first_dropped : {X : Type 0} (m a : ℕ) (all left rest : List (ℕ × X)) (r : Option (ℕ × X)) → LeavesFrom m all left → RiseInNumber rest
+    → Some a ≡ earliest left → a < m → IfSome r (λ c. left ≡ c ∷ rest) → IfNone r (rest ≡ left) → LeavesFrom m all rest
+first_dropped m a all left rest (Some c) leaves rise e l took none = record {
+  rise = rise;
+  same = sym (from_rest m a c rest (ap (λ cs. earliest cs) (sym took) ∙ sym e) l) ∙ (ap (λ cs. from_number m cs) (sym took) ∙ leaves.same);
+}
+first_dropped m a all left rest None leaves rise e l took none = record { rise = rise; same = ap (λ cs. from_number m cs) none ∙ leaves.same }
+
+-- the last commit is dropped
+pub last_dropped : {X : Type 0} (m a : ℕ) (all left rest : List (ℕ × X)) (r : Option (ℕ × X)) → LeavesUpTo m all left → RiseInNumber rest
+    → Some a ≡ latest left → m < a → IfSome r (λ c. left ≡ rest ++ c ∷ []) → IfNone r (rest ≡ left) → LeavesUpTo m all rest
+last_dropped m a all left rest (Some c) leaves rise e l took none = record {
+  rise = rise;
+  same = sym (up_to_rest m a rest c (ap (λ cs. latest cs) (sym took) ∙ sym e) l) ∙ (ap (λ cs. up_to_number m cs) (sym took) ∙ leaves.same);
+}
+last_dropped m a all left rest None leaves rise e l took none = record { rise = rise; same = ap (λ cs. up_to_number m cs) none ∙ leaves.same }
+
+-- the loop ends at the first number that is not below
+pub from_done : {X : Type 0} (m a : ℕ) (all left : List (ℕ × X)) → LeavesFrom m all left → Some a ≡ earliest left → m ≤ a → left ≡ from_number m all
+from_done m a all left leaves e l = sym (from_least m a left leaves.rise (sym e) l) ∙ leaves.same
+
+-- or if no commit is left
+pub from_none : {X : Type 0} (m : ℕ) (all left : List (ℕ × X)) → LeavesFrom m all left → None ≡ earliest left → left ≡ from_number m all
+from_none m all left leaves e = let none = earliest_none left (sym e) in none ∙ (ap (λ cs. from_number m cs) (sym none) ∙ leaves.same)
+
+-- the loop ends at the last number that is not above
+pub up_to_done : {X : Type 0} (m a : ℕ) (all left : List (ℕ × X)) → LeavesUpTo m all left → Some a ≡ latest left → a ≤ m → left ≡ up_to_number m all
+up_to_done m a all left leaves e l = sym (up_to_greatest m a left leaves.rise (sym e) l) ∙ leaves.same
+
+-- or if no commit is left
+pub up_to_none : {X : Type 0} (m : ℕ) (all left : List (ℕ × X)) → LeavesUpTo m all left → None ≡ latest left → left ≡ up_to_number m all
+up_to_none m all left leaves e = let none = latest_none left (sym e) in none ∙ (ap (λ cs. up_to_number m cs) (sym none) ∙ leaves.same)

@@ -56,7 +56,7 @@ pub below : (a b : ℕ) → nat_cmp a b ≡ Less → a < b
 below a b e = ranked a b Less (sym e)
 
 -- if all numbers are greater than a, none is left out
-from_above : {X : Type 0} (m a : ℕ) (cs : List (ℕ × X)) → m ≤ a + 1 → AllByRecursion (λ k. nat_cmp a k ≡ Less) (keys_of cs) → from_number m cs ≡ cs
+pub from_above : {X : Type 0} (m a : ℕ) (cs : List (ℕ × X)) → m ≤ a + 1 → AllByRecursion (λ k. nat_cmp a k ≡ Less) (keys_of cs) → from_number m cs ≡ cs
 from_above m a [] l h = refl
 from_above m a (c ∷ cs) l h = rw (le-leb m c.0 (omega (arith, below a c.0 h.0))) (ap (λ ys. c ∷ ys) (from_above m a cs l h.1))
 

@@ -96,6 +96,7 @@ fn last_number<const N: usize>(commits: &BTreeMap<u64, CommitDiff<N>>) -> Option
 
 // Drops the commits whose numbers are below a number, from the first on. Looks at these and at one more. Does not allocate.
 fn drop_before<const N: usize>(commits: &mut BTreeMap<u64, CommitDiff<N>>, number: u64)
+    requires { RiseInNumber commits.old.entries }
     ensures { commits.new.entries ≡ from_number number commits.old.entries }
 {
     while let Some(first) = first_number(commits) {
@@ -108,6 +109,7 @@ fn drop_before<const N: usize>(commits: &mut BTreeMap<u64, CommitDiff<N>>, numbe
 
 // Drops the commits whose numbers are above a number, from the last on. Looks at these and at one more. Does not allocate.
 fn drop_past<const N: usize>(commits: &mut BTreeMap<u64, CommitDiff<N>>, number: u64)
+    requires { RiseInNumber commits.old.entries }
     ensures { commits.new.entries ≡ up_to_number number commits.old.entries }
 {
     while let Some(last) = last_number(commits) {
