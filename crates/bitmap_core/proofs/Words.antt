@@ -1,3 +1,4 @@
--- Words of a bitmap: loaded words, and the scan over them.
+-- Words of a bitmap: loaded words, the scan over them, and the calls of `next` that a scan serves.
 pub mod Scan
 pub mod Loaded
+pub mod Runs

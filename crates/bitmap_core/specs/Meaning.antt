@@ -1,6 +1,7 @@
 -- A bitmap as the trait `Readable` describes it. A chunk has n bytes.
-use Rattle.std.specs.Prelude.{◌≡◌, ℕ, ◌+◌, ◌-◌, ◌*◌, ◌/◌, ◌^◌, ◌<◌, ◌≤◌, min, max, Bool, true, false, not, List, ◌++◌, length, slice_index_or, ◌==◌, nat_lt, if◌then◌else◌}
+use Rattle.std.specs.Prelude.{◌≡◌, ℕ, ◌+◌, ◌-◌, ◌*◌, ◌/◌, ◌^◌, ◌<◌, ◌≤◌, min, max, Bool, true, false, not, List, ◌++◌, length, slice_index_or, ◌==◌, nat_lt, if◌then◌else◌, Option}
 use Rattle.std.specs.Int.{bit_at as digit_at}
+use Rattle.std.specs.Iterator.{YieldsFirst}
 use Rattle.std.specs.List.{filter, range_with_len}
 use Rattle.bitmap_bytes.specs.Chunk.{chunk_bit, is_wanted, IsWidth}
 use Rattle.bitmap_bytes.specs.Words.{starts_word, word_start, next_word, IsCut}
@@ -72,6 +73,13 @@ pub record Scan : Type 0 where
   pub left : List ℕ
   pub loads : ℕ
   pub words : ℕ
+
+-- a call of `next` on an iterator over set positions: it returns the first position left, if any. The words of the range stay the same, the loads never decrease, and they are at most those words.
+pub record IsScanStep (old : Scan) (result : Option ℕ) (new : Scan) : Type 0 where
+  pub yields : YieldsFirst (λ (s : Scan). s.left) old result new
+  pub grows : old.loads ≤ new.loads
+  pub range : new.words ≡ old.words
+  pub within : new.loads ≤ old.words
 
 -- the bit at position k in a word that begins at base
 abbrev pub word_bit : ℕ → ℕ → ℕ → Bool

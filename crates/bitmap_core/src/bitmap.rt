@@ -19,7 +19,8 @@
 ghost use Rattle.std.specs.Prelude.{◌≡◌, ℕ, Bool, List, ◌+◌, ◌-◌, ◌*◌, ◌/◌, ◌%◌, ◌^◌, ◌<◌, ◌≤◌, [], ◌∷◌, ◌++◌, length, false, slice_index_or, slice_set, replicate, take, true, not, IfOk, OnOk, OnErr, IsOk, ◌==◌, map, ◌&&◌, ◌||◌};
 ghost use Rattle.std.specs.List.{count_by, filter, list_all, range_with_len, slice_range, zip};
 ghost use Rattle.std.proofs.Math.Bool.{xor};
-ghost use Rattle.bitmap_core.specs.Meaning.{words_between};
+ghost use Rattle.std.specs.Iterator.Runs.{YieldsInOrder};
+ghost use Rattle.bitmap_core.specs.Meaning.{words_between, IsScanStep};
 ghost use Rattle.bitmap_core.specs.Encoding.{encoding};
 ghost use Rattle.std.specs.Int.{div_ceil};
 ghost use Rattle.bitmap_bytes.specs.Chunk.{chunk_bit, chunk_bits, IsWidth};
@@ -359,6 +360,7 @@ impl<const N: usize> BitMap<N> {
         ensures words { result.words ≡ words_between N 0 (length self.now) }
         ensures loads { result.loads ≤ result.words }
         ensures bound { length result.left < 2 ^ 64 }
+        ensures runs { YieldsInOrder IsScanStep (λ s. s.left) }
     {
         self.ones_iter_range(0..self.len())
     }

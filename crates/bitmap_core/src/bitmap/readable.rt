@@ -84,7 +84,8 @@ use std::ops::Range;
 /// }
 /// ```
 pub trait Readable<const N: usize> {
-    ghost use Rattle.bitmap_core.specs.Meaning.{Meaning, IsLawful, IsRetained, IsRetainedChunk, ShowsChunk, ones, zeros, words};
+    ghost use Rattle.bitmap_core.specs.Meaning.{Meaning, IsLawful, IsRetained, IsRetainedChunk, IsScanStep, ShowsChunk, ones, zeros, words};
+    ghost use Rattle.std.specs.Iterator.Runs.{YieldsInOrder};
     ghost use Rattle.bitmap_core.specs.Searches.{next_one, next_zero, prev_one, prev_zero, ones_count, select_one};
 
     /// The bitmap that the value holds: its number of pruned chunks, its length, and the bit at each position.
@@ -168,6 +169,7 @@ pub trait Readable<const N: usize> {
         ensures words { result.words ≡ words N (meaning self.now) range.start range.end }
         ensures loads { result.loads ≤ result.words }
         ensures bound { length result.left < 2 ^ 64 }
+        ensures runs { YieldsInOrder IsScanStep (λ s. s.left) }
     {
         OnesIter::over(self, self.len(), range, true)
     }
@@ -189,6 +191,7 @@ pub trait Readable<const N: usize> {
         ensures words { result.words ≡ words N (meaning self.now) pos (meaning self.now).len }
         ensures loads { result.loads ≤ result.words }
         ensures bound { length result.left < 2 ^ 64 }
+        ensures runs { YieldsInOrder IsScanStep (λ s. s.left) }
     {
         self.ones_iter_range(pos..u64::MAX)
     }
@@ -212,6 +215,7 @@ pub trait Readable<const N: usize> {
         ensures words { result.words ≡ words N (meaning self.now) range.start range.end }
         ensures loads { result.loads ≤ result.words }
         ensures bound { length result.left < 2 ^ 64 }
+        ensures runs { YieldsInOrder IsScanStep (λ s. s.left) }
     {
         OnesIter::over(self, self.len(), range, false)
     }

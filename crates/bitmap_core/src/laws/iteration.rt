@@ -2,7 +2,8 @@
 
 ghost use Rattle.std.specs.Prelude.{◌≡◌, ℕ, Bool, List, ◌∷◌, [], None, IfOk, MatchOption};
 ghost use Rattle.std.specs.Iterator.{YieldsFirst};
-ghost use Rattle.bitmap_core.specs.Meaning.{Scan, ones};
+ghost use Rattle.std.specs.Iterator.Runs.{YieldsInOrder};
+ghost use Rattle.bitmap_core.specs.Meaning.{IsScanStep, Scan, ones};
 
 use crate::bitmap::readable::{OnesIter, Readable};
 use crate::bitmap::{BitMap, Iterator};
@@ -84,3 +85,10 @@ pub fn positions_stay_ended<B: Readable<N>, const N: usize>(
 {
     (positions.next(), positions.next())
 }
+
+/// Any number of calls of `next` return the first positions that were left, in order.
+///
+/// A call that returns an `OnesIter` ensures this too. A function that takes one calls this law, so that its `count` or `collect` is proved.
+pub fn positions_in_order()
+    ensures { YieldsInOrder IsScanStep (λ s. s.left) }
+{}

@@ -5,15 +5,16 @@ ghost use Rattle.std.specs.Iterator.{YieldsFirst};
 
 use crate::bitmap::readable::{OnesIter, Readable};
 
-/// A call of `next` never decreases the number of words loaded, and does not change the number of words of the range.
+/// A call of `next` never decreases the number of words loaded, does not change the number of words of the range, and leaves at most that many loaded.
 pub fn step_counted<B: Readable<N>, const N: usize>(
     positions: &mut OnesIter<'_, B, N>,
 ) -> Option<u64>
     ensures steps { YieldsFirst (λ s. s.left) positions.old result positions.new }
     ensures grows { positions.old.loads ≤ positions.new.loads }
     ensures range { positions.new.words ≡ positions.old.words }
+    ensures within { positions.new.loads ≤ positions.old.words }
 {
-    positions.step()
+    positions.next()
 }
 
 /// At any time, an iterator over set positions has loaded at most the words of its range.
@@ -28,6 +29,5 @@ pub fn words_loaded_once<B: Readable<N>, const N: usize>(positions: &mut OnesIte
     ensures ended { positions.new.left ≡ [] }
     ensures loads { positions.new.loads ≤ positions.old.words }
 {
-    while positions.step().is_some() {}
-    positions.loads_within_words();
+    while positions.next().is_some() {}
 }

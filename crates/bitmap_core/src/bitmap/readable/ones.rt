@@ -2,10 +2,11 @@
 
 ghost use Rattle.std.specs.Prelude.{◌≡◌, ◌≢◌, ℕ, ◌+◌, ◌*◌, ◌/◌, ◌%◌, ◌^◌, ◌<◌, ◌≤◌, ◌==◌, true, false, [], length, MatchBool};
 ghost use Rattle.std.specs.Int.{bit_at};
-ghost use Rattle.std.specs.Iterator.{YieldsFirst, item_count};
+ghost use Rattle.std.specs.Iterator.{item_count};
+ghost use Rattle.std.specs.Iterator.Runs.{YieldsInOrder};
 ghost use Rattle.bitmap_bytes.specs.Chunk.{chunk_bit, is_wanted, IsWidth};
 ghost use Rattle.bitmap_bytes.specs.Words.{starts_word, next_word, IsCut};
-ghost use Rattle.bitmap_core.specs.Meaning.{left_from, IsScan, ones, ones_between, seen_as, words, IsLawful, IsRetained, ShowsChunk};
+ghost use Rattle.bitmap_core.specs.Meaning.{left_from, IsScan, ones, ones_between, seen_as, words, IsLawful, IsRetained, IsScanStep, ShowsChunk};
 ghost use Rattle.bitmap_core.specs.Searches.{first};
 
 use crate::bitmap::readable::Readable;
@@ -153,6 +154,7 @@ impl<'a, B: Readable<N>, const N: usize> OnesIter<'a, B, N> {
         ensures words { result.words ≡ words N (B.meaning readable.now) range.start range.end }
         ensures loads { result.loads ≤ result.words }
         ensures bound { length result.left < 2 ^ 64 }
+        ensures runs { YieldsInOrder IsScanStep (λ s. s.left) }
     {
         let end = range.end.min(len);
         let position = range.start.max(readable.pruned_bits());
@@ -188,19 +190,6 @@ impl<'a, B: Readable<N>, const N: usize> OnesIter<'a, B, N> {
         }
     }
 
-    // Does what `next` does, and states what it loads. If `next` had these clauses, the loop of each caller would need a proof file.
-    pub(crate) fn step(&mut self) -> Option<u64>
-        ensures steps { YieldsFirst (λ s. s.left) self.old result self.new }
-        ensures grows { self.old.loads ≤ self.new.loads }
-        ensures range { self.new.words ≡ self.old.words }
-    {
-        if !advance(self.readable, self.end, self.wanted, &mut self.cursor) {
-            return None;
-        }
-        let place = take_lowest(&mut self.cursor.word);
-        Some(self.cursor.base + place)
-    }
-
     // States the bound on the number of loads, which holds for every value.
     pub(crate) fn loads_within_words(&self)
         ensures { self.now.loads ≤ self.now.words }
@@ -221,17 +210,21 @@ pub(crate) fn first_from<B: Readable<N>, const N: usize>(
     ensures { result ≡ first (ones N (seen_as wanted (B.meaning readable.now)) from (B.meaning readable.now).len) }
 {
     let mut positions = OnesIter::over(readable, len, from..len, wanted);
-    positions.step()
+    positions.next()
 }
 
 impl<'a, B: Readable<N>, const N: usize> Iterator for OnesIter<'a, B, N> {
     type Item = u64;
 
-    ghost next_gives = { YieldsFirst (λ s. s.left) };
+    ghost next_gives = { IsScanStep };
 
     ghost remaining = { item_count (λ s. s.left) };
 
     fn next(&mut self) -> Option<u64> {
-        self.step()
+        if !advance(self.readable, self.end, self.wanted, &mut self.cursor) {
+            return None;
+        }
+        let place = take_lowest(&mut self.cursor.word);
+        Some(self.cursor.base + place)
     }
 }

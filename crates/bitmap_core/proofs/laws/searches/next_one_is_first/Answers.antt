@@ -5,4 +5,4 @@ use Rattle.bitmap_core.proofs.laws.searches.next_one_is_first.Goals as goal
 
 pub returns-clause-same : goal.returns-clause-same
 returns-clause-same g c =
-    c.next_one-next.ensures ∙ sym (first_item _ _ c.next-first.result c.next-first.ensures.steps ∙ ap first c.ones_iter_from.ensures.positions)
+    c.next_one-next.ensures ∙ sym (first_item _ _ c.next-first.result c.next-first.ensures.steps.yields ∙ ap first c.ones_iter_from.ensures.positions)

@@ -4,6 +4,7 @@ use Rattle.bitmap_core.specs.Meaning.{Meaning, ShowsChunk, seen_as}
 use Rattle.bitmap_core.proofs.Lists.SetPositions.{ones_between-none, ones_between-at, ones_fit}
 use Rattle.bitmap_bytes.proofs.Words.Starts.{start_of, start_near, start_chunk, end_near}
 use Rattle.bitmap_core.proofs.Words.Loaded.{IsMasked, masked_cut, left_none, left_loaded, first_loaded}
+use Rattle.bitmap_core.proofs.Words.Runs.{scan_runs}
 use Rattle.bitmap_core.proofs.Words.Scan.{first_scan, counted_first}
 use Rattle.bitmap_core.proofs.bitmap.readable.ones.OnesIter.over.Goals as goal
 use Rattle.bitmap_core.proofs.bitmap.readable.ones.OnesIter.over.Given.{Over}
@@ -68,3 +69,9 @@ returns-then-position-end-clause-bound g c =
 pub returns-clause-bound : goal.returns-clause-bound
 returns-clause-bound g c =
     rw (returns-clause-positions g c) (ones_fit _ _ c.args.range.start c.args.range.end c.requires.lawful.len_fits)
+
+pub returns-then-position-end-clause-runs : goal.returns-then-position-end-clause-runs
+returns-then-position-end-clause-runs g c = scan_runs
+
+pub returns-clause-runs : goal.returns-clause-runs
+returns-clause-runs g c = scan_runs

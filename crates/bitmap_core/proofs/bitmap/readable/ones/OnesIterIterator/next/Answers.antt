@@ -1,9 +1,9 @@
-use Rattle.std.proofs.Common.{◌≡◌, ◌+◌, ◌∷◌, ap}
-use Rattle.bitmap_core.specs.Meaning.{Scan, left_from, seen_as}
+use Rattle.std.proofs.Common.{◌≡◌, ℕ, ◌+◌, ◌∷◌, ◌∙◌, length, ap, arith}
+use Rattle.bitmap_core.specs.Meaning.{Scan, left_from, seen_as, words_between}
 use Rattle.bitmap_core.proofs.Words.Loaded.{IsLowestTaken, left_taken}
-use Rattle.bitmap_core.proofs.bitmap.readable.ones.OnesIter.step.Goals as goal
-use Rattle.bitmap_core.proofs.bitmap.readable.ones.OnesIter.step.Given.{Over}
-use Rattle.bitmap_core.proofs.bitmap.readable.ones.OnesIter.step.Goals.{After-take_lowest-place}
+use Rattle.bitmap_core.proofs.bitmap.readable.ones.OnesIterIterator.next.Goals as goal
+use Rattle.bitmap_core.proofs.bitmap.readable.ones.OnesIterIterator.next.Given.{Over}
+use Rattle.bitmap_core.proofs.bitmap.readable.ones.OnesIterIterator.next.Goals.{After-take_lowest-place}
 
 first : (g : Over) (c : After-take_lowest-place g) →
     c.args.self.now.left
@@ -19,4 +19,18 @@ first g c =
     c.args.self.now.left c.advance.ensures.left (ap (λ (s : Scan). s.left) c.self.view_is)
 
 pub returns-clause-steps : goal.returns-clause-steps
-returns-clause-steps g c = first g c
+returns-clause-steps g c =
+    let loads = ap (λ (s : Scan). s.loads) c.self.view_is in
+    let words = ap (λ (s : Scan). s.words) c.self.view_is in
+    let same = ap (λ (k : ℕ). words_between g.row.N k c.self.inside.end) c.advance.ensures.first in
+    record {
+      yields = first g c;
+      grows = omega (arith, loads, c.advance.ensures.counted);
+      range = same ∙ words;
+      within = omega (arith, c.advance.ensures.scan.counted, same, words);
+    }
+
+pub returns-clause-goes : goal.returns-clause-goes
+returns-clause-goes g c =
+    let fewer = ap length (first g c) in
+    record { on = λ _. (tt, tt, omega (arith, fewer)); keeps = tt; rests = λ _. tt }
