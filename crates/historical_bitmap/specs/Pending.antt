@@ -1,6 +1,7 @@
 -- The pending edits of a batch, and what each edit makes of them. A chunk has n bytes.
 use Rattle.std.specs.Prelude.{◌≡◌, ℕ, ◌+◌, ◌-◌, ◌*◌, ◌/◌, ◌%◌, ◌<◌, ◌≤◌, max, Bool, true, false, List, [], ◌++◌, length, map, if◌then◌else◌, ◌⊎◌, slice_index_or, nat_lt, nat_eq, Option, Some, None, MatchOption, unwrap_or}
-use Rattle.std.specs.List.{range_with_len}
+use Rattle.std.specs.Int.{div_ceil}
+use Rattle.std.specs.List.{filter, range_with_len}
 use Rattle.std.specs.List.Sorted.{IsStrictlySortedBy}
 use Rattle.std.specs.Map.{lookup, keys_of}
 use Rattle.std.specs.Ordering.{nat_cmp}
@@ -163,6 +164,22 @@ diff_of n b l i =
     if nat_lt i l.pruned then Pruned (slice_index_or l.captured (i - b.pruned) [])
     else if nat_lt (8 * n * i) (bit_len n b) then (if nat_lt (8 * n * i) l.len then Modified (chunk n b i) else Removed (chunk n b i))
     else Added
+
+-- the numbers from one number up to, but not including, another that are in a list, ascending
+abbrev pub members_between : List ℕ → ℕ → ℕ → List ℕ
+members_between xs from to = filter (is_member nat_eq xs) (from_to from to)
+
+-- the entries of some chunks in the record of a commit
+abbrev pub entries_for : ℕ → PrunedBits → PendingEdits → List ℕ → List (ℕ × ChunkDiff)
+entries_for n b l chunks = map (λ i. (i, diff_of n b l i)) chunks
+
+-- the new record is the old one with the entries of some chunks appended
+abbrev pub AddsEntries : ℕ → PrunedBits → PendingEdits → List ℕ → ReverseRecord → ReverseRecord → Type 0
+AddsEntries n b l chunks old new = new ≡ record { len = old.len; pruned = old.pruned; entries = old.entries ++ entries_for n b l chunks }
+
+-- the first chunk that loses bits at the end of a bitmap of `total` bits, or the pending number of chunks if there is none
+abbrev pub first_cut_of : ℕ → PendingEdits → ℕ → ℕ
+first_cut_of n l total = if nat_lt l.len total then l.len / (8 * n) else div_ceil l.len (8 * n)
 
 -- r is the record of the pending edits: one entry per marked chunk, strictly ascending, and no other
 pub record IsRecordOf (n : ℕ) (b : PrunedBits) (l : PendingEdits) (r : ReverseRecord) : Type 0 where

@@ -6,10 +6,8 @@ use Rattle.std.proofs.lemmas.List.{append-nil}
 use Rattle.std.proofs.lemmas.List.Elements.{All-head, All-tail}
 use Rattle.std.proofs.lemmas.Map.Keys.{sorted_head, sorted_tail}
 use Rattle.std.specs.BTreeMap.Range.{entries_between}
-use Rattle.std.specs.declared.cmp.Ordering.TheVariants.{Less}
 use Rattle.std.specs.declared.ops.Bound.TheVariants.{Excluded, Included}
 use Rattle.std.specs.Cmp.Lexicographic.{pointwise}
-use Rattle.std.specs.List.{AllByRecursion}
 use Rattle.std.specs.List.Sorted.{IsStrictlySortedBy}
 use Rattle.std.specs.Map.{keys_of}
 use Rattle.std.specs.Option.{option_eq}
@@ -24,14 +22,10 @@ use Rattle.historical_bitmap.specs.Compared.{between_numbers, named_chunks, IsNe
 use Rattle.historical_bitmap.specs.History.{EntriesRise}
 use Rattle.historical_bitmap.specs.Pending.{IsNextMember}
 use Rattle.historical_bitmap.specs.Record.{ReverseRecord}
+use Rattle.historical_bitmap.proofs.Lists.Between.{none_up_to}
 use Rattle.historical_bitmap.proofs.Lists.Members.{in_either, in_left, in_right}
-use Rattle.historical_bitmap.proofs.History.PastStates.{below}
 
 -- ---- the first of some ascending numbers that is at least a given one
-none_up_to : (x j : ℕ) (xs : List ℕ) → AllByRecursion (λ k. nat_cmp x k ≡ Less) xs → j ≤ x → is_member nat_eq xs j ≡ false
-none_up_to x j [] h l = refl
-none_up_to x j (y ∷ ys) h l = rw (ne_eqb j y (λ e. absurd (omega (arith, e, l, below x y h.0)))) (none_up_to x j ys h.1 l)
-
 not_first : (j x : ℕ) (xs : List ℕ) → j ≢ x → is_member nat_eq xs j ≡ false → is_member nat_eq (x ∷ xs) j ≡ false
 not_first j x xs ne h = rw (ne_eqb j x ne) h
 

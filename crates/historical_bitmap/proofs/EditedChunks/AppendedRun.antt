@@ -1,5 +1,5 @@
 -- Reads and writes of entries of chunks that are stored as an appended run and the other chunks.
-use Rattle.std.proofs.Common.{◌≡◌, ℕ, ◌+◌, ◌-◌, ◌<◌, ◌≤◌, Bool, true, false, cond, zero, suc, List, [], ◌∷◌, ◌++◌, length, get_or, set, Some, None, Result, Ok, Err, Bor, refl, sym, ap, ◌∙◌, subst, arith}
+use Rattle.std.proofs.Common.{◌≡◌, ℕ, ◌+◌, ◌-◌, ◌^◌, ◌<◌, ◌≤◌, min, max, Bool, true, false, cond, zero, suc, List, [], ◌∷◌, ◌++◌, length, get_or, set, Some, None, Result, Ok, Err, Bor, refl, sym, ap, ◌∙◌, subst, arith}
 use mathlib.Core.Logic.{inl, inr, ◌≢◌}
 use Rattle.std.proofs.lemmas.Bool.{cases_eq, cases_lt, eq-eqb, ne_eqb, lt-ltb, le-ltb, le-leb, lt-leb, false≢true}
 use Rattle.std.proofs.lemmas.List.{append-nil, length-append}
@@ -12,8 +12,11 @@ use Rattle.std.specs.Map.{keys_of, lookup}
 use Rattle.std.specs.Ordering.{nat_cmp}
 use Rattle.std.specs.Set.{is_member}
 use Rattle.std.specs.declared.cmp.Ordering.TheVariants.{Less}
-use Rattle.historical_bitmap.specs.Pending.{IsByteSetIn, IsNextMember, IsSetIn, IsWritten, Puts, PutsTwo, SetsIn}
+use Rattle.bitmap_core.proofs.Lists.SetPositions.{ones_between-append, ones_between-same}
+use Rattle.historical_bitmap.specs.Edits.{from_to}
+use Rattle.historical_bitmap.specs.Pending.{IsByteSetIn, IsNextMember, IsSetIn, IsWritten, members_between, Puts, PutsTwo, SetsIn}
 use Rattle.historical_bitmap.specs.Run.{IsRun, run_entries, with_run}
+use Rattle.historical_bitmap.proofs.Lists.Between.{all_between}
 use Rattle.historical_bitmap.proofs.Lists.Maps.{not_some}
 use Rattle.historical_bitmap.proofs.History.PastStates.{below}
 
@@ -376,3 +379,38 @@ shorter_run n from xs ys es i o ok h last value items = (
 
     long : length xs ≡ length ys + 1
     long = ap (λ zs. length zs) whole ∙ omega (arith, length-append ys (get_or xs (length xs - 1) [] ∷ []))
+
+-- ---- the indices between two bounds: the others' before the run, the run's, and the others' past it
+module _ (from : ℕ) (xs : List (List ℕ)) (es : List (ℕ × List ℕ)) where
+  abbrev all : List ℕ
+  all = keys_of (with_run from xs es)
+
+  run_has : (q : ℕ) → (from ≤ q) × (q < from + length xs) → is_member nat_eq all q ≡ true
+  run_has q h = sym (is_some-lookup (nat_eq q) (with_run from xs es)) ∙ ap is_some (look_in from xs es q [] h)
+
+  beside_run : (q : ℕ) → ((q < from) ⊎ (from + length xs ≤ q)) → is_member nat_eq all q ≡ is_member nat_eq (keys_of es) q
+  beside_run q h = sym (is_some-lookup (nat_eq q) (with_run from xs es)) ∙ (ap is_some (look_beside from xs es q h) ∙ is_some-lookup (nat_eq q) es)
+
+  pub run_between : (ks : List ℕ) (lo first past hi : ℕ) → ks ≡ keys_of es → lo ≤ hi → hi < 2 ^ 64 → first ≡ max lo (min from hi) → past ≡ max lo (min (min (from + length xs) (2 ^ 64 - 1)) hi)
+      → (lo ≤ first) × (first ≤ past) × (past ≤ hi) × (members_between all lo hi ≡ members_between ks lo first ++ (from_to first past ++ members_between ks past hi))
+  run_between ks lo first past hi keys order small low high = (
+    omega (arith, low),
+    omega (arith, low, high, order, small),
+    omega (arith, high, order),
+    ones_between-append (is_member nat_eq all) lo first hi (omega (arith, low)) (omega (arith, low, order))
+        ∙ (ap (λ ys. members_between all lo first ++ ys) (ones_between-append (is_member nat_eq all) first past hi (omega (arith, low, high, order, small)) (omega (arith, high, order)))
+        ∙ rw keys (parts before middle after)),
+  )
+    where
+      before : members_between all lo first ≡ members_between (keys_of es) lo first
+      before = ones_between-same (is_member nat_eq all) (is_member nat_eq (keys_of es)) lo first (λ q l h. beside_run q (inl (omega (arith, l, h, low))))
+
+      middle : members_between all first past ≡ from_to first past
+      middle = all_between all first past (λ q l h. run_has q (omega (arith, l, h, low, high, order, small), omega (arith, l, h, low, high, order, small)))
+
+      after : members_between all past hi ≡ members_between (keys_of es) past hi
+      after = ones_between-same (is_member nat_eq all) (is_member nat_eq (keys_of es)) past hi (λ q l h. beside_run q (inr (omega (arith, l, h, high, small))))
+
+      parts : members_between all lo first ≡ members_between (keys_of es) lo first → members_between all first past ≡ from_to first past → members_between all past hi ≡ members_between (keys_of es) past hi
+          → members_between all lo first ++ (members_between all first past ++ members_between all past hi) ≡ members_between (keys_of es) lo first ++ (from_to first past ++ members_between (keys_of es) past hi)
+      parts a c d = rw (a, c, d) refl

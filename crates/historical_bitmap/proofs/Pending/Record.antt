@@ -1,29 +1,38 @@
 -- The record of the pending edits: it leads from the pending bitmap to the current one, can be undone, and has at most one entry per marked chunk.
-use Rattle.std.proofs.Common.{◌≡◌, ℕ, ◌+◌, ◌-◌, ◌*◌, ◌/◌, ◌<◌, ◌≤◌, List, [], ◌∷◌, ◌++◌, length, get_or, refl, ap, arith, sym, ◌∙◌}
+use Rattle.std.proofs.Common.{◌≡◌, ℕ, zero, suc, ◌+◌, ◌-◌, ◌*◌, ◌/◌, ◌<◌, ◌≤◌, max, List, [], ◌∷◌, ◌++◌, length, get_or, refl, ap, arith, append_assoc, subst, sym, ◌∙◌}
 use mathlib.Core.Logic.{inl, inr, ◌≢◌}
 use Rattle.std.proofs.lemmas.Bool.{cases_lt, cases_eq, cases_Bool, cases_order, eq-eqb, ne_eqb, lt-ltb, le-ltb, false≢true}
-use Rattle.std.proofs.lemmas.List.{get_or_append_left, get_or_push, length-append}
+use Rattle.std.proofs.lemmas.List.{append-nil, get_or_append_left, get_or_push, length-append}
 use Rattle.std.proofs.lemmas.List.Elements.{All-head, All-tail}
 use Rattle.std.proofs.lemmas.Map.Made.{is_some-lookup}
 use Rattle.std.proofs.lemmas.Map.Entries.{length-keys_of}
 use Rattle.std.proofs.lemmas.Nat.{le-div, mul-le}
 use Rattle.std.specs.Prelude.{true, false, cond, nat_eq, nat_lt, Option, Some, None, MatchOption, is_some}
+use Rattle.std.specs.Int.{div_ceil}
 use Rattle.std.specs.List.{All, AllByRecursion}
 use Rattle.std.specs.List.Sorted.{IsStrictlySortedBy}
 use Rattle.std.specs.Ordering.{nat_cmp}
+use Rattle.std.specs.BTreeMap.Range.{entries_between}
 use Rattle.std.specs.declared.cmp.Ordering.TheVariants.{Less}
+use Rattle.std.specs.declared.ops.Bound.TheVariants.{Excluded, Included}
 use Rattle.std.specs.Map.{lookup, keys_of}
 use Rattle.std.specs.Set.{is_member, distinct_count}
 use Rattle.bitmap_bytes.specs.Chunk.{chunk_bit}
 use Rattle.bitmap_core.specs.PrunedBits.{PrunedBits, bit_len, bit_at, IsRetained, chunk}
-use Rattle.bitmap_core.proofs.Pruned.Positions.{place, bit_past}
+use Rattle.bitmap_bytes.proofs.Chunks.Places.{fewer_chunks, IsChunkCount-ceil}
+use Rattle.bitmap_core.proofs.Lists.SetPositions.{ones_between-append, ones_between-false, ones_between-hit, ones_between-none, ones_between-same}
+use Rattle.bitmap_core.proofs.Pruned.Positions.{place, bit_past, ceil_above_index}
 use Rattle.historical_bitmap.specs.Record.{ChunkDiff, ReverseRecord, bit_or_else, kept, bytes_of, kept_bytes, LeadsBack}
 use Rattle.historical_bitmap.specs.Undo.{CanUndo, IsOldChunk}
-use Rattle.historical_bitmap.specs.Pending.{PendingEdits, edited_chunk, pending_bits, marked_chunks, diff_of, PendingFits, IsRecordOf}
+use Rattle.historical_bitmap.specs.Edits.{from_to}
+use Rattle.historical_bitmap.specs.Pending.{AddsEntries, PendingEdits, edited_chunk, entries_for, first_cut_of, members_between, pending_bits, marked_chunks, diff_of, PendingFits, IsRecordOf}
+use Rattle.historical_bitmap.proofs.Lists.Between.{all_between, range_keys}
 use Rattle.historical_bitmap.proofs.Lists.Counting.{count_marked}
+use Rattle.historical_bitmap.proofs.Lists.Members.{in_right}
 use Rattle.historical_bitmap.proofs.Records.Restores.{bit_in_chunk, has_chunk}
 use Rattle.historical_bitmap.proofs.Pending.Edits.{pending_len, pending_at}
-use Rattle.historical_bitmap.proofs.Pending.MarkedChunks.{IsMarked, mark, none_before}
+use Rattle.historical_bitmap.proofs.Pending.MarkedChunks.{IsMarked, mark, marked_below, none_before}
+use Rattle.historical_bitmap.proofs.Pending.NextMarked.{cut_marked, edited_marked, none_marked}
 
 -- a position in no marked chunk stays retained, with its bit
 pub unmarked : (n : ℕ) (b : PrunedBits) (l : PendingEdits) (k : ℕ) → 0 < n → PendingFits n b l → IsRetained n b k → is_member nat_eq (marked_chunks n b l) (k / (8 * n)) ≡ false → IsRetained n (pending_bits n b l) k × (bit_at n (pending_bits n b l) k ≡ bit_at n b k)
@@ -212,3 +221,165 @@ builds_all n b l upto r len pruned h none = record {
     | inr s ↦ rw (le-ltb q upto s, none q s) refl
   ];
 }
+
+-- ---- the entries of a list of chunks
+-- a chunk that is not marked has no entry
+builds_over : (n : ℕ) (b : PrunedBits) (l : PendingEdits) (upto : ℕ) (es : List (ℕ × ChunkDiff)) → Builds n b l upto es → is_member nat_eq (marked_chunks n b l) upto ≡ false → Builds n b l (upto + 1) es
+builds_over n b l upto es h none = record {
+  sorted = h.sorted;
+  below = λ k d m. let under = h.below k d m in omega (arith, under);
+  entries = λ q. h.entries q ∙ elim (cases_order q upto) [
+    | inl e ↦ rw (le-ltb q upto (omega (arith, e)), lt-ltb q (upto + 1) (omega (arith, e)), e, none) refl
+    | inr (inl f) ↦ rw (lt-ltb q upto f, lt-ltb q (upto + 1) (omega (arith, f))) refl
+    | inr (inr f) ↦ rw (le-ltb q upto (omega (arith, f)), le-ltb q (upto + 1) (omega (arith, f))) refl
+  ];
+}
+
+pub entries-append : (n : ℕ) (b : PrunedBits) (l : PendingEdits) (ks js : List ℕ) → entries_for n b l (ks ++ js) ≡ entries_for n b l ks ++ entries_for n b l js
+entries-append n b l [] js = refl
+entries-append n b l (k ∷ ks) js = ap (λ es. (k, diff_of n b l k) ∷ es) (entries-append n b l ks js)
+
+-- the entries of the marked chunks are those of a record
+builds_list : (n : ℕ) (b : PrunedBits) (l : PendingEdits) (count : ℕ) → 0 < n → PendingFits n b l → Builds n b l (b.pruned + count) (entries_for n b l (members_between (marked_chunks n b l) b.pruned (b.pruned + count)))
+builds_list n b l zero pos fits =
+    let none = ones_between-none (is_member nat_eq (marked_chunks n b l)) b.pruned (b.pruned + zero) (omega arith) in
+    let here : b.pruned ≡ b.pruned + zero = omega arith in
+    rw none (subst (λ u. Builds n b l u []) here (builds_none n b l pos fits))
+builds_list n b l (suc count) pos fits =
+    let upto = b.pruned + count in
+    let next : upto + 1 ≡ b.pruned + suc count = omega arith in
+    let split = ones_between-append (is_member nat_eq (marked_chunks n b l)) b.pruned upto (upto + 1) (omega arith) (omega arith) in
+    let before = members_between (marked_chunks n b l) b.pruned upto in
+    let prior = builds_list n b l count pos fits in
+    subst (λ u. Builds n b l u (entries_for n b l (members_between (marked_chunks n b l) b.pruned u))) next
+    (elim (cases_Bool (is_member nat_eq (marked_chunks n b l) upto)) [
+      | inl e ↦
+          let one : members_between (marked_chunks n b l) upto (upto + 1) ≡ upto ∷ [] =
+          ones_between-hit (is_member nat_eq (marked_chunks n b l)) upto (upto + 1) (omega arith) e ∙ ap (λ ks. upto ∷ ks) (ones_between-none (is_member nat_eq (marked_chunks n b l)) (upto + 1) (upto + 1) (omega arith)) in
+          builds_more n b l upto upto (entries_for n b l before) _ prior (omega arith) e (λ j f s. absurd (omega (arith, f, s)))
+          (ap (entries_for n b l) (split ∙ ap (λ ks. before ++ ks) one) ∙ entries-append n b l before (upto ∷ []))
+      | inr e ↦
+          let none : members_between (marked_chunks n b l) upto (upto + 1) ≡ [] =
+          ones_between-false (is_member nat_eq (marked_chunks n b l)) upto (upto + 1) (λ k f s. let same : k ≡ upto = omega (arith, f, s) in ap (λ (q : ℕ). is_member nat_eq (marked_chunks n b l) q) same ∙ e) in
+          subst (λ es. Builds n b l (upto + 1) es) (sym (ap (entries_for n b l) (split ∙ (ap (λ ks. before ++ ks) none ∙ append-nil before)))) (builds_over n b l upto (entries_for n b l before) prior e)
+    ])
+
+-- two lists of entries are appended
+pub adds_twice : (n : ℕ) (b : PrunedBits) (l : PendingEdits) (ks js : List ℕ) (r s t : ReverseRecord) → AddsEntries n b l ks r s → AddsEntries n b l js s t → AddsEntries n b l (ks ++ js) r t
+adds_twice n b l ks js r s t e f =
+    f ∙ (ap (λ (u : ReverseRecord). let v : ReverseRecord = record { len = u.len; pruned = u.pruned; entries = u.entries ++ entries_for n b l js } in v) e
+    ∙ ap (λ es. let v : ReverseRecord = record { len = r.len; pruned = r.pruned; entries = es } in v) (append_assoc r.entries (entries_for n b l ks) (entries_for n b l js) ∙ ap (λ es. r.entries ++ es) (sym (entries-append n b l ks js))))
+
+pub adds_none : (n : ℕ) (b : PrunedBits) (l : PendingEdits) (ks : List ℕ) (r : ReverseRecord) → ks ≡ [] → AddsEntries n b l ks r r
+adds_none n b l ks r e = rw e (ap (λ es. let v : ReverseRecord = record { len = r.len; pruned = r.pruned; entries = es } in v) (sym (append-nil r.entries)))
+
+pub adds_more : (n : ℕ) (b : PrunedBits) (l : PendingEdits) (ks : List ℕ) (i : ℕ) (d : ChunkDiff) (r s t : ReverseRecord) → AddsEntries n b l ks r s → t ≡ record { len = s.len; pruned = s.pruned; entries = s.entries ++ (i, d) ∷ [] } → d ≡ diff_of n b l i → AddsEntries n b l (ks ++ i ∷ []) r t
+adds_more n b l ks i d r s t e f g = adds_twice n b l ks (i ∷ []) r s t e (f ∙ ap (λ (x : ChunkDiff). let v : ReverseRecord = record { len = s.len; pruned = s.pruned; entries = s.entries ++ (i, x) ∷ [] } in v) g)
+
+-- ---- the loop invariant of the pass over the range of a map: the keys so far, whose entries are appended, and those that are left
+pub record Walks {X : Type 0} (n : ℕ) (b : PrunedBits) (l : PendingEdits) (all : List ℕ) (left : List (ℕ × X)) (old new : ReverseRecord) : Type 0 where
+  pub walked : List ℕ
+  pub split : all ≡ walked ++ keys_of left
+  pub adds : AddsEntries n b l walked old new
+
+pub walk_begins : {X : Type 0} (n : ℕ) (b : PrunedBits) (l : PendingEdits) (es left : List (ℕ × X)) (from to : ℕ) (r : ReverseRecord) → left ≡ entries_between nat_cmp (Included from) (Excluded to) es → IsStrictlySortedBy nat_cmp (keys_of es) → Walks n b l (members_between (keys_of es) from to) left r r
+walk_begins n b l es left from to r e up = record { walked = []; split = sym (range_keys es from to up) ∙ ap keys_of (sym e); adds = adds_none n b l [] r refl }
+
+pub walk_one : {X : Type 0} (n : ℕ) (b : PrunedBits) (l : PendingEdits) (all : List ℕ) (left rest : List (ℕ × X)) (i : ℕ) (x : X) (d : ChunkDiff) (r s t : ReverseRecord) → left ≡ (i, x) ∷ rest → Walks n b l all left r s → t ≡ record { len = s.len; pruned = s.pruned; entries = s.entries ++ (i, d) ∷ [] } → d ≡ diff_of n b l i → Walks n b l all rest r t
+walk_one n b l all left rest i x d r s t e w f g = record {
+  walked = w.walked ++ i ∷ [];
+  split = w.split ∙ (ap (λ es. w.walked ++ keys_of es) e ∙ sym (append_assoc w.walked (i ∷ []) (keys_of rest)));
+  adds = adds_more n b l w.walked i d r s t w.adds f g;
+}
+
+pub walk_ends : {X : Type 0} (n : ℕ) (b : PrunedBits) (l : PendingEdits) (all : List ℕ) (left : List (ℕ × X)) (r s : ReverseRecord) → left ≡ [] → Walks n b l all left r s → AddsEntries n b l all r s
+walk_ends n b l all left r s e w = subst (λ ks. AddsEntries n b l ks r s) (sym (w.split ∙ (ap (λ es. w.walked ++ keys_of es) e ∙ append-nil w.walked))) w.adds
+
+-- a key that is left is among all
+pub walk_here : {X : Type 0} (n : ℕ) (b : PrunedBits) (l : PendingEdits) (all : List ℕ) (left rest : List (ℕ × X)) (i : ℕ) (x : X) (r s : ReverseRecord) → left ≡ (i, x) ∷ rest → Walks n b l all left r s → is_member nat_eq all i ≡ true
+walk_here n b l all left rest i x r s e w = rw (w.split ∙ ap (λ es. w.walked ++ keys_of es) e) (in_right w.walked (i ∷ keys_of rest) i (rw (eq-eqb i i refl) refl))
+
+-- ---- the three passes of the record: the pruned chunks, the edited ones up to the first one that is cut, and the rest of the current bitmap
+pub record IsBounds (n : ℕ) (b : PrunedBits) (l : PendingEdits) (cut end : ℕ) : Type 0 where
+  pub cut_is : cut ≡ first_cut_of n l (bit_len n b)
+  pub end_is : end ≡ max (div_ceil (bit_len n b) (8 * n)) cut
+
+pub bounds_of : (n : ℕ) (b : PrunedBits) (l : PendingEdits) (total count cut end : ℕ) → total ≡ bit_len n b → cut ≡ first_cut_of n l total → count ≡ div_ceil total (8 * n) → end ≡ max count cut → IsBounds n b l cut end
+bounds_of n b l total count cut end len at chunks most = record {
+  cut_is = at ∙ ap (λ (t : ℕ). first_cut_of n l t) len;
+  end_is = most ∙ ap (λ (k : ℕ). max k cut) (chunks ∙ ap (λ (t : ℕ). div_ceil t (8 * n)) len);
+}
+
+module _ (n : ℕ) (b : PrunedBits) (l : PendingEdits) (pos : 0 < n) (fits : PendingFits n b l) (cut end : ℕ) (bounds : IsBounds n b l cut end) where
+  abbrev marks : List ℕ
+  marks = marked_chunks n b l
+
+  shorter : l.len < bit_len n b → cut ≡ l.len / (8 * n)
+  shorter h = bounds.cut_is ∙ rw (lt-ltb l.len (bit_len n b) h) refl
+
+  longer : bit_len n b ≤ l.len → cut ≡ div_ceil l.len (8 * n)
+  longer h = bounds.cut_is ∙ rw (le-ltb l.len (bit_len n b) h) refl
+
+  -- the chunks before the first cut one start before the pending length
+  pub cut_below : (i : ℕ) → i < cut → 8 * n * i < l.len
+  cut_below i s = elim (cases_lt l.len (bit_len n b)) [
+    | inl h ↦ omega (arith, mul-le (8 * n) (i + 1) (8 * n) (l.len / (8 * n)) (omega arith) (omega (arith, s, shorter h)), place (8 * n) l.len, pos)
+    | inr h ↦ omega (arith, mul-le (8 * n) (i + 1) (8 * n) (div_ceil l.len (8 * n)) (omega arith) (omega (arith, s, longer h)), (IsChunkCount-ceil n l.len pos).1)
+  ]
+
+  -- the cut ones start before the current length
+  pub end_below : (i : ℕ) → cut ≤ i → i < end → 8 * n * i < bit_len n b
+  end_below i low s = omega (arith, mul-le (8 * n) (i + 1) (8 * n) (div_ceil (bit_len n b) (8 * n)) (omega arith) (omega (arith, low, s, bounds.end_is)), (IsChunkCount-ceil n (bit_len n b) pos).1)
+
+  pub pruned_to_cut : l.pruned ≤ cut
+  pruned_to_cut = elim (cases_lt l.len (bit_len n b)) [
+    | inl h ↦ omega (arith, shorter h, le-div l.pruned l.len (8 * n) (omega (arith, pos)) (omega (arith, fits.prefix)))
+    | inr h ↦ omega (arith, longer h, fewer_chunks (8 * n) l.pruned (div_ceil l.len (8 * n)) l.len (omega (arith, fits.prefix, pos)) (IsChunkCount-ceil n l.len pos).0)
+  ]
+
+  pruned_marks : (q : ℕ) → b.pruned ≤ q → q < l.pruned → is_member nat_eq marks q ≡ true
+  pruned_marks q low h = mark n b l q (inr (inr (low, h)))
+
+  edited_marks : (q : ℕ) → l.pruned ≤ q → q < cut → is_member nat_eq marks q ≡ is_member nat_eq (keys_of l.edited) q
+  edited_marks q low s = elim (cases_Bool (is_member nat_eq (keys_of l.edited) q)) [
+    | inl e ↦ edited_marked n b l pos q e ∙ sym e
+    | inr e ↦ none_marked n b l pos q low e (λ h. inl (omega (arith, s, shorter h))) ∙ sym e
+  ]
+
+  cut_marks : (q : ℕ) → cut ≤ q → q < end → is_member nat_eq marks q ≡ true
+  cut_marks q low s = elim (cases_lt l.len (bit_len n b)) [
+    | inl h ↦ cut_marked n b l pos q h (omega (arith, low, shorter h)) (le-div q (bit_len n b - 1) (8 * n) (omega (arith, pos)) (omega (arith, end_below q low s)))
+    | inr h ↦ absurd (omega (arith, low, s, longer h, bounds.end_is, fewer_chunks (8 * n) (div_ceil (bit_len n b) (8 * n)) (div_ceil l.len (8 * n)) (bit_len n b) (IsChunkCount-ceil n (bit_len n b) pos).1 (omega (arith, h, (IsChunkCount-ceil n l.len pos).0))))
+  ]
+
+  no_marks : (q : ℕ) → end ≤ q → is_member nat_eq marks q ≡ false
+  no_marks q past = elim (cases_Bool (is_member nat_eq marks q)) [
+    | inr e ↦ e
+    | inl e ↦
+        let h = marked_below n b l q pos fits e in
+        elim (cases_lt l.len (bit_len n b)) [
+          | inl s ↦ absurd (omega (arith, past, bounds.end_is, ceil_above_index n (bit_len n b) q pos (omega (arith, h, s))))
+          | inr s ↦ absurd (omega (arith, past, longer s, ceil_above_index n l.len q pos (omega (arith, h, s))))
+        ]
+  ]
+
+  abbrev passes : List ℕ
+  passes = from_to b.pruned l.pruned ++ (members_between (keys_of l.edited) l.pruned cut ++ from_to cut end)
+
+  passes_are : members_between marks b.pruned (end) ≡ passes
+  passes_are =
+      ones_between-append (is_member nat_eq marks) b.pruned l.pruned (end) fits.rises (omega (arith, pruned_to_cut))
+      ∙ (ap (λ ks. ks ++ members_between marks l.pruned (end)) (all_between marks b.pruned l.pruned pruned_marks)
+      ∙ ap (λ ks. from_to b.pruned l.pruned ++ ks) (ones_between-append (is_member nat_eq marks) l.pruned cut (end) pruned_to_cut (omega arith)
+      ∙ (ap (λ ks. ks ++ members_between marks cut (end)) (ones_between-same (is_member nat_eq marks) (is_member nat_eq (keys_of l.edited)) l.pruned cut edited_marks)
+      ∙ ap (λ ks. members_between (keys_of l.edited) l.pruned cut ++ ks) (all_between marks cut end cut_marks))))
+
+  -- the passes make the record of the edits
+  pub passes_record : (r0 r1 r2 r3 : ReverseRecord) → r0 ≡ record { len = bit_len n b; pruned = b.pruned; entries = [] } → AddsEntries n b l (from_to b.pruned l.pruned) r0 r1 → AddsEntries n b l (members_between (keys_of l.edited) l.pruned cut) r1 r2 → AddsEntries n b l (from_to cut end) r2 r3 → IsRecordOf n b l r3
+  passes_record r0 r1 r2 r3 begun one two three =
+      let all = adds_twice n b l (from_to b.pruned l.pruned) (members_between (keys_of l.edited) l.pruned cut ++ from_to cut end) r0 r1 r3 one (adds_twice n b l (members_between (keys_of l.edited) l.pruned cut) (from_to cut end) r1 r2 r3 two three) in
+      let entries : r3.entries ≡ entries_for n b l (members_between marks b.pruned (end)) = ap (λ (r : ReverseRecord). r.entries) all ∙ (ap (λ (r : ReverseRecord). r.entries ++ entries_for n b l passes) begun ∙ ap (entries_for n b l) (sym passes_are)) in
+      let top : b.pruned + (end - b.pruned) ≡ end = omega (arith, fits.rises, pruned_to_cut) in
+      let builds = subst (λ (u : ℕ). Builds n b l u (entries_for n b l (members_between marks b.pruned u))) top (builds_list n b l (end - b.pruned) pos fits) in
+      builds_all n b l (end) r3 (ap (λ (r : ReverseRecord). r.len) all ∙ ap (λ (r : ReverseRecord). r.len) begun) (ap (λ (r : ReverseRecord). r.pruned) all ∙ ap (λ (r : ReverseRecord). r.pruned) begun)
+      (subst (λ es. Builds n b l (end) es) (sym entries) builds) (λ j f. no_marks j f)

@@ -284,10 +284,11 @@ impl<const N: usize> BitMap<N, Dirty<N>> {
     ///
     /// Allocates the reverse record, the chunks by which the current bitmap grows, and an entry in the map of commits.
     /// The record has at most one entry per marked chunk, and at most one more if the batch popped down to whole chunks.
+    /// It is allocated once, with capacity for one more entry per edited chunk that is also pruned or cut off.
     ///
     /// # Complexity
     ///
-    /// Per entry of the record, each with a search among the edited chunks; per edited chunk; and a search among the commits.
+    /// Per entry of the record, and per edited chunk; and a search among the commits.
     /// Amortized, since the current bitmap may have to reallocate to grow. Else independent of the bitmap's length.
     pub fn commit(mut self, number: u64) -> Result<CleanBitMap<N>, (DirtyBitMap<N>, Error)>
         ensures accepted { OnOk result (commit_error self.entry.last number ≡ None) }

@@ -343,6 +343,13 @@ impl<const N: usize> EditedChunks<N> {
         removed
     }
 
+    // Returns the map of the chunks. It may have outdated bytes under the cached index.
+    pub(crate) fn map(&self) -> &BTreeMap<usize, [u8; N]>
+        ensures { keys_of result.now.entries ≡ keys_of self.now }
+    {
+        &self.chunks
+    }
+
     // Returns the first index from `from` on that has a chunk.
     pub(crate) fn next_from(&self, from: usize) -> Option<usize>
         ensures { IsNextMember (keys_of self.now) from result }

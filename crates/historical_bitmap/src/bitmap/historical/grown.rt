@@ -1,13 +1,14 @@
 //! The edited chunks of a batch by index, with the appended ones in a contiguous run.
 
-ghost use Rattle.std.specs.Prelude.{◌≡◌, ℕ, ◌+◌, ◌*◌, ◌%◌, ◌^◌, ◌<◌, ◌≤◌, ◌&&◌, [], List, length, Option, Some, None, IfOk, IfSome, OnOk, OnErr, IsOk, IsSome, nat_eq, nat_le, nat_lt, true, false};
+ghost use Rattle.std.specs.Prelude.{◌≡◌, ℕ, ◌+◌, ◌*◌, ◌%◌, ◌^◌, ◌<◌, ◌≤◌, ◌&&◌, ◌++◌, [], List, length, Option, Some, None, IfOk, IfSome, OnOk, OnErr, IsOk, IsSome, nat_eq, nat_le, nat_lt, true, false};
 ghost use Rattle.std.specs.List.Sorted.{IsStrictlySortedBy};
 ghost use Rattle.std.specs.Map.{keys_of, lookup};
 ghost use Rattle.std.specs.Option.{option_copied, option_map};
 ghost use Rattle.std.specs.Ordering.{nat_cmp};
 ghost use Rattle.bitmap_bytes.specs.Chunk.{chunk_bit, IsWidth};
 ghost use Rattle.bitmap_core.specs.PrunedBits.{chunk, truncated};
-ghost use Rattle.historical_bitmap.specs.Pending.{IsByteSetIn, IsNextMember, IsSetIn, Puts, PutsTwo, SetsIn};
+ghost use Rattle.historical_bitmap.specs.Edits.{from_to};
+ghost use Rattle.historical_bitmap.specs.Pending.{IsByteSetIn, IsNextMember, IsSetIn, Puts, PutsTwo, SetsIn, members_between};
 ghost use Rattle.historical_bitmap.specs.Run.{with_run};
 
 use crate::bitmap::historical::edited::{EditedChunks, fill_bit, first_chunk, replace_bit};
@@ -250,6 +251,23 @@ impl<const N: usize> GrownChunks<N> {
             return self.run.pop();
         }
         self.others.remove(index)
+    }
+
+    // Returns the map of the other chunks, and the part of the run from index `from` up to `to`: its first index, and the one past its last.
+    pub(crate) fn parts_between(
+        &self,
+        from: usize,
+        to: usize,
+    ) -> (&BTreeMap<usize, [u8; N]>, usize, usize)
+        requires order { from ≤ to }
+        ensures from { from ≤ result.1 }
+        ensures rises { result.1 ≤ result.2 }
+        ensures to { result.2 ≤ to }
+        ensures indices { members_between (keys_of self.now) from to ≡ members_between (keys_of result.0.now.entries) from result.1 ++ (from_to result.1 result.2 ++ members_between (keys_of result.0.now.entries) result.2 to) }
+    {
+        let first = self.from.clamp(from, to);
+        let past = self.from.saturating_add(self.run.len()).clamp(from, to);
+        (self.others.map(), first, past)
     }
 
     // Returns the first index from `from` on that has a chunk.

@@ -10,7 +10,7 @@ ghost use Rattle.std.specs.Set.{distinct_count};
 ghost use Rattle.bitmap_bytes.specs.Chunk.{bytes_bit, byte_bits, chunk_bit, chunk_bits, IsChunk, IsWidth};
 ghost use Rattle.bitmap_core.specs.PrunedBits.{PrunedBits, bit_at, bit_len, chunk, IsRetained, pruned_bits, truncated};
 ghost use Rattle.historical_bitmap.specs.Edits.{from_to};
-ghost use Rattle.historical_bitmap.specs.Pending.{Appends, diff_of, edited_chunk, IsNextMember, marked_chunks, PendingFits, old_chunk, pending_bits, pending_chunk, Pops, Prunes, IsRecordOf, run_bits, unedited, Writes};
+ghost use Rattle.historical_bitmap.specs.Pending.{AddsEntries, Appends, diff_of, edited_chunk, first_cut_of, IsNextMember, marked_chunks, members_between, PendingFits, old_chunk, pending_bits, pending_chunk, Pops, Prunes, IsRecordOf, run_bits, unedited, Writes};
 ghost use Rattle.historical_bitmap.specs.Record.{LeadsBack};
 ghost use Rattle.historical_bitmap.specs.Stored.{diff_value};
 ghost use Rattle.historical_bitmap.specs.Undo.{CanUndo};
@@ -21,8 +21,9 @@ use crate::bitmap::historical::record::{ChunkDiff, CommitDiff};
 use bitmap_core::bitmap::prunable::Prunable;
 use bitmap_core::chunk::facts::known;
 use bitmap_core::chunk::join::{chunk_from, join};
-use bitmap_core::chunk::{chunk_index, chunk_width, clear_from, get_bit};
+use bitmap_core::chunk::{chunk_count, chunk_index, chunk_width, clear_from, get_bit};
 use std::alloc::{AllocError, Global};
+use std::collections::BTreeMap;
 use std::marker::Model;
 
 /// The state of a bitmap with pending edits.
@@ -107,6 +108,70 @@ fn capture<const N: usize>(
     for index in from..to {
         captured.push_reserved(chunk_before(edited, current, len, index));
     }
+}
+
+// Appends the entries of the chunks from index `from` up to `to`.
+fn record_range<const N: usize>(
+    record: &mut CommitDiff<N>,
+    edits: &Dirty<N>,
+    current: &Prunable<N>,
+    from: usize,
+    to: usize,
+) -> Result<(), AllocError>
+    requires order { from ≤ to }
+    requires low { current.now.pruned ≤ from }
+    requires count { length edits.now.captured ≡ edits.now.pruned - current.now.pruned }
+    requires fits { (i : ℕ) → i < to → 8 * N * i < 2 ^ 64 }
+    ensures { OnOk result (AddsEntries N current.now edits.now (from_to from to) record.old record.new) }
+{
+    let _ = current.len();
+    for index in from..to {
+        record.push(index, edits.diff(current, index))?;
+    }
+    Ok(())
+}
+
+// Appends the entries of the chunks that a map has from index `from` up to `to`.
+fn record_map<const N: usize>(
+    record: &mut CommitDiff<N>,
+    edits: &Dirty<N>,
+    current: &Prunable<N>,
+    chunks: &BTreeMap<usize, [u8; N]>,
+    from: usize,
+    to: usize,
+) -> Result<(), AllocError>
+    requires order { from ≤ to }
+    requires low { current.now.pruned ≤ from }
+    requires count { length edits.now.captured ≡ edits.now.pruned - current.now.pruned }
+    requires fits { (i : ℕ) → i < to → 8 * N * i < 2 ^ 64 }
+    ensures { OnOk result (AddsEntries N current.now edits.now (members_between (keys_of chunks.now.entries) from to) record.old record.new) }
+{
+    let _ = current.len();
+    for (index, _) in chunks.range(from..to) {
+        record.push(*index, edits.diff(current, *index))?;
+    }
+    Ok(())
+}
+
+// Appends the entries of the edited chunks from index `from` up to `to`: those before the appended run, in it and past it.
+fn record_edited<const N: usize>(
+    record: &mut CommitDiff<N>,
+    edits: &Dirty<N>,
+    current: &Prunable<N>,
+    from: usize,
+    to: usize,
+) -> Result<(), AllocError>
+    requires order { from ≤ to }
+    requires low { current.now.pruned ≤ from }
+    requires count { length edits.now.captured ≡ edits.now.pruned - current.now.pruned }
+    requires fits { (i : ℕ) → i < to → 8 * N * i < 2 ^ 64 }
+    ensures { OnOk result (AddsEntries N current.now edits.now (members_between (keys_of edits.now.edited) from to) record.old record.new) }
+{
+    let (others, first, past) = edits.edited_between(from, to);
+    record_map(record, edits, current, others, from, first)?;
+    record_range(record, edits, current, first, past)?;
+    record_map(record, edits, current, others, past, to)?;
+    Ok(())
 }
 
 impl<const N: usize> Dirty<N> {
@@ -373,7 +438,41 @@ impl<const N: usize> Dirty<N> {
         }
     }
 
-    // Returns the reverse record of the edits: one entry per marked chunk, ascending. Each entry is found by its own search.
+    // Returns the index of the first chunk that loses bits at the end of the current bitmap, which has `total` bits.
+    // If there is none, returns the pending number of chunks.
+    fn first_cut(&self, total: u64) -> usize
+        ensures { result ≡ first_cut_of N self.now total }
+    {
+        let len = self.len();
+        if len < total {
+            chunk_index::<N>(len)
+        } else {
+            chunk_count::<N>(len)
+        }
+    }
+
+    // Returns the map of the edited chunks beside the appended run, and the part of the run from index `from` up to `to`.
+    fn edited_between(&self, from: usize, to: usize) -> (&BTreeMap<usize, [u8; N]>, usize, usize)
+        requires order { from ≤ to }
+        ensures from { from ≤ result.1 }
+        ensures rises { result.1 ≤ result.2 }
+        ensures to { result.2 ≤ to }
+        ensures indices { members_between (keys_of self.now.edited) from to ≡ members_between (keys_of result.0.now.entries) from result.1 ++ (from_to result.1 result.2 ++ members_between (keys_of result.0.now.entries) result.2 to) }
+    {
+        self.edited.parts_between(from, to)
+    }
+
+    // Returns the number of marked chunks before chunk `cut`, from `first` on, or more: an edited chunk of the map that is pruned,
+    // and the one at `cut`, count too.
+    fn most_marked(&self, first: usize, cut: usize) -> usize
+        requires order { self.now.pruned ≤ cut }
+    {
+        let (others, start, past) = self.edited_between(self.pruned, cut);
+        let edited = others.len().saturating_add(past - start);
+        self.pruned.saturating_sub(first).saturating_add(edited)
+    }
+
+    // Returns the reverse record of the edits: one entry per marked chunk, ascending. Allocates once, or never if no chunk is marked.
     pub(crate) fn record(
         &self,
         current: &Prunable<N>,
@@ -387,12 +486,14 @@ impl<const N: usize> Dirty<N> {
     {
         let _ = self.len();
         let total = current.len();
-        let mut from = current.pruned_chunks();
-        let mut record = CommitDiff::new(alloc, total, from);
-        while let Some(index) = self.next_marked(current, from) {
-            record.push(index, self.diff(current, index))?;
-            from = index + 1;
-        }
+        let first = current.pruned_chunks();
+        let cut = self.first_cut(total);
+        let end = chunk_count::<N>(total).max(cut);
+        let count = self.most_marked(first, cut).saturating_add(end - cut);
+        let mut record = CommitDiff::with_capacity(alloc, total, first, count)?;
+        record_range(&mut record, self, current, first, self.pruned)?;
+        record_edited(&mut record, self, current, self.pruned, cut)?;
+        record_range(&mut record, self, current, cut, end)?;
         Ok(record)
     }
 

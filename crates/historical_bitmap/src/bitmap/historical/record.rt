@@ -65,16 +65,21 @@ impl<const N: usize> Model for CommitDiff<N> {
 }
 
 impl<const N: usize> CommitDiff<N> {
-    // Returns a record without entries. Does not allocate.
-    pub(crate) fn new(alloc: Global, len: u64, pruned_chunks: usize) -> Self
+    // Returns a record without entries, and with capacity for `count` of them. Allocates once, or never if `count` is 0.
+    pub(crate) fn with_capacity(
+        alloc: Global,
+        len: u64,
+        pruned_chunks: usize,
+        count: usize,
+    ) -> Result<Self, AllocError>
         requires width { IsWidth N }
-        ensures { result ≡ record { len = len; pruned = pruned_chunks; entries = [] } }
+        ensures { IfOk result (λ r. r ≡ record { len = len; pruned = pruned_chunks; entries = [] }) }
     {
-        CommitDiff {
+        Ok(CommitDiff {
             len,
             pruned_chunks,
-            chunk_diffs: Vec::new(alloc),
-        }
+            chunk_diffs: Vec::with_capacity(alloc, count)?,
+        })
     }
 
     // Appends an entry. If an allocation fails, the record is unchanged.
