@@ -6,7 +6,7 @@ use Rattle.std.proofs.Math.Nat.{mul-le-mul_left}
 use Rattle.std.proofs.Math.Arith.{digits_div}
 use Rattle.bitmap_bytes.specs.Words.{starts_word, next_word, word_start}
 
-start_aligned : (n k : ℕ) → starts_word n k ≡ true → (k % (8 * n)) % 64 ≡ 0
+pub start_aligned : (n k : ℕ) → starts_word n k ≡ true → (k % (8 * n)) % 64 ≡ 0
 start_aligned n k h = eqb-true ((k % (8 * n)) % 64) 0 h
 
 -- a word begins with a byte

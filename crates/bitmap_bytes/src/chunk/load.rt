@@ -9,14 +9,24 @@ ghost use Rattle.bitmap_bytes.specs.Words.{IsCut, next_word, starts_word, word_s
 
 // The width is written as `8 * N`: for a call of `chunk_width`, the goals of the proofs name its result and not this value.
 
-// The 64 bits of a chunk from byte `byte` on, which is at most `N`, with zeros past the end of the chunk.
+// The 64 bits of a chunk from byte `byte` on, at which a word begins, with zeros past the end of the chunk.
+// Both tests are of constants. At a width of one word, or of whole words, the compiled code tests no length and copies no bytes.
 fn word_at<const N: usize>(chunk: &[u8; N], byte: usize) -> u64
-    requires { byte ≤ N }
+    requires within { byte ≤ N }
+    requires only { N ≤ 8 → byte ≡ 0 }
+    requires whole { N % 8 ≡ 0 → byte + 8 ≤ N }
     ensures inside { (t : ℕ) → t < 64 → 8 * byte + t < 8 * N → (bit_at result t == 1) ≡ chunk_bit N chunk.now (8 * byte + t) }
     ensures past { (t : ℕ) → t < 64 → 8 * N ≤ 8 * byte + t → (bit_at result t == 1) ≡ false }
 {
     let bytes = &chunk[..];
-    first_word(&bytes[byte..])
+    if N <= 8 {
+        return first_word(bytes);
+    }
+    let rest = &bytes[byte..];
+    if N % 8 == 0 {
+        return first_word(&rest[..8]);
+    }
+    first_word(rest)
 }
 
 // The first eight bytes, with zeros if there are fewer.

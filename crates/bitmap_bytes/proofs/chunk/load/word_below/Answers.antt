@@ -2,11 +2,14 @@ use Rattle.std.proofs.Common.{◌≡◌, ℕ, ◌+◌, ◌-◌, ◌*◌, ◌/◌
 use Rattle.std.proofs.lemmas.Bool.{cases_lt}
 use Rattle.std.proofs.lemmas.Nat.{mod_below}
 use Rattle.bitmap_bytes.specs.Chunk.{chunk_bit}
-use Rattle.bitmap_bytes.proofs.Words.Starts.{start_bytes}
+use Rattle.bitmap_bytes.proofs.Words.Starts.{start_aligned, start_bytes}
 use Rattle.bitmap_bytes.proofs.chunk.load.word_below.Goals as goal
 
 pub word_at-requires : goal.word_at-requires
-word_at-requires g c = (omega (arith, c.requires.width), omega (arith, c.requires.width.positive, mod_below c.args.base (8 * g.row.N)))
+word_at-requires g c =
+    let first : c.args.base % (8 * g.row.N) % 64 ≡ 0 = start_aligned g.row.N c.args.base c.requires.start in
+    let below = mod_below c.args.base (8 * g.row.N) (omega (arith, c.requires.width.positive)) in
+    (omega (arith, c.requires.width.fits), (omega (arith, below), ((λ only. omega (arith, below, first, only)), λ whole. omega (arith, below, first, whole))))
 
 pub returns-clause-inside : goal.returns-clause-inside
 returns-clause-inside g c i h l s =
