@@ -506,6 +506,35 @@ fn rewound_to(rt: HostRuntime) {
     }
 }
 
+// Forty chunks of ones committed at 1. The batch committed at 2 removes twenty chunks and prunes ten. With it a copy, whose capacity is
+// that of the chunks that are left.
+fn shortened(rt: &impl Abort, alloc: Global) -> Option<(CleanBitMap<1>, CleanBitMap<1>)> {
+    let mut map = CleanBitMap::<1>::new(alloc).into_dirty();
+    try_push_run(rt, &mut map, 320, true).ok()?;
+    let mut map = try_commit(rt, map, 1).ok()?.into_dirty();
+    pop_run(rt, &mut map, 160, true);
+    try_prune_to_bit(rt, &mut map, 80).ok()?;
+    let map = try_commit(rt, map, 2).ok()?;
+    let copy = map.clone().ok()?;
+    Some((map, copy))
+}
+
+// A rewind that grows the bitmap at both ends. If it fails, no bit of the growth is left.
+#[test]
+fn rewound_to_a_longer_state(rt: HostRuntime) {
+    let Some((before, map)) = shortened(&rt, rt.alloc()) else {
+        return;
+    };
+    match map.rewind_to(1) {
+        Ok(map) => expect(&rt, has_runs(map.current(), 0, &[(320, true)])),
+        Err((map, why)) => {
+            expect(&rt, why == RewindError::Memory(AllocError));
+            expect(&rt, has_runs(map.current(), 10, &[(80, true)]));
+            expect(&rt, same_history(&map, &before));
+        }
+    }
+}
+
 #[test]
 fn clean_bitmap_copied(rt: HostRuntime) {
     let Some(map) = committed(&rt, rt.alloc()) else {

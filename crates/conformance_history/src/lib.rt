@@ -17,3 +17,5 @@ mod chunks;
 mod ends;
 #[cfg(test)]
 mod in_place;
+#[cfg(test)]
+mod rewound;

@@ -4,10 +4,12 @@
 -- KeptUnder: which states are kept after a drop and a rewind.
 -- Ends: commits dropped one by one, from the first on or from the last on.
 -- InPlace: a past state read in place.
+-- Rewound: a rewind in place.
 -- AddedCommit: the invariant, the history and the costs after a commit.
 pub mod PastStates
 pub mod KeptCommits
 pub mod KeptUnder
 pub mod Ends
 pub mod InPlace
+pub mod Rewound
 pub mod AddedCommit

@@ -9,7 +9,8 @@
 -- 7. History.AddedCommit, `kept_more`, `history_more`: a commit keeps the invariant, and appends its bitmap to the history.
 -- 8. History.KeptCommits, `found_under`, `last_undone`: the state under a kept number is the current bitmap with the later records undone, newest first.
 -- 9. History.InPlace, `found_in_place`: each bit of a past state is found without rebuilding it.
--- 10. History.KeptUnder: which states are kept after a drop and after a rewind.
+-- 10. History.Rewound, `rewound_is`: the old bytes of the later records, written over the current bitmap, give the past state.
+-- 11. History.KeptUnder: which states are kept after a drop and after a rewind.
 pub mod Lists
 pub mod Records
 pub mod History

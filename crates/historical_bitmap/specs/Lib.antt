@@ -3,6 +3,7 @@
 -- Record, Stored: reverse records, and how the code stores them.
 -- Undo: a record undone in steps.
 -- History: kept commits, and the past states that their records give.
+-- Rewind: conditions inside the code that rewinds in place.
 -- Cost: how many entries a record may have.
 -- Changes: the chunks in which two states differ.
 -- Pending: pending edits, each edit of them, and the record that a commit makes.
@@ -14,6 +15,7 @@ pub mod Record
 pub mod Stored
 pub mod Undo
 pub mod History
+pub mod Rewind
 pub mod Cost
 pub mod Changes
 pub mod Pending

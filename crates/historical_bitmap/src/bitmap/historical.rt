@@ -50,6 +50,7 @@ mod grown;
 mod pending;
 mod pending_changes;
 mod record;
+mod rewind;
 mod state;
 mod undo;
 

@@ -128,7 +128,7 @@ impl<const N: usize> BitMap<N, Clean> {
     }
 
     // Returns the length and the number of pruned chunks that the last commit up to a number left.
-    fn extent_at(&self, number: u64) -> (u64, usize)
+    pub(crate) fn extent_at(&self, number: u64) -> (u64, usize)
         ensures { IsLeftBy N number self.now.commits self.now.current result.0 result.1 }
     {
         match first_past(&self.commits, number) {

@@ -9,6 +9,7 @@ ghost use Rattle.historical_bitmap.specs.declared.bitmap.historical.error.Rewind
 
 use crate::bitmap::historical::error::RewindError;
 use crate::bitmap::historical::record::CommitDiff;
+use crate::bitmap::historical::rewind::rewind;
 use crate::bitmap::historical::state::Clean;
 use crate::bitmap::historical::undo::undo;
 use crate::bitmap::historical::{BitMap, CleanBitMap};
@@ -233,16 +234,19 @@ impl<const N: usize> BitMap<N, Clean> {
     /// Rewinds to commit `number`: the bitmap at that commit becomes the current one, and the commits past it are dropped.
     ///
     /// The other commits are unchanged. `number` becomes the last number, so the next commit has to have a greater one.
+    /// The current bitmap is changed in place: only the chunks that the dropped commits touched are written.
     ///
     /// # Errors
     /// `NoSuchCommit` if the number is not kept, as `u64::MAX` never is; else `Memory` if an allocation fails.
     /// The bitmap is returned unchanged with the error.
     ///
     /// # Memory
-    /// Allocates a bitmap, as `get_at_commit` does. Does not allocate if the number is not kept.
+    /// Allocates temporarily the old bytes of each chunk that is restored, and the chunks that were pruned since. Allocates the chunks by
+    /// which the bitmap grows, at either end, if there is no capacity for them. Does not allocate if the number is not kept.
     ///
     /// # Complexity
-    /// That of `get_at_commit`, and per dropped commit logarithmic in the kept commits.
+    /// Per entry of the reverse records past the number, logarithmic in the restored chunks. Per dropped commit, logarithmic in the kept
+    /// commits. The length of the bitmap does not matter, except that the retained chunks may be moved in memory if the bitmap grows.
     ///
     /// # Examples
     /// ```
@@ -265,7 +269,7 @@ impl<const N: usize> BitMap<N, Clean> {
     ///     }
     /// }
     /// ```
-    pub fn rewind_to(self, number: u64) -> Result<CleanBitMap<N>, (CleanBitMap<N>, RewindError)>
+    pub fn rewind_to(mut self, number: u64) -> Result<CleanBitMap<N>, (CleanBitMap<N>, RewindError)>
         ensures refused { IfErr result (λ e. e.1 ≡ (if is_some (kept_under (history_of N self.entry) number) then Memory alloc_error else NoSuchCommit)) }
         ensures unchanged { IfErr result (λ e. e.0 ≡ self.entry) }
         ensures current { IfOk result (λ b. kept_under (history_of N self.entry) number ≡ Some b.current) }
@@ -277,14 +281,15 @@ impl<const N: usize> BitMap<N, Clean> {
         if !self.commit_exists(number) {
             return Err((self, RewindError::NoSuchCommit));
         }
-        let Ok(current) = self.undone_to(number) else {
+        let (len, pruned) = self.extent_at(number);
+        let alloc = self.state.allocator();
+        let Ok(()) = rewind(&mut self.current, &self.commits, number, len, pruned, alloc) else {
             return Err((self, RewindError::Memory(AllocError)));
         };
-        let mut commits = self.commits;
-        drop_past(&mut commits, number);
+        drop_past(&mut self.commits, number);
         Ok(BitMap {
-            current,
-            commits,
+            current: self.current,
+            commits: self.commits,
             last: Some(number),
             state: self.state,
         })

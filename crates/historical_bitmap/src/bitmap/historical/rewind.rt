@@ -1,0 +1,157 @@
+//! Rewinding in place: the current bitmap becomes the bitmap at a past commit, in time that depends on the entries of the later records.
+
+ghost use Rattle.std.specs.Prelude.{◌≡◌, ℕ, ◌-◌, ◌*◌, ◌≤◌, ◌∷◌, [], IfOk, MatchOption, OnOk, OnErr, length, nat_eq};
+ghost use Rattle.std.specs.List.Sorted.{IsStrictlySortedBy};
+ghost use Rattle.std.specs.Map.{keys_of, lookup};
+ghost use Rattle.std.specs.Ordering.{nat_cmp};
+ghost use Rattle.bitmap_bytes.specs.Chunk.{IsWidth};
+ghost use Rattle.bitmap_core.specs.PrunedBits.{IsRetainedChunk};
+ghost use Rattle.historical_bitmap.specs.History.{AllCanUndo, EntriesRise, first_kept, IsLeftBy, left_by, past_number};
+ghost use Rattle.historical_bitmap.specs.Record.{bytes_of, kept};
+ghost use Rattle.historical_bitmap.specs.Rewind.{Gathers, HasExtent, IsWrittenBack};
+ghost use Rattle.historical_bitmap.specs.Stored.{diff_value, entry_values};
+
+use crate::bitmap::historical::apply::{grow, shrink_back};
+use crate::bitmap::historical::edited::cut;
+use crate::bitmap::historical::record::{ChunkDiff, CommitDiff};
+use bitmap_core::bitmap::Prunable;
+use bitmap_core::chunk::{chunk_count, chunk_width};
+use std::alloc::{AllocError, Global};
+use std::collections::BTreeMap;
+use std::ops::Bound;
+
+// Turns the current bitmap into the one that the last commit up to a number left, of the given length and pruned count.
+//
+// Allocates temporarily the old bytes of each chunk that is restored, and the chunks pruned since; and the chunks by which the bitmap
+// grows, if there is no capacity for them. If an allocation fails, the bitmap is unchanged.
+pub(crate) fn rewind<const N: usize>(
+    current: &mut Prunable<N>,
+    commits: &BTreeMap<u64, CommitDiff<N>>,
+    number: u64,
+    len: u64,
+    pruned: usize,
+    alloc: Global,
+) -> Result<(), AllocError>
+    requires undo { AllCanUndo N (past_number number commits.now.entries) current.old }
+    requires extent { IsLeftBy N number commits.now.entries current.old len pruned }
+    ensures ok { OnOk result (current.new ≡ left_by N number commits.now.entries current.old) }
+    ensures err { OnErr result (current.new ≡ current.old) }
+{
+    let _ = current.len();
+    let chunks = gather(alloc, commits, number, pruned, chunk_count::<N>(len))?;
+    let prefix = zero_chunks(alloc, current.pruned_chunks() - pruned)?;
+    restore_extent(current, &prefix, len)?;
+    write_back(current, &chunks);
+    Ok(())
+}
+
+// Returns the old bytes of each chunk from index `first` up to `end`, from the first record past a number that keeps any.
+// Visits the newest record first, so that older bytes replace newer ones.
+fn gather<const N: usize>(
+    alloc: Global,
+    commits: &BTreeMap<u64, CommitDiff<N>>,
+    number: u64,
+    first: usize,
+    end: usize,
+) -> Result<BTreeMap<usize, [u8; N]>, AllocError>
+    requires width { IsWidth N }
+    requires rise { EntriesRise (past_number number commits.now.entries) }
+    ensures { IfOk result (λ chunks. Gathers (first_kept (past_number number commits.now.entries)) first end [] chunks.entries) }
+{
+    let mut chunks = BTreeMap::new(alloc);
+    let later = (Bound::Excluded(number), Bound::Unbounded);
+    for (_, record) in commits.range(later).rev() {
+        gather_record(&mut chunks, record.chunk_diffs(), first, end)?;
+    }
+    Ok(chunks)
+}
+
+// Inserts the old bytes in ascending entries of each chunk from index `first` up to `end`. They replace those that are there.
+fn gather_record<const N: usize>(
+    chunks: &mut BTreeMap<usize, [u8; N]>,
+    entries: &[(usize, ChunkDiff<N>)],
+    first: usize,
+    end: usize,
+) -> Result<(), AllocError>
+    requires { IsStrictlySortedBy nat_cmp (keys_of (entry_values entries.now)) }
+    ensures { OnOk result (Gathers (λ i. bytes_of (lookup (nat_eq i) (entry_values entries.now))) first end chunks.old.entries chunks.new.entries) }
+{
+    for entry in entries {
+        gather_entry(chunks, entry.0, &entry.1, first, end)?;
+    }
+    Ok(())
+}
+
+// Inserts the old bytes in the entry of a chunk, if it has any and the index is from `first` up to `end`.
+fn gather_entry<const N: usize>(
+    chunks: &mut BTreeMap<usize, [u8; N]>,
+    chunk: usize,
+    diff: &ChunkDiff<N>,
+    first: usize,
+    end: usize,
+) -> Result<(), AllocError>
+    ensures { OnOk result (Gathers (λ i. bytes_of (lookup (nat_eq i) ((chunk, diff_value diff.now) ∷ []))) first end chunks.old.entries chunks.new.entries) }
+{
+    if chunk < first || end <= chunk {
+        return Ok(());
+    }
+    let Some(bytes) = diff.old_bytes() else {
+        return Ok(());
+    };
+    chunks.insert(chunk, *bytes)?;
+    Ok(())
+}
+
+// Returns chunks of zeros. Allocates once.
+fn zero_chunks<const N: usize>(alloc: Global, count: usize) -> Result<Vec<[u8; N]>, AllocError>
+    ensures { IfOk result (λ chunks. length chunks.items ≡ count) }
+{
+    let mut chunks = Vec::new(alloc);
+    chunks.resize(count, [0; N])?;
+    Ok(chunks)
+}
+
+// Inserts chunks before the retained bits, and truncates the bitmap, or extends it with zeros, to a length.
+//
+// Extends first, since that can be undone if the chunks cannot be inserted. If an allocation fails, the bitmap is unchanged.
+fn restore_extent<const N: usize>(
+    current: &mut Prunable<N>,
+    prefix: &[[u8; N]],
+    len: u64,
+) -> Result<(), AllocError>
+    requires width { IsWidth N }
+    requires pruned { length prefix.now ≤ current.old.pruned }
+    requires within { 8 * N * (current.old.pruned - length prefix.now) ≤ len }
+    ensures ok { OnOk result (HasExtent N current.old (current.old.pruned - length prefix.now) len current.new) }
+    ensures err { OnErr result (current.new ≡ current.old) }
+{
+    let before = grow(current, len)?;
+    let Ok(()) = current.unprune(prefix) else {
+        shrink_back(current, before);
+        return Err(AllocError);
+    };
+    current.truncate(len);
+    Ok(())
+}
+
+// Replaces the bits of chunks, all of which are retained. Does not allocate.
+fn write_back<const N: usize>(current: &mut Prunable<N>, chunks: &BTreeMap<usize, [u8; N]>)
+    requires width { IsWidth N }
+    requires retained { (i : ℕ) → MatchOption (lookup (nat_eq i) chunks.now.entries) (Unit {0}) (λ bytes. IsRetainedChunk N current.old i) }
+    ensures { IsWrittenBack N current.old chunks.now.entries current.new }
+{
+    for (chunk, bytes) in chunks {
+        write_chunk(current, *chunk, bytes);
+    }
+}
+
+// Replaces the bits of a retained chunk. Bits of the bytes past the length are left out. Does not allocate.
+fn write_chunk<const N: usize>(current: &mut Prunable<N>, chunk: usize, bytes: &[u8; N])
+    requires { IsRetainedChunk N current.old chunk }
+    ensures { IsWrittenBack N current.old ((chunk, bytes.now) ∷ []) current.new }
+{
+    let len = current.len();
+    let mut bytes = *bytes;
+    cut(&mut bytes, len - chunk_width::<N>() * chunk as u64);
+    current.set_chunk_by_index(chunk, &bytes);
+}
