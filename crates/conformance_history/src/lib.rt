@@ -18,4 +18,6 @@ mod ends;
 #[cfg(test)]
 mod in_place;
 #[cfg(test)]
+mod pushes;
+#[cfg(test)]
 mod rewound;

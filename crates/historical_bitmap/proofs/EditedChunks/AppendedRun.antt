@@ -357,6 +357,19 @@ longer_run n from xs es i v at ok none = (
   puts_end from xs es i v at,
 )
 
+-- an index that has no chunk is outside the run, and not among the others
+pub absent_out : (from : ℕ) (xs : List (List ℕ)) (es : List (ℕ × List ℕ)) (i : ℕ) → lookup (nat_eq i) (with_run from xs es) ≡ None → (i < from) ⊎ (from + length xs ≤ i)
+absent_out from xs es i none = elim (cases_lt i from) [
+  | inl l ↦ inl l
+  | inr l ↦ elim (cases_lt i (from + length xs)) [
+    | inl m ↦ absurd (not_some (get_or xs (i - from) []) (sym (look_in from xs es i [] (l, m)) ∙ none))
+    | inr m ↦ inr m
+  ]
+]
+
+pub absent_other : (from : ℕ) (xs : List (List ℕ)) (es : List (ℕ × List ℕ)) (i : ℕ) → lookup (nat_eq i) (with_run from xs es) ≡ None → lookup (nat_eq i) es ≡ None
+absent_other from xs es i none = sym (look_beside from xs es i (absent_out from xs es i none)) ∙ none
+
 -- the last chunk is removed
 pub shorter_run : (n : ℕ) (from : ℕ) (xs ys : List (List ℕ)) (es : List (ℕ × List ℕ)) (i : ℕ) (o : Option (List ℕ)) → IsRun n es from xs → (from ≤ i) × (i < from + length xs) → ((q : ℕ) → i < q → lookup (nat_eq q) (with_run from xs es) ≡ None) → o ≡ Some (get_or xs (length xs - 1) []) → xs ≡ ys ++ option_to_list o → IsRun n es from ys × (o ≡ lookup (nat_eq i) (with_run from xs es)) × Puts (with_run from xs es) (with_run from ys es) i None
 shorter_run n from xs ys es i o ok h last value items = (

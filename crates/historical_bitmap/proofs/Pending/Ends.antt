@@ -1,5 +1,5 @@
 -- The last pending chunk: no chunk past the pending length is edited.
-use Rattle.std.proofs.Common.{◌≡◌, ℕ, Bool, length, ◌-◌, ◌+◌, ◌*◌, ◌/◌, ◌<◌, ◌≤◌, List, Some, None, refl, arith}
+use Rattle.std.proofs.Common.{◌≡◌, ℕ, Bool, length, ◌-◌, ◌+◌, ◌*◌, ◌/◌, ◌%◌, ◌<◌, ◌≤◌, List, Some, None, refl, arith}
 use mathlib.Core.Logic.{inl, inr}
 use Rattle.std.proofs.Math.Nat.{lt-mul-div-succ}
 use Rattle.std.proofs.lemmas.Bool.{cases_lt}
@@ -8,6 +8,7 @@ use Rattle.std.specs.Prelude.{Option, MatchOption, IfSome, false}
 use Rattle.bitmap_bytes.specs.Chunk.{chunk_bit}
 use Rattle.std.specs.Option.{option_map}
 use Rattle.bitmap_core.specs.PrunedBits.{PrunedBits, bit_len, pruned_bits}
+use Rattle.bitmap_core.proofs.Pruned.Positions.{place}
 use Rattle.historical_bitmap.specs.Pending.{edited_chunk, IsEdited, PendingEdits, PendingFits, pending_bits}
 use Rattle.historical_bitmap.proofs.Pending.BatchEdits.{past_prefix}
 use Rattle.historical_bitmap.proofs.Pending.Edits.{pending_len}
@@ -41,6 +42,10 @@ zero_at_len n b l fits = go (edited_chunk l (l.len / (8 * n))) (fits.edited (l.l
     go : (o : Option (List ℕ)) → MatchOption o (Unit {0}) (IsEdited n b l (l.len / (8 * n))) → IfSome o (λ bytes. chunk_bit n bytes l.len ≡ false)
     go None m = tt
     go (Some bytes) m = m.clear l.len refl (omega arith)
+
+-- no chunk is edited that starts at the pending length
+pub none_at_len : (n : ℕ) (b : PrunedBits) (l : PendingEdits) → PendingFits n b l → l.len % (8 * n) ≡ 0 → edited_chunk l (l.len / (8 * n)) ≡ None
+none_at_len n b l fits whole = none_past_len n b l fits (l.len / (8 * n)) (omega (arith, whole, place (8 * n) l.len))
 
 -- a position at or past the start of a chunk is in that chunk or a later one
 pub index_from : (n p k : ℕ) → 0 < n → 8 * n * p ≤ k → p ≤ k / (8 * n)

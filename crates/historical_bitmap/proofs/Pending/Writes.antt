@@ -12,6 +12,7 @@ use Rattle.std.proofs.Math.Nat.{mod-eq_of_lt}
 use Rattle.std.specs.Int.{bit_at as bit_at_byte}
 use Rattle.std.specs.List.{range_with_len}
 use Rattle.std.specs.Map.{lookup}
+use Rattle.std.specs.Option.{option_map}
 use Rattle.bitmap_bytes.specs.Chunk.{bytes_bit, byte_bits, chunk_bit, chunk_bits, IsChunk, IsByteJoined}
 use Rattle.bitmap_core.specs.PrunedBits.{PrunedBits, pruned_bits, bit_len, bit_at, chunk, truncated, IsRetained}
 use Rattle.bitmap_bytes.proofs.Bytes.Made.{map_range_same}
@@ -47,6 +48,13 @@ module _ (n : ℕ) (b : PrunedBits) (l : PendingEdits) (pos : 0 < n) (fits : Pen
 
   pub read_edited : (bytes : List ℕ) → edited_chunk l (k / (8 * n)) ≡ Some bytes → chunk_bit n bytes k ≡ bit_at n (pending_bits n b l) k
   read_edited bytes found = sym (pending_at n b l pos fits k has.0 inside ∙ ap (λ o. bit_or_else n o b k) found)
+
+  pub read_some : (value : Bool) → Some value ≡ option_map (λ bytes. chunk_bit n bytes k) (edited_chunk l (k / (8 * n))) → value ≡ bit_at n (pending_bits n b l) k
+  read_some value e = go (edited_chunk l (k / (8 * n))) refl e
+    where
+      go : (o : Option (List ℕ)) → edited_chunk l (k / (8 * n)) ≡ o → Some value ≡ option_map (λ bytes. chunk_bit n bytes k) o → value ≡ bit_at n (pending_bits n b l) k
+      go None found e = cc
+      go (Some bytes) found e = same_Some value (chunk_bit n bytes k) e ∙ read_edited bytes found
 
   pub read_current : edited_chunk l (k / (8 * n)) ≡ None → bit_at n b k ≡ bit_at n (pending_bits n b l) k
   read_current none = sym (pending_at n b l pos fits k has.0 inside ∙ ap (λ o. bit_or_else n o b k) none)

@@ -52,6 +52,7 @@ mod pending_changes;
 mod record;
 mod rewind;
 mod state;
+mod tail;
 mod undo;
 
 pub use crate::bitmap::historical::at::AtCommit;

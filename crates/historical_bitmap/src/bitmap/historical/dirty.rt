@@ -36,6 +36,7 @@ impl<const N: usize> BitMap<N, Dirty<N>> {
     /// Returns the pending length in bits, pruned bits included.
     ///
     /// Does not allocate; constant time.
+    #[inline]
     pub fn len(&self) -> u64
         ensures value { result ≡ bit_len N (pending_of N self.now) }
         ensures width { IsWidth N }
@@ -139,6 +140,7 @@ impl<const N: usize> BitMap<N, Dirty<N>> {
     /// # Complexity
     ///
     /// As `push`.
+    #[inline]
     pub fn try_push(&mut self, value: bool) -> Result<(), AllocError>
         requires { bit_len N (pending_of N self.old) + 1 < 2 ^ 64 }
         ensures ok { OnOk result (IsEditOf N self.old (Push value) self.new) }
@@ -236,6 +238,7 @@ impl<const N: usize> BitMap<N, Dirty<N>> {
     /// # Complexity
     ///
     /// Constant in the appended run, and in the write cache unless its chunk becomes empty; else a search among the edited chunks.
+    #[inline]
     pub fn pop(&mut self) -> bool
         requires { 0 < length (pending_of N self.old).bits }
         ensures value { result ≡ last_bit (pending_of N self.old) }
@@ -369,6 +372,7 @@ impl<const N: usize> BitMap<N, Dirty<N>> {
     ///
     /// Amortized constant in the appended run.
     /// Else a copy of the chunk, with a search among the edited chunks unless the chunk is in the write cache.
+    #[inline]
     pub fn push(&mut self, value: bool) -> Result<Edit<'_, N>, AllocError>
         requires { bit_len N (pending_of N self.old) + 1 < 2 ^ 64 }
         ensures* refused { sem 𝓛 (rests_if_refused N.row self.entry result) }

@@ -1,6 +1,6 @@
 //! The edited chunks of a batch by index, with the appended ones in a contiguous run.
 
-ghost use Rattle.std.specs.Prelude.{◌≡◌, ℕ, ◌+◌, ◌*◌, ◌%◌, ◌^◌, ◌<◌, ◌≤◌, ◌&&◌, ◌++◌, [], List, length, Option, Some, None, IfOk, IfSome, OnOk, OnErr, IsOk, IsSome, nat_eq, nat_le, nat_lt, true, false};
+ghost use Rattle.std.specs.Prelude.{◌≡◌, ℕ, ◌+◌, ◌*◌, ◌/◌, ◌%◌, ◌^◌, ◌<◌, ◌≤◌, ◌&&◌, [], List, length, replicate, Option, Some, None, IfOk, IfSome, OnOk, OnErr, IsOk, IsSome, nat_eq, nat_le, nat_lt, true, false, ◌++◌};
 ghost use Rattle.std.specs.List.Sorted.{IsStrictlySortedBy};
 ghost use Rattle.std.specs.Map.{keys_of, lookup};
 ghost use Rattle.std.specs.Option.{option_copied, option_map};
@@ -8,11 +8,12 @@ ghost use Rattle.std.specs.Ordering.{nat_cmp};
 ghost use Rattle.bitmap_bytes.specs.Chunk.{chunk_bit, IsWidth};
 ghost use Rattle.bitmap_core.specs.PrunedBits.{chunk, truncated};
 ghost use Rattle.historical_bitmap.specs.Edits.{from_to};
-ghost use Rattle.historical_bitmap.specs.Pending.{IsByteSetIn, IsNextMember, IsSetIn, Puts, PutsTwo, SetsIn, members_between};
+ghost use Rattle.historical_bitmap.specs.Pending.{IsByteSetIn, IsNextMember, IsSetIn, IsWritten, Puts, PutsTwo, SetsIn, members_between};
 ghost use Rattle.historical_bitmap.specs.Run.{with_run};
 
 use crate::bitmap::historical::edited::{EditedChunks, fill_bit, first_chunk, replace_bit};
 use bitmap_core::bitmap::prunable::Prunable;
+use bitmap_core::chunk::chunk_width;
 use bitmap_core::chunk::facts::known;
 use bitmap_core::chunk::join::join_byte;
 use std::alloc::{AllocError, Global};
@@ -51,6 +52,17 @@ fn is_next(from: usize, count: usize, index: usize) -> bool
     ensures { result ≡ true → 0 < count → index ≡ from + count }
 {
     count == 0 || from <= index && index - from == count
+}
+
+// Returns a chunk of zeros in which a bit is set to `value`.
+#[inline]
+fn zeros_with<const N: usize>(bit: u64, value: bool) -> [u8; N]
+    requires { IsWidth N }
+    ensures { IsWritten N (replicate N 0) bit value result }
+{
+    let mut chunk = [0; N];
+    fill_bit(&mut chunk, bit, value);
+    chunk
 }
 
 impl<const N: usize> GrownChunks<N> {
@@ -105,21 +117,22 @@ impl<const N: usize> GrownChunks<N> {
         self.others.write_bit(current, len, index, bit, value)
     }
 
-    // As `write_bit`, for a bit that is appended: it is zero if its chunk is edited. A new chunk goes into the run if it is next there.
+    // As `write_bit`, for a bit that is appended at a position, which is the length: it is zero if its chunk is edited.
+    // A new chunk goes into the run if it is next there.
     #[inline]
     pub(crate) fn push_bit(
         &mut self,
         current: &Prunable<N>,
-        len: u64,
         index: usize,
         bit: u64,
         value: bool,
     ) -> Result<(), AllocError>
         requires width { IsWidth N }
+        requires index { index ≡ bit / (8 * N) }
         requires from { current.now.pruned ≤ index }
-        requires fits { 8 * N * index < 2 ^ 64 }
         requires zero { IfSome (lookup (nat_eq index) self.old) (λ chunk. chunk_bit N chunk bit ≡ false) }
-        ensures ok { OnOk result ((bytes : List ℕ) × SetsIn N (chunk N (truncated N current.now len) index) self.old self.new index bit value bytes) }
+        requires first { bit % (8 * N) ≡ 0 → lookup (nat_eq index) self.old ≡ None }
+        ensures ok { OnOk result ((bytes : List ℕ) × SetsIn N (chunk N (truncated N current.now bit) index) self.old self.new index bit value bytes) }
         ensures err { OnErr result (self.new ≡ self.old) }
         ensures edited { IsSome (lookup (nat_eq index) self.old) → IsOk result }
     {
@@ -128,7 +141,29 @@ impl<const N: usize> GrownChunks<N> {
             fill_bit(&mut self.run[at], bit, value);
             return Ok(());
         }
-        self.push_other(current, len, index, bit, value)
+        if bit % chunk_width::<N>() == 0 {
+            return self.open(index, zeros_with(bit, value));
+        }
+        self.push_other(current, index, bit, value)
+    }
+
+    // Inserts a chunk at an index that has none. It goes into the run if it is next there.
+    fn open(&mut self, index: usize, chunk: [u8; N]) -> Result<(), AllocError>
+        requires absent { lookup (nat_eq index) self.old ≡ None }
+        ensures ok { OnOk result (Puts self.old self.new index (Some chunk.entry)) }
+        ensures err { OnErr result (self.new ≡ self.old) }
+        ensures sorted { IsStrictlySortedBy nat_cmp (keys_of self.new) }
+    {
+        self.others.order();
+        let count = self.run.len();
+        if !is_next(self.from, count, index) {
+            return self.others.write(index, chunk);
+        }
+        self.run.push(chunk)?;
+        if count == 0 {
+            self.from = index;
+        }
+        Ok(())
     }
 
     // As `push_bit`, for a chunk that need not be in the run.
@@ -136,21 +171,20 @@ impl<const N: usize> GrownChunks<N> {
     fn push_other(
         &mut self,
         current: &Prunable<N>,
-        len: u64,
         index: usize,
         bit: u64,
         value: bool,
     ) -> Result<(), AllocError>
         requires width { IsWidth N }
+        requires index { index ≡ bit / (8 * N) }
         requires from { current.now.pruned ≤ index }
-        requires fits { 8 * N * index < 2 ^ 64 }
-        ensures ok { OnOk result ((bytes : List ℕ) × SetsIn N (chunk N (truncated N current.now len) index) self.old self.new index bit value bytes) }
+        ensures ok { OnOk result ((bytes : List ℕ) × SetsIn N (chunk N (truncated N current.now bit) index) self.old self.new index bit value bytes) }
         ensures err { OnErr result (self.new ≡ self.old) }
         ensures edited { IsSome (lookup (nat_eq index) self.old) → IsOk result }
     {
         let mut bytes = match self.get(index) {
             Some(bytes) => *bytes,
-            None => first_chunk(current, len, index),
+            None => first_chunk(current, bit, index),
         };
         let _ = replace_bit(&mut bytes, bit, value);
         self.write(index, bytes)
@@ -202,20 +236,15 @@ impl<const N: usize> GrownChunks<N> {
         ensures sorted { IsStrictlySortedBy nat_cmp (keys_of self.new) }
     {
         self.others.order();
-        let count = self.run.len();
-        if is_in(self.from, count, index) {
+        if is_in(self.from, self.run.len(), index) {
             let at = index - self.from;
             self.run[at] = chunk;
             return Ok(());
         }
-        if self.others.get(index).is_some() || !is_next(self.from, count, index) {
+        if self.others.get(index).is_some() {
             return self.others.write(index, chunk);
         }
-        self.run.push(chunk)?;
-        if count == 0 {
-            self.from = index;
-        }
-        Ok(())
+        self.open(index, chunk)
     }
 
     // Inserts or replaces the chunk at an index, and inserts one at the next. There is no chunk past the index.

@@ -18,6 +18,7 @@ ghost use Rattle.historical_bitmap.specs.Undo.{CanUndo};
 use crate::bitmap::historical::edited::first_chunk;
 use crate::bitmap::historical::grown::GrownChunks;
 use crate::bitmap::historical::record::{ChunkDiff, CommitDiff};
+use crate::bitmap::historical::tail::TailChunks;
 use bitmap_core::bitmap::prunable::Prunable;
 use bitmap_core::chunk::facts::known;
 use bitmap_core::chunk::join::{chunk_from, join};
@@ -33,7 +34,7 @@ use std::marker::Model;
 pub struct Dirty<const N: usize> {
     len: u64,
     pruned: usize,
-    edited: GrownChunks<N>,
+    edited: TailChunks<N>,
     captured: Vec<[u8; N]>,
     alloc: Global,
 }
@@ -51,7 +52,7 @@ impl<const N: usize> Model for Dirty<N> {
 
 // Returns the pending bytes of a chunk.
 fn chunk_with<const N: usize>(
-    edited: &GrownChunks<N>,
+    edited: &TailChunks<N>,
     current: &Prunable<N>,
     len: u64,
     index: usize,
@@ -61,18 +62,15 @@ fn chunk_with<const N: usize>(
     ensures value { result ≡ unwrap_or (lookup (nat_eq index) edited.now) (chunk N (truncated N current.now len) index) }
     ensures known { IsChunk N result }
 {
-    match edited.get(index) {
-        Some(bytes) => {
-            known(bytes);
-            *bytes
-        }
+    match edited.chunk(index) {
+        Some(bytes) => bytes,
         None => first_chunk(current, len, index),
     }
 }
 
 // Returns the bytes that a prune captures of a chunk.
 fn chunk_before<const N: usize>(
-    edited: &GrownChunks<N>,
+    edited: &TailChunks<N>,
     current: &Prunable<N>,
     len: u64,
     index: usize,
@@ -92,7 +90,7 @@ fn chunk_before<const N: usize>(
 // Captures the chunks from `from` up to `to`, for which there is capacity.
 fn capture<const N: usize>(
     captured: &mut Vec<[u8; N]>,
-    edited: &GrownChunks<N>,
+    edited: &TailChunks<N>,
     current: &Prunable<N>,
     len: u64,
     from: usize,
@@ -182,13 +180,14 @@ impl<const N: usize> Dirty<N> {
         Dirty {
             len: current.len(),
             pruned: current.pruned_chunks(),
-            edited: GrownChunks::new(alloc),
+            edited: TailChunks::new(alloc),
             captured: Vec::new(alloc),
             alloc,
         }
     }
 
     // Returns the pending length in bits.
+    #[inline]
     pub(crate) fn len(&self) -> u64
         ensures value { result ≡ self.now.len }
         ensures width { IsWidth N }
@@ -225,8 +224,8 @@ impl<const N: usize> Dirty<N> {
         requires retained { IsRetained N (pending_bits N current.now self.now) bit }
         ensures { result ≡ bit_at N (pending_bits N current.now self.now) bit }
     {
-        match self.edited.get(chunk_index::<N>(bit)) {
-            Some(bytes) => get_bit(bytes, bit),
+        match self.edited.get_bit(bit) {
+            Some(value) => value,
             None => current.get_bit(bit),
         }
     }
@@ -250,22 +249,24 @@ impl<const N: usize> Dirty<N> {
     }
 
     // Appends a bit. Does not allocate, and succeeds, if its chunk is edited.
+    #[inline]
     pub(crate) fn push(&mut self, current: &Prunable<N>, value: bool) -> Result<(), AllocError>
         requires low { pruned_bits N current.now ≤ self.old.len }
         requires fits { self.old.len + 1 < 2 ^ 64 }
         requires zero { IfSome (edited_chunk self.old (self.old.len / (8 * N))) (λ bytes. chunk_bit N bytes self.old.len ≡ false) }
+        requires first { self.old.len % (8 * N) ≡ 0 → edited_chunk self.old (self.old.len / (8 * N)) ≡ None }
         ensures ok { OnOk result (Writes N current.now self.old self.old.len value (self.old.len + 1) self.new) }
         ensures err { OnErr result (self.new ≡ self.old) }
         ensures edited { IsSome (edited_chunk self.old (self.old.len / (8 * N))) → IsOk result }
     {
         let len = self.len;
-        let index = chunk_index::<N>(len);
-        self.edited.push_bit(current, len, index, len, value)?;
+        self.edited.push_bit(current, len, value)?;
         self.len = len + 1;
         Ok(())
     }
 
     // Removes the last bit, and returns it if its chunk is edited. Does not allocate.
+    #[inline]
     pub(crate) fn pop(&mut self) -> Option<bool>
         requires some { 0 < self.old.len }
         requires last { (q : ℕ) → self.old.len ≤ 8 * N * q → edited_chunk self.old q ≡ None }
@@ -281,7 +282,7 @@ impl<const N: usize> Dirty<N> {
                 None => None,
             };
         }
-        self.edited.replace_bit(index, last, false)
+        self.edited.clear_bit(last)
     }
 
     // Prunes the chunks before chunk `end`, and captures their old bytes. After an error nothing is changed.
@@ -501,18 +502,19 @@ impl<const N: usize> Dirty<N> {
     pub(crate) fn into_edited(self) -> GrownChunks<N>
         ensures { result ≡ self.entry.edited }
     {
-        self.edited
+        self.edited.into_chunks()
     }
 
     // Returns a copy. Allocates for its chunks.
     pub(crate) fn duplicate(&self) -> Result<Self, AllocError>
         ensures { IfOk result (λ copy. copy ≡ self.now) }
     {
+        let captured = self.captured.clone()?;
         Ok(Dirty {
             len: self.len,
             pruned: self.pruned,
             edited: self.edited.duplicate()?,
-            captured: self.captured.clone()?,
+            captured,
             alloc: self.alloc,
         })
     }

@@ -5,7 +5,7 @@ use Rattle.historical_bitmap.specs.Edits.Edit.{Push}
 use Rattle.historical_bitmap.specs.Pending.{pending_bits}
 use Rattle.historical_bitmap.proofs.Pending.BatchEdits.{past_prefix, tried_edit, tried_fits, tried_holds}
 use Rattle.historical_bitmap.proofs.Pending.Edits.{pending_len}
-use Rattle.historical_bitmap.proofs.Pending.Ends.{zero_at_len}
+use Rattle.historical_bitmap.proofs.Pending.Ends.{none_at_len, zero_at_len}
 use Rattle.historical_bitmap.proofs.bitmap.historical.dirty.BitMap+N+Dirty+N.try_push.Goals as goal
 
 pub invariant_of-self : goal.invariant_of-self
@@ -28,7 +28,10 @@ push-requires g c =
           past_prefix g.row.N c.self.inside.current c.self.inside.state c.self.inside.state.len c.self.invariant.0 c.self.invariant.0.prefix,
           (
             omega (arith, space, pending_len g.row.N c.self.inside.current c.self.inside.state c.len.ensures.width.positive c.self.invariant.0),
-            zero_at_len g.row.N c.self.inside.current c.self.inside.state c.self.invariant.0,
+            (
+              zero_at_len g.row.N c.self.inside.current c.self.inside.state c.self.invariant.0,
+              none_at_len g.row.N c.self.inside.current c.self.inside.state c.self.invariant.0,
+            ),
           ),
         ),
       ),

@@ -1,5 +1,4 @@
-use Rattle.std.proofs.Common.{◌≡◌, ◌+◌, ◌*◌, ◌/◌, ◌^◌, ◌<◌, ◌≤◌, false, sym, refl, arith}
-use Rattle.std.proofs.Math.Nat.{mul-div-le}
+use Rattle.std.proofs.Common.{◌≡◌, ◌+◌, ◌*◌, ◌/◌, ◌%◌, ◌≤◌, false, None, sym, refl, arith}
 use Rattle.std.specs.Prelude.{IfSome, nat_eq}
 use Rattle.std.specs.Map.{lookup}
 use Rattle.bitmap_bytes.specs.Chunk.{chunk_bit}
@@ -9,26 +8,22 @@ use Rattle.historical_bitmap.proofs.bitmap.historical.pending.Dirty.push.Goals a
 
 pub returns-clause-ok : goal.returns-clause-ok
 returns-clause-ok g c =
-    let set = rw c.chunk_index-index.ensures at c.in_ok-push_bit.ensures.ok in
+    let set = c.in_ok-push_bit.ensures.ok in
     rw (sym c.self.view_is) (writes_to g.row.N c.args.current.now _ _ c.self.inside.len c.args.value (c.self.inside.len + 1) set.0 refl refl refl set.1)
 
 pub push_bit-requires : goal.push_bit-requires
 push_bit-requires g c =
-    let pos = c.self.invariant.positive in
     let low : 8 * g.row.N * c.args.current.now.pruned ≤ c.self.inside.len = rw (sym c.self.view_is) at c.requires.low in
-    let space : c.self.inside.len + 1 < 2 ^ 64 = rw (sym c.self.view_is) at c.requires.fits in
-    let zero : IfSome (lookup (nat_eq (c.self.inside.len / (8 * g.row.N))) c.self.inside.edited) (λ bytes. chunk_bit g.row.N bytes c.self.inside.len ≡ false) = rw (sym c.self.view_is) at c.requires.zero in (
+    let zero : IfSome (lookup (nat_eq (c.self.inside.len / (8 * g.row.N))) c.self.inside.edited) (λ bytes. chunk_bit g.row.N bytes c.self.inside.len ≡ false) = rw (sym c.self.view_is) at c.requires.zero in
+    let first : c.self.inside.len % (8 * g.row.N) ≡ 0 → lookup (nat_eq (c.self.inside.len / (8 * g.row.N))) c.self.inside.edited ≡ None = rw (sym c.self.view_is) at c.requires.first in (
       omega (arith, c.self.invariant.fits),
       (
         omega arith,
         (
           c.self.invariant,
           (
-            omega (arith, c.chunk_index-index.ensures, index_from g.row.N c.args.current.now.pruned c.self.inside.len pos low),
-            (
-              rw c.chunk_index-index.ensures (omega (arith, space, mul-div-le c.self.inside.len (8 * g.row.N))),
-              rw c.chunk_index-index.ensures zero,
-            ),
+            index_from g.row.N c.args.current.now.pruned c.self.inside.len c.self.invariant.positive low,
+            (zero, first),
           ),
         ),
       ),

@@ -1,0 +1,340 @@
+-- Reads and writes of entries of chunks with a cached word.
+use Rattle.std.proofs.Common.{◌≡◌, ℕ, ◌+◌, ◌-◌, ◌*◌, ◌/◌, ◌%◌, ◌^◌, ◌<◌, ◌≤◌, Bool, true, false, cond, List, [], length, get_or, map, eqb, bit_and, bit_or, w64, Some, None, Result, Ok, Err, refl, sym, ap, ◌∙◌, subst, arith}
+use mathlib.Core.Logic.{inl, inr, ◌≢◌, ◌⊎◌}
+use Rattle.std.proofs.Math.Nat.{mod-eq_of_lt}
+use Rattle.std.proofs.Math.Pow.{pow-lt}
+use Rattle.std.proofs.lemmas.Bool.{cases_eq, cases_lt, eq-eqb, eqb-true, ne_eqb, lt-ltb, le-ltb, le-leb, lt-leb, false≢true}
+use Rattle.std.proofs.lemmas.Nat.{div-mul-add, mod-mul-add, mod_below}
+use Rattle.std.proofs.lemmas.Nat.Bits.{bit_at-lt, bit_at-pow_other, bit_at-pow_same, bit_at_and, bit_at_not}
+use Rattle.std.proofs.lemmas.List.FromFn.{length-map-range_with_len}
+use Rattle.std.specs.Prelude.{nat_eq, nat_le, nat_lt, Option, IsOk, IsSome, IfSome, MatchOption, OnOk, unwrap_or, ◌&&◌}
+use Rattle.std.specs.Int.{bit_at}
+use Rattle.std.specs.Int.Bits.{or_zero_r}
+use Rattle.std.specs.List.{range_with_len}
+use Rattle.std.specs.List.Sorted.{IsStrictlySortedBy}
+use Rattle.std.specs.Map.{keys_of, lookup}
+use Rattle.std.specs.Option.{option_map}
+use Rattle.std.specs.Ordering.{nat_cmp}
+use Rattle.bitmap_bytes.specs.Chunk.{byte_of, chunk_bit, chunk_from, IsChunk, IsWidth}
+use Rattle.bitmap_bytes.specs.Words.{next_word, starts_word, word_start}
+use Rattle.bitmap_bytes.proofs.Bytes.Bits.{bit_or_here, bit_or_other}
+use Rattle.bitmap_bytes.proofs.Bytes.Made.{bytes_are, byte_same, chunk_bit_of_bytes, map_range_same}
+use Rattle.bitmap_bytes.proofs.Chunks.Bits.{chunk_bit-mod}
+use Rattle.bitmap_bytes.proofs.Words.Starts.{end_near, next_cases, start_chunk, start_of}
+use Rattle.bitmap_core.proofs.Pruned.Positions.{place as place_of}
+use Rattle.historical_bitmap.specs.Pending.{IsByteSetIn, IsSetIn, IsWritten, Puts, SetsIn}
+use Rattle.historical_bitmap.specs.Tail.{bit_with_word, chunk_with_word, IsTail, IsWordOf, IsWordPut, with_word}
+use Rattle.historical_bitmap.specs.WriteCache.{IsCached, is_cached_at, with_cached}
+use Rattle.historical_bitmap.proofs.EditedChunks.AppendedRun.{inside}
+use Rattle.historical_bitmap.proofs.EditedChunks.CachedChunks.{cache_same, cached_keys, cached_some, cached_sorted, holds, lookup_beside, lookup_here, puts_here}
+use Rattle.historical_bitmap.proofs.Lists.Maps.{not_some, same_entries}
+
+-- ---- places in a chunk
+module _ (n i k : ℕ) (low : 8 * n * i ≤ k) (high : k < 8 * n * i + 8 * n) where
+  within : k ≡ i * (8 * n) + (k - 8 * n * i)
+  within = let e : 8 * n * i ≡ i * (8 * n) = grind arith in omega (arith, e, low)
+
+  pub index_is : k / (8 * n) ≡ i
+  index_is = ap (λ j. j / (8 * n)) within ∙ div-mul-add i (8 * n) (k - 8 * n * i) (omega (arith, low, high))
+
+  pub rest_is : k % (8 * n) ≡ k - 8 * n * i
+  rest_is = ap (λ j. j % (8 * n)) within ∙ mod-mul-add i (8 * n) (k - 8 * n * i) (omega (arith, low, high))
+
+-- a chunk made from its bits
+from_is : (n : ℕ) (f : ℕ → Bool) (i : ℕ) → chunk_from n f i ≡ map (λ j. byte_of (λ t. f (8 * n * i + (8 * j + t)))) (range_with_len 0 n)
+from_is n f i = map_range_same (λ j. byte_of (λ t. f (8 * n * i + 8 * j + t))) (λ j. byte_of (λ t. f (8 * n * i + (8 * j + t)))) 0 n (λ j _ h. byte_same (λ t. f (8 * n * i + 8 * j + t)) (λ t. f (8 * n * i + (8 * j + t))) (λ t u.
+    let e : 8 * n * i + 8 * j + t ≡ 8 * n * i + (8 * j + t) = omega arith in
+    ap f e))
+
+bit_from : (n : ℕ) (f : ℕ → Bool) (i k : ℕ) → 0 < n → chunk_bit n (chunk_from n f i) k ≡ f (8 * n * i + k % (8 * n))
+bit_from n f i k pos =
+    let below : k % (8 * n) < 8 * n = mod_below k (8 * n) (omega (arith, pos)) in
+    ap (λ c. chunk_bit n c k) (from_is n f i)
+    ∙ (chunk_bit-mod n (map (λ j. byte_of (λ t. f (8 * n * i + (8 * j + t)))) (range_with_len 0 n)) k (k % (8 * n)) pos (sym (mod-eq_of_lt {n = k % (8 * n)} {m = 8 * n} below))
+    ∙ chunk_bit_of_bytes n (λ m. f (8 * n * i + m)) (k % (8 * n)) pos below)
+
+from_size : (n : ℕ) (f : ℕ → Bool) (i : ℕ) → length (chunk_from n f i) ≡ n
+from_size n f i = length-map-range_with_len (λ j. byte_of (λ t. f (8 * n * i + 8 * j + t))) 0 n
+
+-- a chunk that has the bits is the chunk made from them
+from_bits_of : (n : ℕ) (c : List ℕ) (f : ℕ → Bool) (i : ℕ) → IsChunk n c → ((m : ℕ) → m < 8 * n → chunk_bit n c m ≡ f (8 * n * i + m)) → c ≡ chunk_from n f i
+from_bits_of n c f i is h = bytes_are n c (λ m. f (8 * n * i + m)) is.len is.bytes h ∙ sym (from_is n f i)
+
+-- ---- bits of a chunk with a word
+pub in_word : (n : ℕ) (chunk : List ℕ) (base count word k : ℕ) → base ≤ k → k < base + count → bit_with_word n chunk base count word k ≡ eqb (bit_at word (k - base)) 1
+in_word n chunk base count word k low high = rw (le-leb base k low, lt-ltb k (base + count) high) refl
+
+pub out_word : (n : ℕ) (chunk : List ℕ) (base count word k : ℕ) → (k < base) ⊎ (base + count ≤ k) → bit_with_word n chunk base count word k ≡ chunk_bit n chunk k
+out_word n chunk base count word k (inl l) = rw (lt-leb base k l) refl
+out_word n chunk base count word k (inr m) = elim (cases_lt k base) [
+  | inl l ↦ rw (lt-leb base k l) refl
+  | inr l ↦ rw (le-leb base k l, le-ltb k (base + count) m) refl
+]
+
+cases_word : (base count k : ℕ) → ((base ≤ k) × (k < base + count)) ⊎ ((k < base) ⊎ (base + count ≤ k))
+cases_word base count k = elim (cases_lt k base) [
+  | inl l ↦ inr (inl l)
+  | inr l ↦ elim (cases_lt k (base + count)) [ inl h ↦ inl (l, h) | inr h ↦ inr (inr h) ]
+]
+
+-- a bit of the chunk
+pub seen : (n : ℕ) (chunk : List ℕ) (base count word i k : ℕ) → 0 < n → 8 * n * i ≤ k → k < 8 * n * i + 8 * n → chunk_bit n (chunk_with_word n chunk base count word i) k ≡ bit_with_word n chunk base count word k
+seen n chunk base count word i k pos low high =
+    let at : 8 * n * i + k % (8 * n) ≡ k = omega (arith, rest_is n i k low high, low) in
+    bit_from n (bit_with_word n chunk base count word) i k pos ∙ ap (bit_with_word n chunk base count word) at
+
+-- a bit of the word is written
+pub word_written : (n : ℕ) (chunk : List ℕ) (base count word new i k : ℕ) (value : Bool) → 0 < n → 8 * n * i ≤ base → base + count ≤ 8 * n * i + 8 * n → base ≤ k → k < base + count → eqb (bit_at new (k - base)) 1 ≡ value → ((t : ℕ) → t < count → t ≢ k - base → bit_at new t ≡ bit_at word t) → IsWritten n (chunk_with_word n chunk base count word i) k value (chunk_with_word n chunk base count new i)
+word_written n chunk base count word new i k value pos start end low high here others = record {
+  size = from_size n (bit_with_word n chunk base count new) i;
+  bits = record {
+    here = seen n chunk base count new i k pos (omega (arith, start, low)) (omega (arith, end, high)) ∙ (in_word n chunk base count new k low high ∙ here);
+    others = λ j ne.
+        let rest : k % (8 * n) ≡ k - 8 * n * i = rest_is n i k (omega (arith, start, low)) (omega (arith, end, high)) in
+        bit_from n (bit_with_word n chunk base count new) i j pos ∙ (go (8 * n * i + j % (8 * n)) (λ e. ne (omega (arith, e, rest))) ∙ sym (bit_from n (bit_with_word n chunk base count word) i j pos));
+  };
+}
+  where
+    go : (p : ℕ) → (p ≡ k → ⊥) → bit_with_word n chunk base count new p ≡ bit_with_word n chunk base count word p
+    go p ne = elim (cases_word base count p) [
+      | inl h ↦ in_word n chunk base count new p h.0 h.1 ∙ (ap (λ b. eqb b 1) (others (p - base) (omega (arith, h)) (λ e. ne (omega (arith, e, h.0, low)))) ∙ sym (in_word n chunk base count word p h.0 h.1))
+      | inr h ↦ out_word n chunk base count new p h ∙ sym (out_word n chunk base count word p h)
+    ]
+
+-- the word is put into its chunk
+pub word_put : (n : ℕ) (old new : List ℕ) (base count word i : ℕ) → 0 < n → IsChunk n new → 0 < count → 8 * n * i ≤ base → base + count ≤ 8 * n * i + 8 * n → IsWordPut n old new base count word → new ≡ chunk_with_word n old base count word i
+word_put n old new base count word i pos is some start end put = from_bits_of n new (bit_with_word n old base count word) i is (λ m h.
+    let rest : base % (8 * n) ≡ base - 8 * n * i = rest_is n i base start (omega (arith, some, end)) in
+    let same : m % (8 * n) ≡ m = mod-eq_of_lt {n = m} {m = 8 * n} h in
+    elim (cases_word base count (8 * n * i + m)) [
+      | inl w ↦
+          let at : m % (8 * n) - base % (8 * n) ≡ 8 * n * i + m - base = omega (arith, rest, same, start, w) in
+          put.here m (omega (arith, rest, same, start, w)) (omega (arith, rest, same, start, w)) ∙ (ap (λ t. eqb (bit_at word t) 1) at ∙ sym (in_word n old base count word (8 * n * i + m) w.0 w.1))
+      | inr w ↦
+          let there : 8 * n * i + m < 8 * n * i + 8 * n = omega (arith, h) in
+          let back : m % (8 * n) ≡ (8 * n * i + m) % (8 * n) = omega (arith, same, rest_is n i (8 * n * i + m) (omega arith) there) in
+          put.others m (out m rest same w) ∙ (chunk_bit-mod n old m (8 * n * i + m) pos back ∙ sym (out_word n old base count word (8 * n * i + m) w))
+    ])
+  where
+    out : (m : ℕ) → base % (8 * n) ≡ base - 8 * n * i → m % (8 * n) ≡ m → (8 * n * i + m < base) ⊎ (base + count ≤ 8 * n * i + m) → (m % (8 * n) < base % (8 * n)) ⊎ (base % (8 * n) + count ≤ m % (8 * n))
+    out m rest same (inl l) = inl (omega (arith, rest, same, l, start))
+    out m rest same (inr l) = inr (omega (arith, rest, same, l, start))
+
+-- the word has the bits of its chunk
+pub word_same : (n : ℕ) (chunk : List ℕ) (base count word i : ℕ) → 0 < n → IsChunk n chunk → 8 * n * i ≤ base → base + count ≤ 8 * n * i + 8 * n → ((t : ℕ) → t < count → eqb (bit_at word t) 1 ≡ chunk_bit n chunk (base + t)) → chunk_with_word n chunk base count word i ≡ chunk
+word_same n chunk base count word i pos is start end bits = sym (from_bits_of n chunk (bit_with_word n chunk base count word) i is (λ m h.
+    let there : 8 * n * i + m < 8 * n * i + 8 * n = omega (arith, h) in
+    let same : m % (8 * n) ≡ m = mod-eq_of_lt {n = m} {m = 8 * n} h in
+    let back : m % (8 * n) ≡ (8 * n * i + m) % (8 * n) = omega (arith, same, rest_is n i (8 * n * i + m) (omega arith) there) in
+    chunk_bit-mod n chunk m (8 * n * i + m) pos back ∙ (elim (cases_word base count (8 * n * i + m)) [
+      | inl w ↦
+          let at : 8 * n * i + m ≡ base + (8 * n * i + m - base) = omega (arith, w) in
+          ap (chunk_bit n chunk) at ∙ (sym (bits (8 * n * i + m - base) (omega (arith, w))) ∙ sym (in_word n chunk base count word (8 * n * i + m) w.0 w.1))
+      | inr w ↦ sym (out_word n chunk base count word (8 * n * i + m) w)
+    ])))
+
+-- ---- entries with a cached word
+word_cached : (n : ℕ) (es : List (ℕ × List ℕ)) (base count i : ℕ) → IsWidth n → IsWordOf n es base count i → IsCached n es (Some i)
+word_cached n es base count i width ok = record { width = width; sorted = ok.sorted; found = ok.found }
+
+itself : (i : ℕ) → is_cached_at (Some i) i ≡ true
+itself i = eq-eqb i i refl
+
+-- a bit that is set in a word in which it is zero
+or_here : (word t : ℕ) (value : Bool) → eqb (bit_at word t) 1 ≡ false → eqb (bit_at (bit_or word (cond value (2 ^ t) 0)) t) 1 ≡ value
+or_here word t true zero = ap (λ b. eqb b 1) (bit_or_here word t)
+or_here word t false zero = ap (λ w. eqb (bit_at w t) 1) (or_zero_r word) ∙ zero
+
+or_other : (word t s : ℕ) (value : Bool) → s ≢ t → bit_at (bit_or word (cond value (2 ^ t) 0)) s ≡ bit_at word s
+or_other word t s true ne = bit_or_other word t s ne
+or_other word t s false ne = ap (λ w. bit_at w s) (or_zero_r word)
+
+-- a bit that is cleared in a word
+cleared_here : (word t : ℕ) → t < 64 → eqb (bit_at (bit_and word (2 ^ 64 - 1 - 2 ^ t)) t) 1 ≡ false
+cleared_here word t h =
+    let e = bit_at_and word (2 ^ 64 - 1 - 2 ^ t) t in
+    let p = bit_at-pow_same t in
+    let q : bit_at (2 ^ 64 - 1 - 2 ^ t) t ≡ 1 - bit_at (2 ^ t) t = bit_at_not w64 (2 ^ t) t (pow-lt {i = t} {j = 64} h) h in
+    let zero : bit_at (bit_and word (2 ^ 64 - 1 - 2 ^ t)) t ≡ 0 = grind arith in
+    ap (λ b. eqb b 1) zero
+
+cleared_other : (word t s : ℕ) → t < 64 → s < 64 → s ≢ t → bit_at (bit_and word (2 ^ 64 - 1 - 2 ^ t)) s ≡ bit_at word s
+cleared_other word t s h u ne =
+    let e = bit_at_and word (2 ^ 64 - 1 - 2 ^ t) s in
+    let p = bit_at-pow_other t s ne in
+    let q : bit_at (2 ^ 64 - 1 - 2 ^ t) s ≡ 1 - bit_at (2 ^ t) s = bit_at_not w64 (2 ^ t) s (pow-lt {i = t} {j = 64} h) u in
+    let l = bit_at-lt word s in
+    grind arith
+
+-- ---- a position of the cached word
+module _ (n : ℕ) (es : List (ℕ × List ℕ)) (base count word k : ℕ) (width : IsWidth n) (low : base ≤ k) (high : k < base + count) where
+  -- its chunk is the cached one
+  place : (i : ℕ) → IsWordOf n es base count i → k / (8 * n) ≡ i
+  place i ok = index_is n i k (omega (arith, ok.low, low)) (omega (arith, ok.high, high))
+
+  stored : ℕ → List ℕ
+  stored i = unwrap_or (lookup (nat_eq i) es) []
+
+  found : (i : ℕ) → IsWordOf n es base count i → lookup (nat_eq i) (with_word n es (Some i) base count word) ≡ Some (chunk_with_word n (stored i) base count word i)
+  unfolding stored
+  found i ok = lookup_here n es (Some i) (chunk_with_word n (stored i) base count word i) i (word_cached n es base count i width ok) (itself i)
+
+  bit_is : (i : ℕ) → IsWordOf n es base count i → chunk_bit n (chunk_with_word n (stored i) base count word i) k ≡ eqb (bit_at word (k - base)) 1
+  bit_is i ok = seen n (stored i) base count word i k width.positive (omega (arith, ok.low, low)) (omega (arith, ok.high, high)) ∙ in_word n (stored i) base count word k low high
+
+  -- the bit is read
+  pub read_in : (cached : Option ℕ) → MatchOption cached (count ≡ 0) (IsWordOf n es base count) → Some (eqb (bit_at word (k - base)) 1) ≡ option_map (λ chunk. chunk_bit n chunk k) (lookup (nat_eq (k / (8 * n))) (with_word n es cached base count word))
+  read_in None none = absurd (omega (arith, none, low, high))
+  read_in (Some i) ok = sym (ap (λ (j : ℕ). option_map (λ chunk. chunk_bit n chunk k) (lookup (nat_eq j) (with_word n es (Some i) base count word))) (place i ok) ∙ (ap (option_map (λ chunk. chunk_bit n chunk k)) (found i ok) ∙ ap Some (bit_is i ok)))
+
+  -- a zero bit is pushed
+  pub pushed_in : (first : List ℕ) (new : ℕ) (value : Bool) (cached : Option ℕ) → MatchOption cached (count ≡ 0) (IsWordOf n es base count) → IfSome (lookup (nat_eq (k / (8 * n))) (with_word n es cached base count word)) (λ chunk. chunk_bit n chunk k ≡ false) → new ≡ bit_or word (cond value (2 ^ (k - base)) 0)
+      → (bytes : List ℕ) × SetsIn n first (with_word n es cached base count word) (with_word n es cached base count new) (k / (8 * n)) k value bytes
+  unfolding stored
+  pushed_in first new value None none zero e = absurd (omega (arith, none, low, high))
+  pushed_in first new value (Some i) ok zero e =
+      let cache = word_cached n es base count i width ok in
+      let zero_there : chunk_bit n (chunk_with_word n (stored i) base count word i) k ≡ false = subst (λ o. IfSome o (λ chunk. chunk_bit n chunk k ≡ false)) (ap (λ (j : ℕ). lookup (nat_eq j) (with_word n es (Some i) base count word)) (place i ok) ∙ found i ok) zero in
+      let written = word_written n (stored i) base count word new i k value width.positive ok.low ok.high low high (ap (λ w. eqb (bit_at w (k - base)) 1) e ∙ or_here word (k - base) value (sym (bit_is i ok) ∙ zero_there)) (λ t h ne. ap (λ w. bit_at w t) e ∙ or_other word (k - base) t value ne) in
+      subst (λ (j : ℕ). (bytes : List ℕ) × SetsIn n first (with_word n es (Some i) base count word) (with_word n es (Some i) base count new) j k value bytes) (sym (place i ok)) (
+        chunk_with_word n (stored i) base count new i,
+        record {
+          written = subst (λ o. IsWritten n (unwrap_or o first) k value (chunk_with_word n (stored i) base count new i)) (sym (found i ok)) written;
+          edited = puts_here n es (Some i) (chunk_with_word n (stored i) base count word i) (chunk_with_word n (stored i) base count new i) i cache (itself i);
+        },
+      )
+
+  -- the bit is cleared
+  pub cleared_in : (new : ℕ) (cached : Option ℕ) → MatchOption cached (count ≡ 0) (IsWordOf n es base count) → new ≡ bit_and word (2 ^ 64 - 1 - 2 ^ (k - base)) → IfSome (lookup (nat_eq (k / (8 * n))) (with_word n es cached base count word)) (λ chunk. IsSetIn n (with_word n es cached base count word) (with_word n es cached base count new) (k / (8 * n)) chunk k false)
+  unfolding stored
+  cleared_in new None none e = absurd (omega (arith, none, low, high))
+  cleared_in new (Some i) ok e =
+      let cache = word_cached n es base count i width ok in
+      let fits : k - base < 64 = omega (arith, ok.short, high, low) in
+      let written = word_written n (stored i) base count word new i k false width.positive ok.low ok.high low high (ap (λ w. eqb (bit_at w (k - base)) 1) e ∙ cleared_here word (k - base) fits) (λ t h ne. ap (λ w. bit_at w t) e ∙ cleared_other word (k - base) t fits (omega (arith, h, ok.short)) ne) in
+      subst (λ (j : ℕ). IfSome (lookup (nat_eq j) (with_word n es (Some i) base count word)) (λ chunk. IsSetIn n (with_word n es (Some i) base count word) (with_word n es (Some i) base count new) j chunk k false)) (sym (place i ok)) (cached_some n es (Some i) (chunk_with_word n (stored i) base count word i) (chunk_with_word n (stored i) base count new i) i k false cache (itself i) written)
+
+  pub some_in : (cached : Option ℕ) → MatchOption cached (count ≡ 0) (IsWordOf n es base count) → lookup (nat_eq (k / (8 * n))) (with_word n es cached base count word) ≡ None → ⊥
+  some_in None none e = absurd (omega (arith, none, low, high))
+  some_in (Some i) ok e = not_some (chunk_with_word n (stored i) base count word i) (sym (found i ok) ∙ (ap (λ (j : ℕ). lookup (nat_eq j) (with_word n es (Some i) base count word)) (sym (place i ok)) ∙ e))
+
+-- a position outside the cached word is read from the entries
+pub read_out : (n : ℕ) (es : List (ℕ × List ℕ)) (cached : Option ℕ) (base count word k : ℕ) → IsTail n es cached base count → (k < base) ⊎ (base + count ≤ k) → option_map (λ chunk. chunk_bit n chunk k) (lookup (nat_eq (k / (8 * n))) (with_word n es cached base count word)) ≡ option_map (λ chunk. chunk_bit n chunk k) (lookup (nat_eq (k / (8 * n))) es)
+read_out n es None base count word k ok out = refl
+read_out n es (Some i) base count word k ok out = elim (cases_eq (k / (8 * n)) i) [
+  | inr ne ↦ ap (option_map (λ chunk. chunk_bit n chunk k)) (lookup_beside n es (Some i) _ (k / (8 * n)) cache (ne_eqb i (k / (8 * n)) (λ e. ne (sym e))))
+  | inl e ↦ subst (λ (j : ℕ). option_map (λ chunk. chunk_bit n chunk k) (lookup (nat_eq j) (with_word n es (Some i) base count word)) ≡ option_map (λ chunk. chunk_bit n chunk k) (lookup (nat_eq j) es)) (sym e) (
+      ap (option_map (λ chunk. chunk_bit n chunk k)) (lookup_here n es (Some i) (chunk_with_word n (unwrap_or (lookup (nat_eq i) es) []) base count word i) i cache (itself i))
+      ∙ go (lookup (nat_eq i) es) refl ok.word.found e)
+]
+  where
+    cache : IsCached n es (Some i)
+    cache = word_cached n es base count i ok.width ok.word
+
+    go : (o : Option (List ℕ)) → lookup (nat_eq i) es ≡ o → IsSome o → k / (8 * n) ≡ i → Some (chunk_bit n (chunk_with_word n (unwrap_or o []) base count word i) k) ≡ option_map (λ chunk. chunk_bit n chunk k) o
+    go None e some at = cc
+    go (Some chunk) e some at =
+        let pos = ok.width.positive in
+        let here : 8 * n * i + k % (8 * n) ≡ k = ap (λ (y : ℕ). 8 * n * y + k % (8 * n)) (sym at) ∙ place_of (8 * n) k in
+        ap Some (bit_from n (bit_with_word n chunk base count word) i k pos ∙ (ap (bit_with_word n chunk base count word) here ∙ out_word n chunk base count word k out))
+
+-- where the word is in its chunk
+pub word_place : (n : ℕ) (es : List (ℕ × List ℕ)) (base count i : ℕ) → IsTail n es (Some i) base count → (base % (8 * n) % 8 ≡ 0) × (count % 8 ≡ 0) × (count ≤ 64) × (base % (8 * n) + count ≤ 8 * n)
+word_place n es base count i ok =
+    let w = ok.word in
+    let rest : base % (8 * n) ≡ base - 8 * n * i = rest_is n i base w.low (omega (arith, w.some, w.high)) in
+    (omega (arith, rest, w.starts), w.whole, w.short, omega (arith, rest, w.low, w.high))
+
+-- the chunk that is cached, or another one
+pub whole_here : (n : ℕ) (es : List (ℕ × List ℕ)) (base count word i : ℕ) (old new : List ℕ) → IsTail n es (Some i) base count → lookup (nat_eq i) es ≡ Some old → IsChunk n new → IsWordPut n old new base count word → Some new ≡ lookup (nat_eq i) (with_word n es (Some i) base count word)
+whole_here n es base count word i old new ok e is put =
+    ap Some (word_put n old new base count word i ok.width.positive is ok.word.some ok.word.low ok.word.high put)
+    ∙ (ap (λ o. Some (chunk_with_word n (unwrap_or o []) base count word i)) (sym e)
+    ∙ sym (lookup_here n es (Some i) (chunk_with_word n (unwrap_or (lookup (nat_eq i) es) []) base count word i) i (word_cached n es base count i ok.width ok.word) (itself i)))
+
+pub whole_beside : (n : ℕ) (es : List (ℕ × List ℕ)) (cached : Option ℕ) (base count word i : ℕ) → IsTail n es cached base count → is_cached_at cached i ≡ false → lookup (nat_eq i) (with_word n es cached base count word) ≡ lookup (nat_eq i) es
+whole_beside n es None base count word i ok out = refl
+whole_beside n es (Some h) base count word i ok out = lookup_beside n es (Some h) (chunk_with_word n (unwrap_or (lookup (nat_eq h) es) []) base count word h) i (word_cached n es base count h ok.width ok.word) out
+
+-- the same, for a cached index that is known to be there
+pub place_at : (n : ℕ) (es : List (ℕ × List ℕ)) (cached : Option ℕ) (base count i : ℕ) → cached ≡ Some i → IsTail n es cached base count → (base % (8 * n) % 8 ≡ 0) × (count % 8 ≡ 0) × (count ≤ 64) × (base % (8 * n) + count ≤ 8 * n)
+place_at n es cached base count i e ok = word_place n es base count i (subst (λ o. IsTail n es o base count) e ok)
+
+pub whole_at : (n : ℕ) (es : List (ℕ × List ℕ)) (cached : Option ℕ) (base count word i : ℕ) (old new : List ℕ) → cached ≡ Some i → IsTail n es cached base count → lookup (nat_eq i) es ≡ Some old → IsChunk n new → IsWordPut n old new base count word → Some new ≡ lookup (nat_eq i) (with_word n es cached base count word)
+whole_at n es cached base count word i old new e ok found is put = subst (λ o. Some new ≡ lookup (nat_eq i) (with_word n es o base count word)) (sym e) (whole_here n es base count word i old new (subst (λ o. IsTail n es o base count) e ok) found is put)
+
+-- a chunk that is not among the entries is not there with the word either
+pub whole_none : (n : ℕ) (es : List (ℕ × List ℕ)) (cached : Option ℕ) (base count word i : ℕ) → IsTail n es cached base count → lookup (nat_eq i) es ≡ None → lookup (nat_eq i) (with_word n es cached base count word) ≡ None
+whole_none n es None base count word i ok none = none
+whole_none n es (Some h) base count word i ok none = elim (cases_eq h i) [
+  | inl e ↦ absurd (false≢true (rw (e, none) at ok.word.found))
+  | inr ne ↦ whole_beside n es (Some h) base count word i ok (ne_eqb h i ne) ∙ none
+]
+
+-- the word is written back
+pub written_back : (n : ℕ) (es fs : List (ℕ × List ℕ)) (base count word i : ℕ) (old new : List ℕ) → IsTail n es (Some i) base count → lookup (nat_eq i) es ≡ Some old → IsChunk n new → IsWordPut n old new base count word → IsStrictlySortedBy nat_cmp (keys_of fs) → Puts es fs i (Some new) → fs ≡ with_word n es (Some i) base count word
+written_back n es fs base count word i old new ok e is put sorted puts =
+    let bytes = word_put n old new base count word i ok.width.positive is ok.word.some ok.word.low ok.word.high put in
+    let same : fs ≡ with_cached es (Some i) new = same_entries fs (with_cached es (Some i) new) sorted (cached_sorted n es (Some i) new (word_cached n es base count i ok.width ok.word)) (λ q. puts q ∙ sym (holds es i old new e q)) in
+    same ∙ (ap (with_cached es (Some i)) bytes ∙ ap (λ o. with_cached es (Some i) (chunk_with_word n (unwrap_or o []) base count word i)) (sym e))
+
+-- the indices of all entries
+pub word_keys : (n : ℕ) (es : List (ℕ × List ℕ)) (cached : Option ℕ) (base count word : ℕ) → keys_of es ≡ keys_of (with_word n es cached base count word)
+word_keys n es None base count word = refl
+word_keys n es (Some i) base count word = sym (cached_keys es (Some i) (chunk_with_word n (unwrap_or (lookup (nat_eq i) es) []) base count word i))
+
+-- ---- a word is loaded
+module _ (n k i : ℕ) (pos : 0 < n) (index : i ≡ k / (8 * n)) where
+  start_low : 8 * n * i + word_start n k % (8 * n) ≡ word_start n k
+  start_low = ap (λ (j : ℕ). 8 * n * j + word_start n k % (8 * n)) (index ∙ sym (start_chunk n k pos)) ∙ place_of (8 * n) (word_start n k)
+
+  aligned : word_start n k % (8 * n) % 64 ≡ 0
+  aligned = eqb-true (word_start n k % (8 * n) % 64) 0 (start_of n k pos)
+
+  ends : (next_word n (word_start n k) ≤ word_start n k + 64) × (word_start n k < next_word n (word_start n k)) × (next_word n (word_start n k) ≤ 8 * n * i + 8 * n) × ((next_word n (word_start n k) - word_start n k) % 8 ≡ 0)
+  ends = elim (next_cases n (word_start n k) pos) [
+    | inl s ↦ (omega (arith, s.is), omega (arith, s.is), omega (arith, s.is, s.space, start_low), omega (arith, s.is))
+    | inr l ↦ (omega (arith, l.is, l.space), omega (arith, l.is, mod_below (word_start n k) (8 * n) (omega (arith, pos))), omega (arith, l.is, start_low, mod_below (word_start n k) (8 * n) (omega (arith, pos))), omega (arith, l.is, aligned, mod_below (word_start n k) (8 * n) (omega (arith, pos))))
+  ]
+
+  pub loaded_word : (es : List (ℕ × List ℕ)) (start end : ℕ) (chunk : List ℕ) → start ≡ word_start n k → end ≡ next_word n start → IsStrictlySortedBy nat_cmp (keys_of es) → lookup (nat_eq i) es ≡ Some chunk → IsWordOf n es start (end - start) i
+  loaded_word es start end chunk s e sorted found =
+      let at : end ≡ next_word n (word_start n k) = e ∙ ap (next_word n) s in
+      record {
+        sorted = sorted;
+        found = rw found refl;
+        some = omega (arith, s, at, ends.1);
+        short = omega (arith, s, at, ends.0);
+        low = omega (arith, s, start_low);
+        high = omega (arith, s, at, ends.1, ends.2);
+        starts = omega (arith, s, start_low, aligned);
+        whole = rw (s, at) ends.3;
+      }
+
+  pub loaded_same : (es : List (ℕ × List ℕ)) (start end word : ℕ) (chunk : List ℕ) → start ≡ word_start n k → end ≡ next_word n start → IsWordOf n es start (end - start) i → lookup (nat_eq i) es ≡ Some chunk → IsChunk n chunk → ((t : ℕ) → t < 64 → start + t < end → start % (8 * n) + t < 8 * n → eqb (bit_at word t) 1 ≡ chunk_bit n chunk (start % (8 * n) + t)) → with_word n es (Some i) start (end - start) word ≡ es
+  loaded_same es start end word chunk s e ok found is bits =
+      let low : 8 * n * i ≤ start = ok.low in
+      let rest : start % (8 * n) ≡ start - 8 * n * i = rest_is n i start ok.low (omega (arith, ok.high, ok.some)) in
+      let same = word_same n chunk start (end - start) word i pos is ok.low ok.high (λ t h.
+      let within : start % (8 * n) + t < 8 * n = omega (arith, rest, ok.high, h) in
+      let same_rest : (start % (8 * n) + t) % (8 * n) ≡ (start + t) % (8 * n) = mod-eq_of_lt {n = start % (8 * n) + t} {m = 8 * n} within ∙ omega (arith, rest, rest_is n i (start + t) (omega (arith, low)) (omega (arith, ok.high, h))) in
+      bits t (omega (arith, h, ok.short)) (omega (arith, h)) within ∙ chunk_bit-mod n chunk (start % (8 * n) + t) (start + t) pos same_rest) in
+      ap (λ o. with_cached es (Some i) (chunk_with_word n (unwrap_or o []) start (end - start) word i)) found ∙ (ap (with_cached es (Some i)) same ∙ cache_same es i chunk found)
+
+pub loaded_start : (n k : ℕ) → 0 < n → (start end : ℕ) → start ≡ word_start n k → end ≡ next_word n start → (starts_word n start ≡ true) × (start < end)
+loaded_start n k pos start end s e = (rw s (start_of n k pos), omega (arith, e, end_near n start pos))
+
+-- ---- the word is written back before a call
+pub no_word : (n : ℕ) (es : List (ℕ × List ℕ)) (cached : Option ℕ) (base count word : ℕ) → cached ≡ None → with_word n es cached base count word ≡ es
+no_word n es cached base count word e = ap (λ o. with_word n es o base count word) e
+
+pub sets_between : (n : ℕ) (first : List ℕ) (es mid fs gs : List (ℕ × List ℕ)) (i k : ℕ) (value : Bool) → mid ≡ es → gs ≡ fs → (bytes : List ℕ) × SetsIn n first mid fs i k value bytes → (bytes : List ℕ) × SetsIn n first es gs i k value bytes
+sets_between n first es mid fs gs i k value before after set = (set.0, subst (λ xs. SetsIn n first es xs i k value set.0) (sym after) (subst (λ xs. SetsIn n first xs fs i k value set.0) before set.1))
+
+pub byte_between : (n : ℕ) (es mid fs gs : List (ℕ × List ℕ)) (i k byte : ℕ) → mid ≡ es → gs ≡ fs → IsByteSetIn n mid fs i k byte → IsByteSetIn n es gs i k byte
+byte_between n es mid fs gs i k byte before after set = subst (λ xs. IsByteSetIn n es xs i k byte) (sym after) (subst (λ xs. IsByteSetIn n xs fs i k byte) before set)
+
+-- the fact of a success that is known
+pub ok_of : {A E : Type 0} (r : Result A E) (P : Type 0) → IsOk r → OnOk r P → P
+ok_of (Ok x) P ok h = h
+ok_of (Err e) P ok h = absurd (false≢true ok)

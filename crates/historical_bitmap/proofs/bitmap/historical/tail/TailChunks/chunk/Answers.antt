@@ -1,0 +1,28 @@
+use Rattle.std.proofs.Common.{◌≡◌, Some, None, ap, sym, ◌∙◌, arith}
+use Rattle.std.specs.Prelude.{nat_eq}
+use Rattle.std.specs.Map.{lookup}
+use Rattle.std.proofs.lemmas.Bool.{ne_eqb}
+use Rattle.historical_bitmap.specs.WriteCache.{is_cached_at}
+use Rattle.historical_bitmap.proofs.EditedChunks.CachedWord.{place_at, whole_at, whole_beside, whole_none}
+use Rattle.historical_bitmap.proofs.bitmap.historical.tail.TailChunks.chunk.Goals as goal
+use Rattle.historical_bitmap.proofs.bitmap.historical.tail.TailChunks.chunk.Goals.{in-Some+then-cached-index, in-Some+else-cached-index, in_default}
+
+pub returns-in_err-bytes-clause-value : goal.returns-in_err-bytes-clause-value
+returns-in_err-bytes-clause-value g c =
+    let t = c.self.inside.tail in
+    rw (sym c.self.view_is) (c.from_residual.ensures ∙ sym (whole_none g.row.N c.self.inside.chunks t.cached t.base t.count t.word c.args.index c.self.invariant (sym c.in_err-bytes.ensures.value)))
+
+pub put_word-requires : goal.put_word-requires
+put_word-requires g c =
+    let t = c.self.inside.tail in
+    let at = place_at g.row.N c.self.inside.chunks t.cached t.base t.count c.in-Some.cached c.in-Some.is c.self.invariant in
+    (omega (arith, c.self.invariant.width.fits), (c.self.invariant.width, (at.0, (at.1, (at.2, at.3)))))
+
+pub returns-clause-value : goal.returns-clause-value
+returns-clause-value g c =
+    let t = c.self.inside.tail in
+    rw (sym c.self.view_is) (elim c.match-self.branch [
+      | in-Some+then-cached-index w ↦ ap Some w.bytes-is ∙ whole_at g.row.N c.self.inside.chunks t.cached t.base t.count t.word c.args.index c.in_ok-bytes.field-0.now w.put_word.new.chunk (w.in-Some.is ∙ ap Some w.if-cached-index.true) c.self.invariant (sym c.in_ok-bytes.ensures.value) w.put_word.ensures.known w.put_word.ensures.put
+      | in-Some+else-cached-index w ↦ ap Some w.bytes-is ∙ (c.in_ok-bytes.ensures.value ∙ sym (whole_beside g.row.N c.self.inside.chunks t.cached t.base t.count t.word c.args.index c.self.invariant (ap (λ o. is_cached_at o c.args.index) w.in-Some.is ∙ ne_eqb w.in-Some.cached c.args.index w.if-cached-index.false)))
+      | in_default w ↦ ap Some w.bytes-is ∙ (c.in_ok-bytes.ensures.value ∙ sym (whole_beside g.row.N c.self.inside.chunks t.cached t.base t.count t.word c.args.index c.self.invariant (ap (λ o. is_cached_at o c.args.index) w.in_default.is)))
+    ])

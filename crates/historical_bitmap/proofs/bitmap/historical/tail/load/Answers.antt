@@ -1,0 +1,19 @@
+use Rattle.std.proofs.Common.{◌≡◌, Some, sym, ◌∙◌, arith}
+use Rattle.std.specs.Prelude.{nat_eq}
+use Rattle.std.specs.Map.{lookup}
+use Rattle.historical_bitmap.proofs.EditedChunks.CachedWord.{loaded_same, loaded_start, loaded_word}
+use Rattle.historical_bitmap.proofs.bitmap.historical.tail.load.Goals as goal
+
+pub word_below-requires : goal.word_below-requires
+word_below-requires g c = (omega (arith, c.requires.width.fits), (c.requires.width, loaded_start g.row.N c.args.bit c.requires.width.positive c.word_base-base.result c.in-Some-following_word.end c.word_base-base.ensures c.in-Some-following_word.ensures))
+
+pub returns-clause-tail : goal.returns-clause-tail
+returns-clause-tail g c = record {
+  width = c.requires.width;
+  word = loaded_word g.row.N c.args.bit c.args.index c.requires.width.positive c.requires.index c.args.chunks.now c.word_base-base.result c.in-Some-following_word.end c.in-Some.bytes.now c.word_base-base.ensures c.in-Some-following_word.ensures c.in-Some.ensures.sorted (sym c.in-Some.ensures.value);
+}
+
+pub returns-clause-same : goal.returns-clause-same
+returns-clause-same g c =
+    let word = loaded_word g.row.N c.args.bit c.args.index c.requires.width.positive c.requires.index c.args.chunks.now c.word_base-base.result c.in-Some-following_word.end c.in-Some.bytes.now c.word_base-base.ensures c.in-Some-following_word.ensures c.in-Some.ensures.sorted (sym c.in-Some.ensures.value) in
+    loaded_same g.row.N c.args.bit c.args.index c.requires.width.positive c.requires.index c.args.chunks.now c.word_base-base.result c.in-Some-following_word.end c.word_below.result c.in-Some.bytes.now c.word_base-base.ensures c.in-Some-following_word.ensures word (sym c.in-Some.ensures.value) c.known.ensures c.word_below.ensures.inside

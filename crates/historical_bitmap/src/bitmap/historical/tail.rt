@@ -1,0 +1,365 @@
+//! The edited chunks of a batch, with the word that single pushes and pops write to.
+
+ghost use Rattle.std.specs.Prelude.{◌≡◌, ℕ, ◌+◌, ◌*◌, ◌/◌, ◌%◌, ◌^◌, ◌<◌, ◌≤◌, ◌&&◌, ◌++◌, [], List, length, Option, Some, None, IfOk, IfSome, OnOk, OnErr, IsOk, IsSome, if◌then◌else◌, nat_eq, nat_le, nat_lt, true, false};
+ghost use Rattle.std.specs.List.Sorted.{IsStrictlySortedBy};
+ghost use Rattle.std.specs.Map.{keys_of, lookup};
+ghost use Rattle.std.specs.Option.{option_map};
+ghost use Rattle.std.specs.Ordering.{nat_cmp};
+ghost use Rattle.bitmap_bytes.specs.Chunk.{chunk_bit, IsChunk, IsWidth};
+ghost use Rattle.bitmap_core.specs.PrunedBits.{chunk, truncated};
+ghost use Rattle.historical_bitmap.specs.Edits.{from_to};
+ghost use Rattle.historical_bitmap.specs.Pending.{IsByteSetIn, IsNextMember, IsSetIn, Puts, PutsTwo, SetsIn, members_between};
+ghost use Rattle.historical_bitmap.specs.Tail.{IsTail, IsWordPut, with_word};
+
+use crate::bitmap::historical::grown::GrownChunks;
+use bitmap_core::bitmap::prunable::Prunable;
+use bitmap_core::chunk::facts::known;
+use bitmap_core::chunk::load::{following_word, word_base, word_below};
+use bitmap_core::chunk::{byte_index, chunk_index, get_bit};
+use std::alloc::{AllocError, Global};
+use std::collections::BTreeMap;
+use std::marker::Model;
+
+// The greatest width, in bytes, of chunks of which a word is cached.
+const WIDEST: usize = 64;
+
+// A word of a chunk: the `count` bits from position `base` on of the chunk at index `cached`. There is none if `count` is 0.
+#[derive(Debug, Clone, Copy)]
+struct Tail {
+    cached: Option<usize>,
+    base: u64,
+    count: u64,
+    word: u64,
+}
+
+// Chunks by index. Bits are pushed to and popped from the cached word, which is written back to its chunk before another call reads or
+// writes that chunk. The chunk keeps outdated bits in place of those of the word.
+#[derive(Debug, Drop)]
+pub(crate) struct TailChunks<const N: usize> {
+    chunks: GrownChunks<N>,
+    tail: Tail,
+}
+
+impl<const N: usize> Model for TailChunks<N> {
+    ghost use Rattle.std.specs.Prelude.{ℕ, List};
+    ghost use Rattle.historical_bitmap.specs.Tail.{IsTail, with_word};
+
+    ghost Value = { List (ℕ × List ℕ) };
+
+    ghost view = { λ c. with_word N c.chunks c.tail.cached c.tail.base c.tail.count c.tail.word };
+
+    ghost invariant = { λ c. IsTail N c.chunks c.tail.cached c.tail.base c.tail.count };
+}
+
+// Returns whether a position is among `count` positions from `base` on.
+#[inline]
+fn is_within(base: u64, count: u64, bit: u64) -> bool
+    ensures { result ≡ (nat_le base bit && nat_lt bit (base + count)) }
+{
+    base <= bit && bit - base < count
+}
+
+// Returns the word with bit `at` set if `value` is true, else 0.
+#[inline]
+fn mask_if(at: u64, value: bool) -> u64
+    requires { at < 64 }
+    ensures { result ≡ (if value then 2 ^ at else 0) }
+{
+    if value { 1 << at } else { 0 }
+}
+
+// Writes the low `count` bits of a word to a chunk from bit `base` on. Both are whole bytes.
+fn put_word<const N: usize>(chunk: &mut [u8; N], base: u64, count: u64, word: u64)
+    requires width { IsWidth N }
+    requires starts { base % (8 * N) % 8 ≡ 0 }
+    requires whole { count % 8 ≡ 0 }
+    requires short { count ≤ 64 }
+    requires within { base % (8 * N) + count ≤ 8 * N }
+    ensures known { IsChunk N chunk.new }
+    ensures put { IsWordPut N chunk.old chunk.new base count word }
+{
+    let at = byte_index::<N>(base);
+    let bytes = word.to_le_bytes();
+    for j in 0..(count / 8) as usize {
+        chunk[at + j] = bytes[j];
+    }
+    known(chunk);
+}
+
+// Returns a tail without a word.
+fn no_tail() -> Tail
+    ensures cached { result.cached ≡ None }
+    ensures count { result.count ≡ 0 }
+{
+    Tail {
+        cached: None,
+        base: 0,
+        count: 0,
+        word: 0,
+    }
+}
+
+// Writes the word to its chunk. Does not allocate.
+#[inline(never)]
+fn write_back<const N: usize>(chunks: &mut GrownChunks<N>, index: usize, tail: Tail)
+    requires tail { IsTail N chunks.old (Some index) tail.base tail.count }
+    ensures { chunks.new ≡ with_word N chunks.old (Some index) tail.base tail.count tail.word }
+{
+    if let Some(bytes) = chunks.get(index) {
+        let mut bytes = *bytes;
+        put_word(&mut bytes, tail.base, tail.count, tail.word);
+        let _ = chunks.write(index, bytes);
+    }
+}
+
+// Writes the word, if there is one, to its chunk. Does not allocate.
+#[inline]
+fn settle<const N: usize>(chunks: &mut GrownChunks<N>, tail: &mut Tail)
+    requires { IsTail N chunks.old tail.old.cached tail.old.base tail.old.count }
+    ensures value { chunks.new ≡ with_word N chunks.old tail.old.cached tail.old.base tail.old.count tail.old.word }
+    ensures cached { tail.new.cached ≡ None }
+    ensures count { tail.new.count ≡ 0 }
+{
+    if let Some(index) = tail.cached {
+        write_back(chunks, index, *tail);
+    }
+    *tail = no_tail();
+}
+
+// Returns the word of a position of the chunk at an index, or none if chunks are too wide to be copied when the word is written back.
+fn load<const N: usize>(chunks: &GrownChunks<N>, index: usize, bit: u64) -> Tail
+    requires width { IsWidth N }
+    requires index { index ≡ bit / (8 * N) }
+    ensures tail { IsTail N chunks.now result.cached result.base result.count }
+    ensures same { with_word N chunks.now result.cached result.base result.count result.word ≡ chunks.now }
+{
+    if N > WIDEST {
+        return no_tail();
+    }
+    let base = word_base::<N>(bit);
+    let Some(bytes) = chunks.get(index) else {
+        return no_tail();
+    };
+    known(bytes);
+    let Some(end) = following_word::<N>(base) else {
+        return no_tail();
+    };
+    Tail {
+        cached: Some(index),
+        base,
+        count: end - base,
+        word: word_below(bytes, base, end),
+    }
+}
+
+impl<const N: usize> TailChunks<N> {
+    // Returns a collection without chunks. Does not allocate.
+    pub(crate) fn new(alloc: Global) -> Self
+        requires width { IsWidth N }
+        ensures { result ≡ [] }
+    {
+        TailChunks {
+            chunks: GrownChunks::new(alloc),
+            tail: no_tail(),
+        }
+    }
+
+    // Returns a bit, if its chunk is edited.
+    #[inline]
+    pub(crate) fn get_bit(&self, bit: u64) -> Option<bool>
+        ensures { result ≡ option_map (λ chunk. chunk_bit N chunk bit) (lookup (nat_eq (bit / (8 * N))) self.now) }
+    {
+        if is_within(self.tail.base, self.tail.count, bit) {
+            return Some(self.tail.word & mask_if(bit - self.tail.base, true) != 0);
+        }
+        let bytes = self.chunks.get(chunk_index::<N>(bit))?;
+        Some(get_bit(bytes, bit))
+    }
+
+    // Returns a copy of the chunk at an index, if there is one.
+    pub(crate) fn chunk(&self, index: usize) -> Option<[u8; N]>
+        ensures value { result ≡ lookup (nat_eq index) self.now }
+        ensures known { IfSome result (IsChunk N) }
+    {
+        let mut bytes = *self.chunks.get(index)?;
+        known(&bytes);
+        if let Some(cached) = self.tail.cached {
+            if cached == index {
+                put_word(&mut bytes, self.tail.base, self.tail.count, self.tail.word);
+            }
+        }
+        Some(bytes)
+    }
+
+    // Writes a bit of the chunk at an index. Starts from the current bitmap's chunk, cut to `len` bits, if none is edited there.
+    // Does not allocate, and succeeds, if that chunk is edited.
+    #[inline]
+    pub(crate) fn write_bit(
+        &mut self,
+        current: &Prunable<N>,
+        len: u64,
+        index: usize,
+        bit: u64,
+        value: bool,
+    ) -> Result<(), AllocError>
+        requires width { IsWidth N }
+        requires from { current.now.pruned ≤ index }
+        requires fits { 8 * N * index < 2 ^ 64 }
+        ensures ok { OnOk result ((bytes : List ℕ) × SetsIn N (chunk N (truncated N current.now len) index) self.old self.new index bit value bytes) }
+        ensures err { OnErr result (self.new ≡ self.old) }
+        ensures edited { IsSome (lookup (nat_eq index) self.old) → IsOk result }
+    {
+        settle(&mut self.chunks, &mut self.tail);
+        self.chunks.write_bit(current, len, index, bit, value)
+    }
+
+    // Appends a bit at a position, which is the length. The bit is zero if its chunk is edited, and its chunk is not edited if the bit is its first.
+    // Starts from the current bitmap's chunk, cut to the length, if none is edited there. Does not allocate, and succeeds, if that chunk is edited.
+    #[inline]
+    pub(crate) fn push_bit(
+        &mut self,
+        current: &Prunable<N>,
+        bit: u64,
+        value: bool,
+    ) -> Result<(), AllocError>
+        requires width { IsWidth N }
+        requires from { current.now.pruned ≤ bit / (8 * N) }
+        requires zero { IfSome (lookup (nat_eq (bit / (8 * N))) self.old) (λ chunk. chunk_bit N chunk bit ≡ false) }
+        requires first { bit % (8 * N) ≡ 0 → lookup (nat_eq (bit / (8 * N))) self.old ≡ None }
+        ensures ok { OnOk result ((bytes : List ℕ) × SetsIn N (chunk N (truncated N current.now bit) (bit / (8 * N))) self.old self.new (bit / (8 * N)) bit value bytes) }
+        ensures err { OnErr result (self.new ≡ self.old) }
+        ensures edited { IsSome (lookup (nat_eq (bit / (8 * N))) self.old) → IsOk result }
+    {
+        if is_within(self.tail.base, self.tail.count, bit) {
+            self.tail.word |= mask_if(bit - self.tail.base, value);
+            return Ok(());
+        }
+        self.push_other(current, bit, value)
+    }
+
+    // As `push_bit`, for a bit that is not in the cached word. Caches its word.
+    #[inline(never)]
+    fn push_other(&mut self, current: &Prunable<N>, bit: u64, value: bool) -> Result<(), AllocError>
+        requires width { IsWidth N }
+        requires from { current.now.pruned ≤ bit / (8 * N) }
+        requires zero { IfSome (lookup (nat_eq (bit / (8 * N))) self.old) (λ chunk. chunk_bit N chunk bit ≡ false) }
+        requires first { bit % (8 * N) ≡ 0 → lookup (nat_eq (bit / (8 * N))) self.old ≡ None }
+        ensures ok { OnOk result ((bytes : List ℕ) × SetsIn N (chunk N (truncated N current.now bit) (bit / (8 * N))) self.old self.new (bit / (8 * N)) bit value bytes) }
+        ensures err { OnErr result (self.new ≡ self.old) }
+        ensures edited { IsSome (lookup (nat_eq (bit / (8 * N))) self.old) → IsOk result }
+    {
+        settle(&mut self.chunks, &mut self.tail);
+        let index = chunk_index::<N>(bit);
+        self.chunks.push_bit(current, index, bit, value)?;
+        self.tail = load(&self.chunks, index, bit);
+        Ok(())
+    }
+
+    // Clears a bit and returns its old value, if its chunk is edited. Does not allocate.
+    #[inline]
+    pub(crate) fn clear_bit(&mut self, bit: u64) -> Option<bool>
+        requires width { IsWidth N }
+        ensures bit { result ≡ option_map (λ chunk. chunk_bit N chunk bit) (lookup (nat_eq (bit / (8 * N))) self.old) }
+        ensures none { lookup (nat_eq (bit / (8 * N))) self.old ≡ None → self.new ≡ self.old }
+        ensures some { IfSome (lookup (nat_eq (bit / (8 * N))) self.old) (λ chunk. IsSetIn N self.old self.new (bit / (8 * N)) chunk bit false) }
+    {
+        if is_within(self.tail.base, self.tail.count, bit) {
+            let mask = mask_if(bit - self.tail.base, true);
+            let old = self.tail.word & mask != 0;
+            self.tail.word &= !mask;
+            return Some(old);
+        }
+        settle(&mut self.chunks, &mut self.tail);
+        self.chunks.replace_bit(chunk_index::<N>(bit), bit, false)
+    }
+
+    // Writes the eight bits of a byte from position `bit` on, if the chunk at the index is in the run or cached.
+    // Returns whether it is. Does not allocate.
+    #[inline]
+    pub(crate) fn join_byte(&mut self, index: usize, bit: u64, byte: u8) -> bool
+        requires width { IsWidth N }
+        requires space { bit % (8 * N) + 8 ≤ 8 * N }
+        ensures written { result ≡ true → IsByteSetIn N self.old self.new index bit byte }
+        ensures other { result ≡ false → self.new ≡ self.old }
+    {
+        settle(&mut self.chunks, &mut self.tail);
+        self.chunks.join_byte(index, bit, byte)
+    }
+
+    // Inserts or replaces the chunk at an index. Does not allocate, and succeeds, if there is a chunk.
+    pub(crate) fn write(&mut self, index: usize, chunk: [u8; N]) -> Result<(), AllocError>
+        ensures ok { OnOk result (Puts self.old self.new index (Some chunk.entry)) }
+        ensures err { OnErr result (self.new ≡ self.old) }
+        ensures edited { IsSome (lookup (nat_eq index) self.old) → IsOk result }
+    {
+        settle(&mut self.chunks, &mut self.tail);
+        self.chunks.write(index, chunk)
+    }
+
+    // Inserts or replaces the chunk at an index, and inserts one at the next. There is no chunk past the index.
+    // After an error nothing is changed.
+    pub(crate) fn write_two(
+        &mut self,
+        index: usize,
+        first: [u8; N],
+        second: [u8; N],
+    ) -> Result<(), AllocError>
+        requires next { index + 1 < 2 ^ 64 }
+        requires last { (q : ℕ) → index < q → lookup (nat_eq q) self.old ≡ None }
+        ensures ok { OnOk result (PutsTwo self.old self.new index first.entry second.entry) }
+        ensures err { OnErr result (self.new ≡ self.old) }
+    {
+        settle(&mut self.chunks, &mut self.tail);
+        self.chunks.write_two(index, first, second)
+    }
+
+    // Removes the chunk at an index, past which there is none, and returns it. Does not allocate.
+    pub(crate) fn remove(&mut self, index: usize) -> Option<[u8; N]>
+        requires last { (q : ℕ) → index < q → lookup (nat_eq q) self.old ≡ None }
+        ensures value { result ≡ lookup (nat_eq index) self.old }
+        ensures removed { Puts self.old self.new index None }
+    {
+        settle(&mut self.chunks, &mut self.tail);
+        self.chunks.remove(index)
+    }
+
+    // Returns the map of the chunks beside the appended run, and the part of the run from index `from` up to `to`: its first index, and the one past its last.
+    pub(crate) fn parts_between(
+        &self,
+        from: usize,
+        to: usize,
+    ) -> (&BTreeMap<usize, [u8; N]>, usize, usize)
+        requires order { from ≤ to }
+        ensures from { from ≤ result.1 }
+        ensures rises { result.1 ≤ result.2 }
+        ensures to { result.2 ≤ to }
+        ensures indices { members_between (keys_of self.now) from to ≡ members_between (keys_of result.0.now.entries) from result.1 ++ (from_to result.1 result.2 ++ members_between (keys_of result.0.now.entries) result.2 to) }
+    {
+        self.chunks.parts_between(from, to)
+    }
+
+    // Returns the first index from `from` on that has a chunk.
+    pub(crate) fn next_from(&self, from: usize) -> Option<usize>
+        ensures { IsNextMember (keys_of self.now) from result }
+    {
+        self.chunks.next_from(from)
+    }
+
+    // Returns a copy. Allocates for its chunks.
+    pub(crate) fn duplicate(&self) -> Result<Self, AllocError>
+        ensures { IfOk result (λ copy. copy ≡ self.now) }
+    {
+        Ok(TailChunks {
+            chunks: self.chunks.duplicate()?,
+            tail: self.tail,
+        })
+    }
+
+    // Returns the chunks. Does not allocate.
+    pub(crate) fn into_chunks(mut self) -> GrownChunks<N>
+        ensures { result ≡ self.entry }
+    {
+        settle(&mut self.chunks, &mut self.tail);
+        self.chunks
+    }
+}
