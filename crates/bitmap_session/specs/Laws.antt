@@ -1,5 +1,5 @@
 -- The laws of the abstract machine, about whole runs.
-use Rattle.std.specs.Prelude.{◌≡◌, ℕ, ◌≤◌, List, [], ◌∷◌, Option, IsSome, MatchOption}
+use Rattle.std.specs.Prelude.{◌≡◌, ℕ, ◌≤◌, List, [], ◌∷◌, ◌++◌, Option, IsSome, MatchOption}
 use Rattle.std.specs.List.{All, filter}
 use Rattle.std.specs.Map.{keys_of}
 use Rattle.historical_bitmap.specs.History.{kept_under, latest, RiseInNumber}
@@ -7,7 +7,14 @@ use Rattle.bitmap_session.specs.declared.command.Command.{Command}
 use Rattle.bitmap_session.specs.declared.command.Command.TheVariants.{Commit, Rewind}
 use Rattle.bitmap_session.specs.Replies.{ReplyValue}
 use Rattle.bitmap_session.specs.Replies.ReplyValue.{Done}
-use Rattle.bitmap_session.specs.Machine.{State, Machine, Run, Step, first_machine, is_kept}
+use Rattle.bitmap_session.specs.Machine.{State, Machine, Run, RunsOn, Step, first_machine, is_kept}
+
+-- the law of consecutive runs: two runs, of which the second goes on from where the first leads, are one run of all their commands
+abbrev pub RunsJoin : ℕ → Type 0
+RunsJoin N = (old mid new : Machine) (commands more : List (Command N)) (replies others : List ReplyValue)
+    → RunsOn N old commands replies mid
+    → RunsOn N mid more others new
+    → RunsOn N old (commands ++ more) (replies ++ others) new
 
 -- an optional number is at least each number of a list; if there is none, the list is empty
 abbrev pub IsGreatestOf : Option ℕ → List ℕ → Type 0

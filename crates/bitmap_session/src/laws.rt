@@ -2,7 +2,17 @@
 //!
 //! Each law is the contract of a function with an empty body. A proof uses a law by calling its function.
 
-ghost use Rattle.bitmap_session.specs.Laws.{Rewinding, NumbersRise};
+ghost use Rattle.bitmap_session.specs.Laws.{NumbersRise, Rewinding, RunsJoin};
+
+/// States that consecutive runs are one run.
+///
+/// Let a session run some commands and then more, as two calls of `Session::run` do. Then it has run the commands of both
+/// lists, joined, with the replies of both.
+///
+/// Does not allocate; constant time.
+pub fn consecutive_runs_join<const N: usize>()
+    ensures { RunsJoin N }
+{}
 
 /// States that the kept commit numbers are strictly ascending, in every machine that a run reaches.
 ///
