@@ -287,7 +287,7 @@ impl<const N: usize> BitMap<N, Dirty<N>> {
     ///
     /// Allocates the reverse record, the chunks by which the current bitmap grows, and an entry in the map of commits.
     /// The record has at most one entry per marked chunk, and at most one more if the batch popped down to whole chunks.
-    /// It is allocated once, with capacity for one more entry per edited chunk that is also pruned or cut off.
+    /// It is allocated once, with capacity for at most one more entry per edited chunk that is also pruned or cut off.
     ///
     /// # Complexity
     ///

@@ -463,14 +463,15 @@ impl<const N: usize> Dirty<N> {
         self.edited.parts_between(from, to)
     }
 
-    // Returns the number of marked chunks before chunk `cut`, from `first` on, or more: an edited chunk of the map that is pruned,
-    // and the one at `cut`, count too.
+    // Returns the number of marked chunks from `first` up to `cut`, or more: edited chunks of the map that are pruned, and the one at `cut`,
+    // may count twice, but no more chunks count as edited than are between the pruned ones and `cut`.
     fn most_marked(&self, first: usize, cut: usize) -> usize
         requires order { self.now.pruned ≤ cut }
     {
-        let (others, start, past) = self.edited_between(self.pruned, cut);
-        let edited = others.len().saturating_add(past - start);
-        self.pruned.saturating_sub(first).saturating_add(edited)
+        let pruned = self.pruned;
+        let (others, start, past) = self.edited_between(pruned, cut);
+        let edited = others.len().saturating_add(past - start).min(cut - pruned);
+        pruned.saturating_sub(first).saturating_add(edited)
     }
 
     // Returns the reverse record of the edits: one entry per marked chunk, ascending. Allocates once, or never if no chunk is marked.
