@@ -20,4 +20,6 @@ mod in_place;
 #[cfg(test)]
 mod pushes;
 #[cfg(test)]
+mod records;
+#[cfg(test)]
 mod rewound;
