@@ -14,7 +14,7 @@ use bitmap_core::bitmap::Prunable;
 /// Those of `rewind_to`, with the bitmap unchanged. `Memory` if the allocation for the bitmap that is read fails, with the bitmap rewound.
 ///
 /// # Memory
-/// Allocates a bitmap as `rewind_to` does, and another as `get_at_commit` does.
+/// Allocates what `rewind_to` allocates, and a bitmap as `get_at_commit` does.
 ///
 /// # Complexity
 /// That of `rewind_to`, plus a copy of the bitmap that is rewound to.
@@ -38,7 +38,7 @@ pub fn number_read_again<const N: usize>(
 /// Those of `rewind_to`.
 ///
 /// # Memory
-/// Allocates a bitmap, as `rewind_to` does.
+/// Allocates what `rewind_to` allocates.
 ///
 /// # Complexity
 /// That of `rewind_to`.
@@ -58,7 +58,7 @@ pub fn rewinding_leaves_the_earlier<const N: usize>(
 /// `number`.
 ///
 /// # Memory
-/// Allocates a bitmap as `rewind_to` does, and what `commit` allocates for a batch with no edits.
+/// Allocates what `rewind_to` allocates, and what `commit` allocates for a batch with no edits.
 ///
 /// # Complexity
 /// That of `rewind_to`, plus that of a `commit` with no edits: logarithmic in the kept commits.
