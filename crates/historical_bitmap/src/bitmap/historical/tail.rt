@@ -122,8 +122,8 @@ fn settle<const N: usize>(chunks: &mut GrownChunks<N>, tail: &mut Tail)
 {
     if let Some(index) = tail.cached {
         write_back(chunks, index, *tail);
+        *tail = no_tail();
     }
-    *tail = no_tail();
 }
 
 // Returns the word of a position of the chunk at an index, or none if chunks are too wide to be copied when the word is written back.
