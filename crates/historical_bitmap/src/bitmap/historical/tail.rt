@@ -269,8 +269,24 @@ impl<const N: usize> TailChunks<N> {
             self.tail.word &= !mask;
             return Some(old);
         }
+        self.clear_other(bit)
+    }
+
+    // As `clear_bit`, for a bit that is not in the cached word. Caches its word, if its chunk is edited.
+    #[inline(never)]
+    fn clear_other(&mut self, bit: u64) -> Option<bool>
+        requires width { IsWidth N }
+        ensures bit { result ≡ option_map (λ chunk. chunk_bit N chunk bit) (lookup (nat_eq (bit / (8 * N))) self.old) }
+        ensures none { lookup (nat_eq (bit / (8 * N))) self.old ≡ None → self.new ≡ self.old }
+        ensures some { IfSome (lookup (nat_eq (bit / (8 * N))) self.old) (λ chunk. IsSetIn N self.old self.new (bit / (8 * N)) chunk bit false) }
+    {
         settle(&mut self.chunks, &mut self.tail);
-        self.chunks.replace_bit(chunk_index::<N>(bit), bit, false)
+        let index = chunk_index::<N>(bit);
+        let old = self.chunks.replace_bit(index, bit, false);
+        if old.is_some() {
+            self.tail = load(&self.chunks, index, bit);
+        }
+        old
     }
 
     // Writes the eight bits of a byte from position `bit` on, if the chunk at the index is in the run or cached.
