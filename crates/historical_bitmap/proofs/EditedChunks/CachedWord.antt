@@ -1,5 +1,5 @@
 -- Reads and writes of entries of chunks with a cached word.
-use Rattle.std.proofs.Common.{◌≡◌, ℕ, ◌+◌, ◌-◌, ◌*◌, ◌/◌, ◌%◌, ◌^◌, ◌<◌, ◌≤◌, Bool, true, false, cond, List, [], length, get_or, map, eqb, bit_and, bit_or, w64, Some, None, Result, Ok, Err, refl, sym, ap, ◌∙◌, subst, arith}
+use Rattle.std.proofs.Common.{◌≡◌, ℕ, ◌+◌, ◌-◌, ◌*◌, ◌/◌, ◌%◌, ◌^◌, ◌<◌, ◌≤◌, Bool, true, false, cond, List, [], length, map, eqb, bit_and, bit_or, w64, Some, None, Result, Ok, Err, refl, sym, ap, ◌∙◌, subst, arith}
 use mathlib.Core.Logic.{inl, inr, ◌≢◌, ◌⊎◌}
 use Rattle.std.proofs.Math.Nat.{mod-eq_of_lt}
 use Rattle.std.proofs.Math.Pow.{pow-lt}
@@ -7,7 +7,7 @@ use Rattle.std.proofs.lemmas.Bool.{cases_eq, cases_lt, eq-eqb, eqb-true, ne_eqb,
 use Rattle.std.proofs.lemmas.Nat.{div-mul-add, mod-mul-add, mod_below}
 use Rattle.std.proofs.lemmas.Nat.Bits.{bit_at-lt, bit_at-pow_other, bit_at-pow_same, bit_at_and, bit_at_not}
 use Rattle.std.proofs.lemmas.List.FromFn.{length-map-range_with_len}
-use Rattle.std.specs.Prelude.{nat_eq, nat_le, nat_lt, Option, IsOk, IsSome, IfSome, MatchOption, OnOk, unwrap_or, ◌&&◌}
+use Rattle.std.specs.Prelude.{nat_eq, Option, IsOk, IsSome, IfSome, MatchOption, OnOk, unwrap_or}
 use Rattle.std.specs.Int.{bit_at}
 use Rattle.std.specs.Int.Bits.{or_zero_r}
 use Rattle.std.specs.List.{range_with_len}
@@ -25,7 +25,6 @@ use Rattle.bitmap_core.proofs.Pruned.Positions.{place as place_of}
 use Rattle.historical_bitmap.specs.Pending.{IsByteSetIn, IsSetIn, IsWritten, Puts, SetsIn}
 use Rattle.historical_bitmap.specs.Tail.{bit_with_word, chunk_with_word, IsTail, IsWordOf, IsWordPut, with_word}
 use Rattle.historical_bitmap.specs.WriteCache.{IsCached, is_cached_at, with_cached}
-use Rattle.historical_bitmap.proofs.EditedChunks.AppendedRun.{inside}
 use Rattle.historical_bitmap.proofs.EditedChunks.CachedChunks.{cache_same, cached_keys, cached_some, cached_sorted, holds, lookup_beside, lookup_here, puts_here}
 use Rattle.historical_bitmap.proofs.Lists.Maps.{not_some, same_entries}
 

@@ -1,6 +1,4 @@
-use Rattle.std.proofs.Common.{◌≡◌, Some, sym, ◌∙◌, arith}
-use Rattle.std.specs.Prelude.{nat_eq}
-use Rattle.std.specs.Map.{lookup}
+use Rattle.std.proofs.Common.{sym, arith}
 use Rattle.historical_bitmap.proofs.EditedChunks.CachedWord.{loaded_same, loaded_start, loaded_word}
 use Rattle.historical_bitmap.proofs.bitmap.historical.tail.load.Goals as goal
 

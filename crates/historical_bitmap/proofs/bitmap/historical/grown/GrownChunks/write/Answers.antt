@@ -1,13 +1,8 @@
-use Rattle.std.proofs.Common.{Some, ap, sym, subst, ◌∙◌, ◌-◌, arith}
+use Rattle.std.proofs.Common.{Some, ap, sym, ◌∙◌, ◌-◌, arith}
 use Rattle.std.proofs.lemmas.Bool.{false≢true}
 use Rattle.std.proofs.lemmas.List.{length-set}
 use Rattle.std.specs.Prelude.{is_some}
-use Rattle.std.specs.List.Sorted.{IsStrictlySortedBy}
-use Rattle.std.specs.Map.{keys_of}
-use Rattle.std.specs.Ordering.{nat_cmp}
-use Rattle.historical_bitmap.specs.Pending.{Puts}
-use Rattle.historical_bitmap.specs.Run.{with_run}
-use Rattle.historical_bitmap.proofs.EditedChunks.AppendedRun.{begun_run, copied_some, in_run, longer_run, look_beside, none_of, ok_map, out_run, put_keeps, puts_in, puts_other, run_order, with_sorted}
+use Rattle.historical_bitmap.proofs.EditedChunks.AppendedRun.{copied_some, in_run, look_beside, none_of, ok_map, out_run, put_keeps, puts_in, puts_other, run_order, with_sorted}
 use Rattle.historical_bitmap.proofs.bitmap.historical.grown.GrownChunks.write.Goals as goal
 
 pub returns-then-is_in-clause-ok : goal.returns-then-is_in-clause-ok

@@ -1,6 +1,4 @@
-use Rattle.std.proofs.Common.{◌≡◌, Some, None, ap, sym, ◌∙◌, arith}
-use Rattle.std.specs.Prelude.{nat_eq}
-use Rattle.std.specs.Map.{lookup}
+use Rattle.std.proofs.Common.{Some, ap, sym, ◌∙◌, arith}
 use Rattle.std.proofs.lemmas.Bool.{ne_eqb}
 use Rattle.historical_bitmap.specs.WriteCache.{is_cached_at}
 use Rattle.historical_bitmap.proofs.EditedChunks.CachedWord.{place_at, whole_at, whole_beside, whole_none}
