@@ -5,7 +5,6 @@ use Rattle.std.proofs.lemmas.Bool.{cases_eq, cases_lt, eq-eqb, ne_eqb, le-leb, l
 use Rattle.std.proofs.lemmas.List.{length-replicate}
 use Rattle.std.proofs.lemmas.List.Elements.{All-head, All-pop, All-tail}
 use Rattle.std.proofs.lemmas.Map.Keys.{sorted_head, sorted_tail}
-use Rattle.std.proofs.lemmas.Nat.{mul-le}
 use Rattle.std.specs.BTreeMap.{is_at}
 use Rattle.std.specs.Int.{div_ceil}
 use Rattle.std.specs.List.{All}
@@ -15,7 +14,7 @@ use Rattle.std.specs.Option.{option_or}
 use Rattle.std.specs.Ordering.{nat_cmp}
 use Rattle.std.specs.Prelude.{Bool, true, false, cond, ◌&&◌, Option, Some, None, MatchOption, nat_eq, nat_le, nat_lt}
 use Rattle.bitmap_bytes.specs.Chunk.{chunk_bit}
-use Rattle.bitmap_core.specs.PrunedBits.{PrunedBits, bit_at, bit_len, extended, IsRetained, IsRetainedChunk, pruned_bits, truncated, unpruned, with_chunk}
+use Rattle.bitmap_core.specs.PrunedBits.{PrunedBits, bit_at, bit_len, extended, IsRetained, IsRetainedChunk, truncated, unpruned, with_chunk}
 use Rattle.bitmap_core.proofs.Pruned.Edits.{bit_extended, bit_truncated, len_appended, len_truncated, len_unpruned}
 use Rattle.bitmap_core.proofs.Pruned.Positions.{bit_from_bits, ceil_above_index, index_below_ceil, place, same_bitmap}
 use Rattle.historical_bitmap.specs.History.{AllCanUndo, EntriesRise, first_kept, IsLeftBy, left_by, past_number, undone}

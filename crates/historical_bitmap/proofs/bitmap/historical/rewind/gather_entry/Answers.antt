@@ -1,4 +1,4 @@
-use Rattle.std.proofs.Common.{Some, ap, arith, sym, ◌∙◌}
+use Rattle.std.proofs.Common.{Some, ap, sym, ◌∙◌}
 use Rattle.std.specs.Prelude.{option_copied}
 use Rattle.historical_bitmap.specs.Stored.{diff_value}
 use Rattle.historical_bitmap.proofs.History.Rewound.{entry_inserted}

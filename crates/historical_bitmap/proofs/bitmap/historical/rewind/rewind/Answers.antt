@@ -1,4 +1,4 @@
-use Rattle.std.proofs.Common.{◌≡◌, ℕ, ◌-◌, ◌*◌, ◌≤◌, [], length, ap, arith, subst}
+use Rattle.std.proofs.Common.{◌≡◌, ℕ, ◌-◌, ◌*◌, [], length, ap, arith, subst}
 use Rattle.std.specs.Int.{div_ceil}
 use Rattle.historical_bitmap.specs.History.{first_kept, past_number}
 use Rattle.historical_bitmap.specs.Rewind.{Gathers, HasExtent}
