@@ -1,6 +1,6 @@
 -- Each command of a session is a step of the abstract machine.
 use Rattle.std.proofs.Common.{◌≡◌, ℕ, ◌+◌, ◌-◌, ◌*◌, ◌/◌, ◌<◌, ◌≤◌, ◌^◌, List, [], ◌∷◌, ◌++◌, Bool, Some, None, Option, refl, sym, ap, ◌∙◌, inl, inr, arith, append-nil, true, false, length}
-use Rattle.std.specs.Prelude.{not, ⊤, MatchOption, IsTrue, ◌⊎◌, nat_lt, nat_le, ◌==◌, option_and_then, unwrap_or, alloc_error}
+use Rattle.std.specs.Prelude.{not, ⊤, if◌then◌else◌, is_some, MatchOption, IsTrue, ◌⊎◌, nat_lt, nat_le, ◌==◌, option_and_then, unwrap_or, alloc_error}
 use Rattle.std.specs.Option.{option_or, option_map}
 use Rattle.std.specs.Global.{Vec}
 use Rattle.std.proofs.lemmas.Bool.{cases_Bool, cases_lt, false≢true, lt-ltb}
@@ -16,14 +16,15 @@ use Rattle.historical_bitmap.specs.Pending.{PendingEdits}
 use Rattle.historical_bitmap.specs.Record.{ReverseRecord}
 use Rattle.historical_bitmap.specs.declared.bitmap.historical.error.Error.{Error}
 use Rattle.historical_bitmap.specs.declared.bitmap.historical.error.Error.TheVariants.{Memory}
+use Rattle.historical_bitmap.specs.declared.bitmap.historical.error.RewindError.TheVariants as rewind_errors
 use Rattle.historical_bitmap.specs.View.{View, IsBatchOn, IsEditOf, IsRunOf, commit_error, commit_error_after, costs_of, history_of, marked_of, pending_of}
 use Rattle.bitmap_session.specs.declared.command.Command.{Command}
 use Rattle.bitmap_session.specs.declared.command.Command.TheVariants.{Start, Begin, Push, PushByte, PushChunk, Pop, Set, Prune, Commit, Abort, Rewind, Len, PrunedChunks, Get, Chunk, Ones, Encode, At, OnesAt, EncodeAt, Decode, Commits, Exists, Latest, Earliest, DropBefore, Clear, Entries}
 use Rattle.bitmap_session.specs.Replies.{ReplyValue, Refusal}
 use Rattle.bitmap_session.specs.Replies.ReplyValue.{Done, Bit, Number, Refused}
-use Rattle.bitmap_session.specs.Replies.Refusal.{WrongMode, OutOfBounds, Pruned, ReservedCommitNumber, NonMonotonicCommit, PrunedChunksOverflow, Codec, NoMemory}
+use Rattle.bitmap_session.specs.Replies.Refusal.{WrongMode, OutOfBounds, Pruned, ReservedCommitNumber, NonMonotonicCommit, PrunedChunksOverflow, Codec, NoMemory, NoSuchCommit}
 use Rattle.bitmap_session.specs.Machine.{Machine, State, Accepts, Agrees, Refuses, StepTo, IsDecoded, decoded, edited, first, refusal_of, shown, shown_len, allocates, wants_bit, when}
-use Rattle.bitmap_session.specs.Abstraction.{clean, dirty, reason_of}
+use Rattle.bitmap_session.specs.Abstraction.{clean, dirty, reason_of, reason_of_rewind}
 
 -- a negated test
 pub is_false : (b : Bool) → true ≡ not b → b ≡ false
@@ -407,6 +408,13 @@ pub decoded_dirty : (N : ℕ) (v : View PendingEdits) (input : Vec ℕ) (range :
     → StepTo N Agrees (dirty N v) (Decode input range) reply (dirty N v)
 decoded_dirty N v input range reply =
     decoded_by N (dirty N v) _ (pruned_error N (admits range) input.items) (decoded N input.items) reply (still N v)
+
+-- a rewind that fails changes nothing
+pub not_rewound : (N number : ℕ) (v : View ⊤) (found : Option PrunedBits)
+    → kept_under (history_of N v) number ≡ found
+    → StepTo N Agrees (clean N v) (Rewind number) (Refused (reason_of_rewind (if is_some found then rewind_errors.Memory alloc_error else rewind_errors.NoSuchCommit))) (clean N v)
+not_rewound N number v None e = refused N (clean N v) (Rewind number) NoSuchCommit (rw e refl)
+not_rewound N number v (Some kept) e = out_of_memory N (clean N v) (Rewind number) (rw e refl) (rw e refl)
 
 -- a rewind makes the bitmap at the commit current
 pub rewound_to : (N number : ℕ) (old new : View ⊤)

@@ -1,6 +1,12 @@
-use Rattle.std.proofs.Common.{[], ◌∷◌, ◌++◌, refl, arith, append_assoc}
+use Rattle.std.proofs.Common.{[], ◌∷◌, ◌++◌, refl, sym, arith, append_assoc, append-nil, ◌∙◌}
 use Rattle.bitmap_session.proofs.Runs.{RunsOn-all, RunsOn-more}
 use Rattle.bitmap_session.proofs.session.Session.run.Goals as goal
+
+pub loop-command-init : goal.loop-command-init
+loop-command-init g c = record {
+  run = ([], c.in_ok-reserve.ensures.items ∙ sym (append-nil _), λ before agrees. (before, agrees, refl));
+  space = omega (arith, c.in_ok-reserve.ensures.ok, c.in_ok-reserve.ensures.len, c.in_ok-reserve.ensures.items);
+}
 
 pub loop-command-preserved : goal.loop-command-preserved
 loop-command-preserved g c =
