@@ -1,8 +1,8 @@
 //! The program: reads a script, checks it, runs it and prints the replies, or reports an error.
 
-ghost use Rattle.std.specs.Prelude.{◌≡◌, length, IfSome, OnSome};
+ghost use Rattle.std.specs.Prelude.{◌≡◌, length, map, string_bytes, IfSome, OnSome};
 ghost use Rattle.bitmap_bytes.specs.Chunk.{IsWidth};
-ghost use Rattle.replay.specs.Width.{IsOfferedWidth};
+ghost use Rattle.replay.specs.Width.{IsOfferedWidth, offered_width};
 
 use crate::print::write_replies;
 use crate::script;
@@ -62,18 +62,19 @@ fn write_error(error: io::Error) -> ProgramError {
 ///
 /// Does not allocate; constant time.
 pub fn read_width(args: &[String]) -> Option<u8>
+    ensures exact { result ≡ offered_width (map string_bytes args.now) }
     ensures width { IfSome result IsOfferedWidth }
     ensures words { OnSome result (length args.now ≡ 2) }
 {
     let [width, _] = args else {
         return None;
     };
-    match width.as_bytes() {
-        b"1" => Some(1),
-        b"3" => Some(3),
-        b"4" => Some(4),
-        b"8" => Some(8),
-        b"32" => Some(32),
+    match width.as_str() {
+        "1" => Some(1),
+        "3" => Some(3),
+        "4" => Some(4),
+        "8" => Some(8),
+        "32" => Some(32),
         _ => None,
     }
 }
