@@ -5,6 +5,7 @@ ghost use Rattle.std.specs.Map.{keys_of};
 ghost use Rattle.std.specs.Option.{option_map};
 ghost use Rattle.bitmap_bytes.specs.Chunk.{IsWidth};
 ghost use Rattle.bitmap_core.specs.Encoding.{pruned_encoding};
+ghost use Rattle.bitmap_core.specs.Meaning.{ones};
 ghost use Rattle.historical_bitmap.specs.History.{kept_under};
 ghost use Rattle.historical_bitmap.specs.View.{history_of};
 ghost use Rattle.bitmap_session.specs.Machine.{Agrees, StepTo, ones_of};
@@ -16,7 +17,8 @@ use crate::session::State;
 use crate::session::shown::{check_position, decode};
 use bitmap_core::bitmap::codec::Write;
 use bitmap_core::bitmap::{Prunable, Readable};
-use historical_bitmap::bitmap::historical::CleanBitMap;
+use bitmap_core::chunk::{chunk_count, chunk_index};
+use historical_bitmap::bitmap::historical::{AtCommit, CleanBitMap};
 use std::alloc::{AllocError, Global};
 
 fn start<const N: usize>(
@@ -82,13 +84,13 @@ fn chunk<const N: usize>(bitmap: &CleanBitMap<N>, position: u64) -> Reply<N>
 }
 
 // Returns the set positions of a bitmap in a range, ascending.
-fn set_positions<const N: usize>(
-    bitmap: &Prunable<N>,
+fn set_positions<B: Readable<N>, const N: usize>(
+    bitmap: &B,
     alloc: Global,
     from: u64,
     to: u64,
 ) -> Result<Vec<u64>, AllocError>
-    ensures { IfOk result (λ positions. positions.items ≡ ones_of N from to bitmap.now) }
+    ensures { IfOk result (λ positions. positions.items ≡ ones N (B.meaning bitmap.now) from to) }
 {
     // The call shows the prover that 8 * N fits u64.
     let _ = bitmap.len();
@@ -131,7 +133,35 @@ fn at<const N: usize>(bitmap: &CleanBitMap<N>, number: u64) -> Reply<N>
     }
 }
 
+// How many bits are copied in about the time of one search for a chunk in a reverse record.
+const BITS_PER_SEARCH: u64 = 512;
+
+// How many chunks are searched for in a reverse record in about the time in which the record is undone.
+const CHUNKS_PER_RECORD: u64 = 4;
+
+// Returns whether it costs less to read a range of the bitmap at a commit in place than in a bitmap of its own.
+//
+// In place, each chunk of the range is searched for in each later record, at most. For a bitmap of its own, the retained bits are copied,
+// and each later record is undone. Since numbers ascend, at most `latest - number` commits are later.
+fn is_cheaper_in_place<const N: usize>(
+    bitmap: &CleanBitMap<N>,
+    version: &AtCommit<'_, N>,
+    number: u64,
+    from: u64,
+    to: u64,
+) -> bool {
+    let retained = bitmap.len().saturating_sub(bitmap.current().pruned_bits());
+    let start = chunk_index::<N>(from.max(version.pruned_bits())) as u64;
+    let end = chunk_count::<N>(to.min(version.len())) as u64;
+    let latest = bitmap.latest_commit().unwrap_or(number);
+    let later = latest.saturating_sub(number);
+    let more = end.saturating_sub(start).saturating_sub(CHUNKS_PER_RECORD);
+    more.saturating_mul(later) <= retained / BITS_PER_SEARCH
+}
+
 // Returns the set positions in a range of the bitmap at a commit, or `None` if the commit is not kept.
+//
+// The bitmap is read in place if that costs less, or if there is no memory for a bitmap of its own.
 fn kept_positions<const N: usize>(
     bitmap: &CleanBitMap<N>,
     alloc: Global,
@@ -142,10 +172,15 @@ fn kept_positions<const N: usize>(
     ensures ok { IfOk result (λ found. option_map (λ v. v.items) found ≡ option_map (ones_of N from to) (kept_under (history_of N bitmap.now) number)) }
     ensures absent { kept_under (history_of N bitmap.now) number ≡ None → result ≡ Ok None }
 {
-    match bitmap.get_at_commit(number)? {
-        None => Ok(None),
-        Some(found) => Ok(Some(set_positions(&found, alloc, from, to)?)),
+    let Some(version) = bitmap.at(number) else {
+        return Ok(None);
+    };
+    if !is_cheaper_in_place(bitmap, &version, number, from, to)
+        && let Ok(Some(copy)) = bitmap.get_at_commit(number)
+    {
+        return Ok(Some(set_positions(&copy, alloc, from, to)?));
     }
+    Ok(Some(set_positions(&version, alloc, from, to)?))
 }
 
 fn ones_at<const N: usize>(
