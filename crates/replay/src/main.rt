@@ -1,6 +1,7 @@
 //! Runs a script of commands on a bitmap and prints the replies.
 #![tactic(auto)]
 
+mod output;
 mod print;
 mod program;
 mod script;

@@ -3,9 +3,8 @@
 use bitmap_core::bitmap::Prunable;
 use bitmap_core::bitmap::codec::CodecError;
 use bitmap_session::reply::{Refusal, Reply};
-use std::alloc::Global;
 use std::io;
-use std::io::{BufWriter, Write};
+use std::io::Write;
 
 fn write_refusal<W: Write>(out: &mut W, refusal: &Refusal) -> io::Result<()> {
     match refusal {
@@ -66,7 +65,20 @@ fn write_bytes<W: Write>(out: &mut W, word: &str, bytes: &[u8]) -> io::Result<()
     writeln!(out)
 }
 
-fn write_reply<const N: usize, W: Write>(out: &mut W, reply: &Reply<N>) -> io::Result<()> {
+/// Prints the line of one reply.
+///
+/// # Errors
+///
+/// Returns the errors of the writer as they are.
+///
+/// # Memory
+///
+/// Does not allocate itself.
+///
+/// # Complexity
+///
+/// Linear in the bytes of the line.
+pub fn write_reply<const N: usize, W: Write>(out: &mut W, reply: &Reply<N>) -> io::Result<()> {
     match reply {
         Reply::Done => writeln!(out, "done"),
         Reply::Bit(bit) => {
@@ -93,30 +105,4 @@ fn write_reply<const N: usize, W: Write>(out: &mut W, reply: &Reply<N>) -> io::R
             writeln!(out, "none"),
         Reply::Refused(refusal) => write_refusal(out, refusal),
     }
-}
-
-/// Prints one line per reply, in order, through a buffer.
-///
-/// # Errors
-///
-/// Returns an error of the kind `OutOfMemory` if the buffer cannot be allocated; then nothing has been printed. Returns the
-/// errors of the writer as they are.
-///
-/// # Memory
-///
-/// Allocates the buffer only.
-///
-/// # Complexity
-///
-/// Linear in the bytes of the output.
-pub fn write_replies<const N: usize, W: Write>(
-    alloc: Global,
-    replies: &[Reply<N>],
-    out: &mut W,
-) -> io::Result<()> {
-    let mut buffer = BufWriter::new(alloc, out)?;
-    for reply in replies {
-        write_reply(&mut buffer, reply)?;
-    }
-    buffer.flush()
 }

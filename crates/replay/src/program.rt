@@ -4,10 +4,12 @@ ghost use Rattle.std.specs.Prelude.{◌≡◌, length, map, string_bytes, IfSome
 ghost use Rattle.bitmap_bytes.specs.Chunk.{IsWidth};
 ghost use Rattle.replay.specs.Width.{IsOfferedWidth, offered_width};
 
-use crate::print::write_replies;
+use crate::output::Output;
+use crate::print::write_reply;
 use crate::script;
 use crate::script::Line;
 use bitmap_session::command::Command;
+use bitmap_session::reply::Reply;
 use bitmap_session::session::Session;
 use std::alloc::{AllocError, Global};
 use std::io;
@@ -101,23 +103,45 @@ fn check_lines<const N: usize>(text: &[u8]) -> Result<(), ProgramError>
     Ok(())
 }
 
-fn read_commands<const N: usize>(
-    alloc: Global,
-    text: &[u8],
-) -> Result<Vec<Command<N>>, ProgramError>
+// How many commands are parsed, run and printed at a time.
+const PART: usize = 4096;
+
+// Runs commands, prints their replies to `output`, and drops both.
+fn run_part<const N: usize>(
+    session: &mut Session<N>,
+    commands: &mut Vec<Command<N>>,
+    replies: &mut Vec<Reply<N>>,
+    output: &mut Output,
+) -> Result<(), ProgramError> {
+    session.run(commands.as_slice(), replies)?;
+    commands.clear();
+    for reply in replies.drain(..) {
+        write_reply(output, &reply).map_err(write_error)?;
+    }
+    Ok(())
+}
+
+// Runs the commands of a script, and returns the printed replies. Holds the commands and replies of one part at a time.
+fn run_commands<const N: usize>(alloc: Global, text: &[u8]) -> Result<Output, ProgramError>
     requires width { IsWidth N }
 {
-    check_lines::<N>(text)?;
+    let mut session = Session::<N>::new(alloc);
     let mut commands = Vec::new(alloc);
+    let mut replies = Vec::new(alloc);
+    let mut output = Output::new(alloc);
     for line in text.split(|byte| *byte == b'\n') {
         if !script::is_skipped(line)
             && let Some(line) = Line::<N>::parse(line)
         {
             let command = line.into_command(alloc)?;
             commands.push(command).map_err(AllocError::from)?;
+            if commands.len() >= PART {
+                run_part(&mut session, &mut commands, &mut replies, &mut output)?;
+            }
         }
     }
-    Ok(commands)
+    run_part(&mut session, &mut commands, &mut replies, &mut output)?;
+    Ok(output)
 }
 
 fn run_at<const N: usize, W: Write>(
@@ -127,11 +151,9 @@ fn run_at<const N: usize, W: Write>(
 ) -> Result<(), ProgramError>
     requires width { IsWidth N }
 {
-    let commands = read_commands::<N>(alloc, text)?;
-    let mut session = Session::<N>::new(alloc);
-    let mut replies = Vec::new(alloc);
-    session.run(commands.as_slice(), &mut replies)?;
-    write_replies(alloc, replies.as_slice(), out).map_err(write_error)
+    check_lines::<N>(text)?;
+    let output = run_commands::<N>(alloc, text)?;
+    output.print(out).map_err(write_error)
 }
 
 fn run_width<R: Read + Drop, W: Write>(
@@ -187,11 +209,12 @@ fn report<E: Write>(error: ProgramError, err: &mut E) -> u8 {
 /// | 2 | a line is not a command; nothing has run |
 /// | 3 | the script cannot be read, `out` cannot be written, or an allocation outside a command has failed |
 ///
-/// If the error comes before the run, nothing is printed to `out`.
+/// Nothing is printed to `out` before all commands have run. If an error comes before, nothing is printed there.
 ///
 /// # Memory
 ///
-/// Allocates the script, its commands, their replies and an output buffer. The commands allocate as `Session::run` says.
+/// Allocates the script, and all that is printed to `out`. Commands run in parts of 4096, and only the commands and replies of one
+/// part are held. The commands allocate as `Session::run` says.
 ///
 /// # Complexity
 ///

@@ -98,6 +98,54 @@ fn writer_that_fails(rt: HostRuntime) {
     assert!(rt; out.as_slice() == PRINTED);
 }
 
+// Appends a line so many times.
+fn append(text: &mut Vec<u8>, line: &[u8], times: usize) -> Result<(), AllocError> {
+    for _ in 0..times {
+        text.extend_from_slice(line)?;
+    }
+    Ok(())
+}
+
+// A batch that goes on from one part of 4096 commands to the next: two parts and one command. What is printed has two blocks, and
+// the writer may fail in the second one.
+#[test]
+fn parts_of_a_script(rt: HostRuntime) -> Result<(), AllocError> {
+    let mut script = Vec::new(rt.alloc());
+    append(&mut script, b"begin\n", 1)?;
+    append(&mut script, b"push 1\n", 4096)?;
+    append(&mut script, b"chunk 0\n", 4095)?;
+    append(&mut script, b"len\n", 1)?;
+    let mut printed = Vec::new(rt.alloc());
+    append(&mut printed, b"done\n", 4097)?;
+    append(&mut printed, b"chunk ffffffff\n", 4095)?;
+    append(&mut printed, b"number 4096\n", 1)?;
+    let mut out = Vec::new(rt.alloc());
+    check_run(&rt, rt.alloc(), Ok(script.as_slice()), &mut out, 0, b"");
+    assert!(rt; out.as_slice() == printed.as_slice());
+    let mut out = Limited {
+        written: Vec::new(rt.alloc()),
+        space: 70000,
+    };
+    let line = b"replay: cannot write\n";
+    check_run(&rt, rt.alloc(), Ok(script.as_slice()), &mut out, 3, line);
+    assert!(rt; printed.starts_with(out.written.as_slice()));
+    assert_eq!(rt; out.written.len(), 70000);
+    Ok(())
+}
+
+// A line past the first part that is not a command: no command runs, and nothing is printed.
+#[test]
+fn line_past_the_first_part(rt: HostRuntime) -> Result<(), AllocError> {
+    let mut script = Vec::new(rt.alloc());
+    append(&mut script, b"len\n", 4097)?;
+    append(&mut script, b"lem\n", 1)?;
+    let mut out = Vec::new(rt.alloc());
+    let line = b"replay: line 4098 is not a command\n";
+    check_run(&rt, rt.alloc(), Ok(script.as_slice()), &mut out, 2, line);
+    assert!(rt; out.is_empty());
+    Ok(())
+}
+
 // The width that is read from these words.
 fn width_of(alloc: Global, words: &[&str]) -> Result<Option<u8>, AllocError> {
     let mut args = Vec::new(alloc);
