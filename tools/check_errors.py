@@ -8,6 +8,7 @@ import sys
 import tempfile
 from pathlib import Path
 
+from replay import NO_MEMORY as REFUSED
 from replay import Run, difference, report, run
 
 USAGE = "replay: usage: replay WIDTH SCRIPT, WIDTH one of 1, 3, 4, 8, 32"
@@ -64,17 +65,32 @@ def unusual_scripts():
     yield "a megabyte to decode", b"decode " + b"0" * (1 << 20) + b" any\n", ["read 0 - %d" % ((1 << 19) - 16)]
 
 
+def large_script(command, count):
+    """The lines of a script: a comment of three megabytes, 4096 commands that print little, so many times a command, and a batch."""
+    lines = ["#" * (3 << 20), "begin"] + [f"push-chunk {'ff' * 32}"] * 40 + ["commit 1"]
+    return lines + ["get 0"] * 4054 + [command] * count + ["begin", "set 5 0", "commit 2", "at 1", "ones-at 1 0 9", "encode-at 1"]
+
+
 def little_memory(folder):
-    """Runs in so many megabytes, from too few for the script to enough for every command."""
-    lines = ["begin"] + [f"push-chunk {'5d' * 32}"] * 400 + ["commit 1"] + ["at 1"] * 1000 + ["begin", "set 5 0", "commit 2", "encode-at 1"]
+    """Runs in so many megabytes, from too few for the script to enough for every command.
+
+    A reply of `ones` takes more memory than its line, so commands run out of memory. A reply of `at` takes less, so the lines do not fit.
+    """
     path = Path(folder) / "large.script"
-    path.write_text("\n".join(lines))
-    for megabytes in (6, 8, 10, 12, 14, 15, 16, 18, 20, 24, 32):
-        ended = run(["32", path], megabytes=megabytes)
-        if ended.status == 0 and not ended.errors:
-            yield f"{megabytes} megabytes", difference(32, lines, ended.printed, may_fail=True)
-        else:
-            yield f"{megabytes} megabytes", unexpected(ended, Run(3, [], [NO_MEMORY]))
+    missing = {"fails for the whole program", "fails for some commands", "does not fail"}
+    for command, count in (("ones 0 6000", 300), ("at 1", 1000)):
+        lines = large_script(command, count)
+        path.write_text("\n".join(lines))
+        for megabytes in (4, 6, 8, 12, 16, 20, 24, 32):
+            ended = run(["32", path], megabytes=megabytes)
+            if ended.status == 0 and not ended.errors:
+                missing.discard("fails for some commands" if REFUSED in ended.printed else "does not fail")
+                failure = difference(32, lines, ended.printed, may_fail=True)
+            else:
+                missing.discard("fails for the whole program")
+                failure = unexpected(ended, Run(3, [], [NO_MEMORY]))
+            yield f"{command} in {megabytes} megabytes", failure
+    yield "little memory", f"no run in which an allocation {' or '.join(sorted(missing))}" if missing else None
 
 
 def unexpected(ended, expected):

@@ -161,7 +161,7 @@ fn is_cheaper_in_place<const N: usize>(
 
 // Returns the set positions in a range of the bitmap at a commit, or `None` if the commit is not kept.
 //
-// The bitmap is read in place if that costs less, or if there is no memory for a bitmap of its own.
+// The bitmap is read in place if that costs less, or if a bitmap of its own cannot be allocated.
 fn kept_positions<const N: usize>(
     bitmap: &CleanBitMap<N>,
     alloc: Global,
