@@ -28,7 +28,7 @@ scenarios() {
 
 runs 3000 tools/check_runs.py random 3000
 runs 12 tools/check_runs.py exhaustive
-runs 23000 tools/check_runs.py allocation_failures 26
+runs 23000 tools/check_runs.py allocation_failures 28
 runs 112 tools/check_errors.py
 tools/allocation_failures.sh --built | tee "$output"
 scenarios conformance 40
