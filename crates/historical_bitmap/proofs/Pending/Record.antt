@@ -25,13 +25,13 @@ use Rattle.bitmap_core.proofs.Pruned.Positions.{place, bit_past, ceil_above_inde
 use Rattle.historical_bitmap.specs.Record.{ChunkDiff, ReverseRecord, bit_or_else, kept, bytes_of, kept_bytes, LeadsBack}
 use Rattle.historical_bitmap.specs.Undo.{CanUndo, IsOldChunk}
 use Rattle.historical_bitmap.specs.Edits.{from_to}
-use Rattle.historical_bitmap.specs.Pending.{AddsEntries, PendingEdits, edited_chunk, entries_for, first_cut_of, members_between, pending_bits, marked_chunks, diff_of, PendingFits, IsRecordOf}
+use Rattle.historical_bitmap.specs.Pending.{AddsEntries, PendingEdits, edited_chunk, entries_for, first_cut_of, members_between, pending_bits, marked_chunks, diff_of, unedited, PendingFits, IsRecordOf}
 use Rattle.historical_bitmap.proofs.Lists.Between.{all_between, range_keys}
 use Rattle.historical_bitmap.proofs.Lists.Counting.{count_marked}
 use Rattle.historical_bitmap.proofs.Lists.Members.{in_right}
 use Rattle.historical_bitmap.proofs.Records.Restores.{bit_in_chunk, has_chunk}
-use Rattle.historical_bitmap.proofs.Pending.Edits.{pending_len, pending_at}
-use Rattle.historical_bitmap.proofs.Pending.MarkedChunks.{IsMarked, mark, marked_below, none_before}
+use Rattle.historical_bitmap.proofs.Pending.Edits.{pending_len, pending_at, unedited_fits, unedited_pending}
+use Rattle.historical_bitmap.proofs.Pending.MarkedChunks.{IsMarked, mark, marked_below, none_before, unedited_marks}
 use Rattle.historical_bitmap.proofs.Pending.NextMarked.{cut_marked, edited_marked, none_marked}
 
 -- a position in no marked chunk stays retained, with its bit
@@ -383,3 +383,17 @@ module _ (n : ℕ) (b : PrunedBits) (l : PendingEdits) (pos : 0 < n) (fits : Pen
       let builds = subst (λ (u : ℕ). Builds n b l u (entries_for n b l (members_between marks b.pruned u))) top (builds_list n b l (end - b.pruned) pos fits) in
       builds_all n b l (end) r3 (ap (λ (r : ReverseRecord). r.len) all ∙ ap (λ (r : ReverseRecord). r.len) begun) (ap (λ (r : ReverseRecord). r.pruned) all ∙ ap (λ (r : ReverseRecord). r.pruned) begun)
       (subst (λ es. Builds n b l (end) es) (sym entries) builds) (λ j f. no_marks j f)
+
+-- ---- a batch without edits: its record has no entries
+module _ (n : ℕ) (b : PrunedBits) (pos : 0 < n) where
+  abbrev no_entries : ReverseRecord
+  no_entries = record { len = bit_len n b; pruned = b.pruned; entries = [] }
+
+  record_none : IsRecordOf n b (unedited n b) no_entries
+  record_none = record { len = refl; pruned = refl; sorted = sorted_none; entries = λ i. rw (unedited_marks n b) refl }
+
+  pub none_leads_back : LeadsBack n no_entries b b
+  none_leads_back = subst (λ newer. LeadsBack n no_entries b newer) (unedited_pending n b) (record_leads_back n b (unedited n b) no_entries pos (unedited_fits n b) record_none)
+
+  pub none_can_undo : CanUndo n no_entries b
+  none_can_undo = subst (λ newer. CanUndo n no_entries newer) (unedited_pending n b) (record_can_undo n b (unedited n b) no_entries pos (unedited_fits n b) record_none)

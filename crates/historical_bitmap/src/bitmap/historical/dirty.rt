@@ -1,6 +1,8 @@
 //! A bitmap with pending edits: reads, edits, commit and abort.
 
 ghost use Rattle.std.specs.Prelude.{◌≡◌, ℕ, ◌+◌, ◌*◌, ◌/◌, ◌%◌, ◌^◌, ◌<◌, ◌≤◌, ◌==◌, [], ◌∷◌, ◌++◌, length, None, Some, IfErr, IfOk, IsOk, OnErr, OnOk, unwrap_or, alloc_error};
+ghost use Rattle.std.specs.BTreeMap.{insert_entry};
+ghost use Rattle.std.specs.Ordering.{nat_cmp};
 ghost use Rattle.std.specs.Result.{result_err};
 ghost use Rattle.bitmap_bytes.specs.Chunk.{byte_bits, chunk_bits, IsWidth};
 ghost use Rattle.bitmap_core.specs.PrunedBits.{bit_at, bit_len, chunk, IsRetained, last_bit};
@@ -12,9 +14,12 @@ ghost use Rattle.historical_bitmap.specs.View.{costs_of, history_of, KeepsEdited
 
 use crate::bitmap::historical::apply::{grow, overwrite, shrink_back};
 use crate::bitmap::historical::edit::{Edit, Lent};
+use crate::bitmap::historical::record::CommitDiff;
 use crate::bitmap::historical::{BitMap, Clean, CleanBitMap, Dirty, DirtyBitMap, Error, State};
+use bitmap_core::bitmap::Prunable;
 use bitmap_core::chunk::chunk_index;
-use std::alloc::AllocError;
+use std::alloc::{AllocError, Global};
+use std::collections::BTreeMap;
 
 // Checks that a commit may have a number, given the last one.
 fn check_number(last: Option<u64>, number: u64) -> Result<(), Error>
@@ -30,6 +35,21 @@ fn check_number(last: Option<u64>, number: u64) -> Result<(), Error>
         }),
         _ => Ok(()),
     }
+}
+
+// Keeps the current bitmap as commit `number`. Its record has no entries. If an allocation fails, the commits are unchanged.
+fn keep_current<const N: usize>(
+    current: &Prunable<N>,
+    commits: &mut BTreeMap<u64, CommitDiff<N>>,
+    number: u64,
+    alloc: Global,
+) -> Result<(), AllocError>
+    ensures ok { OnOk result (commits.new.entries ≡ insert_entry nat_cmp commits.old.entries number (record { len = bit_len N current.now; pruned = current.now.pruned; entries = [] })) }
+    ensures err { OnErr result (commits.new.entries ≡ commits.old.entries) }
+{
+    let record = CommitDiff::with_capacity(alloc, current.len(), current.pruned_chunks(), 0)?;
+    commits.insert(number, record)?;
+    Ok(())
 }
 
 impl<const N: usize> BitMap<N, Dirty<N>> {
@@ -306,6 +326,17 @@ impl<const N: usize> BitMap<N, Dirty<N>> {
             return Err((self, why));
         }
         let alloc = self.state.allocator();
+        if self.state.is_unedited(&self.current) {
+            let Ok(()) = keep_current(&self.current, &mut self.commits, number, alloc) else {
+                return Err((self, Error::Memory(AllocError)));
+            };
+            return Ok(BitMap {
+                current: self.current,
+                commits: self.commits,
+                last: Some(number),
+                state: Clean::new(alloc),
+            });
+        }
         let Ok(record) = self.state.record(&self.current, alloc) else {
             return Err((self, Error::Memory(AllocError)));
         };

@@ -350,6 +350,13 @@ impl<const N: usize> EditedChunks<N> {
         &self.chunks
     }
 
+    // Returns whether there is no chunk.
+    pub(crate) fn is_empty(&self) -> bool
+        ensures { result ≡ true → self.now ≡ [] }
+    {
+        self.chunks.len() == 0
+    }
+
     // Returns the first index from `from` on that has a chunk.
     pub(crate) fn next_from(&self, from: usize) -> Option<usize>
         ensures { IsNextMember (keys_of self.now) from result }

@@ -299,6 +299,13 @@ impl<const N: usize> GrownChunks<N> {
         (self.others.map(), first, past)
     }
 
+    // Returns whether there is no chunk.
+    pub(crate) fn is_empty(&self) -> bool
+        ensures { result ≡ true → self.now ≡ [] }
+    {
+        self.run.len() == 0 && self.others.is_empty()
+    }
+
     // Returns the first index from `from` on that has a chunk.
     pub(crate) fn next_from(&self, from: usize) -> Option<usize>
         ensures { IsNextMember (keys_of self.now) from result }

@@ -208,6 +208,17 @@ impl<const N: usize> Dirty<N> {
         self.alloc
     }
 
+    // Returns whether there are no edits.
+    pub(crate) fn is_unedited(&self, current: &Prunable<N>) -> bool
+        requires { PendingFits N current.now self.now }
+        ensures unedited { result ≡ true → self.now ≡ unedited N current.now }
+        ensures width { IsWidth N }
+    {
+        self.len() == current.len()
+            && self.pruned == current.pruned_chunks()
+            && self.edited.is_empty()
+    }
+
     // Returns the pending bytes of a chunk.
     pub(crate) fn chunk(&self, current: &Prunable<N>, index: usize) -> [u8; N]
         requires from { current.now.pruned ≤ index }

@@ -354,6 +354,13 @@ impl<const N: usize> TailChunks<N> {
         self.chunks.parts_between(from, to)
     }
 
+    // Returns whether there is no chunk.
+    pub(crate) fn is_empty(&self) -> bool
+        ensures { result ≡ true → self.now ≡ [] }
+    {
+        self.chunks.is_empty()
+    }
+
     // Returns the first index from `from` on that has a chunk.
     pub(crate) fn next_from(&self, from: usize) -> Option<usize>
         ensures { IsNextMember (keys_of self.now) from result }
