@@ -22,6 +22,7 @@ pub mod old_version;
 pub mod one_byte;
 pub mod one_chunk;
 pub mod out_of_memory;
+pub mod pending_search;
 pub mod quick_start;
 pub mod recent_log;
 pub mod restored;

@@ -49,6 +49,7 @@ pub mod error;
 mod grown;
 mod pending;
 mod pending_changes;
+mod pending_reads;
 mod record;
 mod rewind;
 mod state;
@@ -91,6 +92,45 @@ pub struct BitMap<const N: usize, S: State = Clean> {
 pub type CleanBitMap<const N: usize> = BitMap<N, Clean>;
 
 /// A batch: a historical bitmap with pending edits, of which there may be none yet.
+///
+/// A batch is `Readable`: the functions of the trait read the pending bitmap, the one that a commit will leave.
+/// So a batch can be searched, counted and iterated over before it is committed.
+/// If the type and the trait have a function of the same name, the type's is called: its `get_chunk` takes a position, the trait's an index.
+///
+/// # Memory
+/// The functions of the trait do not allocate.
+///
+/// # Complexity
+/// `len`, `pruned_chunks` and `complete_chunks` take constant time. A chunk takes a copy of its bytes, and at most one search among the edited chunks.
+///
+/// # Examples
+/// The first free slot of a batch:
+///
+/// ```
+/// ghost use Rattle.std.specs.Prelude.{◌≡◌, true, false, IfNone, IfOk, IfSome, OnErr};
+/// ghost use Rattle.bitmap_core.specs.Meaning.{pruned_meaning};
+/// ghost use Rattle.bitmap_core.specs.PrunedBits.{set_at};
+/// ghost use Rattle.bitmap_core.specs.Searches.{HasNoNext, IsNext};
+/// ghost use Rattle.historical_bitmap.specs.View.{pending_of};
+///
+/// use bitmap_core::laws::searches::next_zero_is_least;
+/// use historical_bitmap::bitmap::historical::DirtyBitMap;
+/// use std::alloc::AllocError;
+///
+/// /// Takes the first free slot of a batch, or returns `None` if all are taken. After an error the batch is unchanged.
+/// pub fn take_pending_slot(batch: &mut DirtyBitMap<8>) -> Result<Option<u64>, AllocError>
+///     ensures first { IfOk result (λ taken. IfSome taken (IsNext 8 (pruned_meaning 8 (pending_of 8 batch.old)) false 0)) }
+///     ensures taken { IfOk result (λ taken. IfSome taken (λ slot. pending_of 8 batch.new ≡ set_at 8 (pending_of 8 batch.old) slot true)) }
+///     ensures full { IfOk result (λ taken. IfNone taken (HasNoNext 8 (pruned_meaning 8 (pending_of 8 batch.old)) false 0 × (batch.new ≡ batch.old))) }
+///     ensures err { OnErr result (batch.new ≡ batch.old) }
+/// {
+///     let Some(slot) = next_zero_is_least(batch, 0) else {
+///         return Ok(None);
+///     };
+///     batch.set_bit(slot, true)?;
+///     Ok(Some(slot))
+/// }
+/// ```
 pub type DirtyBitMap<const N: usize> = BitMap<N, Dirty<N>>;
 
 impl<const N: usize, S: State> Model for BitMap<N, S> {
