@@ -2,3 +2,4 @@
 pub mod Bits
 pub mod Made
 pub mod Shifted
+pub mod Ranges

@@ -6,3 +6,4 @@ pub mod ByteRanges
 pub mod Words
 pub mod Blocks
 pub mod Parts
+pub mod Pairs

@@ -29,6 +29,8 @@ pub mod facts;
 pub mod join;
 #[doc(hidden)]
 pub mod load;
+#[doc(hidden)]
+pub mod pairs;
 pub mod range;
 pub mod whole;
 #[doc(hidden)]

@@ -1,5 +1,7 @@
--- Runs of chunks: equal, whole, combined, and with a byte written.
+-- Runs of chunks: equal, whole, combined, compared position by position, and with a byte or a range written.
 pub mod Equal
 pub mod Whole
 pub mod Combined
 pub mod ByteWritten
+pub mod Pairs
+pub mod Ranges

@@ -5,3 +5,5 @@ pub mod BitByBit
 pub mod Equality
 pub mod SetPositions
 pub mod Members
+pub mod Ranges
+pub mod Pairs

@@ -2,3 +2,4 @@
 pub mod Positions
 pub mod Edits
 pub mod Codec
+pub mod Ranges

@@ -1,4 +1,5 @@
 pub mod Fed
+pub mod Ranges
 pub mod PrunedBits
 pub mod Text
 pub mod Meaning

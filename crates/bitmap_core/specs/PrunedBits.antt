@@ -2,6 +2,7 @@
 use Rattle.std.specs.Prelude.{ℕ, ◌+◌, ◌-◌, ◌*◌, ◌/◌, ◌^◌, ◌<◌, ◌≤◌, Bool, false, List, ◌∷◌, [], ◌++◌, length, map, take, drop, replicate, ◌==◌, nat_lt, if◌then◌else◌, slice_index_or, slice_set}
 use Rattle.std.specs.List.{range_with_len, flat_map}
 use Rattle.bitmap_bytes.specs.Chunk.{chunk_from, chunk_bit, chunk_bits, IsWidth}
+use Rattle.bitmap_core.specs.Ranges.{is_between}
 
 -- a bitmap: its number of pruned chunks, and the bits after them
 pub record PrunedBits : Type 0 where
@@ -60,6 +61,10 @@ last_bit b = slice_index_or b.bits (length b.bits - 1) false
 -- the bitmap with x as the bit at the retained position k
 abbrev pub set_at : ℕ → PrunedBits → ℕ → Bool → PrunedBits
 set_at n b k x = record { pruned = b.pruned; bits = slice_set b.bits (k - pruned_bits n b) x }
+
+-- the bitmap with x as the bit at each position from lo up to hi, hi excluded
+abbrev pub set_range : ℕ → PrunedBits → ℕ → ℕ → Bool → PrunedBits
+set_range n b lo hi x = from_bits n b.pruned (bit_len n b) (λ k. if is_between lo hi k then x else bit_at n b k)
 
 -- the bitmap with a list of bits appended
 abbrev pub appended : PrunedBits → List Bool → PrunedBits

@@ -17,11 +17,13 @@
 //! ```
 
 ghost use Rattle.std.specs.Prelude.{◌≡◌, ℕ, Bool, List, ◌+◌, ◌-◌, ◌*◌, ◌/◌, ◌%◌, ◌^◌, ◌<◌, ◌≤◌, [], ◌∷◌, ◌++◌, length, false, slice_index_or, slice_set, replicate, take, true, not, IfOk, OnOk, OnErr, IsOk, ◌==◌, map, ◌&&◌, ◌||◌};
+ghost use Rattle.std.specs.Bool.{Decides};
 ghost use Rattle.std.specs.List.{count_by, filter, list_all, range_with_len, slice_range, zip};
 ghost use Rattle.std.proofs.Math.Bool.{xor};
 ghost use Rattle.std.specs.Iterator.Runs.{YieldsInOrder};
 ghost use Rattle.bitmap_core.specs.Meaning.{words_between, IsScanStep};
 ghost use Rattle.bitmap_core.specs.Encoding.{encoding};
+ghost use Rattle.bitmap_core.specs.Ranges.{set_between};
 ghost use Rattle.std.specs.Int.{div_ceil};
 ghost use Rattle.bitmap_bytes.specs.Chunk.{chunk_bit, chunk_bits, IsWidth};
 
@@ -38,7 +40,7 @@ pub use crate::bitmap::iter::Iterator;
 pub use crate::bitmap::prunable::Prunable;
 pub use crate::bitmap::readable::{OnesIter, Readable};
 use crate::chunk;
-use crate::chunk::whole::{And, Bitwise, Or, Xor};
+use crate::chunk::whole::{And, AndNot, Bitwise, Or, Xor};
 use crate::chunk::{chunk_count, chunk_width};
 use std::alloc::{AllocError, Global};
 use std::collections::VecDeque;
@@ -344,6 +346,46 @@ impl<const N: usize> BitMap<N> {
         deque::is_unset(&self.chunks, range.start, range.end)
     }
 
+    // Whether no bit gives true if it is combined with the bit of `other` at the same position.
+    fn gives_none<B: Bitwise>(&self, other: &BitMap<N>) -> bool
+        requires { length self.now ≡ length other.now }
+        ensures { Decides result ((k : ℕ) → k < length self.now → B.gives (slice_index_or self.now k false) (slice_index_or other.now k false) ≡ false) }
+    {
+        deque::gives_none::<B, N>(&self.chunks, &other.chunks)
+    }
+
+    /// Returns whether each position that is set is also set in `other`. The lengths are equal.
+    ///
+    /// # Memory
+    ///
+    /// Does not allocate.
+    ///
+    /// # Complexity
+    ///
+    /// At most linear in the words (64 bits) of the bitmap. It stops at the first 64 bytes that decide.
+    pub fn is_subset(&self, other: &BitMap<N>) -> bool
+        requires { length self.now ≡ length other.now }
+        ensures { result ≡ list_all (λ p. not p.0 || p.1) (zip self.now other.now) }
+    {
+        self.gives_none::<AndNot>(other)
+    }
+
+    /// Returns whether no position is set in both bitmaps. The lengths are equal.
+    ///
+    /// # Memory
+    ///
+    /// Does not allocate.
+    ///
+    /// # Complexity
+    ///
+    /// At most linear in the words (64 bits) of the bitmap. It stops at the first 64 bytes that decide.
+    pub fn is_disjoint(&self, other: &BitMap<N>) -> bool
+        requires { length self.now ≡ length other.now }
+        ensures { result ≡ list_all (λ p. not (p.0 && p.1)) (zip self.now other.now) }
+    {
+        self.gives_none::<And>(other)
+    }
+
     /// Returns an iterator over the positions whose bit is set, in ascending order from position 0 on.
     ///
     /// # Memory
@@ -517,6 +559,25 @@ impl<const N: usize> BitMap<N> {
         deque::set_bit(&mut self.chunks, bit, value);
     }
 
+    /// Sets the bit at each position in `range` to `value`. The end of the range is excluded, and at most the length.
+    ///
+    /// The other bits do not change. If the range is empty or ends before it starts, nothing changes.
+    ///
+    /// # Memory
+    ///
+    /// Does not allocate.
+    ///
+    /// # Complexity
+    ///
+    /// Linear in the bytes of the range. Whole chunks are written at once.
+    pub fn set_range(&mut self, range: Range<u64>, value: bool)
+        requires { range.end ≤ length self.old }
+        ensures { self.new ≡ set_between self.old range.start range.end value }
+    {
+        let _ = self.len;
+        deque::set_range(&mut self.chunks, range.start, range.end, value);
+    }
+
     /// Inverts the bit at position `bit`, which is below the length.
     ///
     /// Does not allocate; constant time.
@@ -583,6 +644,22 @@ impl<const N: usize> BitMap<N> {
         ensures { self.new ≡ map (λ p. p.0 && p.1) (zip self.old other.now) }
     {
         self.combine::<And>(other);
+    }
+
+    /// Clears each bit that is set in `other` at the same position. The lengths are equal.
+    ///
+    /// # Memory
+    ///
+    /// Does not allocate.
+    ///
+    /// # Complexity
+    ///
+    /// Linear in the chunks.
+    pub fn and_not(&mut self, other: &BitMap<N>)
+        requires { length self.old ≡ length other.now }
+        ensures { self.new ≡ map (λ p. p.0 && not p.1) (zip self.old other.now) }
+    {
+        self.combine::<AndNot>(other);
     }
 
     /// Sets each bit to the disjunction of itself and the bit of `other` at the same position. The lengths are equal.

@@ -1,8 +1,9 @@
 -- The bits of a byte that is written, flipped or masked.
-use Rattle.std.proofs.Common.{◌≡◌, ◌≢◌, ℕ, ◌-◌, ◌^◌, ◌<◌, ◌≤◌, true, false, not, ◌&&◌, eqb, bit_and, bit_or, bit_xor, w8, ap, ◌∙◌, arith, zero, suc, ◌+◌, ◌%◌, ◌||◌, refl}
+use Rattle.std.proofs.Common.{◌≡◌, ◌≢◌, ℕ, ◌-◌, ◌^◌, ◌<◌, ◌≤◌, true, false, not, ◌&&◌, eqb, bit_and, bit_or, bit_xor, w8, ap, ◌∙◌, arith, zero, suc, ◌+◌, ◌%◌, ◌||◌, refl, inl, inr}
 use Rattle.std.specs.Int.{bit_at}
-use Rattle.std.proofs.lemmas.Nat.Bits.{and_pow, bit_at-lt, bit_at_or, bit_at_and, bit_at_xor, bit_at_not, bit_at-pow_same, bit_at-pow_other, bit_at-zero, bit_at_ones, bit_at_ones_above}
+use Rattle.std.proofs.lemmas.Nat.Bits.{and_pow, bit_at-lt, bit_at_or, bit_at_and, bit_at_xor, bit_at_not, bit_at-pow_same, bit_at-pow_other, bit_at-zero, bit_at_ones, bit_at_ones_above, bit_at_above}
 use Rattle.std.proofs.Math.Bool.{xor}
+use Rattle.std.proofs.lemmas.Bool.{cases_lt}
 use Rattle.std.proofs.lemmas.Bool.Decides.{nat_tests}
 
 -- the expression that the code tests is the bit of the byte
@@ -84,3 +85,14 @@ xor_bit a b k = ap (λ x. eqb x 1) (bit_at_xor a b k) ∙ xor_digits (bit_at a k
 
 pub bit_of_ones_byte : (k : ℕ) → k < 8 → eqb (bit_at 255 k) 1 ≡ true
 bit_of_ones_byte k h = ap (λ x. eqb x 1) (bit_at_ones 8 k h)
+
+-- the bits of one byte that another byte has not
+pub and_not_bit : (a b k : ℕ) → a < 256 → b < 256 → eqb (bit_at (bit_and a (255 - b)) k) 1 ≡ eqb (bit_at a k) 1 && not (eqb (bit_at b k) 1)
+and_not_bit a b k f g =
+    let e = bit_at_and a (255 - b) k in
+    let p = bit_at-lt a k in
+    let q = bit_at-lt b k in
+    elim (cases_lt k 8) [
+      | inl s ↦ let r : bit_at (255 - b) k ≡ 1 - bit_at b k = bit_at_not w8 b k g s in grind (arith, nat_tests)
+      | inr s ↦ let r : bit_at a k ≡ 0 = bit_at_above a 8 k f s in grind (arith, nat_tests)
+    ]

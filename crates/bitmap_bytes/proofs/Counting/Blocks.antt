@@ -24,11 +24,11 @@ true_of_not true h = refl
 true_of_not false h = absurd (false≢true (sym h))
 
 -- a chunk of zeros has no set bit
-zero_bit : (n i : ℕ) → 0 < n → chunk_bit n (replicate {A = ℕ} n 0) i ≡ false
+pub zero_bit : (n i : ℕ) → 0 < n → chunk_bit n (replicate {A = ℕ} n 0) i ≡ false
 zero_bit n i p = chunk_bit-fill n 0 false i p (λ k _. bit_of_zero_byte 0 k refl)
 
 -- the index of bit t of block j among the bits of all blocks
-block_bit : (n : ℕ) (blocks : List (List ℕ)) (j t : ℕ) → 0 < n → t < 8 * n → chunks_bit n blocks (8 * n * j + t) ≡ chunk_bit n (get_or blocks j []) t
+pub block_bit : (n : ℕ) (blocks : List (List ℕ)) (j t : ℕ) → 0 < n → t < 8 * n → chunks_bit n blocks (8 * n * j + t) ≡ chunk_bit n (get_or blocks j []) t
 block_bit n blocks j t p h =
     let q : (8 * n * j + t) / (8 * n) ≡ j = mul-add-div (omega arith) j t ∙ ap (λ x. j + x) (div-eq_of_lt h) ∙ omega arith in
     ap (λ k. chunk_bit n (get_or blocks k []) (8 * n * j + t)) q ∙ chunk_bit-mod n (get_or blocks j []) (8 * n * j + t) t p (mul-add-mod_self_left (8 * n) j t)
@@ -76,7 +76,7 @@ none_at f k i e h =
     clear_place (f i) (ones_from f 0 i) (ones_from f 0 k) (omega (arith, o, ones_from_mono f (i + 1) k (omega arith))) e
 
 -- a block without a set bit is a block of zeros
-zeros_from_bits : (n : ℕ) (block : List ℕ) → 0 < n → IsChunk n block → ((t : ℕ) → t < 8 * n → chunk_bit n block t ≡ false) → block ≡ replicate n 0
+pub zeros_from_bits : (n : ℕ) (block : List ℕ) → 0 < n → IsChunk n block → ((t : ℕ) → t < 8 * n → chunk_bit n block t ≡ false) → block ≡ replicate n 0
 zeros_from_bits n block p c h =
     ext_get_or 0 block (replicate n 0) (c.len ∙ sym (length-replicate n 0)) (λ j w.
     byte_from_bits n block (replicate n 0) j (omega (arith, c.len)) (c.bytes j) (let z : get_or (replicate {A = ℕ} n 0) j 0 ≡ 0 = get_or-replicate n j 0 0 (omega (arith, c.len)) in omega arith) (λ i.

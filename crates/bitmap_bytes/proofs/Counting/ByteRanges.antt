@@ -20,7 +20,7 @@ one_more z y = grind arith
 less_one : (x y : ℕ) → 1 ≤ x → (x - 1) * y ≡ x * y - y
 less_one x y h = let e : x - 1 + 1 ≡ x = omega arith in one_more (x - 1) y ∙ ap (λ w. w * y - y) e
 
-mask_is : (lo hi : ℕ) → lo < hi → hi ≤ 8 → 255 / 2 ^ (8 - (hi - lo)) * 2 ^ lo % 256 ≡ 2 ^ hi - 2 ^ lo
+pub mask_is : (lo hi : ℕ) → lo < hi → hi ≤ 8 → 255 / 2 ^ (8 - (hi - lo)) * 2 ^ lo % 256 ≡ 2 ^ hi - 2 ^ lo
 mask_is lo hi h s =
     let m : 8 - (8 - (hi - lo)) ≡ hi - lo = omega arith in
     let r : 255 / 2 ^ (8 - (hi - lo)) ≡ 2 ^ (hi - lo) - 1 = ones_shr 8 (8 - (hi - lo)) (omega arith) ∙ ap (λ x. 2 ^ x - 1) m in

@@ -14,7 +14,8 @@
 //! }
 //! ```
 
-ghost use Rattle.std.specs.Prelude.{◌≡◌, ℕ, ◌+◌, ◌-◌, ◌*◌, ◌%◌, ◌^◌, ◌<◌, ◌≤◌, false, min, MatchOption};
+ghost use Rattle.std.specs.Prelude.{◌≡◌, ℕ, ◌+◌, ◌-◌, ◌*◌, ◌%◌, ◌^◌, ◌<◌, ◌≤◌, ◌⊎◌, ◌==◌, false, min, MatchOption};
+ghost use Rattle.std.specs.Int.{bit_at};
 ghost use Rattle.std.specs.List.{count_by, range_with_len};
 ghost use Rattle.bitmap_bytes.specs.Chunk.{chunk_bit, is_wanted, IsLastBelow, IsNth, IsWidth};
 ghost use Rattle.bitmap_bytes.specs.Words.{IsPart};
@@ -137,4 +138,48 @@ pub fn last_in<const N: usize>(chunk: &[u8; N], to: u64, wanted: bool) -> Option
         top = base;
     }
     None
+}
+
+/// Sets the bits of a chunk at or above bit `from` and below bit `to`, which is at most `8N`, to `value`.
+///
+/// The other bits do not change. If `from` is not below `to`, nothing changes.
+///
+/// # Memory
+///
+/// Does not allocate.
+///
+/// # Complexity
+///
+/// Linear in the bytes of the range. All bytes but the first and the last are written at once.
+pub fn set_in<const N: usize>(chunk: &mut [u8; N], from: u64, to: u64, value: bool)
+    requires width { IsWidth N }
+    requires within { to ≤ 8 * N }
+    ensures inside { (i : ℕ) → from ≤ i % (8 * N) → i % (8 * N) < to → chunk_bit N chunk.new i ≡ value }
+    ensures outside { (i : ℕ) → (i % (8 * N) < from) ⊎ (to ≤ i % (8 * N)) → chunk_bit N chunk.new i ≡ chunk_bit N chunk.old i }
+{
+    if from >= to {
+        return;
+    }
+    let first = (from / 8) as usize;
+    let last = ((to - 1) / 8) as usize;
+    let past = (to - 1) % 8 + 1;
+    if first == last {
+        chunk[first] = set_in_byte(chunk[first], from % 8, past, value);
+        return;
+    }
+    chunk[first] = set_in_byte(chunk[first], from % 8, 8, value);
+    chunk[last] = set_in_byte(chunk[last], 0, past, value);
+    let bytes = &mut chunk[..];
+    bytes[first + 1..last].fill(if value { u8::MAX } else { 0 });
+}
+
+// A byte with its bits at or above bit `from` and below bit `to` set to `value`.
+fn set_in_byte(byte: u8, from: u64, to: u64, value: bool) -> u8
+    requires some { from < to }
+    requires within { to ≤ 8 }
+    ensures inside { (t : ℕ) → from ≤ t → t < to → (bit_at result t == 1) ≡ value }
+    ensures outside { (t : ℕ) → t < 8 → (t < from) ⊎ (to ≤ t) → (bit_at result t == 1) ≡ (bit_at byte t == 1) }
+{
+    let mask = (u8::MAX >> (8 - (to - from))) << from;
+    if value { byte | mask } else { byte & !mask }
 }

@@ -104,6 +104,19 @@ impl Bitwise for Xor {
     }
 }
 
+/// The bit is set if the first bit is set and the second is not.
+pub struct AndNot;
+
+impl Bitwise for AndNot {
+    ghost gives = { λ a b. a && not b };
+
+    ghost keeps_zeros = { refl };
+
+    fn of_bytes(a: u8, b: u8) -> u8 {
+        a & !b
+    }
+}
+
 /// Combines every bit of `chunk` with the same bit of `other`.
 ///
 /// `N` is at least 1.

@@ -11,7 +11,7 @@ use Rattle.bitmap_bytes.proofs.Counting.Places.{ones_from_split, none_from, rest
 use Rattle.bitmap_bytes.proofs.Counting.Words.{none_chunk_slice, count-chunk}
 use Rattle.bitmap_bytes.proofs.Bytes.Shifted.{bytes_bit-flat, bytes_bit-left, bytes_bit-right}
 
-flat-length : (n : ℕ) (chunks : List (List ℕ)) → AreChunks n chunks → length (flat_map (λ c. c) chunks) ≡ n * length chunks
+pub flat-length : (n : ℕ) (chunks : List (List ℕ)) → AreChunks n chunks → length (flat_map (λ c. c) chunks) ≡ n * length chunks
 flat-length n [] h = omega arith
 flat-length n (c ∷ chunks) h =
     omega (

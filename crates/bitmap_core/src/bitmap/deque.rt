@@ -9,6 +9,8 @@ mod bools;
 mod counts;
 mod every;
 mod growth;
+mod pairs;
+mod ranges;
 mod runs;
 mod whole_chunks;
 
@@ -20,5 +22,7 @@ pub use crate::bitmap::deque::every::{are_equal, combine, feed, fill, flip};
 pub use crate::bitmap::deque::growth::{
     append_copies, drop_space, extend_zeros, make_space, shorten,
 };
+pub use crate::bitmap::deque::pairs::gives_none;
+pub use crate::bitmap::deque::ranges::set_range;
 pub use crate::bitmap::deque::runs::{bytes, slices};
 pub use crate::bitmap::deque::whole_chunks::{chunk_at, drop_front, put_front, set_chunk};

@@ -1,4 +1,4 @@
-//! Operators on whole bitmaps: equality, hashing, `&`, `|` and `^`.
+//! Operators on whole bitmaps: equality, hashing, `&`, `|`, `^` and `-`.
 
 ghost use Rattle.std.specs.Prelude.{◌≡◌, length, replicate, false, not, ◌&&◌, ◌||◌, map, IfOk};
 ghost use Rattle.std.specs.List.{zip};
@@ -10,7 +10,7 @@ ghost use Rattle.std.proofs.Math.Bool.{beq, xor};
 use crate::bitmap::{BitMap, deque};
 use std::alloc::AllocError;
 use std::hash::{Hash, Hasher};
-use std::ops::{BitAnd, BitOr, BitXor};
+use std::ops::{BitAnd, BitOr, BitXor, Sub};
 
 impl<const N: usize> PartialEq for BitMap<N> {
     ghost eq = { pointwise beq };
@@ -136,5 +136,32 @@ impl<const N: usize> BitXor<&BitMap<N>> for &BitMap<N> {
         let mut difference = self.clone()?;
         difference.xor(other);
         Ok(difference)
+    }
+}
+
+impl<const N: usize> Sub<&BitMap<N>> for &BitMap<N> {
+    type Output = Result<BitMap<N>, AllocError>;
+
+    ghost can_sub = { λ a b. length a.now ≡ length b.now };
+
+    ghost sub_gives = { λ a b r. IfOk r (λ c. c ≡ map (λ p. p.0 && not p.1) (zip a.now b.now)) };
+
+    /// Returns a new bitmap whose bit is set if it is set in the left bitmap and not in the right one. The lengths are equal.
+    ///
+    /// # Errors
+    ///
+    /// Returns `AllocError` if the allocation fails.
+    ///
+    /// # Memory
+    ///
+    /// Allocates space for the chunks, from the allocator of the left bitmap.
+    ///
+    /// # Complexity
+    ///
+    /// Linear in the chunks.
+    fn sub(self, other: &BitMap<N>) -> Result<BitMap<N>, AllocError> {
+        let mut rest = self.clone()?;
+        rest.and_not(other);
+        Ok(rest)
     }
 }

@@ -16,10 +16,11 @@
 //! }
 //! ```
 
-ghost use Rattle.std.specs.Prelude.{◌≡◌, ℕ, ◌+◌, ◌-◌, ◌*◌, ◌/◌, ◌%◌, ◌^◌, ◌<◌, ◌≤◌, ◌↔◌, [], false, length, IfOk, OnOk, OnErr, IsOk, ◌==◌};
+ghost use Rattle.std.specs.Prelude.{◌≡◌, ℕ, ◌+◌, ◌-◌, ◌*◌, ◌/◌, ◌%◌, ◌^◌, ◌<◌, ◌≤◌, ◌↔◌, [], false, not, length, IfOk, OnOk, OnErr, IsOk, ◌==◌};
 ghost use Rattle.std.specs.Int.{div_ceil};
+ghost use Rattle.std.specs.List.{count_by, list_all, range_with_len};
 ghost use Rattle.bitmap_bytes.specs.Chunk.{byte_bits, chunk_bit, chunk_bits, IsWidth};
-ghost use Rattle.bitmap_core.specs.PrunedBits.{appended, bit_at, bit_len, chunk, extended, IsRetainedChunk, IsRetained, last_bit, popped, pruned_bits, pruned_to, pushed, set_at, truncated, unpruned, with_chunk};
+ghost use Rattle.bitmap_core.specs.PrunedBits.{appended, bit_at, bit_len, chunk, extended, IsRetainedChunk, IsRetained, last_bit, popped, pruned_bits, pruned_to, pushed, set_at, set_range, truncated, unpruned, with_chunk};
 
 mod error;
 
@@ -29,6 +30,7 @@ use crate::chunk;
 use crate::chunk::{chunk_count, chunk_index, chunk_width};
 use std::alloc::{AllocError, Global};
 use std::marker::Model;
+use std::ops::Range;
 
 /// A bitmap whose prefix may be pruned, in whole chunks of `N` bytes.
 ///
@@ -203,6 +205,58 @@ impl<const N: usize> Prunable<N> {
         self.bitmap.get(bit - self.pruned_bits())
     }
 
+    /// Returns the number of retained bits that are true. Pruned bits do not count.
+    ///
+    /// # Memory
+    ///
+    /// Does not allocate.
+    ///
+    /// # Complexity
+    ///
+    /// Linear in the words (64 bits) of the retained chunks.
+    pub fn count_ones(&self) -> u64
+        ensures { result ≡ count_by (λ b. b) self.now.bits }
+    {
+        self.bitmap.count_ones()
+    }
+
+    /// Returns the number of retained bits that are false. Pruned bits do not count.
+    ///
+    /// # Memory
+    ///
+    /// Does not allocate.
+    ///
+    /// # Complexity
+    ///
+    /// Linear in the words (64 bits) of the retained chunks.
+    pub fn count_zeros(&self) -> u64
+        ensures { result ≡ count_by not self.now.bits }
+    {
+        self.bitmap.count_zeros()
+    }
+
+    /// Returns whether no bit at a position in `range` is set.
+    ///
+    /// Positions are absolute. The range starts at `pruned_bits` or later. Its end is excluded, and at most the length.
+    /// If the range is empty or ends before it starts, the result is true.
+    ///
+    /// # Memory
+    ///
+    /// Does not allocate.
+    ///
+    /// # Complexity
+    ///
+    /// At most linear in the words (64 bits) of the range.
+    pub fn is_unset(&self, range: Range<u64>) -> bool
+        requires from { pruned_bits N self.now ≤ range.start }
+        requires to { range.end ≤ bit_len N self.now }
+        ensures { result ≡ list_all (λ k. not (bit_at N self.now k)) (range_with_len range.start (range.end - range.start)) }
+    {
+        let pruned = self.pruned_bits();
+        self.bitmap
+            .is_unset(range.start - pruned..range.end.saturating_sub(pruned))
+    }
+
     /// Returns the chunk that contains position `bit`, which is absolute and retained. Its bits past the length are zero.
     ///
     /// Does not allocate; constant time.
@@ -246,6 +300,30 @@ impl<const N: usize> Prunable<N> {
     {
         let pruned = self.pruned_bits();
         self.bitmap.set(bit - pruned, value);
+    }
+
+    /// Sets the bit at each position in `range` to `value`.
+    ///
+    /// Positions are absolute. The range starts at `pruned_bits` or later. Its end is excluded, and at most the length.
+    /// The other bits do not change. If the range is empty or ends before it starts, nothing changes.
+    ///
+    /// # Memory
+    ///
+    /// Does not allocate.
+    ///
+    /// # Complexity
+    ///
+    /// Linear in the bytes of the range. Whole chunks are written at once.
+    pub fn set_range(&mut self, range: Range<u64>, value: bool)
+        requires from { pruned_bits N self.old ≤ range.start }
+        requires to { range.end ≤ bit_len N self.old }
+        ensures { self.new ≡ set_range N self.old range.start range.end value }
+    {
+        let pruned = self.pruned_bits();
+        self.bitmap.set_range(
+            range.start - pruned..range.end.saturating_sub(pruned),
+            value,
+        );
     }
 
     /// Removes the last bit, and returns it. At least one bit is retained.

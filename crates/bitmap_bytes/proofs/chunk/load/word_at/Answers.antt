@@ -1,4 +1,4 @@
-use Rattle.std.proofs.Common.{◌≡◌, ℕ, ◌+◌, ◌*◌, ◌/◌, ◌%◌, ◌∙◌, ap, arith, eqb, get_or}
+use Rattle.std.proofs.Common.{◌≡◌, ◌/◌, ◌%◌, ◌∙◌, ap, arith, eqb, get_or}
 use Rattle.std.proofs.lemmas.List.{get_or-take, take_rest}
 use Rattle.std.specs.Int.{bit_at}
 use Rattle.bitmap_bytes.proofs.Words.Masks.{rest_bit}
