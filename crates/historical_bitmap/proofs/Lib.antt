@@ -11,9 +11,11 @@
 -- 9. History.InPlace, `found_in_place`: each bit of a past state is found without rebuilding it.
 -- 10. History.Rewound, `rewound_is`: the old bytes of the later records, written over the current bitmap, give the past state.
 -- 11. History.KeptUnder: which states are kept after a drop and after a rewind.
+-- 12. Index.Found, `found_with`: an index finds the same old bytes as a walk over the later records.
 pub mod Lists
 pub mod Records
 pub mod History
+pub mod Index
 pub mod EditedChunks
 pub mod Pending
 pub mod Changes

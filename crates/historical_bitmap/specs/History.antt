@@ -1,5 +1,5 @@
 -- Past states: the bitmap of each kept commit, by number. A chunk has n bytes.
-use Rattle.std.specs.Prelude.{◌≡◌, ℕ, ◌-◌, ◌*◌, ◌^◌, ◌<◌, ◌≤◌, List, [], ◌∷◌, length, map, Option, Some, None, slice_get, nat_eq, nat_lt, nat_le}
+use Rattle.std.specs.Prelude.{◌≡◌, ℕ, ◌-◌, ◌*◌, ◌^◌, ◌<◌, ◌≤◌, List, [], ◌∷◌, length, map, take, Option, Some, None, slice_get, nat_eq, nat_lt, nat_le}
 use Rattle.std.specs.List.{All, filter}
 use Rattle.std.specs.List.Sorted.{IsStrictlySortedBy}
 use Rattle.std.specs.Map.{lookup, keys_of}
@@ -37,6 +37,10 @@ up_to_number number history = filter (λ e. nat_le e.0 number) history
 -- the entries whose number is greater than this one
 abbrev pub past_number : {X : Type 0} → ℕ → List (ℕ × X) → List (ℕ × X)
 past_number number history = filter (λ e. nat_lt number e.0) history
+
+-- the entries before the latest one
+abbrev pub before_latest : {X : Type 0} → List X → List X
+before_latest history = take (length history - 1) history
 
 -- the current bitmap with the records of some commits undone, the last of them first
 abbrev pub undone : ℕ → List (ℕ × ReverseRecord) → PrunedBits → PrunedBits

@@ -4,6 +4,7 @@
 -- Undo: a record undone in steps.
 -- History: kept commits, and the past states that their records give.
 -- Rewind: conditions inside the code that rewinds in place.
+-- Index: the index of kept commits by chunk.
 -- Cost: how many entries a record may have.
 -- Changes: the chunks in which two states differ.
 -- Pending: pending edits, each edit of them, and the record that a commit makes.
@@ -16,6 +17,7 @@ pub mod Stored
 pub mod Undo
 pub mod History
 pub mod Rewind
+pub mod Index
 pub mod Cost
 pub mod Changes
 pub mod Pending

@@ -1,8 +1,10 @@
 -- A commit is added to the kept ones: the invariant, the history and the costs.
-use Rattle.std.proofs.Common.{◌≡◌, ℕ, ◌-◌, ◌^◌, ◌<◌, ◌≤◌, List, [], ◌∷◌, ◌++◌, Result, Ok, Err, length, ap, arith, ◌∙◌}
+use Rattle.std.proofs.Common.{◌≡◌, ℕ, ◌-◌, ◌^◌, ◌<◌, ◌≤◌, List, [], ◌∷◌, ◌++◌, Result, Ok, Err, length, take, ap, arith, ◌∙◌}
 use mathlib.Core.Logic.{inl, inr}
 use mathlib.Core.Bool.{true≢false}
 use Rattle.std.proofs.lemmas.Bool.{cases_lt, cases_eq, eq-eqb, ne_eqb, le-leb}
+use Rattle.std.proofs.lemmas.List.{length-append}
+use Rattle.std.proofs.Math.Seq.{take-append_seam}
 use Rattle.std.proofs.lemmas.List.Elements.{All-append, All-cons, All-nil, All-weaker}
 use Rattle.std.specs.BTreeMap.{insert_entry}
 use Rattle.std.specs.List.{All}
@@ -12,7 +14,7 @@ use Rattle.std.proofs.lemmas.Bool.{false≢true}
 use Rattle.std.specs.Prelude.{Option, Some, None, false, true, OnErr, OnOk}
 use Rattle.std.specs.Result.{is_err}
 use Rattle.bitmap_core.specs.PrunedBits.{PrunedBits}
-use Rattle.historical_bitmap.specs.History.{costs, snapshots, AreUpTo, AreKept}
+use Rattle.historical_bitmap.specs.History.{before_latest, costs, snapshots, AreUpTo, AreKept}
 use Rattle.historical_bitmap.specs.Record.{ReverseRecord, LeadsBack}
 use Rattle.historical_bitmap.specs.Undo.{CanUndo}
 use Rattle.historical_bitmap.specs.View.{commit_error}
@@ -56,6 +58,12 @@ module _ (n : ℕ) (cs ds : List (ℕ × ReverseRecord)) (last : Option ℕ) (nu
   -- its record is the last one
   pub found_last : ds ≡ cs ++ (number, r) ∷ []
   found_last = inserted ∙ insert_last cs number r (all_below (keys_of cs) last number small kept.numbers free)
+
+  -- the other commits are unchanged
+  pub earlier_same : before_latest ds ≡ cs
+  earlier_same =
+      let count : length (cs ++ (number, r) ∷ []) - 1 ≡ length cs = omega (arith, length-append cs ((number, r) ∷ [])) in
+      ap before_latest found_last ∙ (ap (λ k. take k (cs ++ (number, r) ∷ [])) count ∙ take-append_seam cs ((number, r) ∷ []))
 
   numbers_last : keys_of ds ≡ keys_of cs ++ number ∷ []
   numbers_last = ap keys_of found_last ∙ keys_push cs number r

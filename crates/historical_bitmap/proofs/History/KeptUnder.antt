@@ -7,7 +7,7 @@ use Rattle.std.specs.Prelude.{None, nat_eq, nat_le, if◌then◌else◌}
 use Rattle.historical_bitmap.specs.History.{from_number, kept_under, up_to_number}
 
 -- after a filter by number, the accepted numbers keep their states, and the others have none
-kept_where : {X : Type 0} (p : ℕ → Bool) (m : ℕ) (es : List (ℕ × X)) → kept_under (filter (λ e. p e.0) es) m ≡ (if p m then kept_under es m else None)
+pub kept_where : {X : Type 0} (p : ℕ → Bool) (m : ℕ) (es : List (ℕ × X)) → kept_under (filter (λ e. p e.0) es) m ≡ (if p m then kept_under es m else None)
 kept_where p m es = lookup-filter-keys (nat_eq m) p (p m) (λ k same. ap p (sym (eqb-true m k same))) es
 
 pub kept_from_number : {X : Type 0} (number m : ℕ) (es : List (ℕ × X)) → kept_under (from_number number es) m ≡ (if nat_le number m then kept_under es m else None)

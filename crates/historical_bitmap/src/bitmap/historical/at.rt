@@ -143,7 +143,23 @@ impl<const N: usize> BitMap<N, Clean> {
         ensures { ShowsChunk N (pruned_meaning N (left_by N number self.now.commits self.now.current)) chunk result }
     {
         let _ = self.current.len();
-        match first_kept(&self.commits, number, chunk) {
+        let kept = first_kept(&self.commits, number, chunk);
+        self.kept_or_current(number, chunk, kept)
+    }
+
+    // Returns that chunk: the old bytes from the first record past the number that keeps any, else the chunk of the current bitmap.
+    pub(crate) fn kept_or_current(
+        &self,
+        number: u64,
+        chunk: usize,
+        kept: Option<&[u8; N]>,
+    ) -> [u8; N]
+        requires retained { IsRetainedChunk N (left_by N number self.now.commits self.now.current) chunk }
+        requires kept { option_copied kept ≡ first_kept_of (past_number number self.now.commits) chunk }
+        ensures { ShowsChunk N (pruned_meaning N (left_by N number self.now.commits self.now.current)) chunk result }
+    {
+        let _ = self.current.len();
+        match kept {
             Some(bytes) => *bytes,
             None => *self.current.get_chunk(chunk),
         }

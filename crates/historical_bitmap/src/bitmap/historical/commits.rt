@@ -274,6 +274,7 @@ impl<const N: usize> BitMap<N, Clean> {
         ensures unchanged { IfErr result (λ e. e.0 ≡ self.entry) }
         ensures current { IfOk result (λ b. kept_under (history_of N self.entry) number ≡ Some b.current) }
         ensures history { IfOk result (λ b. history_of N b ≡ up_to_number number (history_of N self.entry)) }
+        ensures commits { IfOk result (λ b. b.commits ≡ up_to_number number self.entry.commits) }
         ensures costs { IfOk result (λ b. costs_of b ≡ up_to_number number (costs_of self.entry)) }
         ensures last { IfOk result (λ b. b.last ≡ Some number) }
         ensures reserved { kept_under (history_of N self.entry) (2 ^ 64 - 1) ≡ None }

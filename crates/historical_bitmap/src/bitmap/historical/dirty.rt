@@ -10,6 +10,7 @@ ghost use Rattle.historical_bitmap.specs.declared.bitmap.historical.error.Error.
 ghost use Rattle.historical_bitmap.specs.Cost.{most_cost};
 ghost use Rattle.historical_bitmap.specs.Edits.Edit.{Pop, Prune, Push, Set};
 ghost use Rattle.historical_bitmap.specs.Edits.{pushes};
+ghost use Rattle.historical_bitmap.specs.History.{before_latest};
 ghost use Rattle.historical_bitmap.specs.View.{costs_of, history_of, KeepsEdited, IsEditedAt, IsEditOf, IsRunOf, marked_of, pending_of, commit_error};
 
 use crate::bitmap::historical::apply::{grow, overwrite, shrink_back};
@@ -319,6 +320,7 @@ impl<const N: usize> BitMap<N, Dirty<N>> {
         ensures unchanged { IfErr result (λ e. e.0 ≡ self.entry) }
         ensures current { IfOk result (λ b. b.current ≡ pending_of N self.entry) }
         ensures history { IfOk result (λ b. history_of N b ≡ history_of N self.entry ++ (number, pending_of N self.entry) ∷ []) }
+        ensures earlier { IfOk result (λ b. before_latest b.commits ≡ self.entry.commits) }
         ensures last { IfOk result (λ b. b.last ≡ Some number) }
         ensures costs { IfOk result (λ b. (cost : ℕ) × (cost ≤ most_cost N (marked_of N self.entry) self.entry.current (pending_of N self.entry)) × (costs_of b ≡ costs_of self.entry ++ (number, cost) ∷ [])) }
     {

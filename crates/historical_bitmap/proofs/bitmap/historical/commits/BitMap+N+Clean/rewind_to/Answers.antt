@@ -1,4 +1,4 @@
-use Rattle.std.proofs.Common.{◌≡◌, Some, ap, arith, sym, ◌∙◌}
+use Rattle.std.proofs.Common.{◌≡◌, Some, ap, arith, refl, sym, ◌∙◌}
 use Rattle.historical_bitmap.specs.History.{kept_under, snapshots}
 use Rattle.historical_bitmap.proofs.History.KeptCommits.{can_undo_past, costs_rewound, found_under, history_rewound, kept_rewound}
 use Rattle.historical_bitmap.proofs.bitmap.historical.commits.BitMap+N+Clean.rewind_to.Given as given
@@ -30,6 +30,9 @@ returns-clause-current g c = rw (← c.self.view_is) (found g c)
 pub returns-clause-history : goal.returns-clause-history
 returns-clause-history g c =
     rw (c.drop_past.ensures, ← c.self.view_is) (history_rewound g.row.N c.args.number c.self.inside.current c.rewind.new.current c.self.inside.commits.entries c.self.inside.last c.ranges.number.fits c.self.invariant.1 (found g c))
+
+pub returns-clause-commits : goal.returns-clause-commits
+returns-clause-commits g c = rw (c.drop_past.ensures, ← c.self.view_is) refl
 
 pub returns-clause-costs : goal.returns-clause-costs
 returns-clause-costs g c = rw (c.drop_past.ensures, ← c.self.view_is) (costs_rewound c.args.number c.self.inside.commits.entries)

@@ -2,7 +2,7 @@ use Rattle.std.proofs.Common.{◌≡◌, length, sym, ◌∙◌, arith}
 use Rattle.std.specs.BTreeMap.{insert_entry}
 use Rattle.std.specs.Ordering.{nat_cmp}
 use Rattle.historical_bitmap.specs.Pending.{pending_bits}
-use Rattle.historical_bitmap.proofs.History.AddedCommit.{at_err, at_ok, kept_more, history_more, costs_more}
+use Rattle.historical_bitmap.proofs.History.AddedCommit.{at_err, at_ok, earlier_same, kept_more, history_more, costs_more}
 use Rattle.historical_bitmap.proofs.Pending.Edits.{unedited_pending}
 use Rattle.historical_bitmap.proofs.Pending.Record.{none_can_undo, none_leads_back}
 use Rattle.historical_bitmap.proofs.bitmap.historical.dirty.BitMap+N+Dirty+N.commit.Goals as goal
@@ -33,6 +33,11 @@ returns-clause-history g c =
     let inserted : c.insert.new.self.entries ≡ insert_entry nat_cmp c.self.inside.commits.entries c.args.number c.in-Ok-record.record = at_ok c.insert.result c.insert.ensures.entries (sym c.is_err.ensures.value ∙ c.if-is_err.false) in
     rw (← c.self.view_is, made) (history_more g.row.N c.self.inside.commits.entries c.insert.new.self.entries c.self.inside.last c.args.number c.in-Ok-record.record c.self.inside.current (pending_bits g.row.N c.self.inside.current c.self.inside.state) c.len-len.ensures.width.positive c.ranges.number.fits (sym c.in_default.ensures) c.self.invariant.1 inserted c.in-Ok-record.ensures.leads_back)
 
+pub returns-clause-earlier : goal.returns-clause-earlier
+returns-clause-earlier g c =
+    let inserted : c.insert.new.self.entries ≡ insert_entry nat_cmp c.self.inside.commits.entries c.args.number c.in-Ok-record.record = at_ok c.insert.result c.insert.ensures.entries (sym c.is_err.ensures.value ∙ c.if-is_err.false) in
+    rw (← c.self.view_is) (earlier_same g.row.N c.self.inside.commits.entries c.insert.new.self.entries c.self.inside.last c.args.number c.in-Ok-record.record c.self.inside.current (pending_bits g.row.N c.self.inside.current c.self.inside.state) c.len-len.ensures.width.positive c.ranges.number.fits (sym c.in_default.ensures) c.self.invariant.1 inserted)
+
 pub returns-clause-costs : goal.returns-clause-costs
 returns-clause-costs g c =
     let inserted : c.insert.new.self.entries ≡ insert_entry nat_cmp c.self.inside.commits.entries c.args.number c.in-Ok-record.record = at_ok c.insert.result c.insert.ensures.entries (sym c.is_err.ensures.value ∙ c.if-is_err.false) in
@@ -55,6 +60,10 @@ returns-then-is_unedited-clause-history g c =
     let pos = c.is_unedited.ensures.width.positive in
     let made : pending_bits g.row.N c.self.inside.current c.self.inside.state ≡ c.self.inside.current = rw same (unedited_pending g.row.N c.self.inside.current) in
     rw (← c.self.view_is, made) (history_more g.row.N c.self.inside.commits.entries c.keep_current.new.commits.entries c.self.inside.last c.args.number _ c.self.inside.current c.self.inside.current pos c.ranges.number.fits (sym c.in_default.ensures) c.self.invariant.1 c.in-Ok.ensures.ok (none_leads_back g.row.N c.self.inside.current pos))
+
+pub returns-then-is_unedited-clause-earlier : goal.returns-then-is_unedited-clause-earlier
+returns-then-is_unedited-clause-earlier g c =
+    rw (← c.self.view_is) (earlier_same g.row.N c.self.inside.commits.entries c.keep_current.new.commits.entries c.self.inside.last c.args.number _ c.self.inside.current c.self.inside.current c.is_unedited.ensures.width.positive c.ranges.number.fits (sym c.in_default.ensures) c.self.invariant.1 c.in-Ok.ensures.ok)
 
 pub returns-then-is_unedited-clause-costs : goal.returns-then-is_unedited-clause-costs
 returns-then-is_unedited-clause-costs g c =

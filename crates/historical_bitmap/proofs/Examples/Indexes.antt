@@ -1,0 +1,80 @@
+-- The index of kept commits by chunk. Each chunk has one byte.
+use Rattle.std.specs.Prelude.{◌≡◌, ℕ, List, [], ◌∷◌, Some, None, true, false}
+use mathlib.Core.Logic.{inl, inr}
+use Rattle.std.proofs.Common.{refl, sym}
+use Rattle.std.proofs.lemmas.Bool.{cases_eq, eq-eqb, false≢true, ne_eqb}
+use Rattle.historical_bitmap.specs.History.{before_latest, kept_under}
+use Rattle.historical_bitmap.specs.Index.{is_indexed, IsIndexOf, kept_in}
+use Rattle.historical_bitmap.specs.Record.{ReverseRecord}
+use Rattle.historical_bitmap.specs.Record.ChunkDiff.{Added, Modified, Pruned, Removed}
+
+-- a commit that changes chunk 0 and adds chunk 2
+abbrev changes_and_adds : ReverseRecord
+changes_and_adds = record { len = 16; pruned = 0; entries = (0, Modified (7 ∷ [])) ∷ (2, Added) ∷ [] }
+
+-- a commit that prunes chunk 0 and removes chunk 2
+abbrev prunes_and_removes : ReverseRecord
+prunes_and_removes = record { len = 24; pruned = 0; entries = (0, Pruned (6 ∷ [])) ∷ (2, Removed (9 ∷ [])) ∷ [] }
+
+-- the first is commit 2, the second commit 5
+abbrev two_commits : List (ℕ × ReverseRecord)
+two_commits = (2, changes_and_adds) ∷ (5, prunes_and_removes) ∷ []
+
+-- ---- old bytes
+changed : kept_in (kept_under two_commits 2) 0 ≡ Some (7 ∷ [])
+changed = refl
+
+pruned : kept_in (kept_under two_commits 5) 0 ≡ Some (6 ∷ [])
+pruned = refl
+
+removed : kept_in (kept_under two_commits 5) 2 ≡ Some (9 ∷ [])
+removed = refl
+
+-- an added chunk has no old bytes, though the record has an entry for it
+added : kept_in (kept_under two_commits 2) 2 ≡ None
+added = refl
+
+-- neither has a chunk without an entry, nor a commit that is not kept
+unnamed : kept_in (kept_under two_commits 2) 1 ≡ None
+unnamed = refl
+
+absent : kept_in (kept_under two_commits 3) 0 ≡ None
+absent = refl
+
+-- ---- indexes
+there : is_indexed ((0, 2) ∷ (0, 5) ∷ (2, 5) ∷ []) 0 5 ≡ true
+there = refl
+
+-- the chunk is first, the number second
+not_swapped : is_indexed ((0, 2) ∷ (0, 5) ∷ (2, 5) ∷ []) 5 0 ≡ false
+not_swapped = refl
+
+of_no_commits : IsIndexOf [] []
+of_no_commits i number = refl
+
+of_one_commit : IsIndexOf ((0, 2) ∷ []) ((2, changes_and_adds) ∷ [])
+of_one_commit i number = elim (cases_eq number 2) [
+  | inr ne ↦ elim (cases_eq i 0) [ inl f ↦ rw (ne_eqb number 2 ne, eq-eqb i 0 f) refl | inr g ↦ rw (ne_eqb number 2 ne, ne_eqb i 0 g) refl ]
+  | inl e ↦ elim (cases_eq i 0) [
+    | inl f ↦ rw (eq-eqb number 2 e, eq-eqb i 0 f) refl
+    | inr g ↦ elim (cases_eq i 2) [ inl f ↦ rw (eq-eqb number 2 e, ne_eqb i 0 g, eq-eqb i 2 f) refl | inr h ↦ rw (eq-eqb number 2 e, ne_eqb i 0 g, ne_eqb i 2 h) refl ]
+  ]
+]
+
+-- an index without the places of a kept commit is not that of the commits
+too_small : IsIndexOf [] ((2, changes_and_adds) ∷ []) → ⊥
+too_small is = false≢true (is 0 2)
+
+-- nor is one with a place of a commit that is not kept, or of an added chunk
+too_large : IsIndexOf ((0, 2) ∷ []) [] → ⊥
+too_large is = false≢true (sym (is 0 2))
+
+with_an_added_chunk : IsIndexOf ((0, 2) ∷ (2, 2) ∷ []) ((2, changes_and_adds) ∷ []) → ⊥
+with_an_added_chunk is = false≢true (sym (is 2 2))
+
+-- the latest commit left out
+one_earlier : before_latest two_commits ≡ (2, changes_and_adds) ∷ []
+one_earlier = refl
+
+none_earlier : before_latest ((2, changes_and_adds) ∷ []) ≡ []
+none_earlier = refl

@@ -1,0 +1,315 @@
+-- The places of a record, added to an index and removed from it.
+use Rattle.std.proofs.Common.{◌≡◌, ℕ, ◌+◌, ◌-◌, ◌<◌, Bool, true, false, cond, not, List, [], ◌∷◌, ◌++◌, length, take, drop, get_or, refl, ap, arith, sym, subst, ◌∙◌}
+use mathlib.Core.Logic.{inl, inr}
+use Rattle.std.proofs.lemmas.Bool.{cases_Bool, cases_eq, cases_lt, cases_order, eq-eqb, ne_eqb, le-leb, le-ltb, lt-leb, lt-ltb, or_parts}
+use Rattle.std.proofs.lemmas.List.{map-append, take-append-drop, take_more}
+use Rattle.std.proofs.lemmas.List.Elements.{All-head, All-tail}
+use Rattle.std.proofs.lemmas.List.Folds.{list_any-append}
+use Rattle.std.proofs.lemmas.List.Kept.{IsStrictlySortedBy-filter}
+use Rattle.std.proofs.lemmas.Map.Keys.{sorted_head, sorted_tail}
+use Rattle.std.proofs.lemmas.Option.{get_or_from_slice_get, slice_get_within}
+use Rattle.std.specs.BTreeMap.{is_at}
+use Rattle.std.specs.BTreeMap.Range.{entries_between}
+use Rattle.std.specs.declared.ops.Bound.TheVariants.{Excluded, Unbounded}
+use Rattle.std.specs.List.{AllByRecursion, filter, list_any}
+use Rattle.std.specs.List.Sorted.{IsStrictlySortedBy}
+use Rattle.std.specs.Map.{keys_of, lookup}
+use Rattle.std.specs.Option.{option_or}
+use Rattle.std.specs.declared.cmp.Ordering.TheVariants.{Less}
+use Rattle.std.specs.Ordering.{nat_cmp}
+use Rattle.std.specs.Borrow.{Bor}
+use Rattle.std.specs.Prelude.{◌&&◌, ◌||◌, Option, Some, None, is_some, option_copied, if◌then◌else◌, nat_eq, nat_le, nat_lt, slice_get}
+use Rattle.historical_bitmap.specs.History.{EntriesRise, from_number, kept_under, past_number, RiseInNumber, up_to_number}
+use Rattle.historical_bitmap.specs.Index.{AddsEntries, IsIndexOf, is_indexed, keeps, kept_in, KeepsOthers, names, RemovesEntries}
+use Rattle.historical_bitmap.specs.declared.bitmap.historical.record.ChunkDiff as stored
+use Rattle.historical_bitmap.specs.Stored.{diff_value, entry_values}
+use Rattle.historical_bitmap.specs.Record.{ChunkDiff, ReverseRecord, bytes_of, kept, kept_bytes}
+use Rattle.historical_bitmap.proofs.History.KeptUnder.{kept_from_number, kept_up_to_number, kept_where}
+use Rattle.historical_bitmap.proofs.History.PastStates.{below}
+use Rattle.historical_bitmap.proofs.Index.Places.{place_cmp, put}
+use Rattle.historical_bitmap.proofs.Records.UndoneInSteps.{none_past}
+
+-- ---- tests joined
+pub or_false : (a : Bool) → (a || false) ≡ a
+or_false true = refl
+or_false false = refl
+
+pub and_true : (a : Bool) → (a && true) ≡ a
+and_true true = refl
+and_true false = refl
+
+pub and_false : (a : Bool) → (a && false) ≡ false
+and_false true = refl
+and_false false = refl
+
+added_bit : (old a b k : Bool) → cond (a && b) true (old || (a && k)) ≡ (old || (a && (k || ((b && true) || false))))
+added_bit old false b k = refl
+added_bit true true true k = refl
+added_bit false true true true = refl
+added_bit false true true false = refl
+added_bit old true false k = ap (λ t. old || t) (sym (or_false k))
+
+skipped_bit : (old a b k : Bool) → (old || (a && k)) ≡ (old || (a && (k || ((b && false) || false))))
+skipped_bit old a b k = ap (λ t. old || (a && t)) (sym (ap (λ t. k || (t || false)) (and_false b) ∙ or_false k))
+
+removed_bit : (old a b k : Bool) → cond (a && b) false (old && not (a && k)) ≡ (old && not (a && (k || (b || false))))
+removed_bit old false b k = refl
+removed_bit true true true true = refl
+removed_bit true true true false = refl
+removed_bit false true true k = refl
+removed_bit old true false k = ap (λ t. old && not t) (sym (or_false k))
+
+-- ---- the entries of a record
+-- an entry that keeps old bytes is for its chunk
+keeps_named : (es : List (ℕ × ChunkDiff)) (i : ℕ) → names es i ≡ false → keeps es i ≡ false
+keeps_named [] i h = refl
+keeps_named (e ∷ es) i h = let o = or_parts (nat_eq i e.0) (names es i) h in rw o.0 (keeps_named es i o.1)
+
+-- without an entry for the chunk, none is found
+not_named : (es : List (ℕ × ChunkDiff)) (i : ℕ) → names es i ≡ false → lookup (nat_eq i) es ≡ None
+not_named [] i h = refl
+not_named (e ∷ es) i h = let o = or_parts (nat_eq i e.0) (names es i) h in rw o.0 (not_named es i o.1)
+
+-- among ascending entries, the entry of a chunk is the one that is found
+pub keeps_is : (es : List (ℕ × ChunkDiff)) (i : ℕ) → IsStrictlySortedBy nat_cmp (keys_of es) → keeps es i ≡ is_some (bytes_of (lookup (nat_eq i) es))
+keeps_is [] i up = refl
+keeps_is (e ∷ es) i up =
+    let rest = keeps_is es i (sorted_tail nat_cmp e.0 (keys_of es) up) in
+    elim (cases_eq i e.0) [
+      | inl same ↦
+          let none = none_past i e.0 es (omega (arith, same)) (sorted_head nat_cmp e.0 (keys_of es) up) in
+          rw (eq-eqb i e.0 same) (ap (λ t. is_some (kept_bytes e.1) || t) (rw none at rest) ∙ or_false (is_some (kept_bytes e.1)))
+      | inr ne ↦ rw (ne_eqb i e.0 ne) rest
+    ]
+
+-- ---- one entry after the other
+-- a reference to old bytes is there if the bytes are
+pub copied_some : {X : Type 0} (o : Option (Bor X)) → is_some (option_copied o) ≡ is_some o
+copied_some None = refl
+copied_some (Some x) = refl
+
+-- stored entries up to an index and from it on
+pub parts_of : {N : ℕ} (i : ℕ) (all : List (ℕ × stored.ChunkDiff N)) → entry_values all ≡ entry_values (take i all) ++ entry_values (drop i all)
+parts_of i all = ap entry_values (sym (take-append-drop i all)) ∙ map-append (λ e. (e.0, diff_value e.1)) (take i all) (drop i all)
+
+-- one stored entry more
+pub stepped : {N : ℕ} (i : ℕ) (all : List (ℕ × stored.ChunkDiff N)) (e : ℕ × stored.ChunkDiff N) → i < length all → e ≡ get_or all i e → entry_values (take (i + 1) all) ≡ entry_values (take i all) ++ (e.0, diff_value e.1) ∷ []
+stepped i all e inside is =
+    ap entry_values (take_more all i e inside ∙ ap (λ x. take i all ++ x ∷ []) (sym is))
+    ∙ map-append (λ e. (e.0, diff_value e.1)) (take i all) (e ∷ [])
+
+-- the loop has added the first entries, and adds the next one
+pub entry_added : (number : ℕ) (xs : List (ℕ × ChunkDiff)) (e : ℕ × ChunkDiff) (old mid new : List (ℕ × ℕ)) → is_some (kept_bytes e.1) ≡ true → AddsEntries number xs old mid
+    → ((q : ℕ × ℕ) → list_any (is_at (place_cmp q)) new ≡ cond (is_at (place_cmp (e.0, number)) q) true (list_any (is_at (place_cmp q)) mid)) → AddsEntries number (xs ++ e ∷ []) old new
+entry_added number xs e old mid new has adds step i m =
+    put mid new e.0 number true step i m
+    ∙ (ap (λ t. cond (nat_eq m number && nat_eq i e.0) true t) (adds i m)
+    ∙ (added_bit (is_indexed old i m) (nat_eq m number) (nat_eq i e.0) (keeps xs i)
+    ∙ ap (λ t. is_indexed old i m || (nat_eq m number && t)) (ap (λ t. keeps xs i || ((nat_eq i e.0 && t) || false)) (sym has) ∙ sym (list_any-append (λ entry. nat_eq i entry.0 && is_some (kept_bytes entry.1)) xs (e ∷ [])))))
+
+-- an entry without old bytes adds nothing
+pub entry_skipped : (number : ℕ) (xs : List (ℕ × ChunkDiff)) (e : ℕ × ChunkDiff) (old mid : List (ℕ × ℕ)) → is_some (kept_bytes e.1) ≡ false → AddsEntries number xs old mid → AddsEntries number (xs ++ e ∷ []) old mid
+entry_skipped number xs e old mid none adds i m =
+    adds i m
+    ∙ (skipped_bit (is_indexed old i m) (nat_eq m number) (nat_eq i e.0) (keeps xs i)
+    ∙ ap (λ t. is_indexed old i m || (nat_eq m number && t)) (ap (λ t. keeps xs i || ((nat_eq i e.0 && t) || false)) (sym none) ∙ sym (list_any-append (λ entry. nat_eq i entry.0 && is_some (kept_bytes entry.1)) xs (e ∷ []))))
+
+-- no entry adds nothing
+pub none_added : (number : ℕ) (old : List (ℕ × ℕ)) → AddsEntries number [] old old
+none_added number old i m = sym (ap (λ t. is_indexed old i m || t) (and_false (nat_eq m number)) ∙ or_false (is_indexed old i m))
+
+-- the first entries add no place but those of the chunks that all entries are for
+pub others_kept : (number : ℕ) (all xs rest : List (ℕ × ChunkDiff)) (old mid : List (ℕ × ℕ)) → all ≡ xs ++ rest → AddsEntries number xs old mid → KeepsOthers number all old mid
+others_kept number all xs rest old mid split adds i m h = adds i m ∙ (elim (cases_Bool (nat_eq m number)) [
+  | inr e ↦ rw e (or_false (is_indexed old i m))
+  | inl e ↦
+      let named : names all i ≡ false = rw e at h in
+      let parts = or_parts (names xs i) (names rest i) (sym (list_any-append (λ entry. nat_eq i entry.0) xs rest) ∙ (ap (λ es. names es i) (sym split) ∙ named)) in
+      rw (e, keeps_named xs i parts.0) (or_false (is_indexed old i m))
+])
+
+-- the loop has removed the first entries, and removes the next one
+pub entry_removed : (number : ℕ) (xs : List (ℕ × ChunkDiff)) (e : ℕ × ChunkDiff) (old mid new : List (ℕ × ℕ)) → RemovesEntries number xs old mid
+    → ((q : ℕ × ℕ) → list_any (is_at (place_cmp q)) new ≡ cond (is_at (place_cmp (e.0, number)) q) false (list_any (is_at (place_cmp q)) mid)) → RemovesEntries number (xs ++ e ∷ []) old new
+entry_removed number xs e old mid new removes step i m =
+    put mid new e.0 number false step i m
+    ∙ (ap (λ t. cond (nat_eq m number && nat_eq i e.0) false t) (removes i m)
+    ∙ (removed_bit (is_indexed old i m) (nat_eq m number) (nat_eq i e.0) (names xs i)
+    ∙ ap (λ t. is_indexed old i m && not (nat_eq m number && t)) (sym (list_any-append (λ entry. nat_eq i entry.0) xs (e ∷ [])))))
+
+-- no entry removes nothing
+pub none_removed : (number : ℕ) (old : List (ℕ × ℕ)) → RemovesEntries number [] old old
+none_removed number old i m = sym (ap (λ t. is_indexed old i m && not t) (and_false (nat_eq m number)) ∙ and_true (is_indexed old i m))
+
+-- ---- all records, added one after the other
+-- the loop invariant: the index has the places of all commits but those that are left
+pub record AddsOn (all left : List (ℕ × ReverseRecord)) (places : List (ℕ × ℕ)) : Type 0 where
+  pub rise : RiseInNumber left
+  pub entries : EntriesRise left
+  pub within : (m : ℕ) (r : ReverseRecord) → kept_under left m ≡ Some r → kept_under all m ≡ Some r
+  pub index : (i m : ℕ) → is_indexed places i m ≡ (is_some (kept_in (kept_under all m) i) && not (is_some (kept_under left m)))
+
+none_yet : (o : Option ReverseRecord) (i : ℕ) → false ≡ (is_some (kept_in o i) && not (is_some o))
+none_yet None i = refl
+none_yet (Some r) i = sym (and_false (is_some (kept r i)))
+
+pub adds_all : (all left : List (ℕ × ReverseRecord)) (places : List (ℕ × ℕ)) → left ≡ all → places ≡ [] → RiseInNumber all → EntriesRise all → AddsOn all left places
+adds_all all left places e none rise entries = record {
+  rise = rw e rise;
+  entries = rw e entries;
+  within = λ m r found. ap (λ cs. kept_under cs m) (sym e) ∙ found;
+  index = λ i m. ap (λ ps. is_indexed ps i m) none ∙ (none_yet (kept_under all m) i ∙ ap (λ cs. is_some (kept_in (kept_under all m) i) && not (is_some (kept_under cs m))) (sym e));
+}
+
+-- the number of the first commit is not among the later ones
+pub head_alone : {X : Type 0} (c : ℕ × X) (cs : List (ℕ × X)) → RiseInNumber (c ∷ cs) → (m : ℕ) → m ≡ c.0 → kept_under cs m ≡ None
+head_alone c cs rise m e = none_past m c.0 cs (omega (arith, e)) (sorted_head nat_cmp c.0 (keys_of cs) rise)
+
+pub record_added : (all left rest : List (ℕ × ReverseRecord)) (c : ℕ × ReverseRecord) (places next : List (ℕ × ℕ)) → left ≡ c ∷ rest → AddsEntries c.0 c.1.entries places next → AddsOn all left places → AddsOn all rest next
+record_added all left rest c places next e adds before = record {
+  rise = sorted_tail nat_cmp c.0 (keys_of rest) rise;
+  entries = All-tail (λ commit. IsStrictlySortedBy nat_cmp (keys_of commit.1.entries)) c rest (rw e at before.entries);
+  within = λ m r found. elim (cases_eq m c.0) [
+    | inl same ↦ absurd (let none = head_alone c rest rise m same in let f : Some r ≡ None = sym found ∙ none in cc)
+    | inr ne ↦ within m r (rw (ne_eqb m c.0 ne) found)
+  ];
+  index = λ i m. adds i m ∙ elim (cases_eq m c.0) [
+    | inl same ↦ rw (eq-eqb m c.0 same) (here i m same)
+    | inr ne ↦
+        let was = index i m in
+        rw (ne_eqb m c.0 ne) (or_false (is_indexed places i m) ∙ (rw (ne_eqb m c.0 ne) at was))
+  ];
+}
+  where
+    rise : RiseInNumber (c ∷ rest)
+    rise = rw e at before.rise
+
+    within : (m : ℕ) (r : ReverseRecord) → kept_under (c ∷ rest) m ≡ Some r → kept_under all m ≡ Some r
+    within = rw e at before.within
+
+    index : (i m : ℕ) → is_indexed places i m ≡ (is_some (kept_in (kept_under all m) i) && not (is_some (kept_under (c ∷ rest) m)))
+    index = rw e at before.index
+
+    here : (i m : ℕ) → m ≡ c.0 → (is_indexed places i m || keeps c.1.entries i) ≡ (is_some (kept_in (kept_under all m) i) && not (is_some (kept_under rest m)))
+    here i m same =
+        let found : kept_under (c ∷ rest) m ≡ Some c.1 = rw (eq-eqb m c.0 same) refl in
+        let none = head_alone c rest rise m same in
+        let sorted = All-head (λ commit. IsStrictlySortedBy nat_cmp (keys_of commit.1.entries)) c rest (rw e at before.entries) in
+        let was : is_indexed places i m ≡ false = index i m ∙ (ap (λ o. is_some (kept_in (kept_under all m) i) && not (is_some o)) found ∙ and_false (is_some (kept_in (kept_under all m) i))) in
+        ap (λ t. t || keeps c.1.entries i) was
+        ∙ (keeps_is c.1.entries i sorted
+        ∙ (sym (ap (λ o. is_some (kept_in o i)) (within m c.1 found))
+        ∙ sym (ap (λ o. is_some (kept_in (kept_under all m) i) && not (is_some o)) none ∙ and_true (is_some (kept_in (kept_under all m) i)))))
+
+pub all_added : (all left : List (ℕ × ReverseRecord)) (places : List (ℕ × ℕ)) → left ≡ [] → AddsOn all left places → IsIndexOf places all
+all_added all left places e before i m =
+    before.index i m ∙ (ap (λ cs. is_some (kept_in (kept_under all m) i) && not (is_some (kept_under cs m))) e ∙ and_true (is_some (kept_in (kept_under all m) i)))
+
+-- ---- the records of some commits, removed one after the other
+-- the loop invariant: the index has the places of the commits that are left, and of those to be kept
+pub record RemovesOn (left keep : List (ℕ × ReverseRecord)) (places : List (ℕ × ℕ)) : Type 0 where
+  pub rise : RiseInNumber left
+  pub apart : (m : ℕ) (r : ReverseRecord) → kept_under left m ≡ Some r → kept_under keep m ≡ None
+  pub index : (i m : ℕ) → is_indexed places i m ≡ is_some (kept_in (option_or (kept_under left m) (kept_under keep m)) i)
+
+pub record_removed : (left rest keep : List (ℕ × ReverseRecord)) (c : ℕ × ReverseRecord) (places next : List (ℕ × ℕ)) → left ≡ c ∷ rest → RemovesEntries c.0 c.1.entries places next → RemovesOn left keep places → RemovesOn rest keep next
+record_removed left rest keep c places next e removes before = record {
+  rise = sorted_tail nat_cmp c.0 (keys_of rest) rise;
+  apart = λ m r found. elim (cases_eq m c.0) [
+    | inl same ↦ absurd (let none = head_alone c rest rise m same in let f : Some r ≡ None = sym found ∙ none in cc)
+    | inr ne ↦ apart m r (rw (ne_eqb m c.0 ne) found)
+  ];
+  index = λ i m. removes i m ∙ elim (cases_eq m c.0) [
+    | inl same ↦ rw (eq-eqb m c.0 same) (here i m same)
+    | inr ne ↦
+        let was = index i m in
+        rw (ne_eqb m c.0 ne) (and_true (is_indexed places i m) ∙ (rw (ne_eqb m c.0 ne) at was))
+  ];
+}
+  where
+    rise : RiseInNumber (c ∷ rest)
+    rise = rw e at before.rise
+
+    apart : (m : ℕ) (r : ReverseRecord) → kept_under (c ∷ rest) m ≡ Some r → kept_under keep m ≡ None
+    apart = rw e at before.apart
+
+    index : (i m : ℕ) → is_indexed places i m ≡ is_some (kept_in (option_or (kept_under (c ∷ rest) m) (kept_under keep m)) i)
+    index = rw e at before.index
+
+    gone : (i : ℕ) → (is_some (kept c.1 i) && not (names c.1.entries i)) ≡ false
+    gone i = elim (cases_Bool (names c.1.entries i)) [
+      | inl named ↦ rw named (and_false (is_some (kept c.1 i)))
+      | inr unnamed ↦ rw (not_named c.1.entries i unnamed) refl
+    ]
+
+    here : (i m : ℕ) → m ≡ c.0 → (is_indexed places i m && not (names c.1.entries i)) ≡ is_some (kept_in (option_or (kept_under rest m) (kept_under keep m)) i)
+    here i m same =
+        let found : kept_under (c ∷ rest) m ≡ Some c.1 = rw (eq-eqb m c.0 same) refl in
+        ap (λ t. t && not (names c.1.entries i)) (index i m ∙ ap (λ o. is_some (kept_in (option_or o (kept_under keep m)) i)) found)
+        ∙ (gone i
+        ∙ sym (ap (λ o. is_some (kept_in (option_or o (kept_under keep m)) i)) (head_alone c rest rise m same) ∙ ap (λ o. is_some (kept_in o i)) (apart m c.1 found)))
+
+pub all_removed : (left keep : List (ℕ × ReverseRecord)) (places : List (ℕ × ℕ)) → left ≡ [] → RemovesOn left keep places → IsIndexOf places keep
+all_removed left keep places e before i m = before.index i m ∙ ap (λ cs. is_some (kept_in (option_or (kept_under cs m) (kept_under keep m)) i)) e
+
+-- the commits whose numbers pass a test are removed, and the others are kept
+part : (b : Bool) (o : Option ReverseRecord) → option_or (if b then o else None) (if not b then o else None) ≡ o
+part true None = refl
+part true (Some r) = refl
+part false o = refl
+
+module _ (p : ℕ → Bool) (commits left keep : List (ℕ × ReverseRecord)) (places : List (ℕ × ℕ)) (is : left ≡ filter (λ c. p c.0) commits)
+    (kept_where_not : (m : ℕ) → kept_under keep m ≡ (if not (p m) then kept_under commits m else None)) (rise : RiseInNumber left) (index : IsIndexOf places commits) where
+  left_where : (m : ℕ) → kept_under left m ≡ (if p m then kept_under commits m else None)
+  left_where m = ap (λ cs. kept_under cs m) is ∙ kept_where p m commits
+
+  pub removes_where : RemovesOn left keep places
+  removes_where = record {
+    rise = rise;
+    apart = λ m r found. elim (cases_Bool (p m)) [
+      | inl e ↦ let k = kept_where_not m in rw e at k
+      | inr e ↦ absurd (let l = rw e at (left_where m) in let f : Some r ≡ None = sym found ∙ l in cc)
+    ];
+    index = λ i m. index i m ∙ ap (λ o. is_some (kept_in o i)) (sym (part (p m) (kept_under commits m)) ∙ (ap (λ o. option_or o (if not (p m) then kept_under commits m else None)) (sym (left_where m)) ∙ ap (λ o. option_or (kept_under left m) o) (sym (kept_where_not m))));
+  }
+
+-- the numbers of the commits that pass a test ascend
+numbers_where : {X : Type 0} (p : ℕ → Bool) (es : List (ℕ × X)) → keys_of (filter (λ e. p e.0) es) ≡ filter p (keys_of es)
+numbers_where p [] = refl
+numbers_where p (e ∷ es) = elim (cases_Bool (p e.0)) [
+  | inl t ↦ rw t (ap (λ numbers. e.0 ∷ numbers) (numbers_where p es))
+  | inr f ↦ rw f (numbers_where p es)
+]
+
+rise_where : {X : Type 0} (p : ℕ → Bool) (es left : List (ℕ × X)) → left ≡ filter (λ e. p e.0) es → RiseInNumber es → RiseInNumber left
+rise_where p es left is rise = rw (is, numbers_where p es) (IsStrictlySortedBy-filter nat_cmp p (keys_of es) rise)
+
+-- those past a number are removed
+at_most : (number m : ℕ) → nat_le m number ≡ not (nat_lt number m)
+at_most number m = elim (cases_lt number m) [
+  | inl l ↦ rw (lt-leb m number l, lt-ltb number m l) refl
+  | inr l ↦ rw (le-leb m number l, le-ltb number m l) refl
+]
+
+pub removes_past : (number : ℕ) (commits left : List (ℕ × ReverseRecord)) (places : List (ℕ × ℕ)) → left ≡ past_number number commits → RiseInNumber commits → IsIndexOf places commits → RemovesOn left (up_to_number number commits) places
+removes_past number commits left places is rise index =
+    removes_where (nat_lt number) commits left (up_to_number number commits) places is
+    (λ m. kept_up_to_number number m commits ∙ ap (λ t. if t then kept_under commits m else None) (at_most number m)) (rise_where (nat_lt number) commits left is rise) index
+
+-- those below a number are removed
+at_least : (number m : ℕ) → nat_le number m ≡ not (nat_lt m number)
+at_least number m = at_most m number
+
+-- the range of a map below a number
+pub below_is : {X : Type 0} (m : ℕ) (es : List (ℕ × X)) → entries_between nat_cmp Unbounded (Excluded m) es ≡ filter (λ e. nat_lt e.0 m) es
+below_is m [] = refl
+below_is m (e ∷ es) = elim (cases_order m e.0) [
+  | inl same ↦ rw (le-ltb m e.0 (omega (arith, same)), eq-eqb m e.0 same, le-ltb e.0 m (omega (arith, same))) (below_is m es)
+  | inr (inl l) ↦ rw (lt-ltb m e.0 l, le-ltb e.0 m (omega (arith, l))) (below_is m es)
+  | inr (inr l) ↦ rw (le-ltb m e.0 (omega (arith, l)), ne_eqb m e.0 (λ same. absurd (omega (arith, same, l))), lt-ltb e.0 m l) (ap (λ rest. e ∷ rest) (below_is m es))
+]
+
+pub removes_below : (number : ℕ) (commits left : List (ℕ × ReverseRecord)) (places : List (ℕ × ℕ)) → left ≡ filter (λ c. nat_lt c.0 number) commits → RiseInNumber commits → IsIndexOf places commits → RemovesOn left (from_number number commits) places
+removes_below number commits left places is rise index =
+    removes_where (λ m. nat_lt m number) commits left (from_number number commits) places is
+    (λ m. kept_from_number number m commits ∙ ap (λ t. if t then kept_under commits m else None) (at_least number m)) (rise_where (λ m. nat_lt m number) commits left is rise) index

@@ -1,0 +1,15 @@
+use Rattle.std.proofs.Common.{arith}
+use Rattle.historical_bitmap.proofs.History.InPlace.{entries_rise}
+use Rattle.historical_bitmap.proofs.bitmap.historical.index.CommitIndex.add_latest.Goals as goal
+
+pub add_last-requires : goal.add_last-requires
+add_last-requires g c = (
+  omega arith,
+  (
+    c.len.ensures.width,
+    (
+      c.bitmap.invariant.1.rise,
+      (entries_rise g.row.N c.bitmap.inside.commits.entries c.bitmap.inside.current c.bitmap.invariant.1.undo, rw (← c.self.view_is, ← c.bitmap.view_is) at c.requires),
+    ),
+  ),
+)

@@ -1,0 +1,382 @@
+//! An index of the kept commits by chunk, and past states that are read through it.
+
+ghost use Rattle.std.specs.Prelude.{◌≡◌, ℕ, ◌-◌, ◌^◌, [], None, IfOk, OnErr, OnOk, option_copied};
+ghost use Rattle.std.specs.BTreeSet.{IsOrdered};
+ghost use Rattle.bitmap_bytes.specs.Chunk.{IsWidth};
+ghost use Rattle.bitmap_core.specs.Meaning.{pruned_meaning, ShowsChunk};
+ghost use Rattle.bitmap_core.specs.PrunedBits.{IsRetainedChunk};
+ghost use Rattle.historical_bitmap.specs.History.{before_latest, EntriesRise, first_kept as first_kept_of, from_number, kept_under, left_by, past_number, RiseInNumber, up_to_number};
+ghost use Rattle.historical_bitmap.specs.Index.{AddsEntries, IsIndexOf, IsNextIndexed, KeepsOthers, RemovesEntries};
+ghost use Rattle.historical_bitmap.specs.Stored.{entry_values};
+ghost use Rattle.historical_bitmap.specs.View.{history_of};
+
+use crate::bitmap::historical::record::{ChunkDiff, CommitDiff};
+use crate::bitmap::historical::{BitMap, Clean, CleanBitMap};
+use bitmap_core::bitmap::Readable;
+use bitmap_core::chunk::{chunk_index, chunk_width};
+use std::alloc::{AllocError, Global};
+use std::collections::{BTreeMap, BTreeSet};
+use std::marker::Model;
+use std::ops::Bound;
+
+/// An index of the kept commits of a historical bitmap: per chunk, the numbers of the commits whose reverse records keep its old bytes.
+///
+/// With it, `CleanBitMap::at_indexed` reads any kept commit at the cost of a search, however many commits are kept.
+/// The index is a value of its own, which its owner updates beside the bitmap:
+///
+/// | Before or after | Call |
+/// |---|---|
+/// | after a commit | `add_latest` |
+/// | before `rewind_to` | `remove_after` |
+/// | before `prune_commits_before` | `remove_before` |
+/// | before or after `clear_history` | `clear` |
+///
+/// # Memory
+///
+/// One entry of a sorted set per chunk whose old bytes a kept record has. Chunks that a commit added have no old bytes.
+#[derive(Debug, Drop)]
+pub struct CommitIndex<const N: usize> {
+    places: BTreeSet<(usize, u64)>,
+}
+
+impl<const N: usize> Model for CommitIndex<N> {
+    ghost use Rattle.std.specs.Prelude.{List, ℕ};
+
+    ghost Value = { List (ℕ × ℕ) };
+
+    ghost view = { λ index. index.places.keys };
+}
+
+// Adds the chunks whose old bytes some entries keep, with a number. If an allocation fails, some of them are added.
+fn add_entries<const N: usize>(
+    places: &mut BTreeSet<(usize, u64)>,
+    number: u64,
+    entries: &[(usize, ChunkDiff<N>)],
+) -> Result<(), AllocError>
+    ensures ok { OnOk result (AddsEntries number (entry_values entries.now) places.old.keys places.new.keys) }
+    ensures others { KeepsOthers number (entry_values entries.now) places.old.keys places.new.keys }
+{
+    for entry in entries {
+        if entry.1.old_bytes().is_some() {
+            places.insert((entry.0, number))?;
+        }
+    }
+    Ok(())
+}
+
+// Removes the chunks that some entries are for, with a number. Does not allocate.
+fn remove_entries<const N: usize>(
+    places: &mut BTreeSet<(usize, u64)>,
+    number: u64,
+    entries: &[(usize, ChunkDiff<N>)],
+)
+    ensures { RemovesEntries number (entry_values entries.now) places.old.keys places.new.keys }
+{
+    for entry in entries {
+        places.remove(&(entry.0, number));
+    }
+}
+
+// Returns the places of all records of some commits.
+fn places_of<const N: usize>(
+    alloc: Global,
+    commits: &BTreeMap<u64, CommitDiff<N>>,
+) -> Result<BTreeSet<(usize, u64)>, AllocError>
+    requires width { IsWidth N }
+    requires rise { RiseInNumber commits.now.entries }
+    requires entries { EntriesRise commits.now.entries }
+    ensures { IfOk result (λ places. IsIndexOf places.keys commits.now.entries) }
+{
+    let mut places = BTreeSet::new(alloc);
+    for (number, record) in commits {
+        add_entries(&mut places, *number, record.chunk_diffs())?;
+    }
+    Ok(places)
+}
+
+// Removes the places of the records past a number. Does not allocate.
+fn remove_past<const N: usize>(
+    places: &mut BTreeSet<(usize, u64)>,
+    commits: &BTreeMap<u64, CommitDiff<N>>,
+    number: u64,
+)
+    requires width { IsWidth N }
+    requires rise { RiseInNumber commits.now.entries }
+    requires index { IsIndexOf places.old.keys commits.now.entries }
+    ensures { IsIndexOf places.new.keys (up_to_number number commits.now.entries) }
+{
+    let later = (Bound::Excluded(number), Bound::Unbounded);
+    for (at, record) in commits.range(later) {
+        remove_entries(places, *at, record.chunk_diffs());
+    }
+}
+
+// Removes the places of the records below a number. Does not allocate.
+fn remove_below<const N: usize>(
+    places: &mut BTreeSet<(usize, u64)>,
+    commits: &BTreeMap<u64, CommitDiff<N>>,
+    number: u64,
+)
+    requires width { IsWidth N }
+    requires rise { RiseInNumber commits.now.entries }
+    requires index { IsIndexOf places.old.keys commits.now.entries }
+    ensures { IsIndexOf places.new.keys (from_number number commits.now.entries) }
+{
+    let earlier = (Bound::Unbounded, Bound::Excluded(number));
+    for (at, record) in commits.range(earlier) {
+        remove_entries(places, *at, record.chunk_diffs());
+    }
+}
+
+// Returns the number of the first commit past a number whose record keeps old bytes of a chunk.
+fn next_indexed(places: &BTreeSet<(usize, u64)>, chunk: usize, number: u64) -> Option<u64>
+    ensures { IsNextIndexed places.now.keys chunk number result }
+{
+    let later = (Bound::Excluded((chunk, number)), Bound::Unbounded);
+    let place = places.range(later).next()?;
+    if place.0 != chunk {
+        return None;
+    }
+    Some(place.1)
+}
+
+// Returns the old bytes of a chunk from the first record past a number that keeps any.
+fn find_kept<'a, const N: usize>(
+    commits: &'a BTreeMap<u64, CommitDiff<N>>,
+    places: &BTreeSet<(usize, u64)>,
+    number: u64,
+    chunk: usize,
+) -> Option<&'a [u8; N]>
+    requires width { IsWidth N }
+    requires rise { RiseInNumber commits.now.entries }
+    requires entries { EntriesRise commits.now.entries }
+    requires index { IsIndexOf places.now.keys commits.now.entries }
+    ensures { option_copied result ≡ first_kept_of (past_number number commits.now.entries) chunk }
+{
+    let next = next_indexed(places, chunk, number)?;
+    let record = commits.get(&next)?;
+    record.kept(chunk)
+}
+
+// Adds the places of the record of the last of some commits. If an allocation fails, the places are unchanged.
+fn add_last<const N: usize>(
+    places: &mut BTreeSet<(usize, u64)>,
+    commits: &BTreeMap<u64, CommitDiff<N>>,
+) -> Result<(), AllocError>
+    requires width { IsWidth N }
+    requires rise { RiseInNumber commits.now.entries }
+    requires entries { EntriesRise commits.now.entries }
+    requires index { IsIndexOf places.old.keys (before_latest commits.now.entries) }
+    ensures ok { OnOk result (IsIndexOf places.new.keys commits.now.entries) }
+    ensures err { OnErr result (places.new.keys ≡ places.old.keys) }
+{
+    let Some((number, record)) = commits.last_key_value() else {
+        return Ok(());
+    };
+    // The prover learns the order of the places from this call.
+    let _ = places.len();
+    let entries = record.chunk_diffs();
+    let Ok(()) = add_entries(places, *number, entries) else {
+        remove_entries(places, *number, entries);
+        let _ = places.len();
+        return Err(AllocError);
+    };
+    Ok(())
+}
+
+impl<const N: usize> CommitIndex<N> {
+    /// Returns the index of no commits.
+    ///
+    /// Does not allocate; constant time.
+    pub fn new(alloc: Global) -> Self
+        ensures { IsIndexOf result [] }
+    {
+        CommitIndex {
+            places: BTreeSet::new(alloc),
+        }
+    }
+
+    /// Returns the index of the kept commits of `bitmap`.
+    ///
+    /// # Errors
+    ///
+    /// `AllocError` if an allocation fails.
+    ///
+    /// # Memory
+    ///
+    /// Allocates the index.
+    ///
+    /// # Complexity
+    ///
+    /// Per kept commit, constant; per entry of the kept reverse records, logarithmic in the entries of the index.
+    pub fn of(bitmap: &CleanBitMap<N>) -> Result<Self, AllocError>
+        ensures { IfOk result (λ index. IsIndexOf index bitmap.now.commits) }
+    {
+        let _ = bitmap.len();
+        let places = places_of(bitmap.state.allocator(), &bitmap.commits)?;
+        Ok(CommitIndex { places })
+    }
+
+    /// Adds the latest commit of `bitmap`, after it was committed. The index has to be that of the earlier commits of `bitmap`.
+    ///
+    /// # Errors
+    ///
+    /// `AllocError` if an allocation fails. The index is unchanged then.
+    ///
+    /// # Memory
+    ///
+    /// Allocates entries of the index: at most one per entry of the latest reverse record.
+    ///
+    /// # Complexity
+    ///
+    /// Per entry of the latest reverse record, logarithmic in the entries of the index.
+    pub fn add_latest(&mut self, bitmap: &CleanBitMap<N>) -> Result<(), AllocError>
+        requires { IsIndexOf self.old (before_latest bitmap.now.commits) }
+        ensures ok { OnOk result (IsIndexOf self.new bitmap.now.commits) }
+        ensures err { OnErr result (self.new ≡ self.old) }
+    {
+        let _ = bitmap.len();
+        add_last(&mut self.places, &bitmap.commits)
+    }
+
+    /// Removes the commits of `bitmap` past `number`, before `bitmap` is rewound to `number`. The index has to be that of `bitmap`.
+    ///
+    /// Does not allocate.
+    ///
+    /// # Complexity
+    ///
+    /// Per entry of the reverse records past `number`, logarithmic in the entries of the index.
+    pub fn remove_after(&mut self, bitmap: &CleanBitMap<N>, number: u64)
+        requires { IsIndexOf self.old bitmap.now.commits }
+        ensures { IsIndexOf self.new (up_to_number number bitmap.now.commits) }
+    {
+        let _ = bitmap.len();
+        remove_past(&mut self.places, &bitmap.commits, number);
+    }
+
+    /// Removes the commits of `bitmap` below `number`, before they are dropped. The index has to be that of `bitmap`.
+    ///
+    /// Does not allocate.
+    ///
+    /// # Complexity
+    ///
+    /// Per entry of the reverse records below `number`, logarithmic in the entries of the index.
+    pub fn remove_before(&mut self, bitmap: &CleanBitMap<N>, number: u64)
+        requires { IsIndexOf self.old bitmap.now.commits }
+        ensures { IsIndexOf self.new (from_number number bitmap.now.commits) }
+    {
+        let _ = bitmap.len();
+        remove_below(&mut self.places, &bitmap.commits, number);
+    }
+
+    /// Removes all commits.
+    ///
+    /// Does not allocate; linear in the entries of the index, which are freed.
+    pub fn clear(&mut self)
+        ensures { IsIndexOf self.new [] }
+    {
+        self.places.clear();
+    }
+}
+
+/// The bitmap at a kept commit, read in place with an index: a chunk is found by searches, however many commits are kept.
+///
+/// It is a `Readable`, and its methods do not allocate. `CleanBitMap::at_indexed` returns it.
+///
+/// # Complexity
+///
+/// `len` and `pruned_chunks`: constant. A read of a chunk: three binary searches, in the index, among the kept commits and in one reverse
+/// record; or one, in the index, if the chunk is in the current bitmap as it was at the commit.
+#[derive(Drop)]
+pub struct AtIndexed<'a, const N: usize> {
+    of: &'a BitMap<N, Clean>,
+    index: &'a CommitIndex<N>,
+    number: u64,
+    len: u64,
+    pruned: usize,
+}
+
+impl<'a, const N: usize> Model for AtIndexed<'a, N> {
+    ghost use Rattle.bitmap_core.specs.PrunedBits.{PrunedBits};
+    ghost use Rattle.historical_bitmap.specs.History.{IsLeftBy, left_by};
+    ghost use Rattle.historical_bitmap.specs.Index.{IsIndexOf};
+
+    ghost Value = { PrunedBits };
+
+    ghost view = { λ a. left_by N a.number a.of.now.commits a.of.now.current };
+
+    ghost invariant = { λ a. IsLeftBy N a.number a.of.now.commits a.of.now.current a.len a.pruned × IsIndexOf a.index.now a.of.now.commits };
+}
+
+impl<const N: usize> BitMap<N, Clean> {
+    /// Returns the bitmap at commit `number`, to be read in place with an index, or `None` if that commit is not kept.
+    ///
+    /// It is the same state that `at` returns. The index has to be that of this bitmap. `u64::MAX` is never kept. Does not allocate.
+    ///
+    /// # Complexity
+    ///
+    /// A search among the kept commits: logarithmic in them. `AtIndexed` says what a read costs.
+    pub fn at_indexed<'a>(
+        &'a self,
+        index: &'a CommitIndex<N>,
+        number: u64,
+    ) -> Option<AtIndexed<'a, N>>
+        requires { IsIndexOf index.now self.now.commits }
+        ensures value { result ≡ kept_under (history_of N self.now) number }
+        ensures reserved { kept_under (history_of N self.now) (2 ^ 64 - 1) ≡ None }
+        ensures width { IsWidth N }
+    {
+        let _ = self.current.len();
+        if !self.commit_exists(number) {
+            return None;
+        }
+        let (len, pruned) = self.extent_at(number);
+        Some(AtIndexed {
+            of: self,
+            index,
+            number,
+            len,
+            pruned,
+        })
+    }
+
+    // Returns a chunk that the last commit up to a number left, found with an index. Bits past the length at that commit may have any value.
+    fn chunk_indexed(&self, index: &CommitIndex<N>, number: u64, chunk: usize) -> [u8; N]
+        requires index { IsIndexOf index.now self.now.commits }
+        requires retained { IsRetainedChunk N (left_by N number self.now.commits self.now.current) chunk }
+        ensures { ShowsChunk N (pruned_meaning N (left_by N number self.now.commits self.now.current)) chunk result }
+    {
+        let _ = self.current.len();
+        let kept = find_kept(&self.commits, &index.places, number, chunk);
+        self.kept_or_current(number, chunk, kept)
+    }
+}
+
+impl<'a, const N: usize> Readable<N> for AtIndexed<'a, N> {
+    ghost meaning = { pruned_meaning N };
+
+    fn complete_chunks(&self) -> usize {
+        chunk_index::<N>(self.len)
+    }
+
+    fn get_chunk(&self, chunk: usize) -> [u8; N] {
+        self.of.chunk_indexed(self.index, self.number, chunk)
+    }
+
+    fn last_chunk(&self) -> ([u8; N], u64) {
+        let last = self.len - 1;
+        let chunk = self
+            .of
+            .chunk_indexed(self.index, self.number, chunk_index::<N>(last));
+        (chunk, last % chunk_width::<N>() + 1)
+    }
+
+    fn pruned_chunks(&self) -> usize {
+        let _ = self.len();
+        self.pruned
+    }
+
+    fn len(&self) -> u64 {
+        self.len
+    }
+}
