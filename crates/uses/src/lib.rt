@@ -10,6 +10,7 @@ pub mod byte_forms;
 pub mod changed_chunks;
 #[cfg(test)]
 mod checks;
+pub mod chunk_digests;
 pub mod chunks_to_send;
 pub mod exchange;
 pub mod free_slots;

@@ -50,7 +50,7 @@ member_kept d (x ∷ xs) i m = elim (cases_Bool (d x)) [
 ]
 
 -- past the last chunk of a state, no chunk has bytes
-past_total : (n : ℕ) (b : PrunedBits) (i : ℕ) → 0 < n → chunk_total n b ≤ i → retained_bytes n b i ≡ None
+pub past_total : (n : ℕ) (b : PrunedBits) (i : ℕ) → 0 < n → chunk_total n b ≤ i → retained_bytes n b i ≡ None
 past_total n b i pos past = elim (cases_lt (8 * n * i) (bit_len n b)) [
   | inl l ↦ absurd (omega (arith, past, ceil_above_index n (bit_len n b) i pos l))
   | inr l ↦ bytes_none n b i (inr l)
@@ -76,7 +76,7 @@ changed_exactly n old new i pos = elim (cases_Bool (differs n old new i)) [
     ]
 
 -- ---- the other state
-same_option : (a b : Option (List ℕ)) → option_eq (pointwise nat_eq) a b ≡ true → a ≡ b
+pub same_option : (a b : Option (List ℕ)) → option_eq (pointwise nat_eq) a b ≡ true → a ≡ b
 same_option None None e = refl
 same_option None (Some y) e = absurd (false≢true e)
 same_option (Some x) None e = absurd (false≢true e)

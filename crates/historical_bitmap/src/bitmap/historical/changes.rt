@@ -84,8 +84,13 @@ fn next_named<const N: usize>(
 }
 
 impl<'a, const N: usize> AtCommit<'a, N> {
-    // Returns the bytes of a chunk, if it is retained. Bits past the length are zero. Does not allocate.
-    pub(crate) fn retained_bytes(&self, chunk: usize) -> Option<[u8; N]>
+    /// Returns a copy of the chunk at an absolute index, or `None` if the bitmap retains none of its bits.
+    ///
+    /// Bits past the length are zero. The first position of the chunk fits `u64`. Does not allocate.
+    ///
+    /// # Complexity
+    /// At most a binary search per reverse record past the commit.
+    pub fn retained_bytes(&self, chunk: usize) -> Option<[u8; N]>
         requires { 8 * N * chunk < 2 ^ 64 }
         ensures { result ≡ retained_bytes_of N self.now chunk }
     {
