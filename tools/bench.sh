@@ -1,6 +1,7 @@
 #!/usr/bin/env bash
 # Prints the cost of each call, in nanoseconds: of a dense or a pruned bitmap per bit, at four chunk widths and on bitmaps of 64 MB and of
-# 1 MB; of a historical bitmap per edit, per read or per past state, on 2^20 bits at two chunk widths.
+# 1 MB; of a historical bitmap per edit, per read or per past state, on 2^20 bits at two chunk widths; and how some of these grow with
+# the number of kept commits and with the length of the bitmap, at width 8.
 # A cost is the shortest of RUNS runs (5 by default), less the shortest of as many runs without the call.
 # `copy` copies as many bytes into memory that was used before: no call that writes as many bytes can be faster.
 # Usage: tools/bench.sh [RUNS [CALL..]]
@@ -18,6 +19,9 @@ historical=("batch_set_far 2000 1000" "batch_set_near 20000 1000" "batch_push 50
     "batch_push_chunk 200 4096" "commit_set_far 2000 1000" "commit_set_near 20000 1000" "commit_push 2000 4096"
     "commit_push_byte 300 4096" "commit_push_chunk 20 4096" "read_oldest 50 1" "read_newest 20000 1"
     "in_place_oldest 200 1000" "in_place_newest 2000 1000" "clone_commits 20 1")
+
+# Calls that may grow with the kept commits: the name, and the number of calls.
+kept=("kept_commit 2000" "kept_window 2000" "kept_rewind 2000" "kept_rebuild 5" "kept_get 500" "kept_scan 1")
 
 bench=crates/bench/out/bench
 if [ ! -x "$bench" ]; then
@@ -43,11 +47,12 @@ best() {
     echo "$least"
 }
 
-# The cost of call $1 at width $2 on $3 bytes, called $4 times, in nanoseconds per unit, of which there are $5 in all.
+# The cost of call $1 at width $2 on $3 bytes, called $4 times, in nanoseconds per unit, of which there are $5 in all. The bitmap has $6
+# small commits, if that is given.
 cost() {
     local with without
-    with=$(best "$1" "$2" "$3" "$4")
-    without=$(best "$1" "$2" "$3" 0)
+    with=$(best "$1" "$2" "$3" "$4" "${@:6}")
+    without=$(best "$1" "$2" "$3" 0 "${@:6}")
     # Adding 0 to a cost that is rounded to -0.000 makes it 0.000.
     awk -v took=$((with - without)) -v units="$5" 'BEGIN { printf " %.3f |", sprintf("%.3f", took / units) + 0 }'
 }
@@ -86,4 +91,30 @@ for line in "${historical[@]}"; do
         done
         echo
     fi
+done
+
+# A row of a table of growth: call $1, called $2 times, at each pair of a number of bytes and a number of commits that follows.
+print_growth() {
+    local call=$1 times=$2
+    printf '| %s |' "$call"
+    for pair in "${@:3}"; do
+        cost "$call" 8 "${pair% *}" "$times" "$times" "${pair#* }"
+    done
+    echo
+}
+
+echo
+echo "| ns, 2^20 bits, width 8 | 1,000 commits | 10,000 | 100,000 |"
+echo "|---|---|---|---|"
+for line in "${kept[@]}"; do
+    read -r call times <<<"$line"
+    if is_wanted "$call"; then print_growth "$call" "$times" "131072 1000" "131072 10000" "131072 100000"; fi
+done
+
+echo
+echo "| ns, 1,000 commits, width 8 | 2^16 bits | 2^20 | 2^26 |"
+echo "|---|---|---|---|"
+for line in "${kept[@]}"; do
+    read -r call times <<<"$line"
+    if is_wanted "$call"; then print_growth "$call" "$times" "8192 1000" "131072 1000" "8388608 1000"; fi
 done

@@ -46,8 +46,8 @@ impl Positions {
     }
 }
 
-// Sets a bit, if it is retained.
-fn set_one<const N: usize>(
+/// Sets a bit, if it is retained.
+pub fn set_one<const N: usize>(
     batch: &mut DirtyBitMap<N>,
     position: u64,
     value: bool,

@@ -6,6 +6,7 @@ mod call;
 mod edits;
 mod growth;
 mod historical;
+mod kept;
 mod program;
 mod pruned;
 mod reads;

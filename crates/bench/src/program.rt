@@ -3,7 +3,7 @@
 ghost use Rattle.std.specs.Prelude.{◌*◌, ◌^◌, ◌<◌, ◌≤◌, length, IfOk};
 
 use crate::call::{Call, named};
-use crate::{edits, growth, historical, pruned, reads};
+use crate::{edits, growth, historical, kept, pruned, reads};
 use bitmap_core::bitmap::BitMap;
 use std::alloc::{AllocError, Global};
 
@@ -20,7 +20,7 @@ impl RunError {
     pub fn text(&self) -> &'static str {
         match self {
             RunError::Usage => {
-                "usage: bench CALL WIDTH BYTES TIMES (WIDTH is 1, 3, 8 or 32 bytes per chunk; BYTES is at most 2^32)"
+                "usage: bench CALL WIDTH BYTES TIMES [COMMITS] (WIDTH is 1, 3, 8 or 32 bytes per chunk; BYTES is at most 2^32)"
             }
             RunError::OutOfMemory => "bench: out of memory",
             RunError::CannotWrite => "bench: cannot write to standard output",
@@ -146,15 +146,45 @@ fn run_historical(
     }
 }
 
+// Runs a call of a historical bitmap with small commits, with the chunk width that an argument gives.
+fn run_kept(
+    alloc: Global,
+    call: kept::Call,
+    width: &str,
+    bytes: u64,
+    commits: u64,
+    times: u64,
+) -> Result<u64, RunError> {
+    match width.as_bytes() {
+        b"1" => Ok(kept::run::<1>(alloc, call, bytes, commits, times)?),
+        b"3" => Ok(kept::run::<3>(alloc, call, bytes, commits, times)?),
+        b"8" => Ok(kept::run::<8>(alloc, call, bytes, commits, times)?),
+        b"32" => Ok(kept::run::<32>(alloc, call, bytes, commits, times)?),
+        _ => Err(RunError::Usage),
+    }
+}
+
+// Returns the number that an argument has.
+fn number(word: &str) -> Result<u64, RunError> {
+    word.parse::<u64>().map_err(|_| RunError::Usage)
+}
+
 /// Runs the call that the arguments name, and returns a number that depends on its results, so that the compiler keeps the call.
 pub fn run(alloc: Global, words: &[String]) -> Result<u64, RunError> {
-    let [call, width, bytes, times] = words else {
-        return Err(RunError::Usage);
+    let (call, width, bytes, times, commits) = match words {
+        [call, width, bytes, times] => (call, width, bytes, times, None),
+        [call, width, bytes, times, commits] => (call, width, bytes, times, Some(commits)),
+        _ => return Err(RunError::Usage),
     };
-    let bytes = bytes.as_str().parse::<u64>().map_err(|_| RunError::Usage)?;
-    let times = times.as_str().parse::<u64>().map_err(|_| RunError::Usage)?;
+    let bytes = number(bytes.as_str())?;
+    let times = number(times.as_str())?;
     if bytes > MOST_BYTES {
         return Err(RunError::Usage);
+    }
+    if let Some(commits) = commits {
+        let commits = number(commits.as_str())?;
+        let call = kept::named(call.as_str()).ok_or(RunError::Usage)?;
+        return run_kept(alloc, call, width.as_str(), bytes, commits, times);
     }
     if let Some(call) = historical::named(call.as_str()) {
         return run_historical(alloc, call, width.as_str(), bytes, times);
