@@ -206,13 +206,6 @@ impl<const N: usize> EditedChunks<N> {
         }
     }
 
-    // Marks an index as written last, so that the next write of a bit there caches its chunk.
-    pub(crate) fn expect(&mut self, index: usize)
-        ensures same { self.new ≡ self.old }
-    {
-        self.recent = index;
-    }
-
     // Writes a bit of the chunk at an index. Starts from the current bitmap's chunk, cut to `len` bits, if none is edited there.
     // Does not allocate, and succeeds, if that chunk is edited.
     #[inline]
