@@ -9,3 +9,4 @@ pub mod Views
 pub mod Applied
 pub mod CachedEntries
 pub mod Changes
+pub mod Indexes

@@ -7,6 +7,7 @@ use Rattle.historical_bitmap.specs.declared.bitmap.historical.error.Error.{Error
 use Rattle.historical_bitmap.specs.declared.bitmap.historical.error.Error.TheVariants.{Memory}
 use Rattle.historical_bitmap.specs.Pending.{PendingEdits, unedited}
 use Rattle.historical_bitmap.specs.Cost.{most_cost}
+use Rattle.historical_bitmap.specs.History.{before_latest}
 use Rattle.historical_bitmap.specs.View.{View, costs_of, history_of, marked_of, pending_of, commit_error}
 
 -- the batch that a clean bitmap becomes, with no pending edits
@@ -30,6 +31,7 @@ pub record CommitGives (n : ℕ) (left : View PendingEdits) (number : ℕ) (resu
   pub unchanged : IfErr result (λ e. e.0 ≡ left)
   pub current : IfOk result (λ b. b.current ≡ pending_of n left)
   pub history : IfOk result (λ b. history_of n b ≡ history_of n left ++ (number, pending_of n left) ∷ [])
+  pub earlier : IfOk result (λ b. before_latest b.commits ≡ left.commits)
   pub last : IfOk result (λ b. b.last ≡ Some number)
   pub costs : IfOk result (λ b. (cost : ℕ) × (cost ≤ most_cost n (marked_of n left) left.current (pending_of n left)) × (costs_of b ≡ costs_of left ++ (number, cost) ∷ []))
 

@@ -57,6 +57,7 @@ commit_gives = record {
   unchanged = tt;
   current = refl;
   history = refl;
+  earlier = refl;
   last = refl;
   costs = (1, omega arith, refl);
 }
@@ -74,10 +75,10 @@ commit_under_the_last gives = false≢true (ap is_some (sym gives.accepted))
 
 -- under 5 it fails, with the batch unchanged; under 6 it may run out of memory
 commit_refused : CommitGives 1 left 5 (Err (left, NonMonotonicCommit 5 5))
-commit_refused = record { accepted = tt; refused = refl; unchanged = refl; current = tt; history = tt; last = tt; costs = tt }
+commit_refused = record { accepted = tt; refused = refl; unchanged = refl; current = tt; history = tt; earlier = tt; last = tt; costs = tt }
 
 commit_without_memory : CommitGives 1 left 6 (Err (left, Memory alloc_error))
-commit_without_memory = record { accepted = tt; refused = refl; unchanged = refl; current = tt; history = tt; last = tt; costs = tt }
+commit_without_memory = record { accepted = tt; refused = refl; unchanged = refl; current = tt; history = tt; earlier = tt; last = tt; costs = tt }
 
 -- the error of an applied batch returns the bitmap without the edit, and says that the commit failed
 refusal_of_commit : from_commit {E = ℕ} (Err (left, NonMonotonicCommit 5 5)) ≡ Err (clean, Commit (NonMonotonicCommit 5 5))

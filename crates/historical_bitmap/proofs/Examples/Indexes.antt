@@ -76,5 +76,5 @@ with_an_added_chunk is = false≢true (sym (is 2 2))
 one_earlier : before_latest two_commits ≡ (2, changes_and_adds) ∷ []
 one_earlier = refl
 
-none_earlier : before_latest ((2, changes_and_adds) ∷ []) ≡ []
+none_earlier : before_latest {X = ℕ × ReverseRecord} ((2, changes_and_adds) ∷ []) ≡ []
 none_earlier = refl

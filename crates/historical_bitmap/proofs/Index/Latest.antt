@@ -1,5 +1,5 @@
 -- The latest commit, added to an index of the earlier ones; and the index as it was, if that fails.
-use Rattle.std.proofs.Common.{◌≡◌, ℕ, ◌+◌, ◌-◌, ◌<◌, true, false, List, [], ◌∷◌, ◌++◌, length, take, refl, ap, arith, sym, ◌∙◌}
+use Rattle.std.proofs.Common.{◌≡◌, ℕ, ◌+◌, ◌-◌, ◌<◌, false, List, [], ◌∷◌, ◌++◌, length, take, refl, ap, arith, sym, ◌∙◌}
 use mathlib.Core.Logic.{inl, inr}
 use Rattle.std.proofs.lemmas.Bool.{cases_Bool, cases_eq, and_parts, eq-eqb, eqb-true, ne_eqb}
 use Rattle.std.proofs.lemmas.List.{take_more}
@@ -11,7 +11,7 @@ use Rattle.std.specs.List.{AllByRecursion}
 use Rattle.std.specs.Map.{keys_of}
 use Rattle.std.specs.Option.{option_or}
 use Rattle.std.specs.Ordering.{nat_cmp}
-use Rattle.std.specs.Prelude.{◌&&◌, ◌||◌, Option, Some, None, is_some, nat_eq, not, slice_get}
+use Rattle.std.specs.Prelude.{◌&&◌, ◌||◌, Option, Some, None, is_some, nat_eq, slice_get}
 use Rattle.historical_bitmap.specs.History.{before_latest, EntriesRise, kept_under, RiseInNumber}
 use Rattle.historical_bitmap.specs.Index.{AddsEntries, IsIndexOf, is_indexed, keeps, kept_in, KeepsOthers, names, RemovesEntries}
 use Rattle.historical_bitmap.specs.Record.{ReverseRecord}

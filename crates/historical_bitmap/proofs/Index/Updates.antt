@@ -1,5 +1,5 @@
 -- The places of a record, added to an index and removed from it.
-use Rattle.std.proofs.Common.{◌≡◌, ℕ, ◌+◌, ◌-◌, ◌<◌, Bool, true, false, cond, not, List, [], ◌∷◌, ◌++◌, length, take, drop, get_or, refl, ap, arith, sym, subst, ◌∙◌}
+use Rattle.std.proofs.Common.{◌≡◌, ℕ, ◌+◌, ◌<◌, Bool, true, false, cond, not, List, [], ◌∷◌, ◌++◌, length, take, drop, get_or, refl, ap, arith, sym, ◌∙◌}
 use mathlib.Core.Logic.{inl, inr}
 use Rattle.std.proofs.lemmas.Bool.{cases_Bool, cases_eq, cases_lt, cases_order, eq-eqb, ne_eqb, le-leb, le-ltb, lt-leb, lt-ltb, or_parts}
 use Rattle.std.proofs.lemmas.List.{map-append, take-append-drop, take_more}
@@ -7,25 +7,22 @@ use Rattle.std.proofs.lemmas.List.Elements.{All-head, All-tail}
 use Rattle.std.proofs.lemmas.List.Folds.{list_any-append}
 use Rattle.std.proofs.lemmas.List.Kept.{IsStrictlySortedBy-filter}
 use Rattle.std.proofs.lemmas.Map.Keys.{sorted_head, sorted_tail}
-use Rattle.std.proofs.lemmas.Option.{get_or_from_slice_get, slice_get_within}
 use Rattle.std.specs.BTreeMap.{is_at}
 use Rattle.std.specs.BTreeMap.Range.{entries_between}
 use Rattle.std.specs.declared.ops.Bound.TheVariants.{Excluded, Unbounded}
-use Rattle.std.specs.List.{AllByRecursion, filter, list_any}
+use Rattle.std.specs.List.{filter, list_any}
 use Rattle.std.specs.List.Sorted.{IsStrictlySortedBy}
 use Rattle.std.specs.Map.{keys_of, lookup}
 use Rattle.std.specs.Option.{option_or}
-use Rattle.std.specs.declared.cmp.Ordering.TheVariants.{Less}
 use Rattle.std.specs.Ordering.{nat_cmp}
 use Rattle.std.specs.Borrow.{Bor}
-use Rattle.std.specs.Prelude.{◌&&◌, ◌||◌, Option, Some, None, is_some, option_copied, if◌then◌else◌, nat_eq, nat_le, nat_lt, slice_get}
+use Rattle.std.specs.Prelude.{◌&&◌, ◌||◌, Option, Some, None, is_some, option_copied, if◌then◌else◌, nat_eq, nat_le, nat_lt}
 use Rattle.historical_bitmap.specs.History.{EntriesRise, from_number, kept_under, past_number, RiseInNumber, up_to_number}
 use Rattle.historical_bitmap.specs.Index.{AddsEntries, IsIndexOf, is_indexed, keeps, kept_in, KeepsOthers, names, RemovesEntries}
 use Rattle.historical_bitmap.specs.declared.bitmap.historical.record.ChunkDiff as stored
 use Rattle.historical_bitmap.specs.Stored.{diff_value, entry_values}
 use Rattle.historical_bitmap.specs.Record.{ChunkDiff, ReverseRecord, bytes_of, kept, kept_bytes}
 use Rattle.historical_bitmap.proofs.History.KeptUnder.{kept_from_number, kept_up_to_number, kept_where}
-use Rattle.historical_bitmap.proofs.History.PastStates.{below}
 use Rattle.historical_bitmap.proofs.Index.Places.{place_cmp, put}
 use Rattle.historical_bitmap.proofs.Records.UndoneInSteps.{none_past}
 

@@ -1,4 +1,4 @@
-use Rattle.std.proofs.Common.{◌≡◌, ◌+◌, ◌++◌, ◌∷◌, [], ap, drop, sym, subst, take, ◌∙◌}
+use Rattle.std.proofs.Common.{◌++◌, ◌∷◌, [], ap, drop, sym, subst, take, ◌∙◌}
 use Rattle.std.specs.Prelude.{is_some}
 use Rattle.historical_bitmap.specs.Index.{AddsEntries, KeepsOthers}
 use Rattle.historical_bitmap.specs.Stored.{diff_value, entry_values}

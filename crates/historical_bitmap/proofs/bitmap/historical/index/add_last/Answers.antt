@@ -1,4 +1,4 @@
-use Rattle.std.proofs.Common.{ℕ, subst, sym}
+use Rattle.std.proofs.Common.{ℕ, subst}
 use Rattle.historical_bitmap.specs.Index.{AddsEntries, KeepsOthers, RemovesEntries}
 use Rattle.historical_bitmap.specs.Record.{ReverseRecord}
 use Rattle.historical_bitmap.proofs.Index.Latest.{latest_added, latest_removed}

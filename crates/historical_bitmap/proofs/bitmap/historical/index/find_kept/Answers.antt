@@ -1,5 +1,4 @@
-use Rattle.std.proofs.Common.{ap, arith, sym, ◌∙◌}
-use Rattle.std.specs.Prelude.{option_copied}
+use Rattle.std.proofs.Common.{arith, sym, ◌∙◌}
 use Rattle.historical_bitmap.proofs.History.PastStates.{same_lookup}
 use Rattle.historical_bitmap.proofs.Index.Found.{found_with, nothing_with, rises_under}
 use Rattle.historical_bitmap.proofs.bitmap.historical.index.find_kept.Goals as goal

@@ -1,4 +1,4 @@
-use Rattle.std.proofs.Common.{◌+◌, sym, subst, take}
+use Rattle.std.proofs.Common.{sym, subst, take}
 use Rattle.historical_bitmap.specs.Index.{RemovesEntries}
 use Rattle.historical_bitmap.specs.Stored.{diff_value, entry_values}
 use Rattle.historical_bitmap.proofs.Index.Updates.{entry_removed, stepped}
