@@ -34,4 +34,5 @@ pub mod strangers;
 pub mod taken_slots;
 pub mod tried_push;
 pub mod two_bits;
+pub mod version_store;
 pub mod versions;
