@@ -143,6 +143,24 @@ fn bitxor(rt: HostRuntime) {
 }
 
 #[test]
+fn sub(rt: HostRuntime) {
+    let Ok(mut map) = BitMap::<1>::from_bools(rt.alloc(), &BITS) else {
+        return;
+    };
+    let Ok(other) = BitMap::<1>::from_bools(rt.alloc(), &OTHERS) else {
+        return;
+    };
+    if let Ok(rest) = &map - &other {
+        for i in 0..16 {
+            equal_at(&rt, i, rest.get(i as u64), BITS[i] && !OTHERS[i]);
+        }
+    }
+    expect(&rt, holds(&other, &OTHERS, &[]));
+    expect(&rt, holds(&map, &BITS, &[]));
+    use_further(&rt, &mut map);
+}
+
+#[test]
 fn push(rt: HostRuntime) {
     let Ok(mut map) = BitMap::<1>::from_bools(rt.alloc(), &BITS) else {
         return;

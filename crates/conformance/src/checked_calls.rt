@@ -8,6 +8,7 @@ use crate::checks::ok;
 use bitmap_core::bitmap::BitMap;
 use bitmap_core::bitmap::prunable::Prunable;
 use std::alloc::{AllocError, Global};
+use std::ops::Range;
 use std::process::Abort;
 
 /// Returns the bit at a retained position.
@@ -39,6 +40,23 @@ pub fn last_chunk<const N: usize>(rt: &impl Abort, map: &Prunable<N>) -> ([u8; N
 pub fn set_bit<const N: usize>(rt: &impl Abort, map: &mut Prunable<N>, bit: u64, value: bool) {
     assert!(rt; map.pruned_bits() <= bit && bit < map.len());
     map.set_bit(bit, value);
+}
+
+/// Returns whether no bit of a range of retained positions is set.
+pub fn is_unset<const N: usize>(rt: &impl Abort, map: &Prunable<N>, range: Range<u64>) -> bool {
+    assert!(rt; map.pruned_bits() <= range.start && range.end <= map.len());
+    map.is_unset(range)
+}
+
+/// Sets the bits of a range of retained positions to `value`.
+pub fn set_range<const N: usize>(
+    rt: &impl Abort,
+    map: &mut Prunable<N>,
+    range: Range<u64>,
+    value: bool,
+) {
+    assert!(rt; map.pruned_bits() <= range.start && range.end <= map.len());
+    map.set_range(range, value);
 }
 
 /// Removes and returns the last bit, which is retained.

@@ -100,6 +100,7 @@ fn five_bits_combined(rt: HostRuntime) {
     expect(&rt, has_bits(&ok(&rt, &map & &other), b"10010"));
     expect(&rt, has_bits(&ok(&rt, &map | &other), b"11110"));
     expect(&rt, has_bits(&ok(&rt, &map ^ &other), b"01100"));
+    expect(&rt, has_bits(&ok(&rt, &map - &other), b"00100"));
     equal(&rt, map.count_ones(), 3);
     equal(&rt, map.count_zeros(), 2);
     let mut map = map;
@@ -107,21 +108,72 @@ fn five_bits_combined(rt: HostRuntime) {
     expect(&rt, has_bits(&map, b"01001"));
 }
 
-// `and`, `or` and `xor` of the same bits.
+// `and`, `or`, `xor` and `and_not` of the same bits.
 #[test]
 fn five_bits_combined_in_place(rt: HostRuntime) {
     let mut both = bitmap::<4>(&rt, rt.alloc(), b"10110");
     let mut either = bitmap::<4>(&rt, rt.alloc(), b"10110");
     let mut difference = bitmap::<4>(&rt, rt.alloc(), b"10110");
+    let mut rest = bitmap::<4>(&rt, rt.alloc(), b"10110");
     let other = bitmap::<4>(&rt, rt.alloc(), b"11010");
     expect(&rt, both.len() == 5 && either.len() == 5);
-    expect(&rt, difference.len() == 5 && other.len() == 5);
+    expect(&rt, difference.len() == 5 && rest.len() == 5);
+    expect(&rt, other.len() == 5);
     both.and(&other);
     either.or(&other);
     difference.xor(&other);
+    rest.and_not(&other);
     expect(&rt, has_bits(&both, b"10010"));
     expect(&rt, has_bits(&either, b"11110"));
     expect(&rt, has_bits(&difference, b"01100"));
+    expect(&rt, has_bits(&rest, b"00100"));
+}
+
+// `is_subset` and `is_disjoint` of five bits, of no bits, and of a bitmap with itself.
+#[test]
+fn five_bits_related(rt: HostRuntime) {
+    let map = bitmap::<4>(&rt, rt.alloc(), b"10110");
+    for (digits, subset, superset, disjoint) in [
+        (b"11010", false, false, false),
+        (b"11110", true, false, false),
+        (b"00110", false, true, false),
+        (b"10110", true, true, false),
+        (b"01001", false, false, true),
+        (b"00000", false, true, true),
+    ] {
+        let other = bitmap::<4>(&rt, rt.alloc(), digits);
+        expect(&rt, map.len() == other.len());
+        equal(&rt, map.is_subset(&other), subset);
+        equal(&rt, other.is_subset(&map), superset);
+        equal(&rt, map.is_disjoint(&other), disjoint);
+        equal(&rt, other.is_disjoint(&map), disjoint);
+    }
+    let none = BitMap::<4>::new(rt.alloc());
+    expect(&rt, none.is_subset(&none) && none.is_disjoint(&none));
+}
+
+// `set_range` within a byte, over a whole byte, at the end, and on empty and reversed ranges.
+#[test]
+fn ranges_set(rt: HostRuntime) {
+    for (start, end, value, want) in [
+        (2, 5, true, b"10111010110010101001"),
+        (2, 5, false, b"10000010110010101001"),
+        (6, 18, true, b"10100011111111111101"),
+        (6, 18, false, b"10100000000000000001"),
+        (17, 20, true, b"10100010110010101111"),
+        (0, 20, true, b"11111111111111111111"),
+        (8, 16, false, b"10100010000000001001"),
+        (4, 4, true, b"10100010110010101001"),
+        (20, 20, true, b"10100010110010101001"),
+        (9, 3, true, b"10100010110010101001"),
+        (u64::MAX, 20, true, b"10100010110010101001"),
+    ] {
+        let mut map = bitmap::<1>(&rt, rt.alloc(), b"10100010110010101001");
+        expect(&rt, end <= map.len());
+        map.set_range(start..end, value);
+        expect_at(&rt, (start, end, value), has_bits(&map, want));
+        expect_at(&rt, (start, end, value), is_clean(&map));
+    }
 }
 
 // The same operations in place.

@@ -22,6 +22,8 @@ mod ends;
 #[cfg(test)]
 mod pruned;
 #[cfg(test)]
+mod ranges;
+#[cfg(test)]
 mod readers;
 #[cfg(test)]
 mod strange;

@@ -3,9 +3,9 @@
 ghost use Rattle.std.specs.Prelude.{◌*◌, ◌^◌, ◌<◌};
 
 use crate::checked_calls::{
-    chunk_at, extend_from_bitmap, get_bit, get_chunk, last_chunk, of_chunks, pop, pop_chunk,
-    prune_to_bit, push, push_byte, push_chunk, push_digits, set_bit, set_full_chunk, truncate,
-    unprune,
+    chunk_at, extend_from_bitmap, get_bit, get_chunk, is_unset, last_chunk, of_chunks, pop,
+    pop_chunk, prune_to_bit, push, push_byte, push_chunk, push_digits, set_bit, set_full_chunk,
+    set_range, truncate, unprune,
 };
 use crate::checks::{equal, equal_at, expect, expect_at, ok};
 use bitmap_core::bitmap::BitMap;
@@ -268,6 +268,38 @@ fn partial_last_chunks(rt: HostRuntime) {
     expect(&rt, has_bits(&map, 1, b"010"));
     truncate(&rt, &mut map, 32);
     expect(&rt, has_bits(&map, 1, b""));
+}
+
+// `set_range`, `is_unset` and the counts after one pruned chunk, whose bits do not count.
+#[test]
+fn ranges_after_a_pruned_chunk(rt: HostRuntime) {
+    let mut map = of_chunks(&rt, rt.alloc(), &[[0xff], [0]]);
+    push_digits(&rt, &mut map, b"001");
+    prune_to_bit(&rt, &mut map, 8);
+    expect(&rt, map.count_ones() == 1 && map.count_zeros() == 10);
+    expect(
+        &rt,
+        is_unset(&rt, &map, 8..18) && !is_unset(&rt, &map, 8..19),
+    );
+    expect(
+        &rt,
+        is_unset(&rt, &map, 19..19) && is_unset(&rt, &map, 18..2),
+    );
+    set_range(&rt, &mut map, 10..17, true);
+    expect(&rt, has_bits(&map, 1, b"00111111101"));
+    expect(&rt, map.count_ones() == 8 && map.count_zeros() == 3);
+    expect(
+        &rt,
+        !is_unset(&rt, &map, 16..18) && is_unset(&rt, &map, 17..18),
+    );
+    set_range(&rt, &mut map, 12..11, true);
+    set_range(&rt, &mut map, 12..1, false);
+    set_range(&rt, &mut map, 8..8, true);
+    set_range(&rt, &mut map, 15..19, false);
+    expect(&rt, has_bits(&map, 1, b"00111110000"));
+    set_range(&rt, &mut map, 8..19, true);
+    expect(&rt, has_bits(&map, 1, b"11111111111"));
+    equal(&rt, last_chunk(&rt, &map), ([7], 3));
 }
 
 // Chunk index, byte offset and mask of positions, up to `u64::MAX`.

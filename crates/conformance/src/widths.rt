@@ -117,6 +117,36 @@ fn check_all_bits<const N: usize>(rt: &impl Abort, alloc: Global, len: u64)
     equal_at(rt, (len, N), map.count_zeros(), len);
 }
 
+// `and_not` on `len` bits, in place and by the operator, and the relations of the results. `len` is at least 4.
+fn check_related<const N: usize>(rt: &impl Abort, alloc: Global, len: u64)
+    requires positive { 0 < N }
+    requires fits { 8 * N < 2 ^ 64 }
+{
+    let other = second_bitmap::<N>(rt, alloc, len);
+    let map = first_bitmap::<N>(rt, alloc, len);
+    let mut rest = first_bitmap::<N>(rt, alloc, len);
+    expect(rt, rest.len() == other.len());
+    rest.and_not(&other);
+    let expected = (0..len).map(|it| first(it) && !second(it));
+    expect_at(rt, ("and_not", len, N), rest.iter().eq(expected));
+    expect(rt, map.len() == other.len());
+    expect_at(rt, ("-", len, N), ok(rt, &map - &other) == rest);
+    expect(rt, rest.len() == other.len());
+    expect_at(rt, (len, N), rest.is_disjoint(&other));
+    expect(rt, rest.len() == map.len());
+    expect_at(
+        rt,
+        (len, N),
+        rest.is_subset(&map) && !rest.is_disjoint(&map),
+    );
+    expect(rt, map.len() == other.len());
+    expect_at(
+        rt,
+        (len, N),
+        !map.is_subset(&other) && !map.is_disjoint(&other),
+    );
+}
+
 // `and`, `or` and `xor` on `len` bits, in place and by the operators.
 fn check_combined<const N: usize>(rt: &impl Abort, alloc: Global, len: u64)
     requires positive { 0 < N }
@@ -208,6 +238,9 @@ fn check_short<const N: usize>(rt: &impl Abort, alloc: Global)
         check_combined::<N>(rt, alloc, len);
         check_equality::<N>(rt, alloc, len);
     }
+    for len in [7, width - 1, width, width + 1, 2 * width + 3] {
+        check_related::<N>(rt, alloc, len);
+    }
     check_edits::<N>(rt, alloc, width + 1);
     check_text::<N>(rt, alloc);
 }
@@ -223,6 +256,7 @@ fn check_long<const N: usize>(rt: &impl Abort, alloc: Global)
         check_reads::<N>(rt, alloc, len);
         check_all_bits::<N>(rt, alloc, len);
         check_combined::<N>(rt, alloc, len);
+        check_related::<N>(rt, alloc, len);
         check_equality::<N>(rt, alloc, len);
     }
 }
@@ -245,6 +279,39 @@ fn check_one_set_bit<const N: usize>(rt: &impl Abort, alloc: Global)
         expect_at(rt, (position, N), map.is_unset(0..position));
         expect_at(rt, (position, N), map.is_unset(position + 1..len));
         map.set(position, false);
+    }
+}
+
+// Whether the one bitmap is a subset of the other, and whether they are disjoint. Their lengths are equal.
+fn relations<const N: usize>(rt: &impl Abort, map: &BitMap<N>, other: &BitMap<N>) -> (bool, bool) {
+    expect(rt, map.len() == other.len());
+    (map.is_subset(other), map.is_disjoint(other))
+}
+
+// The relations of 213 bytes with one set bit and of as many with one unset bit, at each position in turn.
+fn check_one_decides<const N: usize>(rt: &impl Abort, alloc: Global)
+    requires positive { 0 < N }
+    requires fits { 8 * N < 2 ^ 64 }
+{
+    let len = 1704;
+    let mut one = ok(rt, BitMap::<N>::zeroes(alloc, len));
+    let mut rest = ok(rt, BitMap::<N>::ones(alloc, len));
+    for position in 0..len {
+        expect(rt, one.len() == len && rest.len() == len && position < len);
+        equal_at(rt, (position, N), relations(rt, &one, &rest), (true, true));
+        one.set(position, true);
+        equal_at(rt, (position, N), relations(rt, &one, &rest), (true, false));
+        equal_at(
+            rt,
+            (position, N),
+            relations(rt, &rest, &one),
+            (false, false),
+        );
+        rest.set(position, false);
+        equal_at(rt, (position, N), relations(rt, &one, &rest), (false, true));
+        equal_at(rt, (position, N), relations(rt, &rest, &one), (false, true));
+        rest.set(position, true);
+        one.set(position, false);
     }
 }
 
@@ -335,6 +402,18 @@ fn one_set_bit_at_each_position(rt: HostRuntime) {
     check_one_set_bit::<9>(&rt, rt.alloc());
     check_one_set_bit::<32>(&rt, rt.alloc());
     check_one_set_bit::<64>(&rt, rt.alloc());
+}
+
+// The blocks, words and bytes of the relations of two bitmaps.
+#[test]
+fn one_bit_decides_at_each_position(rt: HostRuntime) {
+    check_one_decides::<1>(&rt, rt.alloc());
+    check_one_decides::<3>(&rt, rt.alloc());
+    check_one_decides::<7>(&rt, rt.alloc());
+    check_one_decides::<8>(&rt, rt.alloc());
+    check_one_decides::<9>(&rt, rt.alloc());
+    check_one_decides::<32>(&rt, rt.alloc());
+    check_one_decides::<64>(&rt, rt.alloc());
 }
 
 // All ranges of `is_unset`.

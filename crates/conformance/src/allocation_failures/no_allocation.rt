@@ -98,7 +98,8 @@ fn check_whole<const N: usize>(rt: &impl Abort, alloc: Global, len: u64)
     expect(rt, map == other && hash_of(&map) == hash_of(&other));
     expect(rt, other.len() > 0);
     other.flip(0);
-    expect(rt, map != other);
+    expect(rt, map != other && map.len() == other.len());
+    expect(rt, !map.is_subset(&other) && !map.is_disjoint(&other));
 }
 
 // Two bitmaps of the same length combined in place.
@@ -110,12 +111,21 @@ fn check_combined<const N: usize>(rt: &impl Abort, map: &mut BitMap<N>, other: &
     map.and(other);
     expect(rt, *map == *other && map.len() == other.len());
     map.xor(other);
+    expect(rt, map.count_ones() == 0 && map.len() == other.len());
+    expect(rt, map.is_subset(other) && map.is_disjoint(other));
+    map.or(other);
+    expect(rt, map.len() == other.len());
+    map.and_not(other);
     expect(rt, map.count_ones() == 0);
 }
 
 // Single bits changed, and bits removed from the end. Two bits are left.
 fn check_changes<const N: usize>(rt: &impl Abort, map: &mut BitMap<N>, len: u64) {
     expect(rt, map.len() == len && len > 8);
+    map.set_range(1..len, true);
+    expect(rt, map.count_zeros() == 1 && map.len() == len);
+    map.set_range(0..len, false);
+    expect(rt, map.count_ones() == 0 && map.len() == len);
     map.set(0, true);
     map.flip(len - 1);
     expect(rt, map.count_ones() == 2 && map.len() == len);
@@ -184,6 +194,8 @@ fn check_no_bits<const N: usize>(rt: &impl Abort, alloc: Global)
     map.set_all(true);
     map.flip_all();
     map.truncate(0);
+    expect(rt, map.is_empty());
+    map.set_range(0..0, true);
     expect(
         rt,
         map.count_ones() == 0 && map.count_zeros() == 0 && map.is_unset(0..0),

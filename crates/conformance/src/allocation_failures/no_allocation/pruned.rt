@@ -3,8 +3,9 @@
 ghost use Rattle.std.specs.Prelude.{◌*◌, ◌^◌, ◌<◌};
 
 use crate::checked_calls::{
-    chunk_at, get_bit, get_chunk, last_chunk, pop, pop_chunk, prune_to_bit, set_bit,
-    set_full_chunk, truncate, try_extend_from_bitmap, try_push, try_push_byte, try_unprune,
+    chunk_at, get_bit, get_chunk, is_unset, last_chunk, pop, pop_chunk, prune_to_bit, set_bit,
+    set_full_chunk, set_range, truncate, try_extend_from_bitmap, try_push, try_push_byte,
+    try_unprune,
 };
 use crate::checks::{equal, expect};
 use bitmap_core::bitmap::BitMap;
@@ -69,6 +70,9 @@ fn check_reads<const N: usize>(rt: &impl Abort, map: &Prunable<N>) {
             Prunable::<N>::get_bit_from_chunk(&chunk, position) == (position % 3 == 0),
         );
     }
+    let counted = map.count_ones().wrapping_add(map.count_zeros());
+    expect(rt, counted == len.wrapping_sub(first));
+    expect(rt, !is_unset(rt, map, first..len));
     expect(rt, get_chunk(rt, map, pruned) == chunk_at(rt, map, first));
     expect(rt, last_chunk(rt, map).0 == get_chunk(rt, map, pruned + 2));
 }
@@ -86,6 +90,9 @@ fn check_edits<const N: usize>(rt: &impl Abort, map: &mut Prunable<N>, two: &Bit
         get_bit(rt, map, first) && get_bit(rt, map, first.saturating_add(1)),
     );
     set_full_chunk(rt, map, index, &chunk);
+    set_range(rt, map, first..len, true);
+    expect(rt, map.count_zeros() == 0);
+    set_thirds(rt, map, first);
     set_bit(rt, map, len - 1, true);
     expect(rt, pop(rt, map));
     truncate(rt, map, len - 6);
