@@ -6,13 +6,19 @@
 mod applied;
 mod no_allocation;
 
+ghost use Rattle.std.specs.Prelude.{◌≡◌, IfSome};
+ghost use Rattle.historical_bitmap.specs.History.{before_latest};
+ghost use Rattle.historical_bitmap.specs.Index.{IsIndexOf};
+
 use crate::checked_calls::{
     failed_commit, has_pending_bits, keeps, pending_pruned_bits, pop, pop_run, try_commit,
     try_had_bits, try_prune_to_bit, try_push, try_push_byte, try_push_chunk, try_push_run,
     try_set_bit,
 };
 use crate::checks::{equal, expect};
-use historical_bitmap::bitmap::historical::{CleanBitMap, DirtyBitMap, Error, RewindError};
+use historical_bitmap::bitmap::historical::{
+    CleanBitMap, CommitIndex, DirtyBitMap, Error, RewindError,
+};
 use std::alloc::{AllocError, Global};
 use std::process::Abort;
 use test_support::compare::{has_bits, has_runs, same_bits};
@@ -566,4 +572,74 @@ fn dirty_bitmap_copied(rt: HostRuntime) {
     }
     expect(&rt, has_pending_bits(&rt, &map, 2, b"1111000"));
     use_further(&rt, map, &before);
+}
+
+// Whether each commit is the same read with the index as without it.
+fn same_with_index(map: &CleanBitMap<1>, index: &CommitIndex<1>) -> bool
+    requires { IsIndexOf index.now map.now.commits }
+{
+    for number in [1, 2, 3] {
+        match (map.at(number), map.at_indexed(index, number)) {
+            (Some(walked), Some(found)) => {
+                if !same_bits(&found, &walked) {
+                    return false;
+                }
+            }
+            (None, None) => {}
+            _ => return false,
+        }
+    }
+    true
+}
+
+// The index of all commits is made, on the second try if the first one fails.
+#[test]
+fn index_made(rt: HostRuntime) {
+    let Some(map) = committed(&rt, rt.alloc()) else {
+        return;
+    };
+    if let Ok(index) = CommitIndex::of(&map) {
+        expect(&rt, same_with_index(&map, &index));
+        return;
+    }
+    if let Ok(index) = CommitIndex::of(&map) {
+        expect(&rt, same_with_index(&map, &index));
+    }
+}
+
+// Clears a bit on a copy of a bitmap, and commits.
+fn one_more(rt: &impl Abort, map: CleanBitMap<1>) -> Option<CleanBitMap<1>>
+    ensures { IfSome result (λ more. before_latest more.commits ≡ map.commits) }
+{
+    let mut batch = map.into_dirty();
+    assert!(rt; pending_pruned_bits(rt, &batch) <= 9 && 9 < batch.len());
+    let Ok(_) = batch.set_bit(9, false) else {
+        return None;
+    };
+    batch.commit(3).ok()
+}
+
+// After a failed call the index is that of the commits before the latest one.
+#[test]
+fn commit_added_to_an_index(rt: HostRuntime) {
+    let Some(before) = committed(&rt, rt.alloc()) else {
+        return;
+    };
+    let Ok(mut index) = CommitIndex::of(&before) else {
+        return;
+    };
+    let Ok(copy) = before.clone() else {
+        return;
+    };
+    let Some(map) = one_more(&rt, copy) else {
+        return;
+    };
+    if index.add_latest(&map).is_ok() {
+        expect(&rt, same_with_index(&map, &index));
+        return;
+    }
+    expect(&rt, same_with_index(&before, &index));
+    if index.add_latest(&map).is_ok() {
+        expect(&rt, same_with_index(&map, &index));
+    }
 }

@@ -18,6 +18,8 @@ mod ends;
 #[cfg(test)]
 mod in_place;
 #[cfg(test)]
+mod indexed;
+#[cfg(test)]
 mod pending_reads;
 #[cfg(test)]
 mod pushes;
