@@ -4,7 +4,7 @@ ghost use Rattle.std.specs.Prelude.{◌*◌, ◌^◌, ◌<◌};
 
 use crate::batches::{Positions, filled, set_one};
 use historical_bitmap::bitmap::Readable;
-use historical_bitmap::bitmap::historical::CleanBitMap;
+use historical_bitmap::bitmap::historical::{CleanBitMap, CommitIndex};
 use std::alloc::{AllocError, Global};
 
 /// A call that is run many times on a bitmap with small commits.
@@ -16,15 +16,19 @@ pub enum Call {
     Rebuild,
     Get,
     Scan,
+    IndexedGet,
+    IndexedScan,
 }
 
-const NAMES: [(&str, Call); 6] = [
+const NAMES: [(&str, Call); 8] = [
     ("kept_commit", Call::Commit),
     ("kept_window", Call::Window),
     ("kept_rewind", Call::Rewind),
     ("kept_rebuild", Call::Rebuild),
     ("kept_get", Call::Get),
     ("kept_scan", Call::Scan),
+    ("indexed_get", Call::IndexedGet),
+    ("indexed_scan", Call::IndexedScan),
 ];
 
 /// Returns the call that `name` names, if there is one.
@@ -132,20 +136,34 @@ fn scan_each<B: Readable<N>, const N: usize>(found: &B, times: u64) -> u64 {
     sum
 }
 
-// Runs a call on the oldest commit, read in place.
+// Reads random bits, or all set positions, of the oldest commit in place.
 fn read_oldest<const N: usize>(
     bitmap: &CleanBitMap<N>,
     positions: &mut Positions,
-    call: Call,
+    scans: bool,
     times: u64,
 ) -> u64 {
-    let Some(oldest) = bitmap.at(0) else {
-        return 0;
-    };
-    match call {
-        Call::Scan => scan_each(&oldest, times),
-        _ => get_each(&oldest, positions, times),
+    match bitmap.at(0) {
+        Some(oldest) if scans => scan_each(&oldest, times),
+        Some(oldest) => get_each(&oldest, positions, times),
+        None => 0,
     }
+}
+
+// The same, with an index.
+fn read_indexed<const N: usize>(
+    bitmap: &CleanBitMap<N>,
+    positions: &mut Positions,
+    scans: bool,
+    times: u64,
+) -> Result<u64, AllocError> {
+    let index = CommitIndex::of(bitmap)?;
+    let sum = match bitmap.at_indexed(&index, 0) {
+        Some(oldest) if scans => scan_each(&oldest, times),
+        Some(oldest) => get_each(&oldest, positions, times),
+        None => 0,
+    };
+    Ok(sum)
 }
 
 /// Runs a call `times` times on a bitmap of `bytes` bytes with `count` commits, and returns a number that depends on its results.
@@ -166,6 +184,9 @@ pub fn run<const N: usize>(
         Call::Window => commit_each(bitmap, &mut positions, count, times, true),
         Call::Rewind => rewind_each(bitmap, &mut positions, count, times),
         Call::Rebuild => rebuild_each(&bitmap, times),
-        Call::Get | Call::Scan => Ok(read_oldest(&bitmap, &mut positions, call, times)),
+        Call::Get => Ok(read_oldest(&bitmap, &mut positions, false, times)),
+        Call::Scan => Ok(read_oldest(&bitmap, &mut positions, true, times)),
+        Call::IndexedGet => read_indexed(&bitmap, &mut positions, false, times),
+        Call::IndexedScan => read_indexed(&bitmap, &mut positions, true, times),
     }
 }

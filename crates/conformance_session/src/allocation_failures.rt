@@ -108,3 +108,40 @@ fn prune_of_two_chunks(rt: HostRuntime) {
     expect(&rt, is_number(len, 96));
     expect(&rt, is_first_commit(first, committed));
 }
+
+// Commits 192 zeros as 1, and then one of them replaced as 2. Returns whether each command is done.
+fn commit_zeros(session: &mut Session<4>, replies: &mut Vec<Reply<4>>) -> bool {
+    let commands = [
+        Command::Begin,
+        Command::PushChunk([0; 4]),
+        Command::PushChunk([0; 4]),
+        Command::PushChunk([0; 4]),
+        Command::PushChunk([0; 4]),
+        Command::PushChunk([0; 4]),
+        Command::PushChunk([0; 4]),
+        Command::Commit(1),
+        Command::Begin,
+        Command::Set(0, true),
+        Command::Commit(2),
+    ];
+    session.run(&commands, replies).is_ok()
+        && replies.iter().all(|reply| matches!(reply, Reply::Done))
+}
+
+// An `OnesAt` of all chunks makes a bitmap of its own. If that fails, the chunks are read in place, and the reply is the same.
+#[test]
+fn past_positions_without_a_bitmap(rt: HostRuntime) {
+    let mut session = Session::<4>::new(rt.alloc());
+    let mut replies = Vec::new(rt.alloc());
+    if !commit_zeros(&mut session, &mut replies) {
+        return;
+    }
+    let commands = [Command::OnesAt(1, 0, u64::MAX)];
+    if session.run(&commands, &mut replies).is_err() {
+        return;
+    }
+    let Some(Reply::Positions(Some(found))) = replies.pop() else {
+        panic!(rt; "the positions of commit 1 are not the reply");
+    };
+    expect(&rt, found.is_empty());
+}
