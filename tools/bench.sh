@@ -21,7 +21,8 @@ historical=("batch_set_far 2000 1000" "batch_set_near 20000 1000" "batch_push 50
     "in_place_oldest 200 1000" "in_place_newest 2000 1000" "clone_commits 20 1")
 
 # Calls that may grow with the kept commits: the name, and the number of calls.
-kept=("kept_commit 2000" "kept_window 2000" "kept_rewind 2000" "kept_rebuild 5" "kept_get 500" "kept_scan 1" "indexed_get 20000" "indexed_scan 20")
+kept=("kept_commit 20000" "kept_window 100000" "kept_rewind 100000" "kept_rebuild 500" "kept_get 2000" "kept_scan 1"
+    "indexed_get 500000" "indexed_scan 100")
 
 bench=crates/bench/out/bench
 if [ ! -x "$bench" ]; then
