@@ -104,18 +104,17 @@ print_growth() {
     echo
 }
 
-echo
-echo "| ns, 2^20 bits, width 8 | 1,000 commits | 10,000 | 100,000 |"
-echo "|---|---|---|---|"
-for line in "${kept[@]}"; do
-    read -r call times <<<"$line"
-    if is_wanted "$call"; then print_growth "$call" "$times" "131072 1000" "131072 10000" "131072 100000"; fi
-done
+# A table of growth: the head of its columns, and the pairs of its columns.
+print_growths() {
+    local line call times
+    echo
+    echo "| ns, width 8 | $1 |"
+    echo "|---|---|---|---|"
+    for line in "${kept[@]}"; do
+        read -r call times <<<"$line"
+        if is_wanted "$call"; then print_growth "$call" "$times" "${@:2}"; fi
+    done
+}
 
-echo
-echo "| ns, 1,000 commits, width 8 | 2^16 bits | 2^20 | 2^26 |"
-echo "|---|---|---|---|"
-for line in "${kept[@]}"; do
-    read -r call times <<<"$line"
-    if is_wanted "$call"; then print_growth "$call" "$times" "8192 1000" "131072 1000" "8388608 1000"; fi
-done
+print_growths "2^20 bits, 1,000 commits | 10,000 | 100,000" "131072 1000" "131072 10000" "131072 100000"
+print_growths "1,000 commits, 2^16 bits | 2^20 | 2^26" "8192 1000" "131072 1000" "8388608 1000"
