@@ -27,12 +27,12 @@ abbrev pub keeps : List (ℕ × ChunkDiff) → ℕ → Bool
 keeps entries i = list_any (λ entry. nat_eq i entry.0 && is_some (kept_bytes entry.1)) entries
 
 -- a new index has the pairs of the old one, and each chunk whose old bytes some entries keep, with a number
-abbrev pub AddsEntries : ℕ → List (ℕ × ChunkDiff) → List (ℕ × ℕ) → List (ℕ × ℕ) → Type 0
-AddsEntries number entries old new = (i m : ℕ) → is_indexed new i m ≡ (is_indexed old i m || nat_eq m number && keeps entries i)
+abbrev pub AddsPlaces : ℕ → List (ℕ × ChunkDiff) → List (ℕ × ℕ) → List (ℕ × ℕ) → Type 0
+AddsPlaces number entries old new = (i m : ℕ) → is_indexed new i m ≡ (is_indexed old i m || nat_eq m number && keeps entries i)
 
 -- a new index has the pairs of the old one, except for each chunk that some entries are for, with a number
-abbrev pub RemovesEntries : ℕ → List (ℕ × ChunkDiff) → List (ℕ × ℕ) → List (ℕ × ℕ) → Type 0
-RemovesEntries number entries old new = (i m : ℕ) → is_indexed new i m ≡ (is_indexed old i m && not (nat_eq m number && names entries i))
+abbrev pub RemovesPlaces : ℕ → List (ℕ × ChunkDiff) → List (ℕ × ℕ) → List (ℕ × ℕ) → Type 0
+RemovesPlaces number entries old new = (i m : ℕ) → is_indexed new i m ≡ (is_indexed old i m && not (nat_eq m number && names entries i))
 
 -- the pairs of the old and the new index are the same, except for those of a number and a chunk that some entries are for
 abbrev pub KeepsOthers : ℕ → List (ℕ × ChunkDiff) → List (ℕ × ℕ) → List (ℕ × ℕ) → Type 0

@@ -13,7 +13,7 @@ use Rattle.std.specs.Option.{option_or}
 use Rattle.std.specs.Ordering.{nat_cmp}
 use Rattle.std.specs.Prelude.{◌&&◌, ◌||◌, Option, Some, None, is_some, nat_eq, slice_get}
 use Rattle.historical_bitmap.specs.History.{before_latest, EntriesRise, kept_under, RiseInNumber}
-use Rattle.historical_bitmap.specs.Index.{AddsEntries, IsIndexOf, is_indexed, keeps, kept_in, KeepsOthers, names, RemovesEntries}
+use Rattle.historical_bitmap.specs.Index.{AddsPlaces, IsIndexOf, is_indexed, keeps, kept_in, KeepsOthers, names, RemovesPlaces}
 use Rattle.historical_bitmap.specs.Record.{ReverseRecord}
 use Rattle.historical_bitmap.proofs.History.PastStates.{below}
 use Rattle.historical_bitmap.proofs.Index.Found.{rises_under}
@@ -67,7 +67,7 @@ module _ (commits : List (ℕ × ReverseRecord)) (c : ℕ × ReverseRecord) (las
   not_indexed i m e = index i m ∙ (ap (λ k. is_some (kept_in (kept_under (before_latest commits) k) i)) e ∙ ap (λ o. is_some (kept_in o i)) absent)
 
   -- the index of the earlier commits, with the entries of the latest record, is that of all
-  pub latest_added : (new : List (ℕ × ℕ)) → EntriesRise commits → AddsEntries c.0 c.1.entries old new → IsIndexOf new commits
+  pub latest_added : (new : List (ℕ × ℕ)) → EntriesRise commits → AddsPlaces c.0 c.1.entries old new → IsIndexOf new commits
   latest_added new entries adds i m = adds i m ∙ elim (cases_eq m c.0) [
     | inl e ↦
         rw (eq-eqb m c.0 e) (ap (λ t. t || keeps c.1.entries i) (not_indexed i m e)
@@ -79,7 +79,7 @@ module _ (commits : List (ℕ × ReverseRecord)) (c : ℕ × ReverseRecord) (las
   ]
 
   -- entries of the latest record, some of them added and then all removed, leave the index as it was
-  pub latest_removed : (mid new : List (ℕ × ℕ)) → KeepsOthers c.0 c.1.entries old mid → RemovesEntries c.0 c.1.entries mid new → (i m : ℕ) → is_indexed new i m ≡ is_indexed old i m
+  pub latest_removed : (mid new : List (ℕ × ℕ)) → KeepsOthers c.0 c.1.entries old mid → RemovesPlaces c.0 c.1.entries mid new → (i m : ℕ) → is_indexed new i m ≡ is_indexed old i m
   latest_removed mid new others removes i m = removes i m ∙ elim (cases_Bool (nat_eq m c.0 && names c.1.entries i)) [
     | inr f ↦ rw f (and_true (is_indexed mid i m) ∙ others i m f)
     | inl t ↦

@@ -18,7 +18,7 @@ use Rattle.std.specs.Ordering.{nat_cmp}
 use Rattle.std.specs.Borrow.{Bor}
 use Rattle.std.specs.Prelude.{◌&&◌, ◌||◌, Option, Some, None, is_some, option_copied, if◌then◌else◌, nat_eq, nat_le, nat_lt}
 use Rattle.historical_bitmap.specs.History.{EntriesRise, from_number, kept_under, past_number, RiseInNumber, up_to_number}
-use Rattle.historical_bitmap.specs.Index.{AddsEntries, IsIndexOf, is_indexed, keeps, kept_in, KeepsOthers, names, RemovesEntries}
+use Rattle.historical_bitmap.specs.Index.{AddsPlaces, IsIndexOf, is_indexed, keeps, kept_in, KeepsOthers, names, RemovesPlaces}
 use Rattle.historical_bitmap.specs.declared.bitmap.historical.record.ChunkDiff as stored
 use Rattle.historical_bitmap.specs.Stored.{diff_value, entry_values}
 use Rattle.historical_bitmap.specs.Record.{ChunkDiff, ReverseRecord, bytes_of, kept, kept_bytes}
@@ -96,8 +96,8 @@ stepped i all e inside is =
     ∙ map-append (λ e. (e.0, diff_value e.1)) (take i all) (e ∷ [])
 
 -- the loop has added the first entries, and adds the next one
-pub entry_added : (number : ℕ) (xs : List (ℕ × ChunkDiff)) (e : ℕ × ChunkDiff) (old mid new : List (ℕ × ℕ)) → is_some (kept_bytes e.1) ≡ true → AddsEntries number xs old mid
-    → ((q : ℕ × ℕ) → list_any (is_at (place_cmp q)) new ≡ cond (is_at (place_cmp (e.0, number)) q) true (list_any (is_at (place_cmp q)) mid)) → AddsEntries number (xs ++ e ∷ []) old new
+pub entry_added : (number : ℕ) (xs : List (ℕ × ChunkDiff)) (e : ℕ × ChunkDiff) (old mid new : List (ℕ × ℕ)) → is_some (kept_bytes e.1) ≡ true → AddsPlaces number xs old mid
+    → ((q : ℕ × ℕ) → list_any (is_at (place_cmp q)) new ≡ cond (is_at (place_cmp (e.0, number)) q) true (list_any (is_at (place_cmp q)) mid)) → AddsPlaces number (xs ++ e ∷ []) old new
 entry_added number xs e old mid new has adds step i m =
     put mid new e.0 number true step i m
     ∙ (ap (λ t. cond (nat_eq m number && nat_eq i e.0) true t) (adds i m)
@@ -105,18 +105,18 @@ entry_added number xs e old mid new has adds step i m =
     ∙ ap (λ t. is_indexed old i m || (nat_eq m number && t)) (ap (λ t. keeps xs i || ((nat_eq i e.0 && t) || false)) (sym has) ∙ sym (list_any-append (λ entry. nat_eq i entry.0 && is_some (kept_bytes entry.1)) xs (e ∷ [])))))
 
 -- an entry without old bytes adds nothing
-pub entry_skipped : (number : ℕ) (xs : List (ℕ × ChunkDiff)) (e : ℕ × ChunkDiff) (old mid : List (ℕ × ℕ)) → is_some (kept_bytes e.1) ≡ false → AddsEntries number xs old mid → AddsEntries number (xs ++ e ∷ []) old mid
+pub entry_skipped : (number : ℕ) (xs : List (ℕ × ChunkDiff)) (e : ℕ × ChunkDiff) (old mid : List (ℕ × ℕ)) → is_some (kept_bytes e.1) ≡ false → AddsPlaces number xs old mid → AddsPlaces number (xs ++ e ∷ []) old mid
 entry_skipped number xs e old mid none adds i m =
     adds i m
     ∙ (skipped_bit (is_indexed old i m) (nat_eq m number) (nat_eq i e.0) (keeps xs i)
     ∙ ap (λ t. is_indexed old i m || (nat_eq m number && t)) (ap (λ t. keeps xs i || ((nat_eq i e.0 && t) || false)) (sym none) ∙ sym (list_any-append (λ entry. nat_eq i entry.0 && is_some (kept_bytes entry.1)) xs (e ∷ []))))
 
 -- no entry adds nothing
-pub none_added : (number : ℕ) (old : List (ℕ × ℕ)) → AddsEntries number [] old old
+pub none_added : (number : ℕ) (old : List (ℕ × ℕ)) → AddsPlaces number [] old old
 none_added number old i m = sym (ap (λ t. is_indexed old i m || t) (and_false (nat_eq m number)) ∙ or_false (is_indexed old i m))
 
 -- the first entries add no place but those of the chunks that all entries are for
-pub others_kept : (number : ℕ) (all xs rest : List (ℕ × ChunkDiff)) (old mid : List (ℕ × ℕ)) → all ≡ xs ++ rest → AddsEntries number xs old mid → KeepsOthers number all old mid
+pub others_kept : (number : ℕ) (all xs rest : List (ℕ × ChunkDiff)) (old mid : List (ℕ × ℕ)) → all ≡ xs ++ rest → AddsPlaces number xs old mid → KeepsOthers number all old mid
 others_kept number all xs rest old mid split adds i m h = adds i m ∙ (elim (cases_Bool (nat_eq m number)) [
   | inr e ↦ rw e (or_false (is_indexed old i m))
   | inl e ↦
@@ -126,8 +126,8 @@ others_kept number all xs rest old mid split adds i m h = adds i m ∙ (elim (ca
 ])
 
 -- the loop has removed the first entries, and removes the next one
-pub entry_removed : (number : ℕ) (xs : List (ℕ × ChunkDiff)) (e : ℕ × ChunkDiff) (old mid new : List (ℕ × ℕ)) → RemovesEntries number xs old mid
-    → ((q : ℕ × ℕ) → list_any (is_at (place_cmp q)) new ≡ cond (is_at (place_cmp (e.0, number)) q) false (list_any (is_at (place_cmp q)) mid)) → RemovesEntries number (xs ++ e ∷ []) old new
+pub entry_removed : (number : ℕ) (xs : List (ℕ × ChunkDiff)) (e : ℕ × ChunkDiff) (old mid new : List (ℕ × ℕ)) → RemovesPlaces number xs old mid
+    → ((q : ℕ × ℕ) → list_any (is_at (place_cmp q)) new ≡ cond (is_at (place_cmp (e.0, number)) q) false (list_any (is_at (place_cmp q)) mid)) → RemovesPlaces number (xs ++ e ∷ []) old new
 entry_removed number xs e old mid new removes step i m =
     put mid new e.0 number false step i m
     ∙ (ap (λ t. cond (nat_eq m number && nat_eq i e.0) false t) (removes i m)
@@ -135,7 +135,7 @@ entry_removed number xs e old mid new removes step i m =
     ∙ ap (λ t. is_indexed old i m && not (nat_eq m number && t)) (sym (list_any-append (λ entry. nat_eq i entry.0) xs (e ∷ [])))))
 
 -- no entry removes nothing
-pub none_removed : (number : ℕ) (old : List (ℕ × ℕ)) → RemovesEntries number [] old old
+pub none_removed : (number : ℕ) (old : List (ℕ × ℕ)) → RemovesPlaces number [] old old
 none_removed number old i m = sym (ap (λ t. is_indexed old i m && not t) (and_false (nat_eq m number)) ∙ and_true (is_indexed old i m))
 
 -- ---- all records, added one after the other
@@ -162,7 +162,7 @@ adds_all all left places e none rise entries = record {
 pub head_alone : {X : Type 0} (c : ℕ × X) (cs : List (ℕ × X)) → RiseInNumber (c ∷ cs) → (m : ℕ) → m ≡ c.0 → kept_under cs m ≡ None
 head_alone c cs rise m e = none_past m c.0 cs (omega (arith, e)) (sorted_head nat_cmp c.0 (keys_of cs) rise)
 
-pub record_added : (all left rest : List (ℕ × ReverseRecord)) (c : ℕ × ReverseRecord) (places next : List (ℕ × ℕ)) → left ≡ c ∷ rest → AddsEntries c.0 c.1.entries places next → AddsOn all left places → AddsOn all rest next
+pub record_added : (all left rest : List (ℕ × ReverseRecord)) (c : ℕ × ReverseRecord) (places next : List (ℕ × ℕ)) → left ≡ c ∷ rest → AddsPlaces c.0 c.1.entries places next → AddsOn all left places → AddsOn all rest next
 record_added all left rest c places next e adds before = record {
   rise = sorted_tail nat_cmp c.0 (keys_of rest) rise;
   entries = All-tail (λ commit. IsStrictlySortedBy nat_cmp (keys_of commit.1.entries)) c rest (rw e at before.entries);
@@ -209,7 +209,7 @@ pub record RemovesOn (left keep : List (ℕ × ReverseRecord)) (places : List (�
   pub apart : (m : ℕ) (r : ReverseRecord) → kept_under left m ≡ Some r → kept_under keep m ≡ None
   pub index : (i m : ℕ) → is_indexed places i m ≡ is_some (kept_in (option_or (kept_under left m) (kept_under keep m)) i)
 
-pub record_removed : (left rest keep : List (ℕ × ReverseRecord)) (c : ℕ × ReverseRecord) (places next : List (ℕ × ℕ)) → left ≡ c ∷ rest → RemovesEntries c.0 c.1.entries places next → RemovesOn left keep places → RemovesOn rest keep next
+pub record_removed : (left rest keep : List (ℕ × ReverseRecord)) (c : ℕ × ReverseRecord) (places next : List (ℕ × ℕ)) → left ≡ c ∷ rest → RemovesPlaces c.0 c.1.entries places next → RemovesOn left keep places → RemovesOn rest keep next
 record_removed left rest keep c places next e removes before = record {
   rise = sorted_tail nat_cmp c.0 (keys_of rest) rise;
   apart = λ m r found. elim (cases_eq m c.0) [

@@ -6,7 +6,7 @@ ghost use Rattle.bitmap_bytes.specs.Chunk.{IsWidth};
 ghost use Rattle.bitmap_core.specs.Meaning.{pruned_meaning, ShowsChunk};
 ghost use Rattle.bitmap_core.specs.PrunedBits.{IsRetainedChunk};
 ghost use Rattle.historical_bitmap.specs.History.{before_latest, EntriesRise, first_kept as first_kept_of, from_number, kept_under, left_by, past_number, RiseInNumber, up_to_number};
-ghost use Rattle.historical_bitmap.specs.Index.{AddsEntries, IsIndexOf, IsNextIndexed, KeepsOthers, RemovesEntries};
+ghost use Rattle.historical_bitmap.specs.Index.{AddsPlaces, IsIndexOf, IsNextIndexed, KeepsOthers, RemovesPlaces};
 ghost use Rattle.historical_bitmap.specs.Stored.{entry_values};
 ghost use Rattle.historical_bitmap.specs.View.{history_of};
 
@@ -53,7 +53,7 @@ fn add_entries<const N: usize>(
     number: u64,
     entries: &[(usize, ChunkDiff<N>)],
 ) -> Result<(), AllocError>
-    ensures ok { OnOk result (AddsEntries number (entry_values entries.now) places.old.keys places.new.keys) }
+    ensures ok { OnOk result (AddsPlaces number (entry_values entries.now) places.old.keys places.new.keys) }
     ensures others { KeepsOthers number (entry_values entries.now) places.old.keys places.new.keys }
 {
     for entry in entries {
@@ -70,7 +70,7 @@ fn remove_entries<const N: usize>(
     number: u64,
     entries: &[(usize, ChunkDiff<N>)],
 )
-    ensures { RemovesEntries number (entry_values entries.now) places.old.keys places.new.keys }
+    ensures { RemovesPlaces number (entry_values entries.now) places.old.keys places.new.keys }
 {
     for entry in entries {
         places.remove(&(entry.0, number));

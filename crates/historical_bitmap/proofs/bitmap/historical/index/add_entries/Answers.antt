@@ -1,6 +1,6 @@
 use Rattle.std.proofs.Common.{◌++◌, ◌∷◌, [], ap, drop, sym, subst, take, ◌∙◌}
 use Rattle.std.specs.Prelude.{is_some}
-use Rattle.historical_bitmap.specs.Index.{AddsEntries, KeepsOthers}
+use Rattle.historical_bitmap.specs.Index.{AddsPlaces, KeepsOthers}
 use Rattle.historical_bitmap.specs.Stored.{diff_value, entry_values}
 use Rattle.historical_bitmap.proofs.Index.Updates.{copied_some, entry_added, entry_skipped, others_kept, parts_of, stepped}
 use Rattle.historical_bitmap.proofs.bitmap.historical.index.add_entries.Goals as goal
@@ -20,13 +20,13 @@ loop-entry-preserved g c =
     let e = c.entry-item.result in
     let first = entry_values (take i all) in
     let tested = c.is_some.ensures ∙ (sym (copied_some c.old_bytes.result) ∙ ap is_some c.old_bytes.ensures) in
-    subst (λ xs. AddsEntries c.args.number xs c.args.places.now.keys c.if-is_some.places.keys) (sym (stepped i all e c.loop-entry-test.true c.entry-item.is))
+    subst (λ xs. AddsPlaces c.args.number xs c.args.places.now.keys c.if-is_some.places.keys) (sym (stepped i all e c.loop-entry-test.true c.entry-item.is))
     (elim c.if-is_some.branch [
       | then-is_some+in_ok-insert w ↦
-          subst (λ places. AddsEntries c.args.number (first ++ (e.0, diff_value e.1) ∷ []) c.args.places.now.keys places.keys) (sym w.places-is)
+          subst (λ places. AddsPlaces c.args.number (first ++ (e.0, diff_value e.1) ∷ []) c.args.places.now.keys places.keys) (sym w.places-is)
           (entry_added c.args.number first (e.0, diff_value e.1) c.args.places.now.keys c.loop-entry.places.keys w.insert.new.self.keys (sym tested ∙ w.if-is_some.true) c.loop-entry.invariant w.in_ok-insert.ensures.updates.0)
       | else-is_some w ↦
-          subst (λ places. AddsEntries c.args.number (first ++ (e.0, diff_value e.1) ∷ []) c.args.places.now.keys places.keys) (sym w.places-is)
+          subst (λ places. AddsPlaces c.args.number (first ++ (e.0, diff_value e.1) ∷ []) c.args.places.now.keys places.keys) (sym w.places-is)
           (entry_skipped c.args.number first (e.0, diff_value e.1) c.args.places.now.keys c.loop-entry.places.keys (sym tested ∙ w.if-is_some.false) c.loop-entry.invariant)
     ])
 

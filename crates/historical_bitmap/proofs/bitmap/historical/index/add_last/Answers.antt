@@ -1,5 +1,5 @@
 use Rattle.std.proofs.Common.{ℕ, subst}
-use Rattle.historical_bitmap.specs.Index.{AddsEntries, KeepsOthers, RemovesEntries}
+use Rattle.historical_bitmap.specs.Index.{AddsPlaces, KeepsOthers, RemovesPlaces}
 use Rattle.historical_bitmap.specs.Record.{ReverseRecord}
 use Rattle.historical_bitmap.proofs.Index.Latest.{latest_added, latest_removed}
 use Rattle.historical_bitmap.proofs.Index.Places.{same_places}
@@ -11,10 +11,10 @@ returns-in_default-add_entries-clause-err g c =
     same_places c.remove_entries.new.places c.args.places.now c.len-in_default-add_entries.ensures.ordered c.len.ensures.ordered
     (latest_removed c.args.commits.now.entries last c.in-Some.ensures.last c.requires.rise c.args.places.now.keys c.requires.index c.add_entries.new.places.keys c.remove_entries.new.places.keys
     (subst (λ entries. KeepsOthers c.in-Some.number.now entries c.args.places.now.keys c.add_entries.new.places.keys) c.chunk_diffs-entries.ensures c.add_entries.ensures.others)
-    (subst (λ entries. RemovesEntries c.in-Some.number.now entries c.add_entries.new.places.keys c.remove_entries.new.places.keys) c.chunk_diffs-entries.ensures c.remove_entries.ensures))
+    (subst (λ entries. RemovesPlaces c.in-Some.number.now entries c.add_entries.new.places.keys c.remove_entries.new.places.keys) c.chunk_diffs-entries.ensures c.remove_entries.ensures))
 
 pub returns-clause-ok : goal.returns-clause-ok
 returns-clause-ok g c =
     let last : ℕ × ReverseRecord = (c.in-Some.number.now, c.in-Some.record.now) in
     latest_added c.args.commits.now.entries last c.in-Some.ensures.last c.requires.rise c.args.places.now.keys c.requires.index c.add_entries.new.places.keys c.requires.entries
-    (subst (λ entries. AddsEntries c.in-Some.number.now entries c.args.places.now.keys c.add_entries.new.places.keys) c.chunk_diffs-entries.ensures c.in-Ok.ensures.ok)
+    (subst (λ entries. AddsPlaces c.in-Some.number.now entries c.args.places.now.keys c.add_entries.new.places.keys) c.chunk_diffs-entries.ensures c.in-Ok.ensures.ok)

@@ -1,5 +1,5 @@
 use Rattle.std.proofs.Common.{ℕ, subst}
-use Rattle.historical_bitmap.specs.Index.{AddsEntries}
+use Rattle.historical_bitmap.specs.Index.{AddsPlaces}
 use Rattle.historical_bitmap.specs.Record.{ReverseRecord}
 use Rattle.historical_bitmap.proofs.Index.Updates.{record_added}
 use Rattle.historical_bitmap.proofs.bitmap.historical.index.places_of.Goals as goal
@@ -8,4 +8,4 @@ pub loop-number-preserved : goal.loop-number-preserved
 loop-number-preserved g c =
     let first : ℕ × ReverseRecord = (c.in-Some.number.now, c.in-Some.record.now) in
     record_added c.args.commits.now.entries c.loop-number.number-iterator c.next.new.self first c.loop-number.places.keys c.add_entries.new.places.keys c.in-Some.ensures.steps
-    (subst (λ entries. AddsEntries c.in-Some.number.now entries c.loop-number.places.keys c.add_entries.new.places.keys) c.chunk_diffs.ensures c.in_ok-add_entries.ensures.ok) c.loop-number.invariant
+    (subst (λ entries. AddsPlaces c.in-Some.number.now entries c.loop-number.places.keys c.add_entries.new.places.keys) c.chunk_diffs.ensures c.in_ok-add_entries.ensures.ok) c.loop-number.invariant

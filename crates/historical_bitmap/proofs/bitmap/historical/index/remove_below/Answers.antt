@@ -1,5 +1,5 @@
 use Rattle.std.proofs.Common.{ℕ, subst, ◌∙◌}
-use Rattle.historical_bitmap.specs.Index.{RemovesEntries}
+use Rattle.historical_bitmap.specs.Index.{RemovesPlaces}
 use Rattle.historical_bitmap.specs.Record.{ReverseRecord}
 use Rattle.historical_bitmap.proofs.Index.Updates.{below_is, record_removed, removes_below}
 use Rattle.historical_bitmap.proofs.bitmap.historical.index.remove_below.Goals as goal
@@ -13,4 +13,4 @@ pub loop-at-preserved : goal.loop-at-preserved
 loop-at-preserved g c =
     let first : ℕ × ReverseRecord = (c.in-Some.at.now, c.in-Some.record.now) in
     record_removed c.loop-at.at-iterator c.next.new.self _ first c.loop-at.places.keys c.remove_entries.new.places.keys c.in-Some.ensures.steps
-    (subst (λ entries. RemovesEntries c.in-Some.at.now entries c.loop-at.places.keys c.remove_entries.new.places.keys) c.chunk_diffs.ensures c.remove_entries.ensures) c.loop-at.invariant
+    (subst (λ entries. RemovesPlaces c.in-Some.at.now entries c.loop-at.places.keys c.remove_entries.new.places.keys) c.chunk_diffs.ensures c.remove_entries.ensures) c.loop-at.invariant
