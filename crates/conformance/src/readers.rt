@@ -186,6 +186,14 @@ fn check_four_positions(rt: &impl Abort, alloc: Global) {
         sparse.ones_iter_from(50).eq([55, 64, 90].iter().copied()),
     );
     equal(rt, sparse.ones_iter_from(91).next(), None);
+    expect(
+        rt,
+        sparse
+            .zeros_iter_from(88)
+            .eq([88, 89, 91, 92, 93, 94, 95].iter().copied()),
+    );
+    equal(rt, sparse.zeros_iter_from(0).next(), Some(32));
+    equal(rt, sparse.zeros_iter_from(96).next(), None);
 }
 
 // The iterators begin after the pruned prefix.
@@ -318,6 +326,7 @@ fn searches_do_not_read_bits_past_the_length(rt: HostRuntime) {
     equal(&rt, Five.count_ones_range(0..100), 5);
     equal(&rt, Five.select_one(5), None);
     expect(&rt, Five.zeros_iter_range(0..100).next().is_none());
+    expect(&rt, Five.zeros_iter_from(0).next().is_none());
 }
 
 // The same if the last chunk ends within a word.

@@ -220,6 +220,28 @@ pub trait Readable<const N: usize> {
         OnesIter::over(self, self.len(), range, false)
     }
 
+    /// Returns an iterator over the retained positions at or above `pos` whose bit is not set, in ascending order.
+    ///
+    /// # Memory
+    ///
+    /// Does not allocate, and neither does the iterator.
+    ///
+    /// # Complexity
+    ///
+    /// That of `ones_iter_range` for the range from `pos` to the length.
+    final fn zeros_iter_from(&self, pos: u64) -> OnesIter<'_, Self, N>
+    where
+        Self: Sized,
+        ensures positions { result.left ≡ zeros N (meaning self.now) pos (meaning self.now).len }
+        ensures lawful { IsLawful N (meaning self.now) }
+        ensures words { result.words ≡ words N (meaning self.now) pos (meaning self.now).len }
+        ensures loads { result.loads ≤ result.words }
+        ensures bound { length result.left < 2 ^ 64 }
+        ensures runs { YieldsInOrder IsScanStep (λ s. s.left) }
+    {
+        self.zeros_iter_range(pos..u64::MAX)
+    }
+
     /// Returns the least retained position at or above `from` whose bit is set, or `None` if there is none.
     ///
     /// # Memory

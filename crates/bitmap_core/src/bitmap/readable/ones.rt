@@ -17,7 +17,7 @@ use std::ops::Range;
 
 /// An iterator over the positions of a range whose bit is set, in ascending order.
 ///
-/// The iterator that `zeros_iter_range` returns is over the positions whose bit is not set.
+/// The iterators that `zeros_iter_range` and `zeros_iter_from` return are over the positions whose bit is not set.
 /// Each word of the range is loaded at most once, and `get_chunk` is called at most once per chunk.
 /// After the last position, `next` always returns `None`. No call of `next` allocates.
 ///
