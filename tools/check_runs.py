@@ -1,8 +1,9 @@
 #!/usr/bin/env python3
 """Runs `replay` on scripts, and compares the lines that it prints with the reference model of tools/model.py.
 
-usage: check_runs.py random COUNT               COUNT random scripts, at each of the five widths in turn. Prints per width how many commits
-                                                cut chunks off and how many reads go far back, and fails if these are too few: 3000 scripts suffice
+usage: check_runs.py random COUNT               COUNT random scripts, at each of the five widths in turn. Prints per width how many commits cut
+                                                chunks off, drops keep a few commits, rewinds undo commits and reads go far back, and fails
+                                                if these are too few: 3000 scripts suffice
        check_runs.py exhaustive                 every batch of up to three edits from a small alphabet, on each of a few bitmaps
        check_runs.py allocation_failures COUNT  the examples and COUNT random scripts, at each of the five widths that
                                                 their chunks fit. In each run some allocations fail: the K-th alone, the
@@ -30,7 +31,8 @@ READS = {"at", "ones-at", "encode-at"}
 
 # What is counted in random scripts, and the least number at each width.
 ONE_CHUNK, MORE_CHUNKS, FAR_BACK = "commits that cut off one chunk", "commits that cut off more chunks", "reads five or more commits back"
-LEAST = {ONE_CHUNK: 200, MORE_CHUNKS: 50, FAR_BACK: 500}
+SLIDES, UNDONE = "drops that keep three or more commits", "rewinds that undo two or more commits"
+LEAST = {ONE_CHUNK: 200, MORE_CHUNKS: 50, FAR_BACK: 500, SLIDES: 500, UNDONE: 200}
 
 # The widths at which every small batch runs.
 BATCH_WIDTHS = (1, 3)
@@ -65,6 +67,11 @@ class Script:
             self.counts[MORE_CHUNKS] += cut > 1
         if words[0] in READS and state.pending is None and int(words[1]) in state.history:
             self.counts[FAR_BACK] += sum(number > int(words[1]) for number in state.history) >= 5
+        if words[0] == "drop-before" and state.pending is None:
+            kept = sum(number >= int(words[1]) for number in state.history)
+            self.counts[SLIDES] += 3 <= kept < len(state.history)
+        if words[0] == "rewind" and state.pending is None and int(words[1]) in state.history:
+            self.counts[UNDONE] += sum(number > int(words[1]) for number in state.history) >= 2
 
     def bitmap(self):
         return self.state.pending or self.state.current
@@ -179,6 +186,17 @@ class RandomScript(Script):
         self.push_bytes()
         self.add(f"prune {self.length()}")
 
+    def slide(self):
+        """Commits a set or a push several times, and drops all but three to five commits each time. Reads the oldest one, and may rewind to it."""
+        kept = self.random.randint(3, 5)
+        for _ in range(self.random.randint(2, 6)):
+            self.add("begin", self.random.choice([f"set {self.position()} {self.random.randint(0, 1)}", f"push {self.random.randint(0, 1)}"]))
+            self.add(f"commit {self.next_number()}", "abort")
+            if len(self.state.history) > kept:
+                self.add(f"drop-before {list(self.state.history)[-kept]}")
+        for oldest in list(self.state.history)[:1]:
+            self.add(*self.random.sample([f"at {oldest}", f"ones-at {oldest} 0 {self.position()}", f"rewind {oldest}"], 2))
+
     def batch_step(self):
         """An edit, a read or the end of the batch."""
         chance = self.random
@@ -213,6 +231,7 @@ class RandomScript(Script):
             (10, lambda: self.add(chance.choice(["commits", f"exists {self.number()}", "latest", "earliest", "entries"]))),
             (7, lambda: self.add(f"rewind {self.kept_number(kept[-3:])}")),
             (4, lambda: self.add(f"drop-before {self.kept_number(kept[:3])}")),
+            (2, self.slide),
             (1, lambda: self.add(chance.choice(["clear", f"start {self.chunks()}"]))),
             (10, self.read),
         ]
