@@ -11,14 +11,15 @@ cd "$(dirname "$0")/.."
 runs=${1:-5}
 wanted=" ${*:2} "
 # Calls that take about a nanosecond per bit, and calls that work on whole words.
-slow=(push pop get set iter ones_iter to_bools from_bools hash prunable_push push_byte get_bit set_bit)
+slow=(push pop get set iter ones_iter zeros_iter to_bools from_bools hash prunable_push push_byte get_bit set_bit)
 fast=(copy flip_all set_all and or xor equal count_ones is_unset extend_same extend_same_shifted extend_other
-    extend_other_shifted extend_to truncate clone write read push_chunk prune unprune)
+    extend_other_shifted extend_to truncate clone write read push_chunk prune unprune
+    next_one next_zero prev_one count_ones_range select_one set_range and_not is_subset)
 # Calls of a historical bitmap: the name, the number of calls, and the edits, bits or past states per call.
 historical=("batch_set_far 2000 1000" "batch_set_near 20000 1000" "batch_push 5000 4096" "batch_push_byte 2000 4096"
     "batch_push_chunk 200 4096" "commit_set_far 2000 1000" "commit_set_near 20000 1000" "commit_push 2000 4096"
     "commit_push_byte 300 4096" "commit_push_chunk 20 4096" "read_oldest 50 1" "read_newest 20000 1"
-    "in_place_oldest 200 1000" "in_place_newest 2000 1000" "clone_commits 20 1")
+    "in_place_oldest 200 1000" "in_place_newest 2000 1000" "changed_chunks 2000 1" "compared_chunks 50 1" "clone_commits 20 1")
 
 # Calls that may grow with the kept commits: the name, and the number of calls.
 kept=("kept_commit 20000" "kept_window 100000" "kept_rewind 100000" "kept_rebuild 500" "kept_get 2000" "kept_scan 1"

@@ -3,6 +3,7 @@
 ghost use Rattle.std.specs.Prelude.{◌*◌, ◌^◌, ◌<◌};
 
 use crate::batches::{Edits, Positions, SETS, edit, filled};
+use bitmap_core::chunk::chunk_count;
 use historical_bitmap::bitmap::Readable;
 use historical_bitmap::bitmap::historical::{AtCommit, CleanBitMap};
 use std::alloc::{AllocError, Global};
@@ -16,10 +17,12 @@ pub enum Call {
     ReadNewest,
     InPlaceOldest,
     InPlaceNewest,
+    ChangedChunks,
+    ComparedChunks,
     Clone,
 }
 
-const NAMES: [(&str, Call); 15] = [
+const NAMES: [(&str, Call); 17] = [
     ("batch_set_far", Call::Abort(Edits::SetFar)),
     ("batch_set_near", Call::Abort(Edits::SetNear)),
     ("batch_push", Call::Abort(Edits::Push)),
@@ -34,6 +37,8 @@ const NAMES: [(&str, Call); 15] = [
     ("read_newest", Call::ReadNewest),
     ("in_place_oldest", Call::InPlaceOldest),
     ("in_place_newest", Call::InPlaceNewest),
+    ("changed_chunks", Call::ChangedChunks),
+    ("compared_chunks", Call::ComparedChunks),
     ("clone_commits", Call::Clone),
 ];
 
@@ -133,6 +138,40 @@ fn read_in_place<const N: usize>(bitmap: &CleanBitMap<N>, number: u64, times: u6
     sum
 }
 
+// Lists the chunks that differ between two consecutive commits, in the middle of the commits.
+fn list_changes<const N: usize>(bitmap: &CleanBitMap<N>, times: u64) -> u64 {
+    let mut sum: u64 = 0;
+    for round in 0..times {
+        let number = LAST / 2 + round % 8;
+        if let Some(changes) = bitmap.changed_chunks(number, number + 1) {
+            sum = sum.wrapping_add(changes.count() as u64);
+        }
+    }
+    sum
+}
+
+// Returns the number of the chunks that differ between two past states. Each chunk is compared.
+fn count_differences<const N: usize>(older: &AtCommit<'_, N>, newer: &AtCommit<'_, N>) -> u64 {
+    let mut sum: u64 = 0;
+    for chunk in 0..chunk_count::<N>(newer.len()) {
+        let differs = older.retained_bytes(chunk) != newer.retained_bytes(chunk);
+        sum = sum.wrapping_add(u64::from(differs));
+    }
+    sum
+}
+
+// The same by a comparison of all chunks.
+fn compare_chunks<const N: usize>(bitmap: &CleanBitMap<N>, times: u64) -> u64 {
+    let mut sum: u64 = 0;
+    for round in 0..times {
+        let number = LAST / 2 + round % 8;
+        if let (Some(older), Some(newer)) = (bitmap.at(number), bitmap.at(number + 1)) {
+            sum = sum.wrapping_add(count_differences(&older, &newer));
+        }
+    }
+    sum
+}
+
 // Clones the bitmap with its history.
 fn clone_each<const N: usize>(bitmap: &CleanBitMap<N>, times: u64) -> Result<u64, AllocError> {
     let mut sum: u64 = 0;
@@ -160,6 +199,8 @@ pub fn run<const N: usize>(
         Call::ReadNewest => read_owned(&with_commits(bitmap)?, LAST, times),
         Call::InPlaceOldest => Ok(read_in_place(&with_commits(bitmap)?, 0, times)),
         Call::InPlaceNewest => Ok(read_in_place(&with_commits(bitmap)?, LAST - 1, times)),
+        Call::ChangedChunks => Ok(list_changes(&with_commits(bitmap)?, times)),
+        Call::ComparedChunks => Ok(compare_chunks(&with_commits(bitmap)?, times)),
         Call::Clone => clone_each(&with_commits(bitmap)?, times),
     }
 }

@@ -10,6 +10,7 @@ mod kept;
 mod program;
 mod pruned;
 mod reads;
+mod searches;
 
 use crate::program::RunError;
 use std::process::ExitCode;

@@ -3,7 +3,7 @@
 ghost use Rattle.std.specs.Prelude.{◌*◌, ◌^◌, ◌<◌, ◌≤◌, length, IfOk};
 
 use crate::call::{Call, named};
-use crate::{edits, growth, historical, kept, pruned, reads};
+use crate::{edits, growth, historical, kept, pruned, reads, searches};
 use bitmap_core::bitmap::BitMap;
 use std::alloc::{AllocError, Global};
 
@@ -129,6 +129,25 @@ fn run_call(alloc: Global, call: Call, width: &str, bytes: u64, times: u64) -> R
     }
 }
 
+// Runs a search or the like of a dense bitmap, with the chunk width that an argument gives.
+fn run_search(
+    alloc: Global,
+    call: searches::Call,
+    width: &str,
+    bytes: u64,
+    times: u64,
+) -> Result<u64, RunError>
+    requires most { bytes ≤ 2 ^ 32 }
+{
+    match width.as_bytes() {
+        b"1" => Ok(searches::run(call, filled::<1>(alloc, bytes)?, times)?),
+        b"3" => Ok(searches::run(call, filled::<3>(alloc, bytes)?, times)?),
+        b"8" => Ok(searches::run(call, filled::<8>(alloc, bytes)?, times)?),
+        b"32" => Ok(searches::run(call, filled::<32>(alloc, bytes)?, times)?),
+        _ => Err(RunError::Usage),
+    }
+}
+
 // Runs a call of a historical bitmap, with the chunk width that an argument gives.
 fn run_historical(
     alloc: Global,
@@ -188,6 +207,9 @@ pub fn run(alloc: Global, words: &[String]) -> Result<u64, RunError> {
     }
     if let Some(call) = historical::named(call.as_str()) {
         return run_historical(alloc, call, width.as_str(), bytes, times);
+    }
+    if let Some(call) = searches::named(call.as_str()) {
+        return run_search(alloc, call, width.as_str(), bytes, times);
     }
     let call = named(call.as_str()).ok_or(RunError::Usage)?;
     run_call(alloc, call, width.as_str(), bytes, times)
