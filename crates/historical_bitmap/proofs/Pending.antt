@@ -8,6 +8,7 @@
 -- Applied: the pending edits, applied in steps, give the pending bitmap.
 -- AppliedRun: so they do if the appended run is applied after the other chunks.
 -- Appends: several bits appended at once.
+-- Ranges: the bits of a range set at once.
 -- NextMarked: the next marked chunk.
 -- Writes: the writes of the code to chunks, as edits of the pending edits.
 -- BatchEdits: the edits of a batch, from those of its pending edits.
@@ -20,6 +21,7 @@ pub mod Record
 pub mod Applied
 pub mod AppliedRun
 pub mod Appends
+pub mod Ranges
 pub mod NextMarked
 pub mod Writes
 pub mod BatchEdits

@@ -15,6 +15,14 @@ pub data Edit : Type 0 where
 abbrev pub pushes : List Bool → List Edit
 pushes values = map (λ value. Push value) values
 
+-- the numbers from lo up to, but not including, hi
+abbrev pub from_to : ℕ → ℕ → List ℕ
+from_to lo hi = range_with_len lo (hi - lo)
+
+-- the edits that set each position from lo up to, but not including, hi, in ascending order
+abbrev pub sets : ℕ → ℕ → Bool → List Edit
+sets lo hi value = map (λ position. Set position value) (from_to lo hi)
+
 -- the bitmap after an edit
 abbrev pub after : ℕ → PrunedBits → Edit → PrunedBits
 after n b (Push value) = pushed b value
@@ -38,10 +46,6 @@ IsAccepted n b (Prune position) = position ≤ bit_len n b
 abbrev pub AllAccepted : ℕ → PrunedBits → List Edit → Type 0
 AllAccepted n b [] = Unit {0}
 AllAccepted n b (edit ∷ edits) = IsAccepted n b edit × AllAccepted n (after n b edit) edits
-
--- the numbers from lo up to, but not including, hi
-abbrev pub from_to : ℕ → ℕ → List ℕ
-from_to lo hi = range_with_len lo (hi - lo)
 
 -- the chunks that an edit touches: the chunk of the appended, dropped or replaced bit, or each chunk that a prune drops
 abbrev pub touches : ℕ → PrunedBits → Edit → List ℕ

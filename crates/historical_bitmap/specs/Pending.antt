@@ -8,6 +8,7 @@ use Rattle.std.specs.Ordering.{nat_cmp}
 use Rattle.std.specs.Set.{is_member}
 use Rattle.bitmap_bytes.specs.Chunk.{bytes_bit, chunk_bit, IsBitWritten, IsByteJoined}
 use Rattle.bitmap_core.specs.PrunedBits.{PrunedBits, bit_len, from_bits, chunk, truncated, pruned_to}
+use Rattle.bitmap_core.specs.Ranges.{is_between}
 use Rattle.historical_bitmap.specs.Edits.{Edit, from_to}
 use Rattle.historical_bitmap.specs.Edits.Edit.{Push, Pop, Set, Prune}
 use Rattle.historical_bitmap.specs.Record.{ChunkDiff, ReverseRecord, bit_or_else}
@@ -157,6 +158,45 @@ pub record Appends (n : ℕ) (b : PrunedBits) (l : PendingEdits) (values : List 
   pub captured : m.captured ≡ l.captured
   pub taken : (i : ℕ) → l.len < 8 * n * i + 8 * n → 8 * n * i < l.len + length values → MatchOption (edited_chunk m i) ⊥ (HasAppended n b l values i)
   pub others : (i : ℕ) → (8 * n * i + 8 * n ≤ l.len) ⊎ (l.len + length values ≤ 8 * n * i) → edited_chunk m i ≡ edited_chunk l i
+
+-- the list has the indices from `first` up to, but not including, `past` that are no keys of the entries, and no others
+pub record AreMissing (entries : List (ℕ × List ℕ)) (first past : ℕ) (indices : List ℕ) : Type 0 where
+  pub only : (q : ℕ) → is_member nat_eq indices q ≡ true → (first ≤ q) × (q < past) × (lookup (nat_eq q) entries ≡ None)
+  pub all : (q : ℕ) → first ≤ q → q < past → lookup (nat_eq q) entries ≡ None → is_member nat_eq indices q ≡ true
+
+-- the new entries have `chunk q` under each index q of a list, and the old values under every other key
+abbrev pub PutsEach : List (ℕ × List ℕ) → List (ℕ × List ℕ) → List ℕ → (ℕ → Option (List ℕ)) → Type 0
+PutsEach old new indices chunk = (q : ℕ) → lookup (nat_eq q) new ≡ (if is_member nat_eq indices q then chunk q else lookup (nat_eq q) old)
+
+-- the n new bytes have `value` as each bit of the chunk from bit `from` up to, but not including, bit `to`, and every other bit as the old ones have it
+pub record IsPartSet (n : ℕ) (old new : List ℕ) (from to : ℕ) (value : Bool) : Type 0 where
+  pub size : length new ≡ n
+  pub inside : (k : ℕ) → from ≤ k % (8 * n) → k % (8 * n) < to → chunk_bit n new k ≡ value
+  pub outside : (k : ℕ) → (k % (8 * n) < from) ⊎ (to ≤ k % (8 * n)) → chunk_bit n new k ≡ chunk_bit n old k
+
+-- the new entries have the chunk under i with the bits from bit `from` up to, but not including, bit `to` set to `value`; other keys keep their values
+pub record IsPartSetIn (n : ℕ) (old new : List (ℕ × List ℕ)) (i from to : ℕ) (value : Bool) : Type 0 where
+  pub bytes : List ℕ
+  pub set : IsPartSet n (unwrap_or (lookup (nat_eq i) old) []) bytes from to value
+  pub edited : Puts old new i (Some bytes)
+
+-- the n bytes of chunk i: the old ones, with the bits at the positions from lo up to, but not including, hi set to `value`
+pub record IsRangeSet (n : ℕ) (old : List ℕ) (lo hi : ℕ) (value : Bool) (i : ℕ) (bytes : List ℕ) : Type 0 where
+  pub size : length bytes ≡ n
+  pub bits : (k : ℕ) → k / (8 * n) ≡ i → chunk_bit n bytes k ≡ (if is_between lo hi k then value else chunk_bit n old k)
+
+-- the new entries have, under each index i from `first` up to, but not including, `past`, its old chunk, or `other i` if there is none, with the bits of a range set to `value`; other keys keep their values
+pub record SetsChunks (n : ℕ) (other : ℕ → List ℕ) (old new : List (ℕ × List ℕ)) (first past lo hi : ℕ) (value : Bool) : Type 0 where
+  pub set : (i : ℕ) → first ≤ i → i < past → MatchOption (lookup (nat_eq i) new) ⊥ (IsRangeSet n (unwrap_or (lookup (nat_eq i) old) (other i)) lo hi value i)
+  pub others : (i : ℕ) → (i < first) ⊎ (past ≤ i) → lookup (nat_eq i) new ≡ lookup (nat_eq i) old
+
+-- m is l with the bits at the positions from lo up to, but not including, hi set to `value` at once: the chunks of these positions are edited, and no others
+pub record SetsRange (n : ℕ) (b : PrunedBits) (l : PendingEdits) (lo hi : ℕ) (value : Bool) (m : PendingEdits) : Type 0 where
+  pub len : m.len ≡ l.len
+  pub pruned : m.pruned ≡ l.pruned
+  pub captured : m.captured ≡ l.captured
+  pub set : (k : ℕ) → lo ≤ k → k < hi → MatchOption (edited_chunk m (k / (8 * n))) ⊥ (IsRangeSet n (pending_chunk n b l (k / (8 * n))) lo hi value (k / (8 * n)))
+  pub others : (i : ℕ) → ((k : ℕ) → lo ≤ k → k < hi → k / (8 * n) ≡ i → ⊥) → edited_chunk m i ≡ edited_chunk l i
 
 -- the entry of a marked chunk in the record of a commit: what the commit does to the chunk, with its old bytes
 abbrev pub diff_of : ℕ → PrunedBits → PendingEdits → ℕ → ChunkDiff

@@ -1,7 +1,7 @@
 -- Reads and writes of entries of chunks that are stored as an appended run and the other chunks.
 use Rattle.std.proofs.Common.{◌≡◌, ℕ, ◌+◌, ◌-◌, ◌^◌, ◌<◌, ◌≤◌, min, max, Bool, true, false, cond, zero, suc, List, [], ◌∷◌, ◌++◌, length, get_or, set, Some, None, Result, Ok, Err, Bor, refl, sym, ap, ◌∙◌, subst, arith}
 use mathlib.Core.Logic.{inl, inr, ◌≢◌}
-use Rattle.std.proofs.lemmas.Bool.{cases_eq, cases_lt, eq-eqb, ne_eqb, lt-ltb, le-ltb, le-leb, lt-leb, false≢true}
+use Rattle.std.proofs.lemmas.Bool.{cases_Bool, cases_eq, cases_lt, eq-eqb, ne_eqb, lt-ltb, le-ltb, le-leb, lt-leb, false≢true}
 use Rattle.std.proofs.lemmas.List.{append-nil, length-append}
 use Rattle.std.proofs.lemmas.Map.Made.{is_some-lookup}
 use Rattle.std.specs.Prelude.{nat_eq, nat_lt, nat_le, Option, IfSome, OnOk, OnErr, is_some, unwrap_or, ◌⊎◌, ◌&&◌}
@@ -14,7 +14,7 @@ use Rattle.std.specs.Set.{is_member}
 use Rattle.std.specs.declared.cmp.Ordering.TheVariants.{Less}
 use Rattle.bitmap_core.proofs.Lists.SetPositions.{ones_between-append, ones_between-same}
 use Rattle.historical_bitmap.specs.Edits.{from_to}
-use Rattle.historical_bitmap.specs.Pending.{IsByteSetIn, IsNextMember, IsSetIn, IsWritten, members_between, Puts, PutsTwo, SetsIn}
+use Rattle.historical_bitmap.specs.Pending.{IsByteSetIn, IsNextMember, IsPartSet, IsPartSetIn, IsSetIn, IsWritten, members_between, Puts, PutsEach, PutsTwo, SetsIn}
 use Rattle.historical_bitmap.specs.Run.{IsRun, run_entries, with_run}
 use Rattle.historical_bitmap.proofs.Lists.Between.{all_between}
 use Rattle.historical_bitmap.proofs.Lists.Maps.{not_some}
@@ -190,6 +190,14 @@ pub sets_other : (n : ℕ) (first : List ℕ) (from : ℕ) (xs : List (List ℕ)
 sets_other n first from xs es fs i k value v out s = record {
   written = subst (λ o. IsWritten n (unwrap_or o first) k value v) (sym (look_beside from xs es i out)) s.written;
   edited = puts_other from xs es fs i (Some v) out s.edited;
+}
+
+-- a range of the bits of one of the other chunks is set
+pub part_other : (n : ℕ) (from : ℕ) (xs : List (List ℕ)) (es fs : List (ℕ × List ℕ)) (i low past : ℕ) (value : Bool) → ((i < from) ⊎ (from + length xs ≤ i)) → IsPartSetIn n es fs i low past value → IsPartSetIn n (with_run from xs es) (with_run from xs fs) i low past value
+part_other n from xs es fs i low past value out s = record {
+  bytes = s.bytes;
+  set = subst (λ o. IsPartSet n (unwrap_or o []) s.bytes low past value) (sym (look_beside from xs es i out)) s.set;
+  edited = puts_other from xs es fs i (Some s.bytes) out s.edited;
 }
 
 -- two chunks are put
@@ -369,6 +377,31 @@ absent_out from xs es i none = elim (cases_lt i from) [
 
 pub absent_other : (from : ℕ) (xs : List (List ℕ)) (es : List (ℕ × List ℕ)) (i : ℕ) → lookup (nat_eq i) (with_run from xs es) ≡ None → lookup (nat_eq i) es ≡ None
 absent_other from xs es i none = sym (look_beside from xs es i (absent_out from xs es i none)) ∙ none
+
+-- ---- many of the other chunks are put
+module _ (from : ℕ) (xs : List (List ℕ)) (es fs : List (ℕ × List ℕ)) (indices : List ℕ) (chunk : ℕ → Option (List ℕ)) (absent : (q : ℕ) → is_member nat_eq indices q ≡ true → lookup (nat_eq q) (with_run from xs es) ≡ None) where
+  pub puts_each_other : PutsEach es fs indices chunk → PutsEach (with_run from xs es) (with_run from xs fs) indices chunk
+  puts_each_other put = λ q. look from xs fs q ∙ elim (cases_Bool (is_member nat_eq indices q)) [
+    | inl m ↦ rw (run_none from xs q (absent_out from xs es q (absent q m)), m) (put q ∙ rw m refl)
+    | inr m ↦ rw m (ap (λ p. first_of (lookup (nat_eq q) (run_entries from xs)) p) (put q ∙ rw m refl) ∙ sym (look from xs es q))
+  ]
+
+  keeps_each_other : (n : ℕ) → IsRun n es from xs → PutsEach es fs indices chunk → IsRun n fs from xs
+  keeps_each_other n ok put = record {
+    width = ok.width;
+    apart = λ q l h. put q ∙ elim (cases_Bool (is_member nat_eq indices q)) [
+      | inl m ↦ absurd (outside q l h (absent_out from xs es q (absent q m)))
+      | inr m ↦ rw m (ok.apart q l h)
+    ];
+  }
+    where
+      outside : (q : ℕ) → from ≤ q → q < from + length xs → ((q < from) ⊎ (from + length xs ≤ q)) → ⊥
+      outside q l h (inl s) = omega (arith, l, s)
+      outside q l h (inr s) = omega (arith, h, s)
+
+  pub each_keeps : {A E : Type 0} (r : Result A E) (n : ℕ) → IsRun n es from xs → OnOk r (PutsEach es fs indices chunk) → OnErr r (fs ≡ es) → IsRun n fs from xs
+  each_keeps (Ok x) n ok put same = keeps_each_other n ok put
+  each_keeps (Err x) n ok put same = rw same ok
 
 -- the last chunk is removed
 pub shorter_run : (n : ℕ) (from : ℕ) (xs ys : List (List ℕ)) (es : List (ℕ × List ℕ)) (i : ℕ) (o : Option (List ℕ)) → IsRun n es from xs → (from ≤ i) × (i < from + length xs) → ((q : ℕ) → i < q → lookup (nat_eq q) (with_run from xs es) ≡ None) → o ≡ Some (get_or xs (length xs - 1) []) → xs ≡ ys ++ option_to_list o → IsRun n es from ys × (o ≡ lookup (nat_eq i) (with_run from xs es)) × Puts (with_run from xs es) (with_run from ys es) i None

@@ -5,13 +5,13 @@ use Rattle.std.proofs.lemmas.Bool.{cases_Bool, cases_eq, eq-eqb, ne_eqb, eqb-tru
 use Rattle.std.proofs.lemmas.Cmp.{nat_eq_equiv}
 use Rattle.std.proofs.lemmas.Map.{keys-set_value, lookup-set_value}
 use Rattle.std.proofs.lemmas.Map.Steps.{set_value_same}
-use Rattle.std.specs.Prelude.{nat_eq, Option, IsSome, IfSome}
+use Rattle.std.specs.Prelude.{nat_eq, Option, IsSome, IfSome, unwrap_or}
 use Rattle.std.specs.BTreeMap.{is_at}
 use Rattle.std.specs.List.Sorted.{IsStrictlySortedBy}
 use Rattle.std.specs.Map.{keys_of, lookup, set_value}
 use Rattle.std.specs.Ordering.{nat_cmp}
 use Rattle.historical_bitmap.specs.WriteCache.{IsCached, is_cached_at, with_cached}
-use Rattle.historical_bitmap.specs.Pending.{IsSetIn, IsWritten, Puts, PutsTwo, SetsIn}
+use Rattle.historical_bitmap.specs.Pending.{IsPartSet, IsPartSetIn, IsSetIn, IsWritten, Puts, PutsTwo, SetsIn}
 use Rattle.historical_bitmap.proofs.Lists.Maps.{is_at_is, not_some}
 use Rattle.historical_bitmap.proofs.History.PastStates.{same_lookup}
 
@@ -75,6 +75,24 @@ puts_beside n es fs (Some h) chunk i o ok e sorted put =
       | inl f ↦ rw (eq-eqb q h f, ne_eqb q i (λ g. eqb-false h i e (sym f ∙ g))) (sym (lookup_set es h q chunk ok.found ∙ rw (eq-eqb q h f) refl))
       | inr ne ↦ rw (ne_eqb q h ne) (put q ∙ ap (λ y. cond (nat_eq q i) o y) (sym (lookup_set es h q chunk ok.found ∙ rw (ne_eqb q h ne) refl)))
     ]
+
+-- a range of the bits of another chunk is set
+module _ (n : ℕ) (es fs : List (ℕ × List ℕ)) (cached : Option ℕ) (chunk bytes : List ℕ) (i from to : ℕ) (value : Bool) (ok : IsCached n es cached) (out : is_cached_at cached i ≡ false) (some : IsSome (lookup (nat_eq i) es)) (is : fs ≡ with_cached es (Some i) bytes) where
+  part_put : Puts es fs i (Some bytes)
+  part_put = subst (λ gs. Puts es gs i (Some bytes)) (sym is) (λ q. lookup_set es i q bytes some)
+
+  part_sorted : IsStrictlySortedBy nat_cmp (keys_of fs)
+  part_sorted = subst (λ gs. IsStrictlySortedBy nat_cmp (keys_of gs)) (sym is) (rw (cached_keys es (Some i) bytes) ok.sorted)
+
+  pub part_keeps : IsCached n fs cached
+  part_keeps = cached_beside n es fs cached i (Some bytes) ok out part_sorted part_put
+
+  pub part_beside : IsPartSet n (unwrap_or (lookup (nat_eq i) es) []) bytes from to value → IsPartSetIn n (with_cached es cached chunk) (with_cached fs cached chunk) i from to value
+  part_beside set = record {
+    bytes = bytes;
+    set = subst (λ o. IsPartSet n (unwrap_or o []) bytes from to value) (sym (lookup_beside n es cached chunk i ok out)) set;
+    edited = puts_beside n es fs cached chunk i (Some bytes) ok out part_sorted part_put;
+  }
 
 -- a cached chunk that equals its entry changes nothing
 pub cache_same : (es : List (ℕ × List ℕ)) (i : ℕ) (chunk : List ℕ) → lookup (nat_eq i) es ≡ Some chunk → with_cached es (Some i) chunk ≡ es

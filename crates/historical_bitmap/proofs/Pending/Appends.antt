@@ -16,7 +16,7 @@ use Rattle.historical_bitmap.proofs.Pending.Edits.{same_pending, pending_len, pe
 use Rattle.historical_bitmap.proofs.Pending.MarkedChunks.{IsMarked, mark, how_marked}
 
 -- the chunk of a position inside chunk i is chunk i
-index_of : (w i k : ℕ) → w * i ≤ k → k < w * i + w → k / w ≡ i
+pub index_of : (w i k : ℕ) → w * i ≤ k → k < w * i + w → k / w ≡ i
 index_of w i k l h = let e : i * w + (k - w * i) ≡ k = omega arith in ap (λ j. j / w) (sym e) ∙ div-mul-add i w (k - w * i) (omega arith)
 
 -- pushing bits one by one appends them

@@ -1,5 +1,5 @@
 -- The edits of a batch, derived from those of its pending edits.
-use Rattle.std.proofs.Common.{◌≡◌, ℕ, ◌+◌, ◌-◌, ◌*◌, ◌/◌, ◌<◌, ◌≤◌, length, get_or, List, Result, Ok, Err, refl, sym, ap, ◌∙◌, arith, Bool, false}
+use Rattle.std.proofs.Common.{◌≡◌, ℕ, ◌+◌, ◌-◌, ◌*◌, ◌/◌, ◌<◌, ◌≤◌, length, get_or, List, Result, Ok, Err, refl, sym, ap, ◌∙◌, subst, arith, Bool, false}
 use mathlib.Core.Logic.{inl, inr}
 use Rattle.std.proofs.lemmas.Bool.{cases_eq, cases_lt, eq-eqb, ne_eqb}
 use Rattle.std.proofs.lemmas.Nat.{mod_below, mul-le}
@@ -8,13 +8,14 @@ use Rattle.std.specs.Prelude.{OnOk, OnErr, Option, Some, None, IsSome, MatchOpti
 use Rattle.bitmap_bytes.specs.Chunk.{chunk_bit}
 use Rattle.bitmap_core.proofs.Pruned.Positions.{place}
 use Rattle.bitmap_core.specs.PrunedBits.{PrunedBits, pruned_bits, bit_at, last_bit}
-use Rattle.historical_bitmap.specs.Edits.{Edit, IsAccepted, pushes}
+use Rattle.historical_bitmap.specs.Edits.{Edit, IsAccepted, pushes, sets}
 use Rattle.historical_bitmap.specs.Record.{ReverseRecord, bit_or_else}
-use Rattle.historical_bitmap.specs.Pending.{PendingEdits, PendingFits, Follows, Appends, HasAppended, Writes, edited_chunk, pending_bit, pending_bits}
+use Rattle.historical_bitmap.specs.Pending.{PendingEdits, PendingFits, Follows, Appends, HasAppended, IsRangeSet, SetsRange, Writes, edited_chunk, pending_bit, pending_bits, pending_chunk}
 use Rattle.historical_bitmap.specs.View.{View, IsEditOf, IsRunOf}
 use Rattle.historical_bitmap.proofs.Pending.Edits.{edit_follows, pending_at, pending_len}
 use Rattle.historical_bitmap.proofs.Pending.MarkedChunks.{edit_marks}
 use Rattle.historical_bitmap.proofs.Pending.Appends.{append_is, append_fits, append_marks, pushes_are}
+use Rattle.historical_bitmap.proofs.Pending.Ranges.{range_is, range_fits, range_marks, reached_or_missed}
 
 -- a position that is not pruned by the pending edits is not pruned in the current bitmap
 pub past_prefix : (n : ℕ) (b : PrunedBits) (l : PendingEdits) (k : ℕ) → PendingFits n b l → 8 * n * l.pruned ≤ k → pruned_bits n b ≤ k
@@ -64,6 +65,17 @@ module _ (n : ℕ) (b : PrunedBits) (cs : List (ℕ × ReverseRecord)) (last : O
   }
   tried_run (Err x) values some w = tt
 
+  -- the bits of a range that are set at once are a list of edits that set them
+  pub tried_range : {A E : Type 0} (r : Result A E) (lo hi : ℕ) (value : Bool) → 8 * n * l.pruned ≤ lo → hi ≤ l.len → OnOk r (SetsRange n b l lo hi value m) → OnOk r (IsRunOf n old (sets lo hi value) new)
+  tried_range (Ok x) lo hi value low within w = record {
+    current = refl;
+    commits = refl;
+    last = refl;
+    pending = range_is n b l m lo hi value pos fits low within w;
+    marks = range_marks n b l m lo hi value pos fits low within w;
+  }
+  tried_range (Err x) lo hi value low within w = tt
+
 module _ (n : ℕ) (b : PrunedBits) (l m : PendingEdits) (pos : 0 < n) (fits : PendingFits n b l) where
   -- after an edit the invariant of the pending edits holds again
   pub edit_fits : (e : Edit) → IsAccepted n (pending_bits n b l) e → Follows n b l e m → PendingFits n b m
@@ -76,6 +88,10 @@ module _ (n : ℕ) (b : PrunedBits) (l m : PendingEdits) (pos : 0 < n) (fits : P
   pub tried_run_fits : {A E : Type 0} (r : Result A E) (values : List Bool) → OnOk r (Appends n b l values m) → OnErr r (m ≡ l) → PendingFits n b m
   tried_run_fits (Ok x) values w same = append_fits n b l m values pos fits w
   tried_run_fits (Err x) values w same = rw same fits
+
+  pub tried_range_fits : {A E : Type 0} (r : Result A E) (lo hi : ℕ) (value : Bool) → 8 * n * l.pruned ≤ lo → hi ≤ l.len → OnOk r (SetsRange n b l lo hi value m) → OnErr r (m ≡ l) → PendingFits n b m
+  tried_range_fits (Ok x) lo hi value low within w same = range_fits n b l m lo hi value pos fits low within w
+  tried_range_fits (Err x) lo hi value low within w same = rw same fits
 
 -- ---- the edited chunks
 -- the chunk of a written bit is edited, and edited chunks stay edited
@@ -109,3 +125,17 @@ tried_run_holds (Ok x) n b l m values pos some w = (
     ]
   ],
 )
+
+-- the chunk of each position of a range that is set is edited, and edited chunks stay edited
+pub tried_range_holds : {A E : Type 0} (r : Result A E) (n : ℕ) (b : PrunedBits) (l m : PendingEdits) (lo hi : ℕ) (value : Bool) → 0 < n → OnOk r (SetsRange n b l lo hi value m)
+    → OnOk r ((k : ℕ) → lo ≤ k → k < hi → IsSome (edited_chunk m (k / (8 * n))) × ((j : ℕ) → IsSome (edited_chunk l (j / (8 * n))) → IsSome (edited_chunk m (j / (8 * n)))))
+tried_range_holds (Err x) n b l m lo hi value pos w = tt
+tried_range_holds (Ok x) n b l m lo hi value pos w =
+    let set : (k : ℕ) → lo ≤ k → k < hi → IsSome (edited_chunk m (k / (8 * n))) = λ k low high. taken_some (IsRangeSet n (pending_chunk n b l (k / (8 * n))) lo hi value (k / (8 * n))) (edited_chunk m (k / (8 * n))) (w.set k low high) in
+    λ k low high. (
+      set k low high,
+      λ j cached. elim (reached_or_missed n lo hi (j / (8 * n)) pos) [
+        | inl r ↦ subst (λ i. IsSome (edited_chunk m i)) r.3 (set r.0 r.1 r.2)
+        | inr out ↦ rw (w.others (j / (8 * n)) out) cached
+      ],
+    )

@@ -51,6 +51,7 @@ mod index;
 mod pending;
 mod pending_changes;
 mod pending_reads;
+mod ranges;
 mod record;
 mod rewind;
 mod state;

@@ -5,11 +5,11 @@ ghost use Rattle.std.specs.BTreeMap.{insert_entry};
 ghost use Rattle.std.specs.Ordering.{nat_cmp};
 ghost use Rattle.std.specs.Result.{result_err};
 ghost use Rattle.bitmap_bytes.specs.Chunk.{byte_bits, chunk_bits, IsWidth};
-ghost use Rattle.bitmap_core.specs.PrunedBits.{bit_at, bit_len, chunk, IsRetained, last_bit};
+ghost use Rattle.bitmap_core.specs.PrunedBits.{bit_at, bit_len, chunk, IsRetained, last_bit, pruned_bits};
 ghost use Rattle.historical_bitmap.specs.declared.bitmap.historical.error.Error.TheVariants.{Memory};
 ghost use Rattle.historical_bitmap.specs.Cost.{most_cost};
 ghost use Rattle.historical_bitmap.specs.Edits.Edit.{Pop, Prune, Push, Set};
-ghost use Rattle.historical_bitmap.specs.Edits.{pushes};
+ghost use Rattle.historical_bitmap.specs.Edits.{pushes, sets};
 ghost use Rattle.historical_bitmap.specs.History.{before_latest};
 ghost use Rattle.historical_bitmap.specs.View.{costs_of, history_of, KeepsEdited, IsEditedAt, IsEditOf, IsRunOf, marked_of, pending_of, commit_error};
 
@@ -21,6 +21,7 @@ use bitmap_core::bitmap::Prunable;
 use bitmap_core::chunk::chunk_index;
 use std::alloc::{AllocError, Global};
 use std::collections::BTreeMap;
+use std::ops::Range;
 
 // Checks that a commit may have a number, given the last one.
 fn check_number(last: Option<u64>, number: u64) -> Result<(), Error>
@@ -144,6 +145,34 @@ impl<const N: usize> BitMap<N, Dirty<N>> {
     {
         let _ = self.current.len();
         self.state.write(&self.current, bit, value)
+    }
+
+    /// Sets the bit at each position in `range` to `value`.
+    ///
+    /// As `set_range`, but it returns no guard, and so ends a chain.
+    ///
+    /// # Errors
+    ///
+    /// `AllocError` if an allocation fails; the bitmap is unchanged then. Never if each chunk of the range is already edited.
+    ///
+    /// # Memory
+    ///
+    /// Allocates an edited chunk, and its index in a list, per chunk of the range that is not yet edited. Else nothing.
+    ///
+    /// # Complexity
+    ///
+    /// As `set_range`.
+    pub fn try_set_range(&mut self, range: Range<u64>, value: bool) -> Result<(), AllocError>
+        requires from { pruned_bits N (pending_of N self.old) ≤ range.start }
+        requires to { range.end ≤ bit_len N (pending_of N self.old) }
+        ensures ok { OnOk result (IsRunOf N self.old (sets range.start range.end value) self.new) }
+        ensures err { OnErr result (self.new ≡ self.old) }
+        ensures holds { OnOk result ((bit : ℕ) → range.start ≤ bit → bit < range.end → KeepsEdited N self.old bit self.new) }
+        ensures edited { ((bit : ℕ) → range.start ≤ bit → bit < range.end → IsEditedAt N self.old bit) → IsOk result }
+    {
+        let _ = self.current.len();
+        self.state
+            .set_range(&self.current, range.start, range.end, value)
     }
 
     /// Appends a bit. The new length in bits fits `u64`.
@@ -388,6 +417,36 @@ impl<const N: usize> BitMap<N, Dirty<N>> {
         ensures edited { IsEditedAt N self.old bit → IsOk result }
     {
         self.try_set_bit(bit, value)?;
+        Ok(Lent::new(self))
+    }
+
+    /// Sets the bit at each position in `range` to `value`.
+    ///
+    /// Positions are absolute. The range starts at the first retained position or later. Its end is excluded, and at most the pending length.
+    /// The other bits do not change. If the range is empty or ends before it starts, nothing changes.
+    ///
+    /// # Errors
+    ///
+    /// `AllocError` if an allocation fails; the bitmap is unchanged then. Never if each chunk of the range is already edited.
+    ///
+    /// # Memory
+    ///
+    /// Allocates an edited chunk, and its index in a list, per chunk of the range that is not yet edited. Else nothing.
+    ///
+    /// # Complexity
+    ///
+    /// Linear in the bytes of the range. Per chunk of it outside the appended run, at most three searches among the edited chunks;
+    /// per chunk that is not yet edited, a copy of it.
+    pub fn set_range(&mut self, range: Range<u64>, value: bool) -> Result<Edit<'_, N>, AllocError>
+        requires from { pruned_bits N (pending_of N self.old) ≤ range.start }
+        requires to { range.end ≤ bit_len N (pending_of N self.old) }
+        ensures* refused { sem 𝓛 (rests_if_refused N.row self.entry result) }
+        ensures same_reference { IfOk result (IsOf self.entry) }
+        ensures ok { IfOk result (λ e. IsRunOf N self.old (sets range.start range.end value) e.on.now) }
+        ensures holds { IfOk result (λ e. (bit : ℕ) → range.start ≤ bit → bit < range.end → KeepsEdited N self.old bit e.on.now) }
+        ensures edited { ((bit : ℕ) → range.start ≤ bit → bit < range.end → IsEditedAt N self.old bit) → IsOk result }
+    {
+        self.try_set_range(range, value)?;
         Ok(Lent::new(self))
     }
 

@@ -1,14 +1,15 @@
 //! Chained edits of a dirty bitmap.
 
-ghost use Rattle.std.specs.Prelude.{◌≡◌, ◌+◌, ◌*◌, ◌/◌, ◌%◌, ◌^◌, ◌<◌, ◌≤◌, IfOk, IsOk};
+ghost use Rattle.std.specs.Prelude.{◌≡◌, ℕ, ◌+◌, ◌*◌, ◌/◌, ◌%◌, ◌^◌, ◌<◌, ◌≤◌, IfOk, IsOk};
 ghost use Rattle.bitmap_bytes.specs.Chunk.{byte_bits, chunk_bits};
-ghost use Rattle.bitmap_core.specs.PrunedBits.{bit_len, IsRetained};
+ghost use Rattle.bitmap_core.specs.PrunedBits.{bit_len, IsRetained, pruned_bits};
 ghost use Rattle.historical_bitmap.specs.Edits.Edit.{Prune, Push, Set};
-ghost use Rattle.historical_bitmap.specs.Edits.{pushes};
+ghost use Rattle.historical_bitmap.specs.Edits.{pushes, sets};
 ghost use Rattle.historical_bitmap.specs.View.{KeepsEdited, IsEditedAt, IsEditOf, IsRunOf, pending_of};
 
 use crate::bitmap::historical::{BitMap, Dirty, State};
 use std::alloc::AllocError;
+use std::ops::Range;
 
 /// A guard that lends a value from one call of a chain to the next.
 ///
@@ -62,6 +63,35 @@ impl<'a, const N: usize> Edit<'a, N> {
     {
         let Lent { on } = self;
         on.set_bit(bit, value)
+    }
+
+    /// Sets the bit at each position in `range` to `value`.
+    ///
+    /// Positions are absolute. The range starts at the first retained position or later. Its end is excluded, and at most the pending length.
+    /// If the range is empty or ends before it starts, nothing changes.
+    ///
+    /// # Errors
+    ///
+    /// `AllocError` if an allocation fails; the bitmap is then as it was before this call.
+    ///
+    /// # Memory
+    ///
+    /// As `DirtyBitMap::set_range`.
+    ///
+    /// # Complexity
+    ///
+    /// As `DirtyBitMap::set_range`.
+    pub fn set_range(self, range: Range<u64>, value: bool) -> Result<Edit<'a, N>, AllocError>
+        requires from { pruned_bits N (pending_of N self.on.now) ≤ range.start }
+        requires to { range.end ≤ bit_len N (pending_of N self.on.now) }
+        ensures* refused { sem 𝓛 (rests_if_refused N.row self.entry.on result) }
+        ensures same_reference { IfOk result (IsOf self.entry.on) }
+        ensures ok { IfOk result (λ e. IsRunOf N self.entry.on.now (sets range.start range.end value) e.on.now) }
+        ensures holds { IfOk result (λ e. (bit : ℕ) → range.start ≤ bit → bit < range.end → KeepsEdited N self.entry.on.now bit e.on.now) }
+        ensures edited { ((bit : ℕ) → range.start ≤ bit → bit < range.end → IsEditedAt N self.entry.on.now bit) → IsOk result }
+    {
+        let Lent { on } = self;
+        on.set_range(range, value)
     }
 
     /// Appends a bit. The new length in bits fits `u64`.

@@ -1,18 +1,20 @@
 //! The edited chunks of a batch by index, with a write cache.
 
-ghost use Rattle.std.specs.Prelude.{◌≡◌, ℕ, ◌+◌, ◌*◌, ◌/◌, ◌%◌, ◌^◌, ◌<◌, ◌≤◌, [], List, length, Option, Some, None, IfOk, IfSome, OnOk, OnErr, IsOk, IsSome, nat_eq, nat_lt, if◌then◌else◌, true, false};
+ghost use Rattle.std.specs.Prelude.{◌≡◌, ℕ, ◌+◌, ◌*◌, ◌/◌, ◌%◌, ◌^◌, ◌<◌, ◌≤◌, [], List, length, take, Option, Some, None, IfOk, IfSome, OnOk, OnErr, IsOk, IsSome, nat_eq, nat_lt, if◌then◌else◌, true, false, unwrap_or};
 ghost use Rattle.std.specs.List.Sorted.{IsStrictlySortedBy};
 ghost use Rattle.std.specs.Map.{keys_of, lookup};
 ghost use Rattle.std.specs.Option.{option_copied, option_map};
 ghost use Rattle.std.specs.Ordering.{nat_cmp};
+ghost use Rattle.std.specs.Set.{is_member};
 ghost use Rattle.bitmap_bytes.specs.Chunk.{chunk_bit, IsChunk, IsWidth};
 ghost use Rattle.bitmap_core.specs.PrunedBits.{chunk, truncated};
 ghost use Rattle.historical_bitmap.specs.WriteCache.{is_cached_at, with_cached};
-ghost use Rattle.historical_bitmap.specs.Pending.{IsByteSetIn, IsNextMember, IsSetIn, IsWritten, Puts, PutsTwo, SetsIn};
+ghost use Rattle.historical_bitmap.specs.Pending.{IsByteSetIn, IsNextMember, IsPartSet, IsPartSetIn, IsSetIn, IsWritten, Puts, PutsEach, PutsTwo, SetsIn};
 
 use bitmap_core::bitmap::prunable::Prunable;
 use bitmap_core::chunk::facts::known;
 use bitmap_core::chunk::join::join_byte;
+use bitmap_core::chunk::range::set_in;
 use bitmap_core::chunk::{self, bit_mask, byte_index, chunk_width, clear_from};
 use std::alloc::{AllocError, Global};
 use std::collections::BTreeMap;
@@ -157,6 +159,25 @@ fn put_in<const N: usize>(chunks: &mut BTreeMap<usize, [u8; N]>, index: usize, c
     }
 }
 
+// Sets the bits of the chunk at an index, which there is, at or above bit `from` and below bit `to` of the chunk.
+fn set_part<const N: usize>(
+    chunks: &mut BTreeMap<usize, [u8; N]>,
+    index: usize,
+    from: u64,
+    to: u64,
+    value: bool,
+)
+    requires width { IsWidth N }
+    requires within { to ≤ 8 * N }
+    requires edited { IsSome (lookup (nat_eq index) chunks.old.entries) }
+    ensures { (bytes : List ℕ) × IsPartSet N (unwrap_or (lookup (nat_eq index) chunks.old.entries) []) bytes from to value × (chunks.new.entries ≡ with_cached chunks.old.entries (Some index) bytes) }
+{
+    if let Some(place) = chunks.get_mut(&index) {
+        set_in(place, from, to, value);
+        known(place);
+    }
+}
+
 impl<const N: usize> EditedChunks<N> {
     // Returns a collection without chunks. Does not allocate.
     pub(crate) fn new(alloc: Global) -> Self
@@ -268,6 +289,21 @@ impl<const N: usize> EditedChunks<N> {
         join_byte(&mut self.chunk, bit, byte);
         known(&self.chunk);
         true
+    }
+
+    // Sets the bits of the chunk at an index, which there is, at or above bit `from` and below bit `to` of the chunk. Does not allocate.
+    pub(crate) fn set_in(&mut self, index: usize, from: u64, to: u64, value: bool)
+        requires width { IsWidth N }
+        requires within { to ≤ 8 * N }
+        requires edited { IsSome (lookup (nat_eq index) self.old) }
+        ensures { IsPartSetIn N self.old self.new index from to value }
+    {
+        if is_cached(self.cached, index) {
+            set_in(&mut self.chunk, from, to, value);
+            known(&self.chunk);
+            return;
+        }
+        set_part(&mut self.chunks, index, from, to, value);
     }
 
     // Inserts or replaces the chunk at an index. Does not allocate, and succeeds, if there is one.
@@ -389,4 +425,44 @@ impl<const N: usize> EditedChunks<N> {
         }
         chunks
     }
+}
+
+// Removes the chunks at the first `count` of some indices. Does not allocate.
+fn remove_each<const N: usize>(chunks: &mut EditedChunks<N>, indices: &[usize], count: usize)
+    requires width { IsWidth N }
+    requires within { count ≤ length indices.now }
+    ensures removed { PutsEach chunks.old chunks.new (take count indices.now) (λ q. None) }
+    ensures sorted { IsStrictlySortedBy nat_cmp (keys_of chunks.new) }
+{
+    for at in 0..count {
+        let _ = chunks.remove(indices[at]);
+    }
+    chunks.order();
+}
+
+// Inserts the current bitmap's chunk, cut to `len` bits, at each of some indices that have no chunk. After an error nothing is changed.
+// Does not allocate, and succeeds, if there are no indices.
+pub(crate) fn insert_each<const N: usize>(
+    chunks: &mut EditedChunks<N>,
+    current: &Prunable<N>,
+    len: u64,
+    indices: &[usize],
+) -> Result<(), AllocError>
+    requires from { (q : ℕ) → is_member nat_eq indices.now q ≡ true → current.now.pruned ≤ q }
+    requires fits { (q : ℕ) → is_member nat_eq indices.now q ≡ true → 8 * N * q < 2 ^ 64 }
+    requires absent { (q : ℕ) → is_member nat_eq indices.now q ≡ true → lookup (nat_eq q) chunks.old ≡ None }
+    ensures ok { OnOk result (PutsEach chunks.old chunks.new indices.now (λ q. Some (chunk N (truncated N current.now len) q))) }
+    ensures err { OnErr result (chunks.new ≡ chunks.old) }
+    ensures none { length indices.now ≡ 0 → IsOk result }
+{
+    let _ = current.len();
+    chunks.order();
+    for at in 0..indices.len() {
+        let index = indices[at];
+        if chunks.put(index, first_chunk(current, len, index)).is_err() {
+            remove_each(chunks, indices, at);
+            return Err(AllocError);
+        }
+    }
+    Ok(())
 }

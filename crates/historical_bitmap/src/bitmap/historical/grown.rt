@@ -5,17 +5,21 @@ ghost use Rattle.std.specs.List.Sorted.{IsStrictlySortedBy};
 ghost use Rattle.std.specs.Map.{keys_of, lookup};
 ghost use Rattle.std.specs.Option.{option_copied, option_map};
 ghost use Rattle.std.specs.Ordering.{nat_cmp};
+ghost use Rattle.std.specs.Set.{is_member};
 ghost use Rattle.bitmap_bytes.specs.Chunk.{chunk_bit, IsWidth};
 ghost use Rattle.bitmap_core.specs.PrunedBits.{chunk, truncated};
 ghost use Rattle.historical_bitmap.specs.Edits.{from_to};
-ghost use Rattle.historical_bitmap.specs.Pending.{IsByteSetIn, IsNextMember, IsSetIn, IsWritten, Puts, PutsTwo, SetsIn, members_between};
+ghost use Rattle.historical_bitmap.specs.Pending.{IsByteSetIn, IsNextMember, IsPartSetIn, IsSetIn, IsWritten, Puts, PutsEach, PutsTwo, SetsIn, members_between};
 ghost use Rattle.historical_bitmap.specs.Run.{with_run};
 
-use crate::bitmap::historical::edited::{EditedChunks, fill_bit, first_chunk, replace_bit};
+use crate::bitmap::historical::edited::{
+    EditedChunks, fill_bit, first_chunk, insert_each, replace_bit,
+};
 use bitmap_core::bitmap::prunable::Prunable;
 use bitmap_core::chunk::chunk_width;
 use bitmap_core::chunk::facts::known;
 use bitmap_core::chunk::join::join_byte;
+use bitmap_core::chunk::range::set_in;
 use std::alloc::{AllocError, Global};
 use std::collections::BTreeMap;
 use std::marker::Model;
@@ -226,6 +230,23 @@ impl<const N: usize> GrownChunks<N> {
         self.others.join_byte(index, bit, byte)
     }
 
+    // Sets the bits of the chunk at an index, which there is, at or above bit `from` and below bit `to` of the chunk. Does not allocate.
+    pub(crate) fn set_in(&mut self, index: usize, from: u64, to: u64, value: bool)
+        requires width { IsWidth N }
+        requires within { to ≤ 8 * N }
+        requires edited { IsSome (lookup (nat_eq index) self.old) }
+        ensures { IsPartSetIn N self.old self.new index from to value }
+    {
+        if is_in(self.from, self.run.len(), index) {
+            let at = index - self.from;
+            let chunk = &mut self.run[at];
+            set_in(chunk, from, to, value);
+            known(chunk);
+            return;
+        }
+        self.others.set_in(index, from, to, value);
+    }
+
     // Inserts or replaces the chunk at an index. A new chunk goes into the run if it is next there.
     // Does not allocate, and succeeds, if there is a chunk.
     pub(crate) fn write(&mut self, index: usize, chunk: [u8; N]) -> Result<(), AllocError>
@@ -266,6 +287,24 @@ impl<const N: usize> GrownChunks<N> {
             return Err(AllocError);
         }
         Ok(())
+    }
+
+    // Inserts the current bitmap's chunk, cut to `len` bits, at each of some indices that have no chunk. None goes into the run.
+    // After an error nothing is changed. Does not allocate, and succeeds, if there are no indices.
+    pub(crate) fn insert_each(
+        &mut self,
+        current: &Prunable<N>,
+        len: u64,
+        indices: &[usize],
+    ) -> Result<(), AllocError>
+        requires from { (q : ℕ) → is_member nat_eq indices.now q ≡ true → current.now.pruned ≤ q }
+        requires fits { (q : ℕ) → is_member nat_eq indices.now q ≡ true → 8 * N * q < 2 ^ 64 }
+        requires absent { (q : ℕ) → is_member nat_eq indices.now q ≡ true → lookup (nat_eq q) self.old ≡ None }
+        ensures ok { OnOk result (PutsEach self.old self.new indices.now (λ q. Some (chunk N (truncated N current.now len) q))) }
+        ensures err { OnErr result (self.new ≡ self.old) }
+        ensures none { length indices.now ≡ 0 → IsOk result }
+    {
+        insert_each(&mut self.others, current, len, indices)
     }
 
     // Removes the chunk at an index, past which there is none, and returns it. Does not allocate.

@@ -10,7 +10,7 @@ ghost use Rattle.std.specs.Set.{distinct_count};
 ghost use Rattle.bitmap_bytes.specs.Chunk.{bytes_bit, byte_bits, chunk_bit, chunk_bits, IsChunk, IsWidth};
 ghost use Rattle.bitmap_core.specs.PrunedBits.{PrunedBits, bit_at, bit_len, chunk, IsRetained, pruned_bits, truncated};
 ghost use Rattle.historical_bitmap.specs.Edits.{from_to};
-ghost use Rattle.historical_bitmap.specs.Pending.{AddsEntries, Appends, diff_of, edited_chunk, first_cut_of, IsNextMember, marked_chunks, members_between, PendingFits, old_chunk, pending_bits, pending_chunk, Pops, Prunes, IsRecordOf, run_bits, unedited, Writes};
+ghost use Rattle.historical_bitmap.specs.Pending.{AddsEntries, Appends, diff_of, edited_chunk, first_cut_of, IsNextMember, marked_chunks, members_between, PendingFits, old_chunk, pending_bits, pending_chunk, Pops, Prunes, IsRecordOf, run_bits, SetsRange, unedited, Writes};
 ghost use Rattle.historical_bitmap.specs.Record.{LeadsBack};
 ghost use Rattle.historical_bitmap.specs.Stored.{diff_value};
 ghost use Rattle.historical_bitmap.specs.Undo.{CanUndo};
@@ -294,6 +294,29 @@ impl<const N: usize> Dirty<N> {
             };
         }
         self.edited.clear_bit(last)
+    }
+
+    // Sets the bits at the positions from `from` up to `to`. After an error nothing is changed.
+    // Does not allocate, and succeeds, if each chunk of these positions is edited.
+    pub(crate) fn set_range(
+        &mut self,
+        current: &Prunable<N>,
+        from: u64,
+        to: u64,
+        value: bool,
+    ) -> Result<(), AllocError>
+        requires low { pruned_bits N current.now ≤ from }
+        ensures ok { OnOk result (SetsRange N current.now self.old from to value self.new) }
+        ensures err { OnErr result (self.new ≡ self.old) }
+        ensures edited { ((k : ℕ) → from ≤ k → k < to → IsSome (edited_chunk self.old (k / (8 * N)))) → IsOk result }
+    {
+        let len = self.len;
+        if from >= to {
+            return Ok(());
+        }
+        self.edited
+            .set_range(current, len, from, to, value, self.alloc)?;
+        Ok(())
     }
 
     // Prunes the chunks before chunk `end`, and captures their old bytes. After an error nothing is changed.

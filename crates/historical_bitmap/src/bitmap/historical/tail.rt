@@ -1,6 +1,6 @@
 //! The edited chunks of a batch, with the word that single pushes and pops write to.
 
-ghost use Rattle.std.specs.Prelude.{◌≡◌, ℕ, ◌+◌, ◌*◌, ◌/◌, ◌%◌, ◌^◌, ◌<◌, ◌≤◌, ◌&&◌, ◌++◌, [], List, length, Option, Some, None, IfOk, IfSome, OnOk, OnErr, IsOk, IsSome, if◌then◌else◌, nat_eq, nat_le, nat_lt, true, false};
+ghost use Rattle.std.specs.Prelude.{◌≡◌, ℕ, ◌+◌, ◌-◌, ◌*◌, ◌/◌, ◌%◌, ◌^◌, ◌<◌, ◌≤◌, ◌&&◌, ◌++◌, [], List, length, Option, Some, None, IfOk, IfSome, OnOk, OnErr, IsOk, IsSome, if◌then◌else◌, nat_eq, nat_le, nat_lt, true, false};
 ghost use Rattle.std.specs.List.Sorted.{IsStrictlySortedBy};
 ghost use Rattle.std.specs.Map.{keys_of, lookup};
 ghost use Rattle.std.specs.Option.{option_map};
@@ -8,10 +8,11 @@ ghost use Rattle.std.specs.Ordering.{nat_cmp};
 ghost use Rattle.bitmap_bytes.specs.Chunk.{chunk_bit, IsChunk, IsWidth};
 ghost use Rattle.bitmap_core.specs.PrunedBits.{chunk, truncated};
 ghost use Rattle.historical_bitmap.specs.Edits.{from_to};
-ghost use Rattle.historical_bitmap.specs.Pending.{IsByteSetIn, IsNextMember, IsSetIn, Puts, PutsTwo, SetsIn, members_between};
+ghost use Rattle.historical_bitmap.specs.Pending.{IsByteSetIn, IsNextMember, IsSetIn, Puts, PutsTwo, SetsChunks, SetsIn, members_between};
 ghost use Rattle.historical_bitmap.specs.Tail.{IsTail, IsWordPut, with_word};
 
 use crate::bitmap::historical::grown::GrownChunks;
+use crate::bitmap::historical::ranges::set_range;
 use bitmap_core::bitmap::prunable::Prunable;
 use bitmap_core::chunk::facts::known;
 use bitmap_core::chunk::load::{following_word, word_base, word_below};
@@ -327,6 +328,27 @@ impl<const N: usize> TailChunks<N> {
     {
         settle(&mut self.chunks, &mut self.tail);
         self.chunks.write_two(index, first, second)
+    }
+
+    // Sets the bits at the positions from `from` up to `to`. Starts from the current bitmap's chunks, cut to `len` bits, if none are edited there.
+    // After an error nothing is changed. Does not allocate, and succeeds, if each chunk of the range is edited.
+    pub(crate) fn set_range(
+        &mut self,
+        current: &Prunable<N>,
+        len: u64,
+        from: u64,
+        to: u64,
+        value: bool,
+        alloc: Global,
+    ) -> Result<(), AllocError>
+        requires some { from < to }
+        requires low { current.now.pruned ≤ from / (8 * N) }
+        ensures ok { OnOk result (SetsChunks N (chunk N (truncated N current.now len)) self.old self.new (from / (8 * N)) ((to - 1) / (8 * N) + 1) from to value) }
+        ensures err { OnErr result (self.new ≡ self.old) }
+        ensures edited { ((q : ℕ) → from / (8 * N) ≤ q → q ≤ (to - 1) / (8 * N) → IsSome (lookup (nat_eq q) self.old)) → IsOk result }
+    {
+        settle(&mut self.chunks, &mut self.tail);
+        set_range(&mut self.chunks, current, len, from, to, value, alloc)
     }
 
     // Removes the chunk at an index, past which there is none, and returns it. Does not allocate.
