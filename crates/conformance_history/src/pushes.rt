@@ -1,4 +1,4 @@
-//! Single pushes and pops past bytes, words and chunks, with reads, writes and prunes between them, at eight widths.
+//! Single pushes and pops past bytes, words and chunks, with and without reads, writes and prunes between them, at nine widths.
 //!
 //! The bits are those of positions: every third one is set.
 
@@ -44,6 +44,14 @@ fn grow<const N: usize>(rt: &impl Abort, map: &mut DirtyBitMap<N>, to: u64) {
         }
         let bit = pending_bit(rt, map, position);
         expect_at(rt, ("pushed", position, N), bit == expected(position));
+    }
+    equal(rt, map.len(), to);
+}
+
+// Appends bits up to length `to`, with no other call between.
+fn fill<const N: usize>(rt: &impl Abort, map: &mut DirtyBitMap<N>, to: u64) {
+    for position in map.len()..to {
+        push(rt, map, expected(position));
     }
     equal(rt, map.len(), to);
 }
@@ -114,6 +122,42 @@ fn check_pushes<const N: usize>(rt: &impl Abort, alloc: Global, last: u8)
     check_pending(rt, &map);
     check_last(rt, &map, last);
     check_current(rt, &map.abort());
+}
+
+// Batches of pushes alone, then pops alone, then pushes again. The second begins with a set bit in the last chunk of the current bitmap.
+fn check_fills<const N: usize>(rt: &impl Abort, alloc: Global)
+    requires { IsWidth N }
+{
+    let mut map = CleanBitMap::<N>::new(alloc).into_dirty();
+    fill(rt, &mut map, 1100);
+    check_pending(rt, &map);
+    shrink(rt, &mut map, 203);
+    fill(rt, &mut map, 333);
+    check_pending(rt, &map);
+    let map = commit(rt, map, 1);
+    check_current(rt, &map);
+    let mut map = map.into_dirty();
+    set_bit(rt, &mut map, 332, expected(332));
+    fill(rt, &mut map, 1100);
+    check_pending(rt, &map);
+    shrink(rt, &mut map, 300);
+    fill(rt, &mut map, 650);
+    check_pending(rt, &map);
+    check_current(rt, &map.abort());
+}
+
+// Bits pushed past words and chunks of each width.
+#[test]
+fn bits_pushed_past_words_and_chunks(rt: HostRuntime) {
+    check_fills::<1>(&rt, rt.alloc());
+    check_fills::<3>(&rt, rt.alloc());
+    check_fills::<4>(&rt, rt.alloc());
+    check_fills::<7>(&rt, rt.alloc());
+    check_fills::<8>(&rt, rt.alloc());
+    check_fills::<9>(&rt, rt.alloc());
+    check_fills::<32>(&rt, rt.alloc());
+    check_fills::<64>(&rt, rt.alloc());
+    check_fills::<65>(&rt, rt.alloc());
 }
 
 // Bits pushed and popped at each width. The last chunk begins at 408, 408, 384, 392, 384, 360, 256 and 0.

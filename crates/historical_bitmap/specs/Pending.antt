@@ -71,6 +71,10 @@ pub record PendingFits (n : ℕ) (b : PrunedBits) (l : PendingEdits) : Type 0 wh
   pub count : length l.captured ≡ l.pruned - b.pruned
   pub captured : (i : ℕ) → b.pruned ≤ i → i < l.pruned → IsCaptured n b i (slice_index_or l.captured (i - b.pruned) [])
 
+-- the bits of chunk i at and past position k are zero
+abbrev pub IsClearFrom : ℕ → ℕ → ℕ → List ℕ → Type 0
+IsClearFrom n i k bytes = (j : ℕ) → j / (8 * n) ≡ i → k ≤ j → chunk_bit n bytes j ≡ false
+
 -- the new bytes are n, and equal the old ones except that bit k is `value`
 pub record IsWritten (n : ℕ) (old : List ℕ) (k : ℕ) (value : Bool) (new : List ℕ) : Type 0 where
   pub size : length new ≡ n

@@ -1,11 +1,12 @@
 -- Reads and writes of entries of chunks with a cached word.
-use Rattle.std.proofs.Common.{◌≡◌, ℕ, ◌+◌, ◌-◌, ◌*◌, ◌/◌, ◌%◌, ◌^◌, ◌<◌, ◌≤◌, Bool, true, false, cond, List, [], length, map, eqb, bit_and, bit_or, w64, Some, None, Result, Ok, Err, refl, sym, ap, ◌∙◌, subst, arith}
+use Rattle.std.proofs.Common.{◌≡◌, ℕ, ◌+◌, ◌-◌, ◌*◌, ◌/◌, ◌%◌, ◌^◌, ◌<◌, ◌≤◌, Bool, true, false, cond, List, [], length, map, replicate, eqb, bit_and, bit_or, w64, Some, None, Result, Ok, Err, refl, sym, ap, ◌∙◌, subst, arith}
 use mathlib.Core.Logic.{inl, inr, ◌≢◌, ◌⊎◌}
 use Rattle.std.proofs.Math.Nat.{mod-eq_of_lt}
 use Rattle.std.proofs.Math.Pow.{pow-lt}
 use Rattle.std.proofs.lemmas.Bool.{cases_eq, cases_lt, eq-eqb, eqb-true, ne_eqb, lt-ltb, le-ltb, le-leb, lt-leb, false≢true}
 use Rattle.std.proofs.lemmas.Nat.{div-mul-add, mod-mul-add, mod_below}
-use Rattle.std.proofs.lemmas.Nat.Bits.{bit_at-lt, bit_at-pow_other, bit_at-pow_same, bit_at_and, bit_at_not}
+use Rattle.std.proofs.lemmas.Nat.Bits.{bit_at-lt, bit_at-pow_other, bit_at-pow_same, bit_at-zero, bit_at_and, bit_at_not}
+use Rattle.std.proofs.lemmas.List.{get_or-replicate}
 use Rattle.std.proofs.lemmas.List.FromFn.{length-map-range_with_len}
 use Rattle.std.specs.Prelude.{nat_eq, Option, IsOk, IsSome, IfSome, MatchOption, OnOk, unwrap_or}
 use Rattle.std.specs.Int.{bit_at}
@@ -22,10 +23,10 @@ use Rattle.bitmap_bytes.proofs.Bytes.Made.{bytes_are, byte_same, chunk_bit_of_by
 use Rattle.bitmap_bytes.proofs.Chunks.Bits.{chunk_bit-mod}
 use Rattle.bitmap_bytes.proofs.Words.Starts.{end_near, next_cases, start_chunk, start_of}
 use Rattle.bitmap_core.proofs.Pruned.Positions.{place as place_of}
-use Rattle.historical_bitmap.specs.Pending.{IsByteSetIn, IsSetIn, IsWritten, Puts, SetsIn}
+use Rattle.historical_bitmap.specs.Pending.{IsByteSetIn, IsClearFrom, IsSetIn, IsWritten, Puts, SetsIn}
 use Rattle.historical_bitmap.specs.Tail.{bit_with_word, chunk_with_word, IsTail, IsWordOf, IsWordPut, with_word}
 use Rattle.historical_bitmap.specs.WriteCache.{IsCached, is_cached_at, with_cached}
-use Rattle.historical_bitmap.proofs.EditedChunks.CachedChunks.{cache_same, cached_keys, cached_some, cached_sorted, holds, lookup_beside, lookup_here, puts_here}
+use Rattle.historical_bitmap.proofs.EditedChunks.CachedChunks.{cache_same, cached_keys, cached_some, cached_sorted, holds, lookup_beside, lookup_here, lookup_put, puts_here}
 use Rattle.historical_bitmap.proofs.Lists.Maps.{not_some, same_entries}
 
 -- ---- places in a chunk
@@ -323,6 +324,91 @@ module _ (n k i : ℕ) (pos : 0 < n) (index : i ≡ k / (8 * n)) where
 pub loaded_start : (n k : ℕ) → 0 < n → (start end : ℕ) → start ≡ word_start n k → end ≡ next_word n start → (starts_word n start ≡ true) × (start < end)
 loaded_start n k pos start end s e = (rw s (start_of n k pos), omega (arith, e, end_near n start pos))
 
+-- a bit of a chunk of zeros
+zero_bit : (n k : ℕ) → 0 < n → chunk_bit n (replicate n 0) k ≡ false
+zero_bit n k pos = rw (get_or-replicate {A = ℕ} n (k / 8 % n) 0 0 (mod_below (k / 8) n pos), bit_at-zero (k % 8)) refl
+
+-- ---- a word is begun: its first bit is written, and its other bits are zero
+first_bit : (value : Bool) → eqb (bit_at (cond value 1 0) 0) 1 ≡ value
+first_bit true = refl
+first_bit false = refl
+
+other_bit : (value : Bool) (t : ℕ) → t ≢ 0 → eqb (bit_at (cond value 1 0) t) 1 ≡ false
+other_bit true t ne = ap (λ b. eqb b 1) (bit_at-pow_other 0 t ne)
+other_bit false t ne = ap (λ b. eqb b 1) (bit_at-zero t)
+
+module _ (n i k count : ℕ) (value : Bool) (chunk : List ℕ) (pos : 0 < n) (low : 8 * n * i ≤ k) (some : 0 < count) (high : k + count ≤ 8 * n * i + 8 * n) (clear : IsClearFrom n i k chunk) where
+  abbrev begun : List ℕ
+  begun = chunk_with_word n chunk k count (cond value 1 0) i
+
+  begun_other : (j : ℕ) → 8 * n * i + j % (8 * n) ≢ k → bit_with_word n chunk k count (cond value 1 0) (8 * n * i + j % (8 * n)) ≡ chunk_bit n chunk j
+  begun_other j ne =
+      let p : ℕ = 8 * n * i + j % (8 * n) in
+      let start : 8 * n * i ≤ p = omega arith in
+      let end : p < 8 * n * i + 8 * n = omega (arith, mod_below j (8 * n) (omega (arith, pos))) in
+      let same : chunk_bit n chunk p ≡ chunk_bit n chunk j = chunk_bit-mod n chunk p j pos (omega (arith, rest_is n i p start end)) in
+      elim (cases_word k count p) [
+        | inl h ↦ in_word n chunk k count (cond value 1 0) p h.0 h.1 ∙ (other_bit value (p - k) (λ e. ne (omega (arith, e, h.0))) ∙ (sym (clear p (index_is n i p start end) h.0) ∙ same))
+        | inr h ↦ out_word n chunk k count (cond value 1 0) p h ∙ same
+      ]
+
+  begun_written : IsWritten n chunk k value begun
+  begun_written = record {
+    size = from_size n (bit_with_word n chunk k count (cond value 1 0)) i;
+    bits = record {
+      here =
+          let zero : k - k ≡ 0 = omega arith in
+          seen n chunk k count (cond value 1 0) i k pos low (omega (arith, some, high)) ∙ (in_word n chunk k count (cond value 1 0) k (omega arith) (omega (arith, some)) ∙ (ap (λ t. eqb (bit_at (cond value 1 0) t) 1) zero ∙ first_bit value));
+      others = λ j ne.
+          let rest : k % (8 * n) ≡ k - 8 * n * i = rest_is n i k low (omega (arith, some, high)) in
+          bit_from n (bit_with_word n chunk k count (cond value 1 0)) i j pos ∙ begun_other j (λ e. ne (omega (arith, e, rest)));
+    };
+  }
+
+  begun_sets : (first : List ℕ) (es : List (ℕ × List ℕ)) → lookup (nat_eq i) es ≡ Some chunk → SetsIn n first es (with_word n es (Some i) k count (cond value 1 0)) i k value begun
+  begun_sets first es found = record {
+    written = subst (λ o. IsWritten n (unwrap_or o first) k value begun) (sym found) begun_written;
+    edited = subst (λ o. Puts es (with_cached es (Some i) (chunk_with_word n (unwrap_or o []) k count (cond value 1 0) i)) i (Some begun)) (sym found) (holds es i chunk begun found);
+  }
+
+-- the tail that a new word makes
+module _ (n i k : ℕ) (value : Bool) (width : IsWidth n) (index : i ≡ k / (8 * n)) (starts : k % (8 * n) % 64 ≡ 0) (cached : Option ℕ) (base count word : ℕ) (at : cached ≡ Some i) (from : base ≡ k) (long : count ≡ next_word n k - k) (bits : word ≡ cond value 1 0) where
+  begun_word : (es : List (ℕ × List ℕ)) (chunk : List ℕ) → IsStrictlySortedBy nat_cmp (keys_of es) → lookup (nat_eq i) es ≡ Some chunk → IsWordOf n es k (next_word n k - k) i
+  begun_word es chunk sorted found = loaded_word n k i width.positive index es k (next_word n k) chunk (omega (arith, starts)) refl sorted found
+
+  pub begun_in : (es : List (ℕ × List ℕ)) (chunk : List ℕ) → IsStrictlySortedBy nat_cmp (keys_of es) → lookup (nat_eq i) es ≡ Some chunk → IsClearFrom n i k chunk → IsTail n es cached base count × ((first : List ℕ) → (bytes : List ℕ) × SetsIn n first es (with_word n es cached base count word) i k value bytes)
+  begun_in es chunk sorted found clear =
+      let ok = begun_word es chunk sorted found in
+      rw (at, from, long, bits) (
+        record { width = width; word = ok },
+        λ first. (chunk_with_word n chunk k (next_word n k - k) (cond value 1 0) i, begun_sets n i k (next_word n k - k) value chunk width.positive ok.low ok.some ok.high clear first es found),
+      )
+
+  -- the word begins a new chunk of zeros
+  pub begun_first : (es mid : List (ℕ × List ℕ)) → IsStrictlySortedBy nat_cmp (keys_of mid) → lookup (nat_eq i) es ≡ None → Puts es mid i (Some (replicate n 0)) → IsTail n mid cached base count × (bytes : List ℕ) × SetsIn n (replicate n 0) es (with_word n mid cached base count word) i k value bytes
+  begun_first es mid sorted none put =
+      let begun = begun_in mid (replicate n 0) sorted (lookup_put es mid i (replicate n 0) put) (λ j e l. zero_bit n j width.positive) in
+      let set = begun.1 (replicate n 0) in (
+        begun.0,
+        set.0,
+        record {
+          written = subst (λ o. IsWritten n (unwrap_or o (replicate n 0)) k value set.0) (lookup_put es mid i (replicate n 0) put ∙ sym (ap (λ o. Some (unwrap_or o (replicate n 0))) none)) set.1.written;
+          edited = λ q. set.1.edited q ∙ elim (cases_eq q i) [
+            | inl e ↦ rw (eq-eqb q i e) refl
+            | inr ne ↦ rw (ne_eqb q i ne) (put q ∙ rw (ne_eqb q i ne) refl)
+          ];
+        },
+      )
+
+  -- the word begins in the chunk of the cached word
+  pub begun_next : (es : List (ℕ × List ℕ)) (old : Option ℕ) (low many bits_before : ℕ) → IsTail n es old low many → is_cached_at old i ≡ true → IfSome (lookup (nat_eq i) (with_word n es old low many bits_before)) (IsClearFrom n i k)
+      → (fs : List (ℕ × List ℕ)) → fs ≡ with_word n es old low many bits_before → IsTail n fs cached base count × ((first : List ℕ) → (bytes : List ℕ) × SetsIn n first fs (with_word n fs cached base count word) i k value bytes)
+  begun_next es None low many bits_before ok here clear fs same = cc
+  begun_next es (Some h) low many bits_before ok here clear fs same =
+      let cache = word_cached n es low many h width ok.word in
+      let found = lookup_here n es (Some h) _ i cache here in
+      rw same (begun_in _ _ (cached_sorted n es (Some h) _ cache) found (subst (λ o. IfSome o (IsClearFrom n i k)) found clear))
+
 -- ---- the word is written back before a call
 pub no_word : (n : ℕ) (es : List (ℕ × List ℕ)) (cached : Option ℕ) (base count word : ℕ) → cached ≡ None → with_word n es cached base count word ≡ es
 no_word n es cached base count word e = ap (λ o. with_word n es o base count word) e
@@ -332,6 +418,11 @@ sets_between n first es mid fs gs i k value before after set = (set.0, subst (λ
 
 pub byte_between : (n : ℕ) (es mid fs gs : List (ℕ × List ℕ)) (i k byte : ℕ) → mid ≡ es → gs ≡ fs → IsByteSetIn n mid fs i k byte → IsByteSetIn n es gs i k byte
 byte_between n es mid fs gs i k byte before after set = subst (λ xs. IsByteSetIn n es xs i k byte) (sym after) (subst (λ xs. IsByteSetIn n xs fs i k byte) before set)
+
+-- the bit at a position past which a chunk is zero
+pub zero_from : (n i k : ℕ) (o : Option (List ℕ)) → i ≡ k / (8 * n) → IfSome o (IsClearFrom n i k) → IfSome o (λ chunk. chunk_bit n chunk k ≡ false)
+zero_from n i k None e clear = tt
+zero_from n i k (Some chunk) e clear = clear k (sym e) (omega arith)
 
 -- the fact of a success that is known
 pub ok_of : {A E : Type 0} (r : Result A E) (P : Type 0) → IsOk r → OnOk r P → P

@@ -24,7 +24,7 @@ zeros n = record {
 }
 
 -- the chunk that starts at the length is zeros in the bitmap truncated there
-first_zeros : (n : ℕ) (b : PrunedBits) (k i : ℕ) → 0 < n → i ≡ k / (8 * n) → b.pruned ≤ i → k % (8 * n) ≡ 0 → replicate n 0 ≡ chunk n (truncated n b k) i
+pub first_zeros : (n : ℕ) (b : PrunedBits) (k i : ℕ) → 0 < n → i ≡ k / (8 * n) → b.pruned ≤ i → k % (8 * n) ≡ 0 → replicate n 0 ≡ chunk n (truncated n b k) i
 first_zeros n b k i pos e low whole =
     let start : 8 * n * i ≡ k = rw e (omega (arith, whole, place (8 * n) k)) in
     let before : 8 * n * b.pruned ≤ 8 * n * i = mul-le (8 * n) b.pruned (8 * n) i (omega arith) low in

@@ -9,7 +9,7 @@ use Rattle.bitmap_bytes.specs.Chunk.{chunk_bit}
 use Rattle.std.specs.Option.{option_map}
 use Rattle.bitmap_core.specs.PrunedBits.{PrunedBits, bit_len, pruned_bits}
 use Rattle.bitmap_core.proofs.Pruned.Positions.{place}
-use Rattle.historical_bitmap.specs.Pending.{edited_chunk, IsEdited, PendingEdits, PendingFits, pending_bits}
+use Rattle.historical_bitmap.specs.Pending.{edited_chunk, IsClearFrom, IsEdited, PendingEdits, PendingFits, pending_bits}
 use Rattle.historical_bitmap.proofs.Pending.BatchEdits.{past_prefix}
 use Rattle.historical_bitmap.proofs.Pending.Edits.{pending_len}
 
@@ -35,13 +35,13 @@ has_last n b l pos fits some none =
     let prefix : 8 * n * l.pruned ≤ l.len - 1 = omega (arith, len, some) in
     (past_prefix n b l (l.len - 1) fits prefix, fits.covered (l.len - 1) prefix (omega (arith, len, some)) none)
 
--- the bit at the pending length is zero if its chunk is edited
-pub zero_at_len : (n : ℕ) (b : PrunedBits) (l : PendingEdits) → PendingFits n b l → IfSome (edited_chunk l (l.len / (8 * n))) (λ bytes. chunk_bit n bytes l.len ≡ false)
+-- the bits at and past the pending length are zero in its chunk if that is edited
+pub zero_at_len : (n : ℕ) (b : PrunedBits) (l : PendingEdits) → PendingFits n b l → IfSome (edited_chunk l (l.len / (8 * n))) (IsClearFrom n (l.len / (8 * n)) l.len)
 zero_at_len n b l fits = go (edited_chunk l (l.len / (8 * n))) (fits.edited (l.len / (8 * n)))
   where
-    go : (o : Option (List ℕ)) → MatchOption o (Unit {0}) (IsEdited n b l (l.len / (8 * n))) → IfSome o (λ bytes. chunk_bit n bytes l.len ≡ false)
+    go : (o : Option (List ℕ)) → MatchOption o (Unit {0}) (IsEdited n b l (l.len / (8 * n))) → IfSome o (IsClearFrom n (l.len / (8 * n)) l.len)
     go None m = tt
-    go (Some bytes) m = m.clear l.len refl (omega arith)
+    go (Some bytes) m = m.clear
 
 -- no chunk is edited that starts at the pending length
 pub none_at_len : (n : ℕ) (b : PrunedBits) (l : PendingEdits) → PendingFits n b l → l.len % (8 * n) ≡ 0 → edited_chunk l (l.len / (8 * n)) ≡ None

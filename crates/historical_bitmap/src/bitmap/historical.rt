@@ -57,6 +57,7 @@ mod rewind;
 mod state;
 mod tail;
 mod undo;
+mod word;
 
 pub use crate::bitmap::historical::at::AtCommit;
 pub use crate::bitmap::historical::changes::ChangedChunks;

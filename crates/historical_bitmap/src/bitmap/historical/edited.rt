@@ -105,7 +105,7 @@ pub(crate) fn first_chunk<const N: usize>(current: &Prunable<N>, len: u64, index
 }
 
 // Returns whether an index is the cached one.
-fn is_cached(cached: Option<usize>, index: usize) -> bool
+pub(crate) fn is_cached(cached: Option<usize>, index: usize) -> bool
     ensures { result ≡ is_cached_at cached index }
 {
     match cached {

@@ -11,10 +11,12 @@ ghost use Rattle.bitmap_core.specs.PrunedBits.{chunk, truncated};
 ghost use Rattle.historical_bitmap.specs.Edits.{from_to};
 ghost use Rattle.historical_bitmap.specs.Pending.{IsByteSetIn, IsNextMember, IsPartSetIn, IsSetIn, IsWritten, Puts, PutsEach, PutsTwo, SetsIn, members_between};
 ghost use Rattle.historical_bitmap.specs.Run.{with_run};
+ghost use Rattle.historical_bitmap.specs.Tail.{IsTail, with_word};
 
 use crate::bitmap::historical::edited::{
     EditedChunks, fill_bit, first_chunk, insert_each, replace_bit,
 };
+use crate::bitmap::historical::word::put_word;
 use bitmap_core::bitmap::prunable::Prunable;
 use bitmap_core::chunk::chunk_width;
 use bitmap_core::chunk::facts::known;
@@ -152,7 +154,8 @@ impl<const N: usize> GrownChunks<N> {
     }
 
     // Inserts a chunk at an index that has none. It goes into the run if it is next there.
-    fn open(&mut self, index: usize, chunk: [u8; N]) -> Result<(), AllocError>
+    #[inline]
+    pub(crate) fn open(&mut self, index: usize, chunk: [u8; N]) -> Result<(), AllocError>
         requires absent { lookup (nat_eq index) self.old ≡ None }
         ensures ok { OnOk result (Puts self.old self.new index (Some chunk.entry)) }
         ensures err { OnErr result (self.new ≡ self.old) }
@@ -245,6 +248,34 @@ impl<const N: usize> GrownChunks<N> {
             return;
         }
         self.others.set_in(index, from, to, value);
+    }
+
+    // Writes a word to the chunk at an index. Does not allocate.
+    #[inline]
+    pub(crate) fn put_word(&mut self, index: usize, base: u64, count: u64, word: u64)
+        requires tail { IsTail N self.old (Some index) base count }
+        ensures { self.new ≡ with_word N self.old (Some index) base count word }
+    {
+        if is_in(self.from, self.run.len(), index) {
+            let at = index - self.from;
+            self.others.order();
+            put_word(&mut self.run[at], base, count, word);
+            return;
+        }
+        self.put_other(index, base, count, word);
+    }
+
+    // As `put_word`, for a chunk that need not be in the run.
+    #[inline(never)]
+    fn put_other(&mut self, index: usize, base: u64, count: u64, word: u64)
+        requires tail { IsTail N self.old (Some index) base count }
+        ensures { self.new ≡ with_word N self.old (Some index) base count word }
+    {
+        if let Some(bytes) = self.get(index) {
+            let mut bytes = *bytes;
+            put_word(&mut bytes, base, count, word);
+            let _ = self.write(index, bytes);
+        }
     }
 
     // Inserts or replaces the chunk at an index. A new chunk goes into the run if it is next there.

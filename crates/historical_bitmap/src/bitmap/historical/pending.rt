@@ -10,7 +10,7 @@ ghost use Rattle.std.specs.Set.{distinct_count};
 ghost use Rattle.bitmap_bytes.specs.Chunk.{bytes_bit, byte_bits, chunk_bit, chunk_bits, IsChunk, IsWidth};
 ghost use Rattle.bitmap_core.specs.PrunedBits.{PrunedBits, bit_at, bit_len, chunk, IsRetained, pruned_bits, truncated};
 ghost use Rattle.historical_bitmap.specs.Edits.{from_to};
-ghost use Rattle.historical_bitmap.specs.Pending.{AddsEntries, Appends, diff_of, edited_chunk, first_cut_of, IsNextMember, marked_chunks, members_between, PendingFits, old_chunk, pending_bits, pending_chunk, Pops, Prunes, IsRecordOf, run_bits, SetsRange, unedited, Writes};
+ghost use Rattle.historical_bitmap.specs.Pending.{AddsEntries, Appends, diff_of, edited_chunk, first_cut_of, IsClearFrom, IsNextMember, marked_chunks, members_between, PendingFits, old_chunk, pending_bits, pending_chunk, Pops, Prunes, IsRecordOf, run_bits, SetsRange, unedited, Writes};
 ghost use Rattle.historical_bitmap.specs.Record.{LeadsBack};
 ghost use Rattle.historical_bitmap.specs.Stored.{diff_value};
 ghost use Rattle.historical_bitmap.specs.Undo.{CanUndo};
@@ -264,7 +264,7 @@ impl<const N: usize> Dirty<N> {
     pub(crate) fn push(&mut self, current: &Prunable<N>, value: bool) -> Result<(), AllocError>
         requires low { pruned_bits N current.now ≤ self.old.len }
         requires fits { self.old.len + 1 < 2 ^ 64 }
-        requires zero { IfSome (edited_chunk self.old (self.old.len / (8 * N))) (λ bytes. chunk_bit N bytes self.old.len ≡ false) }
+        requires zero { IfSome (edited_chunk self.old (self.old.len / (8 * N))) (IsClearFrom N (self.old.len / (8 * N)) self.old.len) }
         requires first { self.old.len % (8 * N) ≡ 0 → edited_chunk self.old (self.old.len / (8 * N)) ≡ None }
         ensures ok { OnOk result (Writes N current.now self.old self.old.len value (self.old.len + 1) self.new) }
         ensures err { OnErr result (self.new ≡ self.old) }

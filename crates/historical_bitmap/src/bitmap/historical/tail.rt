@@ -1,22 +1,25 @@
 //! The edited chunks of a batch, with the word that single pushes and pops write to.
 
-ghost use Rattle.std.specs.Prelude.{◌≡◌, ℕ, ◌+◌, ◌-◌, ◌*◌, ◌/◌, ◌%◌, ◌^◌, ◌<◌, ◌≤◌, ◌&&◌, ◌++◌, [], List, length, Option, Some, None, IfOk, IfSome, OnOk, OnErr, IsOk, IsSome, if◌then◌else◌, nat_eq, nat_le, nat_lt, true, false};
+ghost use Rattle.std.specs.Prelude.{◌≡◌, ℕ, ◌+◌, ◌-◌, ◌*◌, ◌/◌, ◌%◌, ◌^◌, ◌<◌, ◌≤◌, ◌&&◌, ◌++◌, [], List, length, replicate, Option, Some, None, IfOk, IfSome, OnOk, OnErr, IsOk, IsSome, if◌then◌else◌, nat_eq, nat_le, nat_lt, true, false};
 ghost use Rattle.std.specs.List.Sorted.{IsStrictlySortedBy};
 ghost use Rattle.std.specs.Map.{keys_of, lookup};
 ghost use Rattle.std.specs.Option.{option_map};
 ghost use Rattle.std.specs.Ordering.{nat_cmp};
 ghost use Rattle.bitmap_bytes.specs.Chunk.{chunk_bit, IsChunk, IsWidth};
+ghost use Rattle.bitmap_bytes.specs.Words.{next_word};
 ghost use Rattle.bitmap_core.specs.PrunedBits.{chunk, truncated};
 ghost use Rattle.historical_bitmap.specs.Edits.{from_to};
-ghost use Rattle.historical_bitmap.specs.Pending.{IsByteSetIn, IsNextMember, IsSetIn, Puts, PutsTwo, SetsChunks, SetsIn, members_between};
-ghost use Rattle.historical_bitmap.specs.Tail.{IsTail, IsWordPut, with_word};
+ghost use Rattle.historical_bitmap.specs.Pending.{IsByteSetIn, IsClearFrom, IsNextMember, IsSetIn, Puts, PutsTwo, SetsChunks, SetsIn, members_between};
+ghost use Rattle.historical_bitmap.specs.Tail.{IsTail, with_word};
 
+use crate::bitmap::historical::edited::is_cached;
 use crate::bitmap::historical::grown::GrownChunks;
 use crate::bitmap::historical::ranges::set_range;
+use crate::bitmap::historical::word::put_word;
 use bitmap_core::bitmap::prunable::Prunable;
 use bitmap_core::chunk::facts::known;
 use bitmap_core::chunk::load::{following_word, word_base, word_below};
-use bitmap_core::chunk::{byte_index, chunk_index, get_bit};
+use bitmap_core::chunk::{chunk_index, chunk_width, get_bit};
 use std::alloc::{AllocError, Global};
 use std::collections::BTreeMap;
 use std::marker::Model;
@@ -69,24 +72,6 @@ fn mask_if(at: u64, value: bool) -> u64
     if value { 1 << at } else { 0 }
 }
 
-// Writes the low `count` bits of a word to a chunk from bit `base` on. Both are whole bytes.
-fn put_word<const N: usize>(chunk: &mut [u8; N], base: u64, count: u64, word: u64)
-    requires width { IsWidth N }
-    requires starts { base % (8 * N) % 8 ≡ 0 }
-    requires whole { count % 8 ≡ 0 }
-    requires short { count ≤ 64 }
-    requires within { base % (8 * N) + count ≤ 8 * N }
-    ensures known { IsChunk N chunk.new }
-    ensures put { IsWordPut N chunk.old chunk.new base count word }
-{
-    let at = byte_index::<N>(base);
-    let bytes = word.to_le_bytes();
-    for j in 0..(count / 8) as usize {
-        chunk[at + j] = bytes[j];
-    }
-    known(chunk);
-}
-
 // Returns a tail without a word.
 fn no_tail() -> Tail
     ensures cached { result.cached ≡ None }
@@ -100,19 +85,6 @@ fn no_tail() -> Tail
     }
 }
 
-// Writes the word to its chunk. Does not allocate.
-#[inline(never)]
-fn write_back<const N: usize>(chunks: &mut GrownChunks<N>, index: usize, tail: Tail)
-    requires tail { IsTail N chunks.old (Some index) tail.base tail.count }
-    ensures { chunks.new ≡ with_word N chunks.old (Some index) tail.base tail.count tail.word }
-{
-    if let Some(bytes) = chunks.get(index) {
-        let mut bytes = *bytes;
-        put_word(&mut bytes, tail.base, tail.count, tail.word);
-        let _ = chunks.write(index, bytes);
-    }
-}
-
 // Writes the word, if there is one, to its chunk. Does not allocate.
 #[inline]
 fn settle<const N: usize>(chunks: &mut GrownChunks<N>, tail: &mut Tail)
@@ -122,7 +94,7 @@ fn settle<const N: usize>(chunks: &mut GrownChunks<N>, tail: &mut Tail)
     ensures count { tail.new.count ≡ 0 }
 {
     if let Some(index) = tail.cached {
-        write_back(chunks, index, *tail);
+        chunks.put_word(index, tail.base, tail.count, tail.word);
         *tail = no_tail();
     }
 }
@@ -150,6 +122,24 @@ fn load<const N: usize>(chunks: &GrownChunks<N>, index: usize, bit: u64) -> Tail
         base,
         count: end - base,
         word: word_below(bytes, base, end),
+    }
+}
+
+// Returns the word that begins at a position of the chunk at an index, of zeros except its first bit.
+#[inline]
+fn begin_word<const N: usize>(index: usize, bit: u64, value: bool) -> Tail
+    requires width { IsWidth N }
+    ensures cached { result.cached ≡ Some index }
+    ensures base { result.base ≡ bit }
+    ensures count { result.count ≡ next_word N bit - bit }
+    ensures word { result.word ≡ (if value then 1 else 0) }
+{
+    let width = chunk_width::<N>();
+    Tail {
+        cached: Some(index),
+        base: bit,
+        count: (width - bit % width).min(64),
+        word: mask_if(0, value),
     }
 }
 
@@ -214,7 +204,7 @@ impl<const N: usize> TailChunks<N> {
         self.chunks.write_bit(current, len, index, bit, value)
     }
 
-    // Appends a bit at a position, which is the length. The bit is zero if its chunk is edited, and its chunk is not edited if the bit is its first.
+    // Appends a bit at a position, which is the length. If its chunk is edited, the bits from there on are zero, and the bit is not its first.
     // Starts from the current bitmap's chunk, cut to the length, if none is edited there. Does not allocate, and succeeds, if that chunk is edited.
     #[inline]
     pub(crate) fn push_bit(
@@ -225,7 +215,7 @@ impl<const N: usize> TailChunks<N> {
     ) -> Result<(), AllocError>
         requires width { IsWidth N }
         requires from { current.now.pruned ≤ bit / (8 * N) }
-        requires zero { IfSome (lookup (nat_eq (bit / (8 * N))) self.old) (λ chunk. chunk_bit N chunk bit ≡ false) }
+        requires zero { IfSome (lookup (nat_eq (bit / (8 * N))) self.old) (IsClearFrom N (bit / (8 * N)) bit) }
         requires first { bit % (8 * N) ≡ 0 → lookup (nat_eq (bit / (8 * N))) self.old ≡ None }
         ensures ok { OnOk result ((bytes : List ℕ) × SetsIn N (chunk N (truncated N current.now bit) (bit / (8 * N))) self.old self.new (bit / (8 * N)) bit value bytes) }
         ensures err { OnErr result (self.new ≡ self.old) }
@@ -243,14 +233,78 @@ impl<const N: usize> TailChunks<N> {
     fn push_other(&mut self, current: &Prunable<N>, bit: u64, value: bool) -> Result<(), AllocError>
         requires width { IsWidth N }
         requires from { current.now.pruned ≤ bit / (8 * N) }
-        requires zero { IfSome (lookup (nat_eq (bit / (8 * N))) self.old) (λ chunk. chunk_bit N chunk bit ≡ false) }
+        requires zero { IfSome (lookup (nat_eq (bit / (8 * N))) self.old) (IsClearFrom N (bit / (8 * N)) bit) }
         requires first { bit % (8 * N) ≡ 0 → lookup (nat_eq (bit / (8 * N))) self.old ≡ None }
         ensures ok { OnOk result ((bytes : List ℕ) × SetsIn N (chunk N (truncated N current.now bit) (bit / (8 * N))) self.old self.new (bit / (8 * N)) bit value bytes) }
         ensures err { OnErr result (self.new ≡ self.old) }
         ensures edited { IsSome (lookup (nat_eq (bit / (8 * N))) self.old) → IsOk result }
     {
-        settle(&mut self.chunks, &mut self.tail);
         let index = chunk_index::<N>(bit);
+        if N <= WIDEST && bit % chunk_width::<N>() % 64 == 0 {
+            if bit % chunk_width::<N>() == 0 {
+                return self.push_first(index, bit, value);
+            }
+            if self.push_next(index, bit, value) {
+                return Ok(());
+            }
+        }
+        self.push_inside(current, index, bit, value)
+    }
+
+    // Appends the first bit of the chunk at an index, which has none. Caches its word.
+    #[inline]
+    fn push_first(&mut self, index: usize, bit: u64, value: bool) -> Result<(), AllocError>
+        requires width { IsWidth N }
+        requires index { index ≡ bit / (8 * N) }
+        requires start { bit % (8 * N) ≡ 0 }
+        requires absent { lookup (nat_eq index) self.old ≡ None }
+        ensures ok { OnOk result ((bytes : List ℕ) × SetsIn N (replicate N 0) self.old self.new index bit value bytes) }
+        ensures err { OnErr result (self.new ≡ self.old) }
+    {
+        settle(&mut self.chunks, &mut self.tail);
+        self.chunks.open(index, [0; N])?;
+        self.tail = begin_word::<N>(index, bit, value);
+        Ok(())
+    }
+
+    // Appends the first bit of a word of the chunk at an index, if the cached word is in that chunk. Returns whether it is.
+    // Caches the new word. Does not allocate.
+    #[inline]
+    fn push_next(&mut self, index: usize, bit: u64, value: bool) -> bool
+        requires width { IsWidth N }
+        requires index { index ≡ bit / (8 * N) }
+        requires starts { bit % (8 * N) % 64 ≡ 0 }
+        requires zero { IfSome (lookup (nat_eq index) self.old) (IsClearFrom N index bit) }
+        ensures written { result ≡ true → (first : List ℕ) → (bytes : List ℕ) × SetsIn N first self.old self.new index bit value bytes }
+        ensures other { result ≡ false → self.new ≡ self.old }
+    {
+        if !is_cached(self.tail.cached, index) {
+            return false;
+        }
+        settle(&mut self.chunks, &mut self.tail);
+        self.tail = begin_word::<N>(index, bit, value);
+        true
+    }
+
+    // As `push_other`, for any bit of the chunk at an index.
+    #[inline(never)]
+    fn push_inside(
+        &mut self,
+        current: &Prunable<N>,
+        index: usize,
+        bit: u64,
+        value: bool,
+    ) -> Result<(), AllocError>
+        requires width { IsWidth N }
+        requires index { index ≡ bit / (8 * N) }
+        requires from { current.now.pruned ≤ index }
+        requires zero { IfSome (lookup (nat_eq index) self.old) (IsClearFrom N index bit) }
+        requires first { bit % (8 * N) ≡ 0 → lookup (nat_eq index) self.old ≡ None }
+        ensures ok { OnOk result ((bytes : List ℕ) × SetsIn N (chunk N (truncated N current.now bit) index) self.old self.new index bit value bytes) }
+        ensures err { OnErr result (self.new ≡ self.old) }
+        ensures edited { IsSome (lookup (nat_eq index) self.old) → IsOk result }
+    {
+        settle(&mut self.chunks, &mut self.tail);
         self.chunks.push_bit(current, index, bit, value)?;
         self.tail = load(&self.chunks, index, bit);
         Ok(())

@@ -1,7 +1,7 @@
-use Rattle.std.proofs.Common.{◌≡◌, ◌+◌, ◌*◌, ◌/◌, ◌%◌, ◌≤◌, false, None, sym, refl, arith}
+use Rattle.std.proofs.Common.{◌≡◌, ◌+◌, ◌*◌, ◌/◌, ◌%◌, ◌≤◌, None, sym, refl, arith}
 use Rattle.std.specs.Prelude.{IfSome, nat_eq}
 use Rattle.std.specs.Map.{lookup}
-use Rattle.bitmap_bytes.specs.Chunk.{chunk_bit}
+use Rattle.historical_bitmap.specs.Pending.{IsClearFrom}
 use Rattle.historical_bitmap.proofs.Pending.Ends.{index_from}
 use Rattle.historical_bitmap.proofs.Pending.Writes.{writes_to}
 use Rattle.historical_bitmap.proofs.bitmap.historical.pending.Dirty.push.Goals as goal
@@ -14,7 +14,7 @@ returns-clause-ok g c =
 pub push_bit-requires : goal.push_bit-requires
 push_bit-requires g c =
     let low : 8 * g.row.N * c.args.current.now.pruned ≤ c.self.inside.len = rw (sym c.self.view_is) at c.requires.low in
-    let zero : IfSome (lookup (nat_eq (c.self.inside.len / (8 * g.row.N))) c.self.inside.edited) (λ bytes. chunk_bit g.row.N bytes c.self.inside.len ≡ false) = rw (sym c.self.view_is) at c.requires.zero in
+    let zero : IfSome (lookup (nat_eq (c.self.inside.len / (8 * g.row.N))) c.self.inside.edited) (IsClearFrom g.row.N (c.self.inside.len / (8 * g.row.N)) c.self.inside.len) = rw (sym c.self.view_is) at c.requires.zero in
     let first : c.self.inside.len % (8 * g.row.N) ≡ 0 → lookup (nat_eq (c.self.inside.len / (8 * g.row.N))) c.self.inside.edited ≡ None = rw (sym c.self.view_is) at c.requires.first in (
       omega (arith, c.self.invariant.fits),
       (

@@ -1,8 +1,25 @@
-use Rattle.std.proofs.Common.{sym}
-use Rattle.historical_bitmap.proofs.EditedChunks.CachedWord.{sets_between}
+use Rattle.std.proofs.Common.{◌≡◌, ℕ, ◌*◌, ◌/◌, ◌%◌, List, refl, subst, ◌∙◌}
+use Rattle.std.specs.Prelude.{OnOk}
+use Rattle.bitmap_core.specs.PrunedBits.{chunk, truncated}
+use Rattle.historical_bitmap.specs.Pending.{SetsIn}
+use Rattle.historical_bitmap.proofs.EditedChunks.OpenedChunk.{first_zeros}
 use Rattle.historical_bitmap.proofs.bitmap.historical.tail.TailChunks.push_other.Goals as goal
+use Rattle.historical_bitmap.proofs.bitmap.historical.tail.TailChunks.push_other.Goals.{then-this-le-WIDEST+then-bit-chunk_width-eq0+else-bit-chunk_width-eq0-2+else-push_next, else-this-le-WIDEST}
+
+pub returns-then-bit-chunk_width-eq0-2-clause-ok : goal.returns-then-bit-chunk_width-eq0-2-clause-ok
+returns-then-bit-chunk_width-eq0-2-clause-ok g c =
+    let whole : c.args.bit % (8 * g.row.N) ≡ 0 = rw c.chunk_width-then-bit-chunk_width-eq0.ensures at c.if-bit-chunk_width-eq0-2.true in
+    let index : ℕ = c.args.bit / (8 * g.row.N) in
+    let set = rw c.chunk_index-index.ensures at c.push_first.ensures.ok in
+    subst (λ first. OnOk c.push_first.result ((bytes : List ℕ) × SetsIn g.row.N first c.args.self.now c.push_first.new.self index c.args.bit c.args.value bytes)) (first_zeros g.row.N c.args.current.now c.args.bit index c.requires.width.positive refl c.requires.from whole) set
+
+pub returns-then-push_next-clause-ok : goal.returns-then-push_next-clause-ok
+returns-then-push_next-clause-ok g c = rw c.chunk_index-index.ensures at c.push_next.ensures.written c.if-push_next.true (chunk g.row.N (truncated g.row.N c.args.current.now c.args.bit) (c.args.bit / (8 * g.row.N)))
 
 pub returns-clause-ok : goal.returns-clause-ok
 returns-clause-ok g c =
-    let set = rw c.chunk_index-index.ensures at c.in_ok-push_bit.ensures.ok in
-    rw (sym c.self.view_is) (sets_between g.row.N _ _ c.settle.new.chunks c.push_bit.new.self _ _ c.args.bit c.args.value c.settle.ensures.value c.load-self-inside.ensures.same set)
+    let same : c.if-this-le-WIDEST.self ≡ c.args.self.now = elim c.if-this-le-WIDEST.branch [
+      | then-this-le-WIDEST+then-bit-chunk_width-eq0+else-bit-chunk_width-eq0-2+else-push_next w ↦ w.self-is ∙ w.push_next.ensures.other w.if-push_next.false
+      | else-this-le-WIDEST w ↦ w.self-is
+    ] in
+    rw (c.chunk_index-index.ensures, same) at c.push_inside.ensures.ok

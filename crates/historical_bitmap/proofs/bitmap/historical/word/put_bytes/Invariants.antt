@@ -1,5 +1,5 @@
 use Rattle.std.proofs.Common.{◌≡◌, ℕ, ◌+◌, ◌<◌, ◌≤◌, length, get_or}
-use Rattle.historical_bitmap.proofs.bitmap.historical.tail.put_word.Given as goal
+use Rattle.historical_bitmap.proofs.bitmap.historical.word.put_bytes.Given as goal
 
 abbrev pub invariant-loop-j : goal.invariant-loop-j
 invariant-loop-j g l = record {

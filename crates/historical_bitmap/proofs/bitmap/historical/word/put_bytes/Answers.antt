@@ -4,7 +4,7 @@ use Rattle.std.proofs.lemmas.List.{get_or-set_other, get_or-set_same, length-set
 use Rattle.std.specs.Int.{bit_at}
 use Rattle.bitmap_bytes.proofs.Chunks.Bits.{mod_parts}
 use Rattle.bitmap_bytes.proofs.Words.Joined.{word_byte_bit}
-use Rattle.historical_bitmap.proofs.bitmap.historical.tail.put_word.Goals as goal
+use Rattle.historical_bitmap.proofs.bitmap.historical.word.put_bytes.Goals as goal
 
 pub bounds-chunk-at : goal.bounds-chunk-at
 bounds-chunk-at g c = omega (arith, c.requires.within, c.requires.short, c.loop-j-test.true, c.byte_index-at.ensures.value, mod_parts g.row.N c.args.base c.requires.width.positive)
