@@ -27,11 +27,11 @@ use Rattle.historical_bitmap.proofs.Records.Restores.{has_chunk}
 use Rattle.historical_bitmap.proofs.Records.UndoneInSteps.{bit_beyond_front, none_past, put_one_len, same_from}
 
 -- ---- old bytes are gathered
-or_none : {X : Type 0} (o : Option X) → option_or o None ≡ o
+pub or_none : {X : Type 0} (o : Option X) → option_or o None ≡ o
 or_none None = refl
 or_none (Some x) = refl
 
-or_assoc : {X : Type 0} (a b c : Option X) → option_or a (option_or b c) ≡ option_or (option_or a b) c
+pub or_assoc : {X : Type 0} (a b c : Option X) → option_or a (option_or b c) ≡ option_or (option_or a b) c
 or_assoc None b c = refl
 or_assoc (Some x) b c = refl
 

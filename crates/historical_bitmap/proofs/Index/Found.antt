@@ -1,16 +1,14 @@
--- The old bytes of a chunk, found with an index: they are in the record of the next commit that the index has for the chunk.
-use Rattle.std.proofs.Common.{◌≡◌, ℕ, ◌<◌, true, false, List, [], ◌∷◌, refl, ap, arith, subst, sym, ◌∙◌}
+-- The old bytes of a chunk, found with an index: those at the least later number with which the index has any for the chunk.
+use Rattle.std.proofs.Common.{◌≡◌, ℕ, ◌<◌, List, [], ◌∷◌, refl, ap, arith, sym, ◌∙◌}
 use mathlib.Core.Logic.{inl, inr}
-use Rattle.std.proofs.lemmas.Bool.{cases_lt, cases_eq, cases_order, eq-eqb, ne_eqb, lt-ltb, le-ltb, false≢true}
+use Rattle.std.proofs.lemmas.Bool.{cases_lt, cases_eq, cases_order, eq-eqb, ne_eqb, lt-ltb, le-ltb}
 use Rattle.std.proofs.lemmas.Option.{same_Some}
-use Rattle.std.proofs.lemmas.List.Elements.{All-head, All-tail}
 use Rattle.std.proofs.lemmas.Map.Keys.{sorted_head, sorted_tail}
-use Rattle.std.specs.List.Sorted.{IsStrictlySortedBy}
 use Rattle.std.specs.Map.{keys_of}
 use Rattle.std.specs.Ordering.{nat_cmp}
-use Rattle.std.specs.Prelude.{Option, Some, None, is_some}
-use Rattle.historical_bitmap.specs.History.{EntriesRise, first_kept, kept_under, past_number, RiseInNumber}
-use Rattle.historical_bitmap.specs.Index.{IsIndexOf, IsNextIndexed, is_indexed, kept_in}
+use Rattle.std.specs.Prelude.{Option, Some, None}
+use Rattle.historical_bitmap.specs.History.{first_kept, kept_under, past_number, RiseInNumber}
+use Rattle.historical_bitmap.specs.Index.{bytes_at, IsIndexOf, IsNextKept, kept_in}
 use Rattle.historical_bitmap.specs.Record.{ReverseRecord, kept}
 use Rattle.historical_bitmap.proofs.Records.UndoneInSteps.{none_past}
 
@@ -60,41 +58,18 @@ next_first n k i (c ∷ cs) r bytes rise past there has none = elim (cases_order
 ]
 
 -- ---- with an index
--- a commit without a place for the chunk keeps nothing of it
-unplaced : (places : List (ℕ × ℕ)) (cs : List (ℕ × ReverseRecord)) (i m : ℕ) (r : ReverseRecord) → IsIndexOf places cs → is_indexed places i m ≡ false → kept_under cs m ≡ Some r → kept r i ≡ None
-unplaced places cs i m r index none found = none_of (kept r i) (sym (index i m ∙ ap (λ o. is_some (kept_in o i)) found) ∙ none)
+-- a commit without bytes at its place for the chunk keeps nothing of it
+unplaced : (places : List ((ℕ × ℕ) × List ℕ)) (cs : List (ℕ × ReverseRecord)) (i m : ℕ) (r : ReverseRecord) → IsIndexOf places cs → bytes_at places i m ≡ None → kept_under cs m ≡ Some r → kept r i ≡ None
+unplaced places cs i m r index none found = sym (index i m ∙ ap (λ o. kept_in o i) found) ∙ none
+
+-- the next bytes of a chunk in the index are those in the first later record that keeps any
+pub next_found : (places : List ((ℕ × ℕ) × List ℕ)) (cs : List (ℕ × ReverseRecord)) (n i : ℕ) (next : Option (List ℕ)) → RiseInNumber cs → IsIndexOf places cs → IsNextKept places i n next
+    → next ≡ first_kept (past_number n cs) i
+next_found places cs n i None rise index none = sym (none_first n i cs rise (λ m r l found. unplaced places cs i m r index (none m l) found))
+next_found places cs n i (Some bytes) rise index (k, past, has, before) = of_record (kept_under cs k) refl
   where
-    none_of : (o : Option (List ℕ)) → is_some o ≡ false → o ≡ None
-    none_of None e = refl
-    none_of (Some bytes) e = absurd (false≢true (sym e))
-
-module _ (places : List (ℕ × ℕ)) (cs : List (ℕ × ReverseRecord)) (n i : ℕ) (rise : RiseInNumber cs) (index : IsIndexOf places cs) where
-  -- the index has no later number for the chunk
-  pub nothing_with : IsNextIndexed places i n None → first_kept (past_number n cs) i ≡ None
-  nothing_with none = none_first n i cs rise (λ m r l found. unplaced places cs i m r index (none m l) found)
-
-  -- the index has a next number for the chunk
-  module _ (k : ℕ) (next : IsNextIndexed places i n (Some k)) where
-    -- a commit is kept under it, and its record keeps old bytes of the chunk
-    placed : is_some (kept_in (kept_under cs k) i) ≡ true
-    placed = sym (index i k) ∙ next.1
-
-    pub found_with : (r : ReverseRecord) → kept_under cs k ≡ Some r → first_kept (past_number n cs) i ≡ kept r i
-    found_with r found = of_bytes (kept r i) refl (sym (ap (λ o. is_some (kept_in o i)) found) ∙ placed)
-      where
-        of_bytes : (o : Option (List ℕ)) → kept r i ≡ o → is_some o ≡ true → first_kept (past_number n cs) i ≡ o
-        of_bytes None e there = absurd (false≢true there)
-        of_bytes (Some bytes) e there = next_first n k i cs r bytes rise next.0 found e (λ m s within has. unplaced places cs i m s index (next.2 m within.0 within.1) has)
-
-    pub not_absent : kept_under cs k ≡ None → ⊥
-    not_absent none = false≢true (sym (ap (λ o. is_some (kept_in o i)) none) ∙ placed)
-
--- the entries of a kept record ascend
-pub rises_under : (m : ℕ) (cs : List (ℕ × ReverseRecord)) (r : ReverseRecord) → EntriesRise cs → kept_under cs m ≡ Some r → IsStrictlySortedBy nat_cmp (keys_of r.entries)
-rises_under m [] r rise found = absurd (let f : None ≡ Some r = found in cc)
-rises_under m (c ∷ cs) r rise found = elim (cases_eq m c.0) [
-  | inl e ↦
-      let same : Some c.1 ≡ Some r = rw (eq-eqb m c.0 e) at found in
-      subst (λ s. IsStrictlySortedBy nat_cmp (keys_of s.entries)) (same_Some c.1 r same) (All-head (λ commit. IsStrictlySortedBy nat_cmp (keys_of commit.1.entries)) c cs rise)
-  | inr ne ↦ rises_under m cs r (All-tail (λ commit. IsStrictlySortedBy nat_cmp (keys_of commit.1.entries)) c cs rise) (rw (ne_eqb m c.0 ne) at found)
-]
+    of_record : (o : Option ReverseRecord) → kept_under cs k ≡ o → Some bytes ≡ first_kept (past_number n cs) i
+    of_record None absent = absurd (let f : Some bytes ≡ None = sym has ∙ (index i k ∙ ap (λ o. kept_in o i) absent) in cc)
+    of_record (Some r) found =
+        let keeps : kept r i ≡ Some bytes = sym (index i k ∙ ap (λ o. kept_in o i) found) ∙ has in
+        sym (next_first n k i cs r bytes rise past found keeps (λ m s within there. unplaced places cs i m s index (before m within.0 within.1) there))

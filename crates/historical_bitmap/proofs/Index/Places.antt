@@ -1,25 +1,25 @@
--- A set of places, which are pairs of a chunk and a number, as an index.
+-- A map from places, which are pairs of a chunk and a number, to bytes, as an index.
 use Rattle.std.proofs.Common.{◌≡◌, ℕ, ◌<◌, ◌≤◌, Bool, true, false, cond, List, [], ◌∷◌, refl, ap, arith, sym, ◌∙◌}
 use mathlib.Core.Logic.{inl, inr, ◌≢◌}
-use Rattle.std.proofs.lemmas.Bool.{cases_lt, cases_order, cases_Bool, eq-eqb, ne_eqb, lt-ltb, le-ltb, false≢true}
+use Rattle.std.proofs.lemmas.Bool.{cases_lt, cases_order, eq-eqb, ne_eqb, lt-ltb, le-ltb, false≢true}
 use Rattle.std.proofs.lemmas.Cmp.{nat_cmp_total, nat_eq_equiv, on_total, then_total}
-use Rattle.std.proofs.lemmas.Map.Lookups.{btree_set_from_contains, exact_pairs, exact_unsigned}
-use Rattle.std.specs.BTreeMap.{is_at}
-use Rattle.std.specs.BTreeSet.{BTreeSet, contains, IsKeyRangeOf, IsOrdered}
+use Rattle.std.proofs.lemmas.Map.Lookups.{btree_map_from_get, exact_pairs, exact_unsigned}
+use Rattle.std.specs.BTreeMap.{BTreeMap, get, is_at, IsOrdered}
+use Rattle.std.specs.BTreeMap.Range.{IsRangeOf}
 use Rattle.std.specs.Cmp.{IsTotalOrder}
 use Rattle.std.specs.declared.cmp.Ordering.{Ordering}
 use Rattle.std.specs.declared.cmp.Ordering.TheVariants.{Equal, Greater, Less}
 use Rattle.std.specs.declared.ops.Bound.TheVariants.{Excluded, Unbounded}
-use Rattle.std.specs.List.{list_any}
+use Rattle.std.specs.Map.{lookup}
 use Rattle.std.specs.Ordering.{is_eq, is_gt, nat_cmp, ordering_then}
-use Rattle.std.specs.Prelude.{◌&&◌, ◌||◌, Some, None, nat_eq}
-use Rattle.historical_bitmap.specs.Index.{is_indexed, IsNextIndexed}
+use Rattle.std.specs.Prelude.{◌&&◌, Option, Some, None, is_some, nat_eq}
+use Rattle.historical_bitmap.specs.Index.{bytes_at, IsNextKept}
 
 -- the order of places: by chunk, then by number
 abbrev pub place_cmp : ℕ × ℕ → ℕ × ℕ → Ordering
 place_cmp p q = ordering_then (nat_cmp p.0 q.0) (nat_cmp p.1 q.1)
 
--- ---- a place is found in the set exactly if the index has it
+-- ---- the map has at a place what the index has there
 eq_tested : (i j : ℕ) → is_eq (nat_cmp i j) ≡ nat_eq i j
 eq_tested i j = elim (cases_order i j) [
   | inl e ↦ rw (le-ltb i j (omega (arith, e)), eq-eqb i j e) refl
@@ -38,11 +38,11 @@ at_place i m j k =
     ∙ (ap (λ t. t && is_eq (nat_cmp m k)) (eq_tested i j)
     ∙ ap (λ t. nat_eq i j && t) (eq_tested m k))
 
-pub found_is : (places : List (ℕ × ℕ)) (i m : ℕ) → list_any (is_at (place_cmp (i, m))) places ≡ is_indexed places i m
+pub found_is : (places : List ((ℕ × ℕ) × List ℕ)) (i m : ℕ) → lookup (is_at (place_cmp (i, m))) places ≡ bytes_at places i m
 found_is [] i m = refl
 found_is (p ∷ ps) i m =
-    ap (λ t. t || list_any (is_at (place_cmp (i, m))) ps) (at_place i m p.0 p.1)
-    ∙ ap (λ t. (nat_eq i p.0 && nat_eq m p.1) || t) (found_is ps i m)
+    ap (λ t. cond t (Some p.1) (lookup (is_at (place_cmp (i, m))) ps)) (at_place i m p.0.0 p.0.1)
+    ∙ ap (λ o. cond (nat_eq i p.0.0 && nat_eq m p.0.1) (Some p.1) o) (found_is ps i m)
 
 and_swap : (a b : Bool) → (a && b) ≡ (b && a)
 and_swap true true = refl
@@ -57,23 +57,23 @@ same_test i m j k =
     ∙ (ap (λ t. t && nat_eq j i) (nat_eq_equiv.symm k m)
     ∙ ap (λ t. nat_eq m k && t) (nat_eq_equiv.symm j i)))
 
--- an insertion or a removal of a place
-pub put : (old new : List (ℕ × ℕ)) (chunk number : ℕ) (b : Bool)
-    → ((q : ℕ × ℕ) → list_any (is_at (place_cmp q)) new ≡ cond (is_at (place_cmp (chunk, number)) q) b (list_any (is_at (place_cmp q)) old))
-    → (i m : ℕ) → is_indexed new i m ≡ cond (nat_eq m number && nat_eq i chunk) b (is_indexed old i m)
-put old new chunk number b h i m =
+-- bytes are inserted at a place, or removed from it
+pub put : (old new : List ((ℕ × ℕ) × List ℕ)) (chunk number : ℕ) (bytes : Option (List ℕ))
+    → ((q : ℕ × ℕ) → lookup (is_at (place_cmp q)) new ≡ cond (is_at (place_cmp (chunk, number)) q) bytes (lookup (is_at (place_cmp q)) old))
+    → (i m : ℕ) → bytes_at new i m ≡ cond (nat_eq m number && nat_eq i chunk) bytes (bytes_at old i m)
+put old new chunk number bytes h i m =
     sym (found_is new i m)
     ∙ (h (i, m)
-    ∙ (ap (λ t. cond t b (list_any (is_at (place_cmp (i, m))) old)) (same_test i m chunk number)
-    ∙ ap (λ t. cond (nat_eq m number && nat_eq i chunk) b t) (found_is old i m)))
+    ∙ (ap (λ t. cond t bytes (lookup (is_at (place_cmp (i, m))) old)) (same_test i m chunk number)
+    ∙ ap (λ o. cond (nat_eq m number && nat_eq i chunk) bytes o) (found_is old i m)))
 
--- ---- sets with the same places are equal
+-- ---- maps with the same bytes at each place are equal
 total : IsTotalOrder place_cmp
 total = then_total (on_total (λ p. p.0) nat_cmp_total) (on_total (λ p. p.1) nat_cmp_total)
 
-pub same_places : (s t : BTreeSet (ℕ × ℕ)) → IsOrdered place_cmp s → IsOrdered place_cmp t → ((i m : ℕ) → is_indexed s.keys i m ≡ is_indexed t.keys i m) → s.keys ≡ t.keys
+pub same_places : (s t : BTreeMap (ℕ × ℕ) (List ℕ)) → IsOrdered place_cmp s → IsOrdered place_cmp t → ((i m : ℕ) → bytes_at s.entries i m ≡ bytes_at t.entries i m) → s.entries ≡ t.entries
 same_places s t up up_too same =
-    btree_set_from_contains total s t up up_too (λ q. found_is s.keys q.0 q.1 ∙ (same q.0 q.1 ∙ sym (found_is t.keys q.0 q.1))) (exact_pairs nat_cmp nat_cmp exact_unsigned exact_unsigned)
+    btree_map_from_get total s t up up_too (λ q. found_is s.entries q.0 q.1 ∙ (same q.0 q.1 ∙ sym (found_is t.entries q.0 q.1))) (exact_pairs nat_cmp nat_cmp exact_unsigned exact_unsigned)
 
 -- ---- the order of places
 later : (i n m : ℕ) → n < m → place_cmp (i, n) (i, m) ≡ Less
@@ -107,35 +107,35 @@ number_up_to i m k e = elim (cases_lt k m) [
 ]
 
 -- ---- the first place past a chunk and a number
-module _ (s : BTreeSet (ℕ × ℕ)) (i n : ℕ) (r : List (ℕ × ℕ)) (range : IsKeyRangeOf place_cmp (Excluded (i, n)) Unbounded s r) where
-  -- if there is none, the chunk has no greater number
-  pub none_later : r ≡ [] → (m : ℕ) → n < m → is_indexed s.keys i m ≡ false
-  none_later e m l = sym (found_is s.keys i m) ∙ range.5 e (i, m) (later i n m l, tt)
+module _ (s : BTreeMap (ℕ × ℕ) (List ℕ)) (i n : ℕ) (r : List ((ℕ × ℕ) × List ℕ)) (range : IsRangeOf place_cmp (Excluded (i, n)) Unbounded s r) where
+  -- if there is none, the chunk has no bytes at a greater number
+  pub none_later : r ≡ [] → IsNextKept s.entries i n None
+  none_later e m l = sym (found_is s.entries i m) ∙ range.5 e (i, m) (later i n m l, tt)
 
-  module _ (j k : ℕ) (rest : List (ℕ × ℕ)) (first : r ≡ (j, k) ∷ rest) where
-    inside : (place_cmp (i, n) (j, k) ≡ Less) × (contains place_cmp s (j, k) ≡ true)
+  module _ (j k : ℕ) (bytes : List ℕ) (rest : List ((ℕ × ℕ) × List ℕ)) (first : r ≡ ((j, k), bytes) ∷ rest) where
+    inside : (place_cmp (i, n) (j, k) ≡ Less) × (get place_cmp s (j, k) ≡ Some bytes)
     inside =
         let found = rw first at range.1 in
         (found.0.0, found.1)
 
     -- a place of the chunk with a greater number is not before it
-    not_before : (m : ℕ) → n < m → is_indexed s.keys i m ≡ true → is_gt (place_cmp (j, k) (i, m)) ≡ false
-    not_before m l has = rw first at (range.2 (i, m) (later i n m l, tt) (found_is s.keys i m ∙ has))
+    not_before : (m : ℕ) (found : List ℕ) → n < m → bytes_at s.entries i m ≡ Some found → is_gt (place_cmp (j, k) (i, m)) ≡ false
+    not_before m found l has = rw first at (range.2 (i, m) (later i n m l, tt) (ap is_some (found_is s.entries i m ∙ has)))
 
-    -- if it is of the same chunk, its number is the next one
-    pub next_here : j ≡ i → IsNextIndexed s.keys i n (Some k)
+    -- what is not there is absent
+    absent_if : (o : Option (List ℕ)) → ((found : List ℕ) → o ≡ Some found → ⊥) → o ≡ None
+    absent_if None none = refl
+    absent_if (Some found) none = absurd (none found refl)
+
+    -- if it is of the same chunk, its bytes are the next ones
+    pub next_here : j ≡ i → IsNextKept s.entries i n (Some bytes)
     next_here same = (
+      k,
       number_past i n k (ap (λ c. place_cmp (i, n) (c, k)) (sym same) ∙ inside.0),
-      ap (λ c. is_indexed s.keys c k) (sym same) ∙ (sym (found_is s.keys j k) ∙ inside.1),
-      λ m l h. elim (cases_Bool (is_indexed s.keys i m)) [
-        | inr none ↦ none
-        | inl has ↦ absurd (omega (arith, h, number_up_to i k m (ap (λ c. is_gt (place_cmp (c, k) (i, m))) (sym same) ∙ not_before m l has)))
-      ],
+      ap (λ c. bytes_at s.entries c k) (sym same) ∙ (sym (found_is s.entries j k) ∙ inside.1),
+      λ m l h. absent_if (bytes_at s.entries i m) (λ found has. omega (arith, h, number_up_to i k m (ap (λ c. is_gt (place_cmp (c, k) (i, m))) (sym same) ∙ not_before m found l has))),
     )
 
-    -- else the chunk has no greater number
-    pub next_elsewhere : j ≢ i → IsNextIndexed s.keys i n None
-    next_elsewhere other m l = elim (cases_Bool (is_indexed s.keys i m)) [
-      | inr none ↦ none
-      | inl has ↦ absurd (other (omega (arith, chunk_from i n j k inside.0, chunk_up_to j k i m (not_before m l has))))
-    ]
+    -- else the chunk has no bytes at a greater number
+    pub next_elsewhere : j ≢ i → IsNextKept s.entries i n None
+    next_elsewhere other m l = absent_if (bytes_at s.entries i m) (λ found has. other (omega (arith, chunk_from i n j k inside.0, chunk_up_to j k i m (not_before m found l has))))

@@ -15,76 +15,71 @@ use Rattle.std.specs.List.Sorted.{IsStrictlySortedBy}
 use Rattle.std.specs.Map.{keys_of, lookup}
 use Rattle.std.specs.Option.{option_or}
 use Rattle.std.specs.Ordering.{nat_cmp}
-use Rattle.std.specs.Borrow.{Bor}
-use Rattle.std.specs.Prelude.{◌&&◌, ◌||◌, Option, Some, None, is_some, option_copied, if◌then◌else◌, nat_eq, nat_le, nat_lt}
+use Rattle.std.specs.Prelude.{◌&&◌, ◌||◌, Option, Some, None, is_some, if◌then◌else◌, nat_eq, nat_le, nat_lt}
 use Rattle.historical_bitmap.specs.History.{EntriesRise, from_number, kept_under, past_number, RiseInNumber, up_to_number}
-use Rattle.historical_bitmap.specs.Index.{AddsPlaces, IsIndexOf, is_indexed, keeps, kept_in, KeepsOthers, names, RemovesPlaces}
+use Rattle.historical_bitmap.specs.Index.{AddsPlaces, bytes_at, IsIndexOf, kept_in, KeepsOthers, last_kept, names, RemovesPlaces}
 use Rattle.historical_bitmap.specs.declared.bitmap.historical.record.ChunkDiff as stored
 use Rattle.historical_bitmap.specs.Stored.{diff_value, entry_values}
 use Rattle.historical_bitmap.specs.Record.{ChunkDiff, ReverseRecord, bytes_of, kept, kept_bytes}
 use Rattle.historical_bitmap.proofs.History.KeptUnder.{kept_from_number, kept_up_to_number, kept_where}
+use Rattle.historical_bitmap.proofs.History.Rewound.{or_assoc, or_none}
 use Rattle.historical_bitmap.proofs.Index.Places.{place_cmp, put}
 use Rattle.historical_bitmap.proofs.Records.UndoneInSteps.{none_past}
 
--- ---- tests joined
-pub or_false : (a : Bool) → (a || false) ≡ a
-or_false true = refl
-or_false false = refl
-
-pub and_true : (a : Bool) → (a && true) ≡ a
-and_true true = refl
-and_true false = refl
-
-pub and_false : (a : Bool) → (a && false) ≡ false
+-- ---- choices joined
+and_false : (a : Bool) → (a && false) ≡ false
 and_false true = refl
 and_false false = refl
 
-added_bit : (old a b k : Bool) → cond (a && b) true (old || (a && k)) ≡ (old || (a && (k || ((b && true) || false))))
-added_bit old false b k = refl
-added_bit true true true k = refl
-added_bit false true true true = refl
-added_bit false true true false = refl
-added_bit old true false k = ap (λ t. old || t) (sym (or_false k))
+-- nothing chosen before something
+nothing_or : (t : Bool) (o : Option (List ℕ)) → option_or (cond t None None) o ≡ o
+nothing_or true o = refl
+nothing_or false o = refl
 
-skipped_bit : (old a b k : Bool) → (old || (a && k)) ≡ (old || (a && (k || ((b && false) || false))))
-skipped_bit old a b k = ap (λ t. old || (a && t)) (sym (ap (λ t. k || (t || false)) (and_false b) ∙ or_false k))
+added_bytes : (a b : Bool) (bytes : List ℕ) (k old : Option (List ℕ))
+    → cond (a && b) (Some bytes) (option_or (cond a k None) old) ≡ option_or (cond a (option_or (cond b (Some bytes) None) k) None) old
+added_bytes false b bytes k old = refl
+added_bytes true true bytes k old = refl
+added_bytes true false bytes k old = refl
 
-removed_bit : (old a b k : Bool) → cond (a && b) false (old && not (a && k)) ≡ (old && not (a && (k || (b || false))))
-removed_bit old false b k = refl
-removed_bit true true true true = refl
-removed_bit true true true false = refl
-removed_bit false true true k = refl
-removed_bit old true false k = ap (λ t. old && not t) (sym (or_false k))
+removed_bytes : (a b k : Bool) (old : Option (List ℕ)) → cond (a && b) None (cond (a && k) None old) ≡ cond (a && (k || (b || false))) None old
+removed_bytes false b k old = refl
+removed_bytes true true true old = refl
+removed_bytes true true false old = refl
+removed_bytes true false true old = refl
+removed_bytes true false false old = refl
 
 -- ---- the entries of a record
--- an entry that keeps old bytes is for its chunk
-keeps_named : (es : List (ℕ × ChunkDiff)) (i : ℕ) → names es i ≡ false → keeps es i ≡ false
-keeps_named [] i h = refl
-keeps_named (e ∷ es) i h = let o = or_parts (nat_eq i e.0) (names es i) h in rw o.0 (keeps_named es i o.1)
+-- without an entry for the chunk, no bytes are kept of it
+last_named : (es : List (ℕ × ChunkDiff)) (i : ℕ) → names es i ≡ false → last_kept es i ≡ None
+last_named [] i h = refl
+last_named (e ∷ es) i h = let o = or_parts (nat_eq i e.0) (names es i) h in rw (o.0, last_named es i o.1) refl
 
--- without an entry for the chunk, none is found
+-- and none is found
 not_named : (es : List (ℕ × ChunkDiff)) (i : ℕ) → names es i ≡ false → lookup (nat_eq i) es ≡ None
 not_named [] i h = refl
 not_named (e ∷ es) i h = let o = or_parts (nat_eq i e.0) (names es i) h in rw o.0 (not_named es i o.1)
 
--- among ascending entries, the entry of a chunk is the one that is found
-pub keeps_is : (es : List (ℕ × ChunkDiff)) (i : ℕ) → IsStrictlySortedBy nat_cmp (keys_of es) → keeps es i ≡ is_some (bytes_of (lookup (nat_eq i) es))
-keeps_is [] i up = refl
-keeps_is (e ∷ es) i up =
-    let rest = keeps_is es i (sorted_tail nat_cmp e.0 (keys_of es) up) in
+-- among ascending entries, the last one that keeps bytes of a chunk is the one that is found
+pub last_is : (es : List (ℕ × ChunkDiff)) (i : ℕ) → IsStrictlySortedBy nat_cmp (keys_of es) → last_kept es i ≡ bytes_of (lookup (nat_eq i) es)
+last_is [] i up = refl
+last_is (e ∷ es) i up =
+    let rest = last_is es i (sorted_tail nat_cmp e.0 (keys_of es) up) in
     elim (cases_eq i e.0) [
       | inl same ↦
           let none = none_past i e.0 es (omega (arith, same)) (sorted_head nat_cmp e.0 (keys_of es) up) in
-          rw (eq-eqb i e.0 same) (ap (λ t. is_some (kept_bytes e.1) || t) (rw none at rest) ∙ or_false (is_some (kept_bytes e.1)))
-      | inr ne ↦ rw (ne_eqb i e.0 ne) rest
+          rw (eq-eqb i e.0 same, rw none at rest) refl
+      | inr ne ↦ rw (ne_eqb i e.0 ne) (or_none (last_kept es i) ∙ rest)
     ]
 
--- ---- one entry after the other
--- a reference to old bytes is there if the bytes are
-pub copied_some : {X : Type 0} (o : Option (Bor X)) → is_some (option_copied o) ≡ is_some o
-copied_some None = refl
-copied_some (Some x) = refl
+-- one entry more
+last_pushed : (xs : List (ℕ × ChunkDiff)) (e : ℕ × ChunkDiff) (i : ℕ) → last_kept (xs ++ e ∷ []) i ≡ option_or (cond (nat_eq i e.0) (kept_bytes e.1) None) (last_kept xs i)
+last_pushed [] e i = sym (or_none (cond (nat_eq i e.0) (kept_bytes e.1) None))
+last_pushed (x ∷ xs) e i =
+    ap (λ o. option_or o (cond (nat_eq i x.0) (kept_bytes x.1) None)) (last_pushed xs e i)
+    ∙ sym (or_assoc (cond (nat_eq i e.0) (kept_bytes e.1) None) (last_kept xs i) (cond (nat_eq i x.0) (kept_bytes x.1) None))
 
+-- ---- one entry after the other
 -- stored entries up to an index and from it on
 pub parts_of : {N : ℕ} (i : ℕ) (all : List (ℕ × stored.ChunkDiff N)) → entry_values all ≡ entry_values (take i all) ++ entry_values (drop i all)
 parts_of i all = ap entry_values (sym (take-append-drop i all)) ∙ map-append (λ e. (e.0, diff_value e.1)) (take i all) (drop i all)
@@ -96,73 +91,72 @@ stepped i all e inside is =
     ∙ map-append (λ e. (e.0, diff_value e.1)) (take i all) (e ∷ [])
 
 -- the loop has added the first entries, and adds the next one
-pub entry_added : (number : ℕ) (xs : List (ℕ × ChunkDiff)) (e : ℕ × ChunkDiff) (old mid new : List (ℕ × ℕ)) → is_some (kept_bytes e.1) ≡ true → AddsPlaces number xs old mid
-    → ((q : ℕ × ℕ) → list_any (is_at (place_cmp q)) new ≡ cond (is_at (place_cmp (e.0, number)) q) true (list_any (is_at (place_cmp q)) mid)) → AddsPlaces number (xs ++ e ∷ []) old new
-entry_added number xs e old mid new has adds step i m =
-    put mid new e.0 number true step i m
-    ∙ (ap (λ t. cond (nat_eq m number && nat_eq i e.0) true t) (adds i m)
-    ∙ (added_bit (is_indexed old i m) (nat_eq m number) (nat_eq i e.0) (keeps xs i)
-    ∙ ap (λ t. is_indexed old i m || (nat_eq m number && t)) (ap (λ t. keeps xs i || ((nat_eq i e.0 && t) || false)) (sym has) ∙ sym (list_any-append (λ entry. nat_eq i entry.0 && is_some (kept_bytes entry.1)) xs (e ∷ [])))))
+pub entry_added : (number : ℕ) (xs : List (ℕ × ChunkDiff)) (e : ℕ × ChunkDiff) (bytes : List ℕ) (old mid new : List ((ℕ × ℕ) × List ℕ)) → kept_bytes e.1 ≡ Some bytes → AddsPlaces number xs old mid
+    → ((q : ℕ × ℕ) → lookup (is_at (place_cmp q)) new ≡ cond (is_at (place_cmp (e.0, number)) q) (Some bytes) (lookup (is_at (place_cmp q)) mid)) → AddsPlaces number (xs ++ e ∷ []) old new
+entry_added number xs e bytes old mid new has adds step i m =
+    put mid new e.0 number (Some bytes) step i m
+    ∙ (ap (λ o. cond (nat_eq m number && nat_eq i e.0) (Some bytes) o) (adds i m)
+    ∙ (added_bytes (nat_eq m number) (nat_eq i e.0) bytes (last_kept xs i) (bytes_at old i m)
+    ∙ ap (λ o. option_or (cond (nat_eq m number) o None) (bytes_at old i m)) (ap (λ b. option_or (cond (nat_eq i e.0) b None) (last_kept xs i)) (sym has) ∙ sym (last_pushed xs e i))))
 
 -- an entry without old bytes adds nothing
-pub entry_skipped : (number : ℕ) (xs : List (ℕ × ChunkDiff)) (e : ℕ × ChunkDiff) (old mid : List (ℕ × ℕ)) → is_some (kept_bytes e.1) ≡ false → AddsPlaces number xs old mid → AddsPlaces number (xs ++ e ∷ []) old mid
+pub entry_skipped : (number : ℕ) (xs : List (ℕ × ChunkDiff)) (e : ℕ × ChunkDiff) (old mid : List ((ℕ × ℕ) × List ℕ)) → kept_bytes e.1 ≡ None → AddsPlaces number xs old mid → AddsPlaces number (xs ++ e ∷ []) old mid
 entry_skipped number xs e old mid none adds i m =
     adds i m
-    ∙ (skipped_bit (is_indexed old i m) (nat_eq m number) (nat_eq i e.0) (keeps xs i)
-    ∙ ap (λ t. is_indexed old i m || (nat_eq m number && t)) (ap (λ t. keeps xs i || ((nat_eq i e.0 && t) || false)) (sym none) ∙ sym (list_any-append (λ entry. nat_eq i entry.0 && is_some (kept_bytes entry.1)) xs (e ∷ []))))
+    ∙ ap (λ o. option_or (cond (nat_eq m number) o None) (bytes_at old i m)) (sym (last_pushed xs e i ∙ (ap (λ b. option_or (cond (nat_eq i e.0) b None) (last_kept xs i)) none ∙ nothing_or (nat_eq i e.0) (last_kept xs i))))
 
 -- no entry adds nothing
-pub none_added : (number : ℕ) (old : List (ℕ × ℕ)) → AddsPlaces number [] old old
-none_added number old i m = sym (ap (λ t. is_indexed old i m || t) (and_false (nat_eq m number)) ∙ or_false (is_indexed old i m))
+pub none_added : (number : ℕ) (old : List ((ℕ × ℕ) × List ℕ)) → AddsPlaces number [] old old
+none_added number old i m = sym (nothing_or (nat_eq m number) (bytes_at old i m))
 
 -- the first entries add no place but those of the chunks that all entries are for
-pub others_kept : (number : ℕ) (all xs rest : List (ℕ × ChunkDiff)) (old mid : List (ℕ × ℕ)) → all ≡ xs ++ rest → AddsPlaces number xs old mid → KeepsOthers number all old mid
-others_kept number all xs rest old mid split adds i m h = adds i m ∙ (elim (cases_Bool (nat_eq m number)) [
-  | inr e ↦ rw e (or_false (is_indexed old i m))
+pub others_kept : (number : ℕ) (all xs rest : List (ℕ × ChunkDiff)) (old mid : List ((ℕ × ℕ) × List ℕ)) → all ≡ xs ++ rest → AddsPlaces number xs old mid → KeepsOthers number all old mid
+others_kept number all xs rest old mid split adds i m h = adds i m ∙ elim (cases_Bool (nat_eq m number)) [
+  | inr e ↦ rw e refl
   | inl e ↦
       let named : names all i ≡ false = rw e at h in
       let parts = or_parts (names xs i) (names rest i) (sym (list_any-append (λ entry. nat_eq i entry.0) xs rest) ∙ (ap (λ es. names es i) (sym split) ∙ named)) in
-      rw (e, keeps_named xs i parts.0) (or_false (is_indexed old i m))
-])
+      rw (e, last_named xs i parts.0) refl
+]
 
 -- the loop has removed the first entries, and removes the next one
-pub entry_removed : (number : ℕ) (xs : List (ℕ × ChunkDiff)) (e : ℕ × ChunkDiff) (old mid new : List (ℕ × ℕ)) → RemovesPlaces number xs old mid
-    → ((q : ℕ × ℕ) → list_any (is_at (place_cmp q)) new ≡ cond (is_at (place_cmp (e.0, number)) q) false (list_any (is_at (place_cmp q)) mid)) → RemovesPlaces number (xs ++ e ∷ []) old new
+pub entry_removed : (number : ℕ) (xs : List (ℕ × ChunkDiff)) (e : ℕ × ChunkDiff) (old mid new : List ((ℕ × ℕ) × List ℕ)) → RemovesPlaces number xs old mid
+    → ((q : ℕ × ℕ) → lookup (is_at (place_cmp q)) new ≡ cond (is_at (place_cmp (e.0, number)) q) None (lookup (is_at (place_cmp q)) mid)) → RemovesPlaces number (xs ++ e ∷ []) old new
 entry_removed number xs e old mid new removes step i m =
-    put mid new e.0 number false step i m
-    ∙ (ap (λ t. cond (nat_eq m number && nat_eq i e.0) false t) (removes i m)
-    ∙ (removed_bit (is_indexed old i m) (nat_eq m number) (nat_eq i e.0) (names xs i)
-    ∙ ap (λ t. is_indexed old i m && not (nat_eq m number && t)) (sym (list_any-append (λ entry. nat_eq i entry.0) xs (e ∷ [])))))
+    put mid new e.0 number None step i m
+    ∙ (ap (λ o. cond (nat_eq m number && nat_eq i e.0) None o) (removes i m)
+    ∙ (removed_bytes (nat_eq m number) (nat_eq i e.0) (names xs i) (bytes_at old i m)
+    ∙ ap (λ t. cond (nat_eq m number && t) None (bytes_at old i m)) (sym (list_any-append (λ entry. nat_eq i entry.0) xs (e ∷ [])))))
 
 -- no entry removes nothing
-pub none_removed : (number : ℕ) (old : List (ℕ × ℕ)) → RemovesPlaces number [] old old
-none_removed number old i m = sym (ap (λ t. is_indexed old i m && not t) (and_false (nat_eq m number)) ∙ and_true (is_indexed old i m))
+pub none_removed : (number : ℕ) (old : List ((ℕ × ℕ) × List ℕ)) → RemovesPlaces number [] old old
+none_removed number old i m = sym (ap (λ t. cond t None (bytes_at old i m)) (and_false (nat_eq m number)))
 
 -- ---- all records, added one after the other
 -- the loop invariant: the index has the places of all commits but those that are left
-pub record AddsOn (all left : List (ℕ × ReverseRecord)) (places : List (ℕ × ℕ)) : Type 0 where
+pub record AddsOn (all left : List (ℕ × ReverseRecord)) (places : List ((ℕ × ℕ) × List ℕ)) : Type 0 where
   pub rise : RiseInNumber left
   pub entries : EntriesRise left
   pub within : (m : ℕ) (r : ReverseRecord) → kept_under left m ≡ Some r → kept_under all m ≡ Some r
-  pub index : (i m : ℕ) → is_indexed places i m ≡ (is_some (kept_in (kept_under all m) i) && not (is_some (kept_under left m)))
+  pub index : (i m : ℕ) → bytes_at places i m ≡ (if is_some (kept_under left m) then None else kept_in (kept_under all m) i)
 
-none_yet : (o : Option ReverseRecord) (i : ℕ) → false ≡ (is_some (kept_in o i) && not (is_some o))
+none_yet : (o : Option ReverseRecord) (i : ℕ) → None ≡ cond (is_some o) None (kept_in o i)
 none_yet None i = refl
-none_yet (Some r) i = sym (and_false (is_some (kept r i)))
+none_yet (Some r) i = refl
 
-pub adds_all : (all left : List (ℕ × ReverseRecord)) (places : List (ℕ × ℕ)) → left ≡ all → places ≡ [] → RiseInNumber all → EntriesRise all → AddsOn all left places
+pub adds_all : (all left : List (ℕ × ReverseRecord)) (places : List ((ℕ × ℕ) × List ℕ)) → left ≡ all → places ≡ [] → RiseInNumber all → EntriesRise all → AddsOn all left places
 adds_all all left places e none rise entries = record {
   rise = rw e rise;
   entries = rw e entries;
   within = λ m r found. ap (λ cs. kept_under cs m) (sym e) ∙ found;
-  index = λ i m. ap (λ ps. is_indexed ps i m) none ∙ (none_yet (kept_under all m) i ∙ ap (λ cs. is_some (kept_in (kept_under all m) i) && not (is_some (kept_under cs m))) (sym e));
+  index = λ i m. ap (λ ps. bytes_at ps i m) none ∙ (none_yet (kept_under all m) i ∙ ap (λ cs. cond (is_some (kept_under cs m)) None (kept_in (kept_under all m) i)) (sym e));
 }
 
 -- the number of the first commit is not among the later ones
 pub head_alone : {X : Type 0} (c : ℕ × X) (cs : List (ℕ × X)) → RiseInNumber (c ∷ cs) → (m : ℕ) → m ≡ c.0 → kept_under cs m ≡ None
 head_alone c cs rise m e = none_past m c.0 cs (omega (arith, e)) (sorted_head nat_cmp c.0 (keys_of cs) rise)
 
-pub record_added : (all left rest : List (ℕ × ReverseRecord)) (c : ℕ × ReverseRecord) (places next : List (ℕ × ℕ)) → left ≡ c ∷ rest → AddsPlaces c.0 c.1.entries places next → AddsOn all left places → AddsOn all rest next
+pub record_added : (all left rest : List (ℕ × ReverseRecord)) (c : ℕ × ReverseRecord) (places next : List ((ℕ × ℕ) × List ℕ)) → left ≡ c ∷ rest → AddsPlaces c.0 c.1.entries places next → AddsOn all left places → AddsOn all rest next
 record_added all left rest c places next e adds before = record {
   rise = sorted_tail nat_cmp c.0 (keys_of rest) rise;
   entries = All-tail (λ commit. IsStrictlySortedBy nat_cmp (keys_of commit.1.entries)) c rest (rw e at before.entries);
@@ -174,7 +168,7 @@ record_added all left rest c places next e adds before = record {
     | inl same ↦ rw (eq-eqb m c.0 same) (here i m same)
     | inr ne ↦
         let was = index i m in
-        rw (ne_eqb m c.0 ne) (or_false (is_indexed places i m) ∙ (rw (ne_eqb m c.0 ne) at was))
+        rw (ne_eqb m c.0 ne) (rw (ne_eqb m c.0 ne) at was)
   ];
 }
   where
@@ -184,32 +178,33 @@ record_added all left rest c places next e adds before = record {
     within : (m : ℕ) (r : ReverseRecord) → kept_under (c ∷ rest) m ≡ Some r → kept_under all m ≡ Some r
     within = rw e at before.within
 
-    index : (i m : ℕ) → is_indexed places i m ≡ (is_some (kept_in (kept_under all m) i) && not (is_some (kept_under (c ∷ rest) m)))
+    index : (i m : ℕ) → bytes_at places i m ≡ (if is_some (kept_under (c ∷ rest) m) then None else kept_in (kept_under all m) i)
     index = rw e at before.index
 
-    here : (i m : ℕ) → m ≡ c.0 → (is_indexed places i m || keeps c.1.entries i) ≡ (is_some (kept_in (kept_under all m) i) && not (is_some (kept_under rest m)))
+    here : (i m : ℕ) → m ≡ c.0 → option_or (last_kept c.1.entries i) (bytes_at places i m) ≡ (if is_some (kept_under rest m) then None else kept_in (kept_under all m) i)
     here i m same =
         let found : kept_under (c ∷ rest) m ≡ Some c.1 = rw (eq-eqb m c.0 same) refl in
         let none = head_alone c rest rise m same in
         let sorted = All-head (λ commit. IsStrictlySortedBy nat_cmp (keys_of commit.1.entries)) c rest (rw e at before.entries) in
-        let was : is_indexed places i m ≡ false = index i m ∙ (ap (λ o. is_some (kept_in (kept_under all m) i) && not (is_some o)) found ∙ and_false (is_some (kept_in (kept_under all m) i))) in
-        ap (λ t. t || keeps c.1.entries i) was
-        ∙ (keeps_is c.1.entries i sorted
-        ∙ (sym (ap (λ o. is_some (kept_in o i)) (within m c.1 found))
-        ∙ sym (ap (λ o. is_some (kept_in (kept_under all m) i) && not (is_some o)) none ∙ and_true (is_some (kept_in (kept_under all m) i)))))
+        let was : bytes_at places i m ≡ None = index i m ∙ ap (λ o. cond (is_some o) None (kept_in (kept_under all m) i)) found in
+        ap (λ o. option_or (last_kept c.1.entries i) o) was
+        ∙ (or_none (last_kept c.1.entries i)
+        ∙ (last_is c.1.entries i sorted
+        ∙ (sym (ap (λ o. kept_in o i) (within m c.1 found))
+        ∙ sym (ap (λ o. cond (is_some o) None (kept_in (kept_under all m) i)) none))))
 
-pub all_added : (all left : List (ℕ × ReverseRecord)) (places : List (ℕ × ℕ)) → left ≡ [] → AddsOn all left places → IsIndexOf places all
+pub all_added : (all left : List (ℕ × ReverseRecord)) (places : List ((ℕ × ℕ) × List ℕ)) → left ≡ [] → AddsOn all left places → IsIndexOf places all
 all_added all left places e before i m =
-    before.index i m ∙ (ap (λ cs. is_some (kept_in (kept_under all m) i) && not (is_some (kept_under cs m))) e ∙ and_true (is_some (kept_in (kept_under all m) i)))
+    before.index i m ∙ ap (λ cs. cond (is_some (kept_under cs m)) None (kept_in (kept_under all m) i)) e
 
 -- ---- the records of some commits, removed one after the other
 -- the loop invariant: the index has the places of the commits that are left, and of those to be kept
-pub record RemovesOn (left keep : List (ℕ × ReverseRecord)) (places : List (ℕ × ℕ)) : Type 0 where
+pub record RemovesOn (left keep : List (ℕ × ReverseRecord)) (places : List ((ℕ × ℕ) × List ℕ)) : Type 0 where
   pub rise : RiseInNumber left
   pub apart : (m : ℕ) (r : ReverseRecord) → kept_under left m ≡ Some r → kept_under keep m ≡ None
-  pub index : (i m : ℕ) → is_indexed places i m ≡ is_some (kept_in (option_or (kept_under left m) (kept_under keep m)) i)
+  pub index : (i m : ℕ) → bytes_at places i m ≡ kept_in (option_or (kept_under left m) (kept_under keep m)) i
 
-pub record_removed : (left rest keep : List (ℕ × ReverseRecord)) (c : ℕ × ReverseRecord) (places next : List (ℕ × ℕ)) → left ≡ c ∷ rest → RemovesPlaces c.0 c.1.entries places next → RemovesOn left keep places → RemovesOn rest keep next
+pub record_removed : (left rest keep : List (ℕ × ReverseRecord)) (c : ℕ × ReverseRecord) (places next : List ((ℕ × ℕ) × List ℕ)) → left ≡ c ∷ rest → RemovesPlaces c.0 c.1.entries places next → RemovesOn left keep places → RemovesOn rest keep next
 record_removed left rest keep c places next e removes before = record {
   rise = sorted_tail nat_cmp c.0 (keys_of rest) rise;
   apart = λ m r found. elim (cases_eq m c.0) [
@@ -220,7 +215,7 @@ record_removed left rest keep c places next e removes before = record {
     | inl same ↦ rw (eq-eqb m c.0 same) (here i m same)
     | inr ne ↦
         let was = index i m in
-        rw (ne_eqb m c.0 ne) (and_true (is_indexed places i m) ∙ (rw (ne_eqb m c.0 ne) at was))
+        rw (ne_eqb m c.0 ne) (rw (ne_eqb m c.0 ne) at was)
   ];
 }
   where
@@ -230,24 +225,24 @@ record_removed left rest keep c places next e removes before = record {
     apart : (m : ℕ) (r : ReverseRecord) → kept_under (c ∷ rest) m ≡ Some r → kept_under keep m ≡ None
     apart = rw e at before.apart
 
-    index : (i m : ℕ) → is_indexed places i m ≡ is_some (kept_in (option_or (kept_under (c ∷ rest) m) (kept_under keep m)) i)
+    index : (i m : ℕ) → bytes_at places i m ≡ kept_in (option_or (kept_under (c ∷ rest) m) (kept_under keep m)) i
     index = rw e at before.index
 
-    gone : (i : ℕ) → (is_some (kept c.1 i) && not (names c.1.entries i)) ≡ false
+    gone : (i : ℕ) → cond (names c.1.entries i) None (kept c.1 i) ≡ None
     gone i = elim (cases_Bool (names c.1.entries i)) [
-      | inl named ↦ rw named (and_false (is_some (kept c.1 i)))
-      | inr unnamed ↦ rw (not_named c.1.entries i unnamed) refl
+      | inl named ↦ rw named refl
+      | inr unnamed ↦ rw (unnamed, not_named c.1.entries i unnamed) refl
     ]
 
-    here : (i m : ℕ) → m ≡ c.0 → (is_indexed places i m && not (names c.1.entries i)) ≡ is_some (kept_in (option_or (kept_under rest m) (kept_under keep m)) i)
+    here : (i m : ℕ) → m ≡ c.0 → cond (names c.1.entries i) None (bytes_at places i m) ≡ kept_in (option_or (kept_under rest m) (kept_under keep m)) i
     here i m same =
         let found : kept_under (c ∷ rest) m ≡ Some c.1 = rw (eq-eqb m c.0 same) refl in
-        ap (λ t. t && not (names c.1.entries i)) (index i m ∙ ap (λ o. is_some (kept_in (option_or o (kept_under keep m)) i)) found)
+        ap (λ o. cond (names c.1.entries i) None o) (index i m ∙ ap (λ o. kept_in (option_or o (kept_under keep m)) i) found)
         ∙ (gone i
-        ∙ sym (ap (λ o. is_some (kept_in (option_or o (kept_under keep m)) i)) (head_alone c rest rise m same) ∙ ap (λ o. is_some (kept_in o i)) (apart m c.1 found)))
+        ∙ sym (ap (λ o. kept_in (option_or o (kept_under keep m)) i) (head_alone c rest rise m same) ∙ ap (λ o. kept_in o i) (apart m c.1 found)))
 
-pub all_removed : (left keep : List (ℕ × ReverseRecord)) (places : List (ℕ × ℕ)) → left ≡ [] → RemovesOn left keep places → IsIndexOf places keep
-all_removed left keep places e before i m = before.index i m ∙ ap (λ cs. is_some (kept_in (option_or (kept_under cs m) (kept_under keep m)) i)) e
+pub all_removed : (left keep : List (ℕ × ReverseRecord)) (places : List ((ℕ × ℕ) × List ℕ)) → left ≡ [] → RemovesOn left keep places → IsIndexOf places keep
+all_removed left keep places e before i m = before.index i m ∙ ap (λ cs. kept_in (option_or (kept_under cs m) (kept_under keep m)) i) e
 
 -- the commits whose numbers pass a test are removed, and the others are kept
 part : (b : Bool) (o : Option ReverseRecord) → option_or (if b then o else None) (if not b then o else None) ≡ o
@@ -255,7 +250,7 @@ part true None = refl
 part true (Some r) = refl
 part false o = refl
 
-module _ (p : ℕ → Bool) (commits left keep : List (ℕ × ReverseRecord)) (places : List (ℕ × ℕ)) (is : left ≡ filter (λ c. p c.0) commits)
+module _ (p : ℕ → Bool) (commits left keep : List (ℕ × ReverseRecord)) (places : List ((ℕ × ℕ) × List ℕ)) (is : left ≡ filter (λ c. p c.0) commits)
     (kept_where_not : (m : ℕ) → kept_under keep m ≡ (if not (p m) then kept_under commits m else None)) (rise : RiseInNumber left) (index : IsIndexOf places commits) where
   left_where : (m : ℕ) → kept_under left m ≡ (if p m then kept_under commits m else None)
   left_where m = ap (λ cs. kept_under cs m) is ∙ kept_where p m commits
@@ -267,7 +262,7 @@ module _ (p : ℕ → Bool) (commits left keep : List (ℕ × ReverseRecord)) (p
       | inl e ↦ let k = kept_where_not m in rw e at k
       | inr e ↦ absurd (let l = rw e at (left_where m) in let f : Some r ≡ None = sym found ∙ l in cc)
     ];
-    index = λ i m. index i m ∙ ap (λ o. is_some (kept_in o i)) (sym (part (p m) (kept_under commits m)) ∙ (ap (λ o. option_or o (if not (p m) then kept_under commits m else None)) (sym (left_where m)) ∙ ap (λ o. option_or (kept_under left m) o) (sym (kept_where_not m))));
+    index = λ i m. index i m ∙ ap (λ o. kept_in o i) (sym (part (p m) (kept_under commits m)) ∙ (ap (λ o. option_or o (if not (p m) then kept_under commits m else None)) (sym (left_where m)) ∙ ap (λ o. option_or (kept_under left m) o) (sym (kept_where_not m))));
   }
 
 -- the numbers of the commits that pass a test ascend
@@ -288,7 +283,7 @@ at_most number m = elim (cases_lt number m) [
   | inr l ↦ rw (le-leb m number l, le-ltb number m l) refl
 ]
 
-pub removes_past : (number : ℕ) (commits left : List (ℕ × ReverseRecord)) (places : List (ℕ × ℕ)) → left ≡ past_number number commits → RiseInNumber commits → IsIndexOf places commits → RemovesOn left (up_to_number number commits) places
+pub removes_past : (number : ℕ) (commits left : List (ℕ × ReverseRecord)) (places : List ((ℕ × ℕ) × List ℕ)) → left ≡ past_number number commits → RiseInNumber commits → IsIndexOf places commits → RemovesOn left (up_to_number number commits) places
 removes_past number commits left places is rise index =
     removes_where (nat_lt number) commits left (up_to_number number commits) places is
     (λ m. kept_up_to_number number m commits ∙ ap (λ t. if t then kept_under commits m else None) (at_most number m)) (rise_where (nat_lt number) commits left is rise) index
@@ -306,7 +301,7 @@ below_is m (e ∷ es) = elim (cases_order m e.0) [
   | inr (inr l) ↦ rw (le-ltb m e.0 (omega (arith, l)), ne_eqb m e.0 (λ same. absurd (omega (arith, same, l))), lt-ltb e.0 m l) (ap (λ rest. e ∷ rest) (below_is m es))
 ]
 
-pub removes_below : (number : ℕ) (commits left : List (ℕ × ReverseRecord)) (places : List (ℕ × ℕ)) → left ≡ filter (λ c. nat_lt c.0 number) commits → RiseInNumber commits → IsIndexOf places commits → RemovesOn left (from_number number commits) places
+pub removes_below : (number : ℕ) (commits left : List (ℕ × ReverseRecord)) (places : List ((ℕ × ℕ) × List ℕ)) → left ≡ filter (λ c. nat_lt c.0 number) commits → RiseInNumber commits → IsIndexOf places commits → RemovesOn left (from_number number commits) places
 removes_below number commits left places is rise index =
     removes_where (λ m. nat_lt m number) commits left (from_number number commits) places is
     (λ m. kept_from_number number m commits ∙ ap (λ t. if t then kept_under commits m else None) (at_least number m)) (rise_where (λ m. nat_lt m number) commits left is rise) index

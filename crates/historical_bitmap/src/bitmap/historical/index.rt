@@ -1,12 +1,12 @@
 //! An index of the kept commits by chunk, and past states that are read through it.
 
 ghost use Rattle.std.specs.Prelude.{◌≡◌, ℕ, ◌-◌, ◌^◌, [], None, IfOk, OnErr, OnOk, option_copied};
-ghost use Rattle.std.specs.BTreeSet.{IsOrdered};
+ghost use Rattle.std.specs.BTreeMap.{IsOrdered};
 ghost use Rattle.bitmap_bytes.specs.Chunk.{IsWidth};
 ghost use Rattle.bitmap_core.specs.Meaning.{pruned_meaning, ShowsChunk};
 ghost use Rattle.bitmap_core.specs.PrunedBits.{IsRetainedChunk};
-ghost use Rattle.historical_bitmap.specs.History.{before_latest, EntriesRise, first_kept as first_kept_of, from_number, kept_under, left_by, past_number, RiseInNumber, up_to_number};
-ghost use Rattle.historical_bitmap.specs.Index.{AddsPlaces, IsIndexOf, IsNextIndexed, KeepsOthers, RemovesPlaces};
+ghost use Rattle.historical_bitmap.specs.History.{before_latest, EntriesRise, from_number, kept_under, left_by, RiseInNumber, up_to_number};
+ghost use Rattle.historical_bitmap.specs.Index.{AddsPlaces, IsIndexOf, IsNextKept, KeepsOthers, RemovesPlaces};
 ghost use Rattle.historical_bitmap.specs.Stored.{entry_values};
 ghost use Rattle.historical_bitmap.specs.View.{history_of};
 
@@ -15,13 +15,14 @@ use crate::bitmap::historical::{BitMap, Clean, CleanBitMap};
 use bitmap_core::bitmap::Readable;
 use bitmap_core::chunk::{chunk_index, chunk_width};
 use std::alloc::{AllocError, Global};
-use std::collections::{BTreeMap, BTreeSet};
+use std::collections::BTreeMap;
+use std::fmt;
 use std::marker::Model;
 use std::ops::Bound;
 
-/// An index of the kept commits of a historical bitmap: per chunk, the numbers of the commits whose reverse records keep its old bytes.
+/// An index of the kept commits of a historical bitmap: per chunk, the old bytes that their reverse records keep, by the number of the commit.
 ///
-/// With it, `CleanBitMap::at_indexed` reads any kept commit at the cost of a search, however many commits are kept.
+/// With it, `CleanBitMap::at_indexed` reads a chunk of any kept commit by one search, however many commits are kept.
 /// The index is a value of its own, which its owner updates beside the bitmap:
 ///
 /// | Before or after | Call |
@@ -33,61 +34,71 @@ use std::ops::Bound;
 ///
 /// # Memory
 ///
-/// One entry of a sorted set per chunk whose old bytes a kept record has. Chunks that a commit added have no old bytes.
-#[derive(Debug, Drop)]
+/// One entry of a sorted map per chunk whose old bytes a kept record has, with these bytes. Chunks that a commit added have no old bytes.
+#[derive(Drop)]
 pub struct CommitIndex<const N: usize> {
-    places: BTreeSet<(usize, u64)>,
+    // The old bytes of a chunk, by the chunk and the number of the commit whose record keeps them.
+    places: BTreeMap<(usize, u64), [u8; N]>,
 }
 
 impl<const N: usize> Model for CommitIndex<N> {
     ghost use Rattle.std.specs.Prelude.{List, ℕ};
 
-    ghost Value = { List (ℕ × ℕ) };
+    ghost Value = { List ((ℕ × ℕ) × List ℕ) };
 
-    ghost view = { λ index. index.places.keys };
+    ghost view = { λ index. index.places.entries };
 }
 
-// Adds the chunks whose old bytes some entries keep, with a number. If an allocation fails, some of them are added.
+impl<const N: usize> fmt::Debug for CommitIndex<N> {
+    /// Writes the number of entries.
+    fn fmt<W: fmt::Write>(&self, f: &mut fmt::Formatter<W>) -> fmt::Result {
+        f.debug_struct("CommitIndex")
+            .field("entries", &self.places.len())
+            .finish()
+    }
+}
+
+// Adds the old bytes that some entries keep, at a number. If an allocation fails, some of them are added.
 fn add_entries<const N: usize>(
-    places: &mut BTreeSet<(usize, u64)>,
+    places: &mut BTreeMap<(usize, u64), [u8; N]>,
     number: u64,
     entries: &[(usize, ChunkDiff<N>)],
 ) -> Result<(), AllocError>
-    ensures ok { OnOk result (AddsPlaces number (entry_values entries.now) places.old.keys places.new.keys) }
-    ensures others { KeepsOthers number (entry_values entries.now) places.old.keys places.new.keys }
+    ensures ok { OnOk result (AddsPlaces number (entry_values entries.now) places.old.entries places.new.entries) }
+    ensures others { KeepsOthers number (entry_values entries.now) places.old.entries places.new.entries }
 {
     for entry in entries {
-        if entry.1.old_bytes().is_some() {
-            places.insert((entry.0, number))?;
+        if let Some(bytes) = entry.1.old_bytes() {
+            places.insert((entry.0, number), *bytes)?;
         }
     }
     Ok(())
 }
 
-// Removes the chunks that some entries are for, with a number. Does not allocate.
+// Removes the places of a number and the chunks that some entries are for. Does not allocate.
 fn remove_entries<const N: usize>(
-    places: &mut BTreeSet<(usize, u64)>,
+    places: &mut BTreeMap<(usize, u64), [u8; N]>,
     number: u64,
     entries: &[(usize, ChunkDiff<N>)],
 )
-    ensures { RemovesPlaces number (entry_values entries.now) places.old.keys places.new.keys }
+    ensures { RemovesPlaces number (entry_values entries.now) places.old.entries places.new.entries }
 {
     for entry in entries {
         places.remove(&(entry.0, number));
     }
 }
 
-// Returns the places of all records of some commits.
+// Returns the places of all records of some commits, with their bytes.
 fn places_of<const N: usize>(
     alloc: Global,
     commits: &BTreeMap<u64, CommitDiff<N>>,
-) -> Result<BTreeSet<(usize, u64)>, AllocError>
+) -> Result<BTreeMap<(usize, u64), [u8; N]>, AllocError>
     requires width { IsWidth N }
     requires rise { RiseInNumber commits.now.entries }
     requires entries { EntriesRise commits.now.entries }
-    ensures { IfOk result (λ places. IsIndexOf places.keys commits.now.entries) }
+    ensures { IfOk result (λ places. IsIndexOf places.entries commits.now.entries) }
 {
-    let mut places = BTreeSet::new(alloc);
+    let mut places = BTreeMap::new(alloc);
     for (number, record) in commits {
         add_entries(&mut places, *number, record.chunk_diffs())?;
     }
@@ -96,14 +107,14 @@ fn places_of<const N: usize>(
 
 // Removes the places of the records past a number. Does not allocate.
 fn remove_past<const N: usize>(
-    places: &mut BTreeSet<(usize, u64)>,
+    places: &mut BTreeMap<(usize, u64), [u8; N]>,
     commits: &BTreeMap<u64, CommitDiff<N>>,
     number: u64,
 )
     requires width { IsWidth N }
     requires rise { RiseInNumber commits.now.entries }
-    requires index { IsIndexOf places.old.keys commits.now.entries }
-    ensures { IsIndexOf places.new.keys (up_to_number number commits.now.entries) }
+    requires index { IsIndexOf places.old.entries commits.now.entries }
+    ensures { IsIndexOf places.new.entries (up_to_number number commits.now.entries) }
 {
     let later = (Bound::Excluded(number), Bound::Unbounded);
     for (at, record) in commits.range(later) {
@@ -113,14 +124,14 @@ fn remove_past<const N: usize>(
 
 // Removes the places of the records below a number. Does not allocate.
 fn remove_below<const N: usize>(
-    places: &mut BTreeSet<(usize, u64)>,
+    places: &mut BTreeMap<(usize, u64), [u8; N]>,
     commits: &BTreeMap<u64, CommitDiff<N>>,
     number: u64,
 )
     requires width { IsWidth N }
     requires rise { RiseInNumber commits.now.entries }
-    requires index { IsIndexOf places.old.keys commits.now.entries }
-    ensures { IsIndexOf places.new.keys (from_number number commits.now.entries) }
+    requires index { IsIndexOf places.old.entries commits.now.entries }
+    ensures { IsIndexOf places.new.entries (from_number number commits.now.entries) }
 {
     let earlier = (Bound::Unbounded, Bound::Excluded(number));
     for (at, record) in commits.range(earlier) {
@@ -128,47 +139,33 @@ fn remove_below<const N: usize>(
     }
 }
 
-// Returns the number of the first commit past a number whose record keeps old bytes of a chunk.
-fn next_indexed(places: &BTreeSet<(usize, u64)>, chunk: usize, number: u64) -> Option<u64>
-    ensures { IsNextIndexed places.now.keys chunk number result }
+// Returns the bytes that an index has for a chunk at the least number past one, by one search.
+fn next_kept<const N: usize>(
+    places: &BTreeMap<(usize, u64), [u8; N]>,
+    chunk: usize,
+    number: u64,
+) -> Option<&[u8; N]>
+    ensures { IsNextKept places.now.entries chunk number (option_copied result) }
 {
     let later = (Bound::Excluded((chunk, number)), Bound::Unbounded);
-    let place = places.range(later).next()?;
+    let (place, bytes) = places.range(later).next()?;
     if place.0 != chunk {
         return None;
     }
-    Some(place.1)
-}
-
-// Returns the old bytes of a chunk from the first record past a number that keeps any.
-fn find_kept<'a, const N: usize>(
-    commits: &'a BTreeMap<u64, CommitDiff<N>>,
-    places: &BTreeSet<(usize, u64)>,
-    number: u64,
-    chunk: usize,
-) -> Option<&'a [u8; N]>
-    requires width { IsWidth N }
-    requires rise { RiseInNumber commits.now.entries }
-    requires entries { EntriesRise commits.now.entries }
-    requires index { IsIndexOf places.now.keys commits.now.entries }
-    ensures { option_copied result ≡ first_kept_of (past_number number commits.now.entries) chunk }
-{
-    let next = next_indexed(places, chunk, number)?;
-    let record = commits.get(&next)?;
-    record.kept(chunk)
+    Some(bytes)
 }
 
 // Adds the places of the record of the last of some commits. If an allocation fails, the places are unchanged.
 fn add_last<const N: usize>(
-    places: &mut BTreeSet<(usize, u64)>,
+    places: &mut BTreeMap<(usize, u64), [u8; N]>,
     commits: &BTreeMap<u64, CommitDiff<N>>,
 ) -> Result<(), AllocError>
     requires width { IsWidth N }
     requires rise { RiseInNumber commits.now.entries }
     requires entries { EntriesRise commits.now.entries }
-    requires index { IsIndexOf places.old.keys (before_latest commits.now.entries) }
-    ensures ok { OnOk result (IsIndexOf places.new.keys commits.now.entries) }
-    ensures err { OnErr result (places.new.keys ≡ places.old.keys) }
+    requires index { IsIndexOf places.old.entries (before_latest commits.now.entries) }
+    ensures ok { OnOk result (IsIndexOf places.new.entries commits.now.entries) }
+    ensures err { OnErr result (places.new.entries ≡ places.old.entries) }
 {
     let Some((number, record)) = commits.last_key_value() else {
         return Ok(());
@@ -192,7 +189,7 @@ impl<const N: usize> CommitIndex<N> {
         ensures { IsIndexOf result [] }
     {
         CommitIndex {
-            places: BTreeSet::new(alloc),
+            places: BTreeMap::new(alloc),
         }
     }
 
@@ -204,7 +201,7 @@ impl<const N: usize> CommitIndex<N> {
     ///
     /// # Memory
     ///
-    /// Allocates the index.
+    /// Allocates the index: an entry per old bytes of the kept reverse records.
     ///
     /// # Complexity
     ///
@@ -279,14 +276,13 @@ impl<const N: usize> CommitIndex<N> {
     }
 }
 
-/// The bitmap at a kept commit, read in place with an index: a chunk is found by searches, however many commits are kept.
+/// The bitmap at a kept commit, read in place with an index: a chunk is found by one search, however many commits are kept.
 ///
 /// It is a `Readable`, and its methods do not allocate. `CleanBitMap::at_indexed` returns it.
 ///
 /// # Complexity
 ///
-/// `len` and `pruned_chunks`: constant. A read of a chunk: three binary searches, in the index, among the kept commits and in one reverse
-/// record; or one, in the index, if the chunk is in the current bitmap as it was at the commit.
+/// `len` and `pruned_chunks`: constant. A read of a chunk: one search, logarithmic in the entries of the index.
 #[derive(Drop)]
 pub struct AtIndexed<'a, const N: usize> {
     of: &'a BitMap<N, Clean>,
@@ -347,7 +343,7 @@ impl<const N: usize> BitMap<N, Clean> {
         ensures { ShowsChunk N (pruned_meaning N (left_by N number self.now.commits self.now.current)) chunk result }
     {
         let _ = self.current.len();
-        let kept = find_kept(&self.commits, &index.places, number, chunk);
+        let kept = next_kept(&index.places, chunk, number);
         self.kept_or_current(number, chunk, kept)
     }
 }

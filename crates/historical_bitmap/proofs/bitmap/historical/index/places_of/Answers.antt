@@ -7,5 +7,5 @@ use Rattle.historical_bitmap.proofs.bitmap.historical.index.places_of.Goals as g
 pub loop-number-preserved : goal.loop-number-preserved
 loop-number-preserved g c =
     let first : ℕ × ReverseRecord = (c.in-Some.number.now, c.in-Some.record.now) in
-    record_added c.args.commits.now.entries c.loop-number.number-iterator c.next.new.self first c.loop-number.places.keys c.add_entries.new.places.keys c.in-Some.ensures.steps
-    (subst (λ entries. AddsPlaces c.in-Some.number.now entries c.loop-number.places.keys c.add_entries.new.places.keys) c.chunk_diffs.ensures c.in_ok-add_entries.ensures.ok) c.loop-number.invariant
+    record_added c.args.commits.now.entries c.loop-number.number-iterator c.next.new.self first c.loop-number.places.entries c.add_entries.new.places.entries c.in-Some.ensures.steps
+    (subst (λ entries. AddsPlaces c.in-Some.number.now entries c.loop-number.places.entries c.add_entries.new.places.entries) c.chunk_diffs.ensures c.in_ok-add_entries.ensures.ok) c.loop-number.invariant

@@ -7,10 +7,10 @@ use Rattle.historical_bitmap.proofs.bitmap.historical.index.remove_below.Goals a
 pub loop-at-init : goal.loop-at-init
 loop-at-init g c =
     let earlier = c.into_iter-at-iterator.ensures.into_iter_gives ∙ (c.range-at-items.ensures.between tt ∙ below_is c.args.number c.args.commits.now.entries) in
-    removes_below c.args.number c.args.commits.now.entries c.into_iter-at-iterator.result c.args.places.now.keys earlier c.requires.rise c.requires.index
+    removes_below c.args.number c.args.commits.now.entries c.into_iter-at-iterator.result c.args.places.now.entries earlier c.requires.rise c.requires.index
 
 pub loop-at-preserved : goal.loop-at-preserved
 loop-at-preserved g c =
     let first : ℕ × ReverseRecord = (c.in-Some.at.now, c.in-Some.record.now) in
-    record_removed c.loop-at.at-iterator c.next.new.self _ first c.loop-at.places.keys c.remove_entries.new.places.keys c.in-Some.ensures.steps
-    (subst (λ entries. RemovesPlaces c.in-Some.at.now entries c.loop-at.places.keys c.remove_entries.new.places.keys) c.chunk_diffs.ensures c.remove_entries.ensures) c.loop-at.invariant
+    record_removed c.loop-at.at-iterator c.next.new.self _ first c.loop-at.places.entries c.remove_entries.new.places.entries c.in-Some.ensures.steps
+    (subst (λ entries. RemovesPlaces c.in-Some.at.now entries c.loop-at.places.entries c.remove_entries.new.places.entries) c.chunk_diffs.ensures c.remove_entries.ensures) c.loop-at.invariant

@@ -1,18 +1,16 @@
 use Rattle.std.proofs.Common.{arith}
-use Rattle.historical_bitmap.proofs.History.InPlace.{entries_rise}
+use Rattle.std.specs.Prelude.{option_copied}
+use Rattle.historical_bitmap.proofs.Index.Found.{next_found}
 use Rattle.historical_bitmap.proofs.bitmap.historical.index.BitMap+N+Clean.chunk_indexed.Goals as goal
 
-pub find_kept-kept-requires : goal.find_kept-kept-requires
-find_kept-kept-requires g c = (
+pub kept_or_current-requires : goal.kept_or_current-requires
+kept_or_current-requires g c = (
   omega arith,
   (
-    omega arith,
+    omega (arith, c.len.ensures.width.fits),
     (
-      c.len.ensures.width,
-      (
-        c.self.invariant.1.rise,
-        (entries_rise g.row.N c.self.inside.commits.entries c.self.inside.current c.self.invariant.1.undo, rw (← c.self.view_is, ← c.index.view_is) at c.requires.index),
-      ),
+      c.requires.retained,
+      rw (← c.self.view_is) (next_found c.index.inside.places.entries c.self.inside.commits.entries c.args.number c.args.chunk (option_copied c.next_kept-kept.result) c.self.invariant.1.rise (rw (← c.self.view_is, ← c.index.view_is) at c.requires.index) c.next_kept-kept.ensures),
     ),
   ),
 )

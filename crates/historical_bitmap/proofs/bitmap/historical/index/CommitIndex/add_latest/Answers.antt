@@ -6,10 +6,13 @@ pub add_last-requires : goal.add_last-requires
 add_last-requires g c = (
   omega arith,
   (
-    c.len.ensures.width,
+    omega (arith, c.len.ensures.width.fits),
     (
-      c.bitmap.invariant.1.rise,
-      (entries_rise g.row.N c.bitmap.inside.commits.entries c.bitmap.inside.current c.bitmap.invariant.1.undo, rw (← c.self.view_is, ← c.bitmap.view_is) at c.requires),
+      c.len.ensures.width,
+      (
+        c.bitmap.invariant.1.rise,
+        (entries_rise g.row.N c.bitmap.inside.commits.entries c.bitmap.inside.current c.bitmap.invariant.1.undo, rw (← c.self.view_is, ← c.bitmap.view_is) at c.requires),
+      ),
     ),
   ),
 )
