@@ -63,13 +63,13 @@ fn is_within(base: u64, count: u64, bit: u64) -> bool
     base <= bit && bit - base < count
 }
 
-// Returns the word with bit `at` set if `value` is true, else 0.
+// Returns the word whose only bit that may be set is bit `at`, which is `value`.
 #[inline]
 fn mask_if(at: u64, value: bool) -> u64
     requires { at < 64 }
     ensures { result ≡ (if value then 2 ^ at else 0) }
 {
-    if value { 1 << at } else { 0 }
+    (value as u64) << at
 }
 
 // Returns a tail without a word.
@@ -228,7 +228,8 @@ impl<const N: usize> TailChunks<N> {
         self.push_other(current, bit, value)
     }
 
-    // As `push_bit`, for a bit that is not in the cached word. Caches its word.
+    // As `push_bit`, for a bit that is not in the cached word. Caches its word. As a cold call it is kept out of the way of the others.
+    #[cold]
     #[inline(never)]
     fn push_other(&mut self, current: &Prunable<N>, bit: u64, value: bool) -> Result<(), AllocError>
         requires width { IsWidth N }
@@ -328,6 +329,7 @@ impl<const N: usize> TailChunks<N> {
     }
 
     // As `clear_bit`, for a bit that is not in the cached word. Caches its word, if its chunk is edited.
+    #[cold]
     #[inline(never)]
     fn clear_other(&mut self, bit: u64) -> Option<bool>
         requires width { IsWidth N }
