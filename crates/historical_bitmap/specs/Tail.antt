@@ -1,5 +1,5 @@
 -- Entries of chunks with a cached word: bits of one chunk, stored apart from it. A chunk has n bytes.
-use Rattle.std.specs.Prelude.{◌≡◌, ℕ, ◌+◌, ◌-◌, ◌*◌, ◌%◌, ◌<◌, ◌≤◌, ◌&&◌, ◌==◌, ◌⊎◌, Bool, List, [], Option, Some, None, MatchOption, IsSome, if◌then◌else◌, nat_eq, nat_le, nat_lt, unwrap_or}
+use Rattle.std.specs.Prelude.{◌≡◌, ℕ, ◌+◌, ◌-◌, ◌*◌, ◌%◌, ◌^◌, ◌<◌, ◌≤◌, ◌&&◌, ◌==◌, ◌⊎◌, Bool, List, [], Option, Some, None, MatchOption, IsSome, if◌then◌else◌, nat_eq, nat_le, nat_lt, unwrap_or}
 use Rattle.std.specs.Int.{bit_at}
 use Rattle.std.specs.List.Sorted.{IsStrictlySortedBy}
 use Rattle.std.specs.Map.{keys_of, lookup}
@@ -20,7 +20,7 @@ abbrev pub with_word : ℕ → List (ℕ × List ℕ) → Option ℕ → ℕ →
 with_word n entries None base count word = entries
 with_word n entries (Some i) base count word = with_cached entries (Some i) (chunk_with_word n (unwrap_or (lookup (nat_eq i) entries) []) base count word i)
 
--- the `count` bits from position `base` on are whole bytes of chunk i, which is among the entries, and fit a word
+-- the `count` bits from position `base` on are whole bytes of chunk i, which is among the entries, and fit a word; the position past them fits 64 bits or is the first that does not
 pub record IsWordOf (n : ℕ) (entries : List (ℕ × List ℕ)) (base count : ℕ) (i : ℕ) : Type 0 where
   pub sorted : IsStrictlySortedBy nat_cmp (keys_of entries)
   pub found : IsSome (lookup (nat_eq i) entries)
@@ -30,6 +30,7 @@ pub record IsWordOf (n : ℕ) (entries : List (ℕ × List ℕ)) (base count : �
   pub high : base + count ≤ 8 * n * i + 8 * n
   pub starts : (base - 8 * n * i) % 8 ≡ 0
   pub whole : count % 8 ≡ 0
+  pub fits : base + count ≤ 2 ^ 64
 
 -- the cached word, if there is one, is a word of a chunk of the entries; else it has no bits
 pub record IsTail (n : ℕ) (entries : List (ℕ × List ℕ)) (cached : Option ℕ) (base count : ℕ) : Type 0 where

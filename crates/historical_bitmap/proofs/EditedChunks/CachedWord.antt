@@ -297,8 +297,8 @@ module _ (n k i : ℕ) (pos : 0 < n) (index : i ≡ k / (8 * n)) where
     | inr l ↦ (omega (arith, l.is, l.space), omega (arith, l.is, mod_below (word_start n k) (8 * n) (omega (arith, pos))), omega (arith, l.is, start_low, mod_below (word_start n k) (8 * n) (omega (arith, pos))), omega (arith, l.is, aligned, mod_below (word_start n k) (8 * n) (omega (arith, pos))))
   ]
 
-  pub loaded_word : (es : List (ℕ × List ℕ)) (start end : ℕ) (chunk : List ℕ) → start ≡ word_start n k → end ≡ next_word n start → IsStrictlySortedBy nat_cmp (keys_of es) → lookup (nat_eq i) es ≡ Some chunk → IsWordOf n es start (end - start) i
-  loaded_word es start end chunk s e sorted found =
+  pub loaded_word : (es : List (ℕ × List ℕ)) (start end : ℕ) (chunk : List ℕ) → start ≡ word_start n k → end ≡ next_word n start → IsStrictlySortedBy nat_cmp (keys_of es) → lookup (nat_eq i) es ≡ Some chunk → end ≤ 2 ^ 64 → IsWordOf n es start (end - start) i
+  loaded_word es start end chunk s e sorted found last =
       let at : end ≡ next_word n (word_start n k) = e ∙ ap (next_word n) s in
       record {
         sorted = sorted;
@@ -309,6 +309,7 @@ module _ (n k i : ℕ) (pos : 0 < n) (index : i ≡ k / (8 * n)) where
         high = omega (arith, s, at, ends.1, ends.2);
         starts = omega (arith, s, start_low, aligned);
         whole = rw (s, at) ends.3;
+        fits = omega (arith, s, at, ends.1, last);
       }
 
   pub loaded_same : (es : List (ℕ × List ℕ)) (start end word : ℕ) (chunk : List ℕ) → start ≡ word_start n k → end ≡ next_word n start → IsWordOf n es start (end - start) i → lookup (nat_eq i) es ≡ Some chunk → IsChunk n chunk → ((t : ℕ) → t < 64 → start + t < end → start % (8 * n) + t < 8 * n → eqb (bit_at word t) 1 ≡ chunk_bit n chunk (start % (8 * n) + t)) → with_word n es (Some i) start (end - start) word ≡ es
@@ -372,9 +373,9 @@ module _ (n i k count : ℕ) (value : Bool) (chunk : List ℕ) (pos : 0 < n) (lo
   }
 
 -- the tail that a new word makes
-module _ (n i k : ℕ) (value : Bool) (width : IsWidth n) (index : i ≡ k / (8 * n)) (starts : k % (8 * n) % 64 ≡ 0) (cached : Option ℕ) (base count word : ℕ) (at : cached ≡ Some i) (from : base ≡ k) (long : count ≡ next_word n k - k) (bits : word ≡ cond value 1 0) where
+module _ (n i k : ℕ) (value : Bool) (width : IsWidth n) (index : i ≡ k / (8 * n)) (starts : k % (8 * n) % 64 ≡ 0) (last : next_word n k ≤ 2 ^ 64) (cached : Option ℕ) (base count word : ℕ) (at : cached ≡ Some i) (from : base ≡ k) (long : count ≡ next_word n k - k) (bits : word ≡ cond value 1 0) where
   begun_word : (es : List (ℕ × List ℕ)) (chunk : List ℕ) → IsStrictlySortedBy nat_cmp (keys_of es) → lookup (nat_eq i) es ≡ Some chunk → IsWordOf n es k (next_word n k - k) i
-  begun_word es chunk sorted found = loaded_word n k i width.positive index es k (next_word n k) chunk (omega (arith, starts)) refl sorted found
+  begun_word es chunk sorted found = loaded_word n k i width.positive index es k (next_word n k) chunk (omega (arith, starts)) refl sorted found last
 
   pub begun_in : (es : List (ℕ × List ℕ)) (chunk : List ℕ) → IsStrictlySortedBy nat_cmp (keys_of es) → lookup (nat_eq i) es ≡ Some chunk → IsClearFrom n i k chunk → IsTail n es cached base count × ((first : List ℕ) → (bytes : List ℕ) × SetsIn n first es (with_word n es cached base count word) i k value bytes)
   begun_in es chunk sorted found clear =

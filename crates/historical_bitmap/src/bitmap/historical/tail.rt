@@ -55,12 +55,13 @@ impl<const N: usize> Model for TailChunks<N> {
     ghost invariant = { λ c. IsTail N c.chunks c.tail.cached c.tail.base c.tail.count };
 }
 
-// Returns whether a position is among `count` positions from `base` on.
+// Returns whether a position is among `count` positions from `base` on. Takes one comparison: a difference that wraps is at least `count`.
 #[inline]
 fn is_within(base: u64, count: u64, bit: u64) -> bool
+    requires { base + count ≤ 2 ^ 64 }
     ensures { result ≡ (nat_le base bit && nat_lt bit (base + count)) }
 {
-    base <= bit && bit - base < count
+    bit.wrapping_sub(base) < count
 }
 
 // Returns the word whose only bit that may be set is bit `at`, which is `value`.
@@ -123,6 +124,16 @@ fn load<const N: usize>(chunks: &GrownChunks<N>, index: usize, bit: u64) -> Tail
         count: end - base,
         word: word_below(bytes, base, end),
     }
+}
+
+// Returns whether a word begins at a position, and can be cached.
+#[inline]
+fn can_begin<const N: usize>(bit: u64) -> bool
+    requires width { IsWidth N }
+    ensures starts { result ≡ true → bit % (8 * N) % 64 ≡ 0 }
+    ensures fits { result ≡ true → next_word N bit ≤ 2 ^ 64 }
+{
+    N <= WIDEST && bit % chunk_width::<N>() % 64 == 0 && following_word::<N>(bit).is_some()
 }
 
 // Returns the word that begins at a position of the chunk at an index, of zeros except its first bit.
@@ -241,7 +252,7 @@ impl<const N: usize> TailChunks<N> {
         ensures edited { IsSome (lookup (nat_eq (bit / (8 * N))) self.old) → IsOk result }
     {
         let index = chunk_index::<N>(bit);
-        if N <= WIDEST && bit % chunk_width::<N>() % 64 == 0 {
+        if can_begin::<N>(bit) {
             if bit % chunk_width::<N>() == 0 {
                 return self.push_first(index, bit, value);
             }
@@ -258,6 +269,7 @@ impl<const N: usize> TailChunks<N> {
         requires width { IsWidth N }
         requires index { index ≡ bit / (8 * N) }
         requires start { bit % (8 * N) ≡ 0 }
+        requires fits { next_word N bit ≤ 2 ^ 64 }
         requires absent { lookup (nat_eq index) self.old ≡ None }
         ensures ok { OnOk result ((bytes : List ℕ) × SetsIn N (replicate N 0) self.old self.new index bit value bytes) }
         ensures err { OnErr result (self.new ≡ self.old) }
@@ -275,6 +287,7 @@ impl<const N: usize> TailChunks<N> {
         requires width { IsWidth N }
         requires index { index ≡ bit / (8 * N) }
         requires starts { bit % (8 * N) % 64 ≡ 0 }
+        requires fits { next_word N bit ≤ 2 ^ 64 }
         requires zero { IfSome (lookup (nat_eq index) self.old) (IsClearFrom N index bit) }
         ensures written { result ≡ true → (first : List ℕ) → (bytes : List ℕ) × SetsIn N first self.old self.new index bit value bytes }
         ensures other { result ≡ false → self.new ≡ self.old }

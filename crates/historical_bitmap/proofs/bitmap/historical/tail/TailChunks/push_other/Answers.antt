@@ -4,11 +4,11 @@ use Rattle.bitmap_core.specs.PrunedBits.{chunk, truncated}
 use Rattle.historical_bitmap.specs.Pending.{SetsIn}
 use Rattle.historical_bitmap.proofs.EditedChunks.OpenedChunk.{first_zeros}
 use Rattle.historical_bitmap.proofs.bitmap.historical.tail.TailChunks.push_other.Goals as goal
-use Rattle.historical_bitmap.proofs.bitmap.historical.tail.TailChunks.push_other.Goals.{then-this-le-WIDEST+then-bit-chunk_width-eq0+else-bit-chunk_width-eq0-2+else-push_next, else-this-le-WIDEST}
+use Rattle.historical_bitmap.proofs.bitmap.historical.tail.TailChunks.push_other.Goals.{then-can_begin+else-bit-chunk_width-eq0+else-push_next, else-can_begin}
 
-pub returns-then-bit-chunk_width-eq0-2-clause-ok : goal.returns-then-bit-chunk_width-eq0-2-clause-ok
-returns-then-bit-chunk_width-eq0-2-clause-ok g c =
-    let whole : c.args.bit % (8 * g.row.N) ≡ 0 = rw c.chunk_width-then-bit-chunk_width-eq0.ensures at c.if-bit-chunk_width-eq0-2.true in
+pub returns-then-bit-chunk_width-eq0-clause-ok : goal.returns-then-bit-chunk_width-eq0-clause-ok
+returns-then-bit-chunk_width-eq0-clause-ok g c =
+    let whole : c.args.bit % (8 * g.row.N) ≡ 0 = rw c.chunk_width.ensures at c.if-bit-chunk_width-eq0.true in
     let index : ℕ = c.args.bit / (8 * g.row.N) in
     let set = rw c.chunk_index-index.ensures at c.push_first.ensures.ok in
     subst (λ first. OnOk c.push_first.result ((bytes : List ℕ) × SetsIn g.row.N first c.args.self.now c.push_first.new.self index c.args.bit c.args.value bytes)) (first_zeros g.row.N c.args.current.now c.args.bit index c.requires.width.positive refl c.requires.from whole) set
@@ -18,8 +18,8 @@ returns-then-push_next-clause-ok g c = rw c.chunk_index-index.ensures at c.push_
 
 pub returns-clause-ok : goal.returns-clause-ok
 returns-clause-ok g c =
-    let same : c.if-this-le-WIDEST.self ≡ c.args.self.now = elim c.if-this-le-WIDEST.branch [
-      | then-this-le-WIDEST+then-bit-chunk_width-eq0+else-bit-chunk_width-eq0-2+else-push_next w ↦ w.self-is ∙ w.push_next.ensures.other w.if-push_next.false
-      | else-this-le-WIDEST w ↦ w.self-is
+    let same : c.if-can_begin.self ≡ c.args.self.now = elim c.if-can_begin.branch [
+      | then-can_begin+else-bit-chunk_width-eq0+else-push_next w ↦ w.self-is ∙ w.push_next.ensures.other w.if-push_next.false
+      | else-can_begin w ↦ w.self-is
     ] in
     rw (c.chunk_index-index.ensures, same) at c.push_inside.ensures.ok
