@@ -13,7 +13,7 @@ use Rattle.std.specs.List.Sorted.{IsStrictlySortedBy}
 use Rattle.std.specs.Map.{keys_of}
 use Rattle.std.specs.Option.{option_or}
 use Rattle.std.specs.Ordering.{nat_cmp}
-use Rattle.std.specs.Prelude.{◌&&◌, Option, Some, None, nat_eq, slice_get}
+use Rattle.std.specs.Prelude.{◌&&◌, Some, None, nat_eq, slice_get}
 use Rattle.historical_bitmap.specs.History.{before_latest, EntriesRise, kept_under, RiseInNumber}
 use Rattle.historical_bitmap.specs.Index.{AddsPlaces, bytes_at, IsIndexOf, kept_in, KeepsOthers, last_kept, names, RemovesPlaces}
 use Rattle.historical_bitmap.specs.Record.{ReverseRecord}

@@ -4,8 +4,7 @@ use mathlib.Core.Logic.{inl, inr}
 use Rattle.std.proofs.Math.Nat.{lt-mul-div-succ}
 use Rattle.std.proofs.lemmas.Bool.{cases_lt}
 use Rattle.std.proofs.lemmas.Nat.{mul-le}
-use Rattle.std.specs.Prelude.{Option, MatchOption, IfSome, false}
-use Rattle.bitmap_bytes.specs.Chunk.{chunk_bit}
+use Rattle.std.specs.Prelude.{Option, MatchOption, IfSome}
 use Rattle.std.specs.Option.{option_map}
 use Rattle.bitmap_core.specs.PrunedBits.{PrunedBits, bit_len, pruned_bits}
 use Rattle.bitmap_core.proofs.Pruned.Positions.{place}

@@ -159,7 +159,7 @@ fn put_in<const N: usize>(chunks: &mut BTreeMap<usize, [u8; N]>, index: usize, c
     }
 }
 
-// Sets the bits of the chunk at an index, which there is, at or above bit `from` and below bit `to` of the chunk.
+// Sets the bits of a chunk of a map at or above bit `from` and below bit `to`, counted from its start.
 fn set_part<const N: usize>(
     chunks: &mut BTreeMap<usize, [u8; N]>,
     index: usize,
@@ -291,7 +291,7 @@ impl<const N: usize> EditedChunks<N> {
         true
     }
 
-    // Sets the bits of the chunk at an index, which there is, at or above bit `from` and below bit `to` of the chunk. Does not allocate.
+    // Sets the bits of an edited chunk at or above bit `from` and below bit `to`, counted from its start. Does not allocate.
     pub(crate) fn set_in(&mut self, index: usize, from: u64, to: u64, value: bool)
         requires width { IsWidth N }
         requires within { to ≤ 8 * N }

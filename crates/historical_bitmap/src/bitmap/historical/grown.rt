@@ -233,7 +233,7 @@ impl<const N: usize> GrownChunks<N> {
         self.others.join_byte(index, bit, byte)
     }
 
-    // Sets the bits of the chunk at an index, which there is, at or above bit `from` and below bit `to` of the chunk. Does not allocate.
+    // Sets the bits of an edited chunk at or above bit `from` and below bit `to`, counted from its start. Does not allocate.
     pub(crate) fn set_in(&mut self, index: usize, from: u64, to: u64, value: bool)
         requires width { IsWidth N }
         requires within { to ≤ 8 * N }
