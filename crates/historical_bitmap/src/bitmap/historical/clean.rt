@@ -23,7 +23,7 @@ impl<const N: usize> BitMap<N, Clean> {
         requires width { IsWidth N }
         ensures { result ≡ record { current = record { pruned = 0; bits = [] }; commits = []; last = None; state = tt } }
     {
-        Self::without_commits(alloc, Prunable::new(alloc))
+        Self::from_bitmap(alloc, Prunable::new(alloc))
     }
 
     /// Returns an empty bitmap, as `new` does, under the same conditions.
@@ -49,15 +49,23 @@ impl<const N: usize> BitMap<N, Clean> {
         ensures exact { IsOk result ↔ (8 * N * pruned_chunks < 2 ^ 64) }
     {
         let current = Prunable::new_with_pruned_chunks(alloc, pruned_chunks)?;
-        Ok(Self::without_commits(alloc, current))
+        Ok(Self::from_bitmap(alloc, current))
     }
 
-    // Returns a bitmap without commits.
-    fn without_commits(alloc: Global, current: Prunable<N>) -> Self
-        ensures { result ≡ record { current = current.entry; commits = []; last = None; state = tt } }
+    /// Makes a historical bitmap of a bitmap, which becomes the current one. There are no commits and no last number.
+    ///
+    /// # Memory
+    ///
+    /// Does not allocate. Edits and commits of the result allocate from `alloc`.
+    ///
+    /// # Complexity
+    ///
+    /// Constant.
+    pub fn from_bitmap(alloc: Global, bitmap: Prunable<N>) -> Self
+        ensures { result ≡ record { current = bitmap.entry; commits = []; last = None; state = tt } }
     {
         BitMap {
-            current,
+            current: bitmap,
             commits: BTreeMap::new(alloc),
             last: None,
             state: Clean::new(alloc),
