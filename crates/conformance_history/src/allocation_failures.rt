@@ -13,7 +13,7 @@ ghost use Rattle.historical_bitmap.specs.Index.{IsIndexOf};
 use crate::checked_calls::{
     failed_commit, has_pending_bits, keeps, pending_pruned_bits, pop, pop_run, try_commit,
     try_had_bits, try_prune_to_bit, try_push, try_push_byte, try_push_chunk, try_push_run,
-    try_set_bit,
+    try_set_bit, try_set_range,
 };
 use crate::checks::{equal, expect};
 use historical_bitmap::bitmap::historical::{
@@ -95,6 +95,22 @@ fn bit_set(rt: HostRuntime) {
             try_set_bit(&rt, &mut map, 8, true).is_err()
         };
     let after: &[u8] = if failed { PENDING } else { b"111101011111000" };
+    expect(&rt, has_pending_bits(&rt, &map, 1, after));
+    use_further(&rt, map, &before);
+}
+
+// A range of two chunks, one of which is edited.
+#[test]
+fn range_set(rt: HostRuntime) {
+    let Some((mut map, before)) = batch_begun(&rt, rt.alloc()) else {
+        return;
+    };
+    let failed = try_set_range(&rt, &mut map, 10..18, false).is_err()
+        && {
+            expect(&rt, has_pending_bits(&rt, &map, 1, PENDING));
+            try_set_range(&rt, &mut map, 10..18, false).is_err()
+        };
+    let after: &[u8] = if failed { PENDING } else { b"010000000011000" };
     expect(&rt, has_pending_bits(&rt, &map, 1, after));
     use_further(&rt, map, &before);
 }
@@ -243,6 +259,38 @@ fn byte_pushed_across_chunks(rt: HostRuntime) {
     }
 }
 
+// Clears bits of the first twelve chunks, while the first `chunks` chunks are edited. After an error a commit has entries for these alone.
+// Commit 1 has sixteen entries, and the chunk with the removed bits has one.
+fn clear_across(rt: &impl Abort, alloc: Global, chunks: u64) {
+    let Some(mut map) = edited(rt, alloc, chunks) else {
+        return;
+    };
+    let failed = try_set_range(rt, &mut map, 4..90, false).is_err()
+        && {
+            equal(rt, map.len(), 124);
+            try_set_range(rt, &mut map, 4..90, false).is_err()
+        };
+    let Ok(map) = try_commit(rt, map, 2) else {
+        return;
+    };
+    let runs: &[(u64, bool)] = if failed {
+        &[(124, true)]
+    } else {
+        &[(4, true), (86, false), (34, true)]
+    };
+    expect(rt, has_runs(map.current(), 0, runs));
+    let marked = if failed { chunks } else { chunks.max(12) };
+    equal(rt, map.reverse_entries(), marked.saturating_add(17) as u128);
+}
+
+// A range of many chunks that are not edited is set completely or not at all.
+#[test]
+fn range_set_across_chunks(rt: HostRuntime) {
+    for chunks in [0, 1, 5, 13] {
+        clear_across(&rt, rt.alloc(), chunks);
+    }
+}
+
 // The bits 10, committed at 1, or `None` if an allocation fails.
 fn ten(rt: &impl Abort, alloc: Global) -> Option<CleanBitMap<4>> {
     let mut map = CleanBitMap::<4>::new(alloc).into_dirty();
@@ -374,19 +422,20 @@ fn chunks_removed_and_pruned_committed(rt: HostRuntime) {
 }
 
 // The pending bitmap of `batch_begun` after each of the edits below: its pruned chunks and its bits.
-const FURTHER: [(usize, &[u8]); 5] = [
+const FURTHER: [(usize, &[u8]); 6] = [
     (1, b"111101011111000"),
     (1, b"0111010111110001"),
     (1, b"01110101111100010110010"),
     (1, b"01110101111100010110010"),
+    (1, b"010000000011000"),
     (2, b"1111000"),
 ];
 
-// Makes one of five edits in a chain, after an edit that prunes nothing and does not allocate.
+// Makes one of six edits in a chain, after an edit that prunes nothing and does not allocate.
 fn edit_further(rt: &impl Abort, map: &mut DirtyBitMap<1>, which: usize) -> Result<(), AllocError> {
     expect(
         rt,
-        pending_pruned_bits(rt, map) <= 8 && 16 <= map.len() && map.len() < 1000,
+        pending_pruned_bits(rt, map) <= 8 && 18 <= map.len() && map.len() < 1000,
     );
     let edit = map.prune_to_bit(0)?;
     let _ = match which {
@@ -394,6 +443,7 @@ fn edit_further(rt: &impl Abort, map: &mut DirtyBitMap<1>, which: usize) -> Resu
         1 => edit.push(true)?,
         2 => edit.push_byte(0x4d)?,
         3 => edit.push_chunk(&[0x4d])?,
+        4 => edit.set_range(10..18, false)?,
         _ => edit.prune_to_bit(16)?,
     };
     Ok(())
@@ -408,7 +458,7 @@ fn check_further(rt: &impl Abort, alloc: Global, which: usize) {
             expect(rt, has_pending_bits(rt, &map, 1, PENDING));
             edit_further(rt, &mut map, which).is_err()
         };
-    expect(rt, which < 5);
+    expect(rt, which < 6);
     let (pruned_chunks, digits) = if failed { (1, PENDING) } else { FURTHER[which] };
     expect(rt, has_pending_bits(rt, &map, pruned_chunks, digits));
     use_further(rt, map, &before);
@@ -416,7 +466,7 @@ fn check_further(rt: &impl Abort, alloc: Global, which: usize) {
 
 #[test]
 fn edits_in_a_chain(rt: HostRuntime) {
-    for which in 0..5 {
+    for which in 0..6 {
         check_further(&rt, rt.alloc(), which);
     }
 }

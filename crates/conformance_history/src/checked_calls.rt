@@ -10,6 +10,7 @@ use crate::checks::ok;
 use historical_bitmap::bitmap::Readable;
 use historical_bitmap::bitmap::historical::{CleanBitMap, DirtyBitMap, Error, RewindError};
 use std::alloc::AllocError;
+use std::ops::Range;
 use std::process::Abort;
 use test_support::compare::has_bits;
 
@@ -63,6 +64,28 @@ pub fn try_set_bit<const N: usize>(
 /// The same, but fails the test if an allocation fails.
 pub fn set_bit<const N: usize>(rt: &impl Abort, map: &mut DirtyBitMap<N>, bit: u64, value: bool) {
     ok(rt, try_set_bit(rt, map, bit, value));
+}
+
+/// Sets the bits of the pending bitmap in a range of retained positions to `value`.
+pub fn try_set_range<const N: usize>(
+    rt: &impl Abort,
+    map: &mut DirtyBitMap<N>,
+    range: Range<u64>,
+    value: bool,
+) -> Result<(), AllocError> {
+    assert!(rt; pending_pruned_bits(rt, map) <= range.start && range.end <= map.len());
+    map.set_range(range, value)?;
+    Ok(())
+}
+
+/// The same, but fails the test if an allocation fails.
+pub fn set_range<const N: usize>(
+    rt: &impl Abort,
+    map: &mut DirtyBitMap<N>,
+    range: Range<u64>,
+    value: bool,
+) {
+    ok(rt, try_set_range(rt, map, range, value));
 }
 
 /// Appends a bit.

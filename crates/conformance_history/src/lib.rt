@@ -24,6 +24,8 @@ mod pending_reads;
 #[cfg(test)]
 mod pushes;
 #[cfg(test)]
+mod ranges;
+#[cfg(test)]
 mod records;
 #[cfg(test)]
 mod rewound;

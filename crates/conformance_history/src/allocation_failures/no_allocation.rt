@@ -4,7 +4,7 @@ use crate::allocation_failures::{PENDING, batch_begun, committed};
 use crate::checked_calls::{
     current_bit, current_chunk, failed_commit, failed_rewind, has_pending_bits, keeps, pending_bit,
     pending_chunk, pop, pop_run, read_bit, try_commit, try_prune_to_bit, try_push, try_push_byte,
-    try_push_run, try_set_bit,
+    try_push_run, try_set_bit, try_set_range,
 };
 use crate::checks::{equal, expect, expect_at};
 use historical_bitmap::bitmap::Readable;
@@ -54,6 +54,20 @@ fn edited_chunk_set(rt: HostRuntime) {
         expect_at(&rt, bit, try_set_bit(&rt, &mut map, bit, false).is_ok());
     }
     equal(&rt, pending_chunk(&rt, &map, 31), [0; 4]);
+}
+
+// A range of an edited chunk, and one without a position.
+#[test]
+fn edited_range_set(rt: HostRuntime) {
+    let Some(mut map) = one_chunk(&rt, rt.alloc()) else {
+        return;
+    };
+    if try_set_bit(&rt, &mut map, 0, false).is_err() {
+        return;
+    }
+    expect(&rt, try_set_range(&rt, &mut map, 4..20, false).is_ok());
+    expect(&rt, try_set_range(&rt, &mut map, 32..0, false).is_ok());
+    equal(&rt, pending_chunk(&rt, &map, 31), [0x0e, 0x00, 0xf0, 0xff]);
 }
 
 #[test]
