@@ -92,6 +92,15 @@ pub step_from : (N : ℕ) (a b : Machine) (command : Command N) (reply : ReplyVa
     → StepTo N Agrees b command reply new
 step_from N a b command reply new e step = subst (λ (m : Machine). StepTo N Agrees m command reply new) e step
 
+-- a step is a step between equal machines with an equal reply
+pub step_between : (N : ℕ) (a b : Machine) (command : Command N) (reply same : ReplyValue) (new now : Machine)
+    → a ≡ b
+    → same ≡ reply
+    → now ≡ new
+    → StepTo N Agrees a command reply new
+    → StepTo N Agrees b command same now
+step_between N a b command reply same new now e f h step = step_from N a b command same now e (rw (f, h) step)
+
 -- a machine that agrees with a session can take the session's step
 pub simulates : (N : ℕ) (old new before : Machine) (command : Command N) (reply : ReplyValue)
     → Agrees old before

@@ -4,13 +4,17 @@ mod clean;
 mod dirty;
 mod shown;
 
-ghost use Rattle.std.specs.Prelude.{◌≡◌, ◌+◌, ◌≤◌, List, ◌++◌, length, map, IsOk, OnErr, OnOk, vec_len, vec_capacity};
+ghost use Rattle.std.specs.Prelude.{◌≡◌, ◌+◌, ◌≤◌, List, [], ◌++◌, None, length, map, IfErr, IfOk, IsOk, OnErr, OnOk, vec_len, vec_capacity};
 ghost use Rattle.bitmap_bytes.specs.Chunk.{IsWidth};
+ghost use Rattle.bitmap_core.specs.Decoding.{admits, decode_error, pruned_error, pruned_in};
+ghost use Rattle.bitmap_core.specs.Encoding.{pruned_encoding};
 ghost use Rattle.bitmap_session.specs.Machine.{Agrees, StepTo, RunsOn, first_machine};
 ghost use Rattle.bitmap_session.specs.Abstraction.{machine_of, value_of};
 
 use crate::command::Command;
-use crate::reply::Reply;
+use crate::reply::{Refusal, Reply};
+use bitmap_core::bitmap::Prunable;
+use bitmap_core::bitmap::codec::{CodecError, RangeCfg, Read};
 use historical_bitmap::bitmap::historical::{CleanBitMap, DirtyBitMap};
 use std::alloc::{AllocError, Global};
 use std::marker::Model;
@@ -82,8 +86,70 @@ impl<const N: usize> Session<N> {
         }
     }
 
-    // Runs one command, and returns its reply.
-    fn serve(&mut self, command: &Command<N>) -> Reply<N>
+    /// Reads a bitmap from the start of the bytes, and advances `from` past its encoding. Returns a session outside a batch, with
+    /// this current bitmap, no commits and no last number.
+    ///
+    /// `range` limits the number of retained bits; pruned bits do not count. `N` is at least 1, and `8N` fits `u64`. The bitmaps
+    /// of the session allocate from `alloc`.
+    ///
+    /// # Errors
+    ///
+    /// Returns the first error that applies, in the order that `bitmap_core::bitmap::codec` lists for a `Prunable`. `from` is then
+    /// unchanged.
+    ///
+    /// # Memory
+    ///
+    /// Allocates at most once, for the chunks of the bitmap, and only if the bytes have no decode error.
+    ///
+    /// # Complexity
+    ///
+    /// Linear in the bytes of the encoding. If the bytes have a decode error, constant.
+    pub fn read(alloc: Global, from: &mut &[u8], range: &RangeCfg) -> Result<Self, CodecError>
+        requires width { IsWidth N }
+        ensures found { IfOk result (λ s. from.old.now ≡ pruned_encoding N s.state.current ++ from.new.now) }
+        ensures value { IfOk result (λ s. s ≡ record { state = record { current = pruned_in from.old.now; pending = None; history = []; costs = []; last = None }; touched = [] }) }
+        ensures accepted { OnOk result (pruned_error N (admits range.now) from.old.now ≡ None) }
+        ensures refused { IfErr result (λ e. pruned_error N (admits range.now) from.old.now ≡ decode_error e) }
+        ensures unmoved { OnErr result (from.new ≡ from.old) }
+    {
+        let bitmap = Prunable::read_cfg(alloc, from, range)?;
+        Ok(Session {
+            state: State::Clean(CleanBitMap::from_bitmap(alloc, bitmap)),
+            alloc,
+        })
+    }
+
+    /// Runs one command, and returns its reply.
+    ///
+    /// Any command is valid: there is no condition on it, or on the session. The reply and the session afterwards are those of one
+    /// step of the abstract machine, as in `run`. A refused command replies `Refused`, and the session is unchanged.
+    ///
+    /// # Memory
+    ///
+    /// Allocates as the call of `CleanBitMap` or `DirtyBitMap` that the command makes, and for the positions and bytes of its
+    /// reply. If an allocation fails, the reply is `Refused(NoMemory)`.
+    ///
+    /// # Complexity
+    ///
+    /// As the call that the command makes, and constant time besides.
+    pub fn serve(&mut self, command: &Command<N>) -> Reply<N>
+        ensures { StepTo N Agrees self.old command.now (value_of result) self.new }
+    {
+        match command {
+            Command::Push(value) => self.push(*value),
+            Command::PushByte(byte) => self.push_byte(*byte),
+            Command::PushChunk(bytes) => self.push_chunk(bytes),
+            Command::Pop => self.pop(),
+            Command::Set(position, value) => self.set(*position, *value),
+            Command::Prune(position) => self.prune(*position),
+            Command::Len => self.len(),
+            Command::Get(position) => self.get(*position),
+            _ => self.replace_state(command),
+        }
+    }
+
+    // Runs one command on the state, which is taken out of the session and put back after the command.
+    fn replace_state(&mut self, command: &Command<N>) -> Reply<N>
         ensures { StepTo N Agrees self.old command.now (value_of result) self.new }
     {
         let alloc = self.alloc;
@@ -92,6 +158,184 @@ impl<const N: usize> Session<N> {
         let (reply, state) = step(state, alloc, command);
         self.state = state;
         reply
+    }
+
+    /// Runs `Push`: appends a bit to the pending bitmap, and replies `Done`.
+    ///
+    /// # Errors
+    ///
+    /// Replies `Refused` and leaves the session unchanged, with `WrongMode` outside a batch,
+    /// `TooLong` if the length would not fit `u64`, and `NoMemory` if an allocation fails.
+    ///
+    /// # Memory
+    ///
+    /// Allocates as `try_push` of `DirtyBitMap`.
+    ///
+    /// # Complexity
+    ///
+    /// As `try_push`.
+    pub fn push(&mut self, value: bool) -> Reply<N>
+        ensures { StepTo N Agrees self.old (Command.Push value) (value_of result) self.new }
+    {
+        match &mut self.state {
+            State::Dirty(bitmap) => dirty::push(bitmap, value),
+            State::Clean(_) => Reply::Refused(Refusal::WrongMode),
+        }
+    }
+
+    /// Runs `PushByte`: appends the eight bits of a byte to the pending bitmap, the lowest bit first, and replies `Done`.
+    ///
+    /// # Errors
+    ///
+    /// Replies `Refused` and leaves the session unchanged, with `WrongMode` outside a batch,
+    /// `TooLong` if the length would not fit `u64`, and `NoMemory` if an allocation fails.
+    ///
+    /// # Memory
+    ///
+    /// Allocates as `try_push_byte` of `DirtyBitMap`.
+    ///
+    /// # Complexity
+    ///
+    /// As `try_push_byte`.
+    pub fn push_byte(&mut self, byte: u8) -> Reply<N>
+        ensures { StepTo N Agrees self.old (Command.PushByte byte) (value_of result) self.new }
+    {
+        match &mut self.state {
+            State::Dirty(bitmap) => dirty::push_byte(bitmap, byte),
+            State::Clean(_) => Reply::Refused(Refusal::WrongMode),
+        }
+    }
+
+    /// Runs `PushChunk`: appends the `8N` bits of a chunk to the pending bitmap, and replies `Done`.
+    ///
+    /// # Errors
+    ///
+    /// Replies `Refused` and leaves the session unchanged, with `WrongMode` outside a batch,
+    /// `TooLong` if the length would not fit `u64`, and `NoMemory` if an allocation fails.
+    ///
+    /// # Memory
+    ///
+    /// Allocates as `try_push_chunk` of `DirtyBitMap`.
+    ///
+    /// # Complexity
+    ///
+    /// As `try_push_chunk`.
+    pub fn push_chunk(&mut self, bytes: &[u8; N]) -> Reply<N>
+        ensures { StepTo N Agrees self.old (Command.PushChunk bytes.now) (value_of result) self.new }
+    {
+        match &mut self.state {
+            State::Dirty(bitmap) => dirty::push_chunk(bitmap, bytes),
+            State::Clean(_) => Reply::Refused(Refusal::WrongMode),
+        }
+    }
+
+    /// Runs `Pop`: removes the last bit of the pending bitmap, and replies it as `Bit`.
+    ///
+    /// # Errors
+    ///
+    /// Replies `Refused` and leaves the session unchanged, with `WrongMode` outside a batch, and
+    /// `NoRetainedBit` if no bit is retained.
+    ///
+    /// # Memory
+    ///
+    /// Does not allocate.
+    ///
+    /// # Complexity
+    ///
+    /// As `pop` of `DirtyBitMap`.
+    pub fn pop(&mut self) -> Reply<N>
+        ensures { StepTo N Agrees self.old Command.Pop (value_of result) self.new }
+    {
+        match &mut self.state {
+            State::Dirty(bitmap) => dirty::pop(bitmap),
+            State::Clean(_) => Reply::Refused(Refusal::WrongMode),
+        }
+    }
+
+    /// Runs `Set`: replaces the bit at an absolute position of the pending bitmap, and replies `Done`.
+    ///
+    /// # Errors
+    ///
+    /// Replies `Refused` and leaves the session unchanged, with `WrongMode` outside a batch,
+    /// `OutOfBounds` if the position is not below the length, `Pruned` if it is pruned, and `NoMemory` if an allocation fails.
+    ///
+    /// # Memory
+    ///
+    /// Allocates as `try_set_bit` of `DirtyBitMap`.
+    ///
+    /// # Complexity
+    ///
+    /// As `try_set_bit`.
+    pub fn set(&mut self, position: u64, value: bool) -> Reply<N>
+        ensures { StepTo N Agrees self.old (Command.Set position value) (value_of result) self.new }
+    {
+        match &mut self.state {
+            State::Dirty(bitmap) => dirty::set(bitmap, position, value),
+            State::Clean(_) => Reply::Refused(Refusal::WrongMode),
+        }
+    }
+
+    /// Runs `Prune`: prunes the chunks of the pending bitmap before the chunk of an absolute position, and replies `Done`.
+    ///
+    /// # Errors
+    ///
+    /// Replies `Refused` and leaves the session unchanged, with `WrongMode` outside a batch,
+    /// `OutOfBounds` if the position is above the length, and `NoMemory` if an allocation fails.
+    ///
+    /// # Memory
+    ///
+    /// Allocates as `try_prune_to_bit` of `DirtyBitMap`.
+    ///
+    /// # Complexity
+    ///
+    /// As `try_prune_to_bit`.
+    pub fn prune(&mut self, position: u64) -> Reply<N>
+        ensures { StepTo N Agrees self.old (Command.Prune position) (value_of result) self.new }
+    {
+        match &mut self.state {
+            State::Dirty(bitmap) => dirty::prune(bitmap, position),
+            State::Clean(_) => Reply::Refused(Refusal::WrongMode),
+        }
+    }
+
+    /// Runs `Get`: replies the bit at an absolute position of the visible bitmap as `Bit`.
+    ///
+    /// # Errors
+    ///
+    /// Replies `Refused` with `OutOfBounds` if the position is not below the length, and with `Pruned` if it is pruned.
+    ///
+    /// # Memory
+    ///
+    /// Does not allocate.
+    ///
+    /// # Complexity
+    ///
+    /// As `get_bit` of `CleanBitMap` or `DirtyBitMap`.
+    pub fn get(&self, position: u64) -> Reply<N>
+        ensures { StepTo N Agrees self.now (Command.Get position) (value_of result) self.now }
+    {
+        match &self.state {
+            State::Clean(bitmap) => clean::get(bitmap, position),
+            State::Dirty(bitmap) => dirty::get(bitmap, position),
+        }
+    }
+
+    /// Runs `Len`: replies the length of the visible bitmap in bits as `Number`. Pruned bits count.
+    ///
+    /// # Memory
+    ///
+    /// Does not allocate.
+    ///
+    /// # Complexity
+    ///
+    /// Constant.
+    pub fn len(&self) -> Reply<N>
+        ensures { StepTo N Agrees self.now Command.Len (value_of result) self.now }
+    {
+        match &self.state {
+            State::Clean(bitmap) => clean::len(bitmap),
+            State::Dirty(bitmap) => dirty::len(bitmap),
+        }
     }
 
     /// Runs the commands in order and appends one reply per command to `replies`.

@@ -5,6 +5,7 @@ use crate::checked_calls::{
     pending_chunk, push, push_byte, set_bit,
 };
 use crate::checks::{equal, expect, ok};
+use historical_bitmap::bitmap::Prunable;
 use historical_bitmap::bitmap::historical::{
     BitMap, Clean, CleanBitMap, Dirty, DirtyBitMap, Error, RewindError, State,
 };
@@ -176,4 +177,17 @@ fn error_messages(rt: HostRuntime) {
         let said = ok(&rt, format!(in rt.alloc(); "{why}"));
         equal(&rt, said.as_str(), words);
     }
+}
+
+// A pruned chunk and one bit, made historical. It has no last number, so its first commit may be 0.
+#[test]
+fn bitmap_made_historical(rt: HostRuntime) {
+    let mut bitmap = ok(&rt, Prunable::<3>::new_with_pruned_chunks(rt.alloc(), 1));
+    ok(&rt, bitmap.push(true));
+    let map = CleanBitMap::from_bitmap(rt.alloc(), bitmap);
+    expect(&rt, has_bits(map.current(), 1, b"1"));
+    expect(&rt, keeps(&map, &[]));
+    equal(&rt, map.latest_commit(), None);
+    let map = commit(&rt, map.into_dirty(), 0);
+    expect(&rt, had_bits(&rt, &map, 0, 1, b"1"));
 }

@@ -4,6 +4,7 @@
 
 use crate::checks::{equal, expect};
 use bitmap_core::bitmap::Readable;
+use bitmap_core::bitmap::codec::{CodecError, RangeCfg};
 use bitmap_session::command::Command;
 use bitmap_session::reply::{Refusal, Reply};
 use bitmap_session::session::Session;
@@ -144,4 +145,41 @@ fn past_positions_without_a_bitmap(rt: HostRuntime) {
         panic!(rt; "the positions of commit 1 are not the reply");
     };
     expect(&rt, found.is_empty());
+}
+
+// If the chunks of a bitmap that is read cannot be allocated, the bytes are left, and there is no session.
+#[test]
+fn read_of_two_chunks(rt: HostRuntime) {
+    let input = [
+        0, 0, 0, 0, 0, 0, 0, 0, 0, 0, 0, 0, 0, 0, 0, 64, 1, 2, 3, 4, 5, 6, 7, 8, 9,
+    ];
+    let mut from = input.as_slice();
+    match Session::<4>::read(rt.alloc(), &mut from, &RangeCfg::any()) {
+        Ok(session) => {
+            equal(&rt, from.len(), 1);
+            expect(&rt, is_number(&session.len(), 64));
+        }
+        Err(error) => {
+            equal(&rt, from.len(), 25);
+            expect(&rt, matches!(error, CodecError::OutOfMemory));
+        }
+    }
+}
+
+// A command of `serve` that is refused because an allocation fails leaves the batch as it was.
+#[test]
+fn serve_of_a_push_and_a_commit(rt: HostRuntime) {
+    let mut session = Session::<4>::new(rt.alloc());
+    expect(&rt, matches!(session.serve(&Command::Begin), Reply::Done));
+    let push = session.serve(&Command::PushChunk([0xff; 4]));
+    let pushed = matches!(push, Reply::Done);
+    expect(&rt, pushed || is_refused(&push));
+    let len = if pushed { 32 } else { 0 };
+    expect(&rt, is_number(&session.serve(&Command::Len), len));
+    let commit = session.serve(&Command::Commit(1));
+    let committed = matches!(commit, Reply::Done);
+    expect(&rt, committed || is_refused(&commit));
+    expect(&rt, is_number(&session.serve(&Command::Len), len));
+    let aborted = matches!(session.serve(&Command::Abort), Reply::Done);
+    expect(&rt, aborted != committed);
 }

@@ -13,3 +13,7 @@ mod commands;
 mod ends;
 #[cfg(test)]
 mod lists;
+#[cfg(test)]
+mod methods;
+#[cfg(test)]
+mod read;

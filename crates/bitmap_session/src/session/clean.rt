@@ -53,7 +53,7 @@ fn rewind<const N: usize>(bitmap: CleanBitMap<N>, number: u64) -> (Reply<N>, Sta
     }
 }
 
-fn len<const N: usize>(bitmap: &CleanBitMap<N>) -> Reply<N>
+pub fn len<const N: usize>(bitmap: &CleanBitMap<N>) -> Reply<N>
     ensures { StepTo N Agrees (clean N bitmap.now) Command.Len (value_of result) (clean N bitmap.now) }
 {
     Reply::Number(bitmap.len())
@@ -65,7 +65,7 @@ fn pruned_chunks<const N: usize>(bitmap: &CleanBitMap<N>) -> Reply<N>
     Reply::Number(bitmap.pruned_chunks() as u64)
 }
 
-fn get<const N: usize>(bitmap: &CleanBitMap<N>, position: u64) -> Reply<N>
+pub fn get<const N: usize>(bitmap: &CleanBitMap<N>, position: u64) -> Reply<N>
     ensures { StepTo N Agrees (clean N bitmap.now) (Command.Get position) (value_of result) (clean N bitmap.now) }
 {
     match check_position(bitmap.len(), bitmap.current().pruned_bits(), position) {

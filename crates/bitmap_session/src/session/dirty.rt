@@ -32,7 +32,7 @@ fn has_space<const N: usize>(bitmap: &DirtyBitMap<N>, more: u64) -> bool
     bitmap.len() <= u64::MAX - more
 }
 
-fn push<const N: usize>(bitmap: &mut DirtyBitMap<N>, value: bool) -> Reply<N>
+pub fn push<const N: usize>(bitmap: &mut DirtyBitMap<N>, value: bool) -> Reply<N>
     ensures { StepTo N Agrees (dirty N bitmap.old) (Command.Push value) (value_of result) (dirty N bitmap.new) }
 {
     if !has_space(bitmap, 1) {
@@ -44,7 +44,7 @@ fn push<const N: usize>(bitmap: &mut DirtyBitMap<N>, value: bool) -> Reply<N>
     }
 }
 
-fn push_byte<const N: usize>(bitmap: &mut DirtyBitMap<N>, byte: u8) -> Reply<N>
+pub fn push_byte<const N: usize>(bitmap: &mut DirtyBitMap<N>, byte: u8) -> Reply<N>
     ensures { StepTo N Agrees (dirty N bitmap.old) (Command.PushByte byte) (value_of result) (dirty N bitmap.new) }
 {
     if !has_space(bitmap, 8) {
@@ -56,7 +56,7 @@ fn push_byte<const N: usize>(bitmap: &mut DirtyBitMap<N>, byte: u8) -> Reply<N>
     }
 }
 
-fn push_chunk<const N: usize>(bitmap: &mut DirtyBitMap<N>, bytes: &[u8; N]) -> Reply<N>
+pub fn push_chunk<const N: usize>(bitmap: &mut DirtyBitMap<N>, bytes: &[u8; N]) -> Reply<N>
     ensures { StepTo N Agrees (dirty N bitmap.old) (Command.PushChunk bytes.now) (value_of result) (dirty N bitmap.new) }
 {
     // The call shows the prover that 8 * N fits u64.
@@ -70,7 +70,7 @@ fn push_chunk<const N: usize>(bitmap: &mut DirtyBitMap<N>, bytes: &[u8; N]) -> R
     }
 }
 
-fn pop<const N: usize>(bitmap: &mut DirtyBitMap<N>) -> Reply<N>
+pub fn pop<const N: usize>(bitmap: &mut DirtyBitMap<N>) -> Reply<N>
     ensures { StepTo N Agrees (dirty N bitmap.old) Command.Pop (value_of result) (dirty N bitmap.new) }
 {
     if bitmap.len() == pruned_bits(bitmap) {
@@ -79,7 +79,7 @@ fn pop<const N: usize>(bitmap: &mut DirtyBitMap<N>) -> Reply<N>
     Reply::Bit(bitmap.pop())
 }
 
-fn set<const N: usize>(bitmap: &mut DirtyBitMap<N>, position: u64, value: bool) -> Reply<N>
+pub fn set<const N: usize>(bitmap: &mut DirtyBitMap<N>, position: u64, value: bool) -> Reply<N>
     ensures { StepTo N Agrees (dirty N bitmap.old) (Command.Set position value) (value_of result) (dirty N bitmap.new) }
 {
     if let Err(refusal) = check_position(bitmap.len(), pruned_bits(bitmap), position) {
@@ -91,7 +91,7 @@ fn set<const N: usize>(bitmap: &mut DirtyBitMap<N>, position: u64, value: bool) 
     }
 }
 
-fn prune<const N: usize>(bitmap: &mut DirtyBitMap<N>, position: u64) -> Reply<N>
+pub fn prune<const N: usize>(bitmap: &mut DirtyBitMap<N>, position: u64) -> Reply<N>
     ensures { StepTo N Agrees (dirty N bitmap.old) (Command.Prune position) (value_of result) (dirty N bitmap.new) }
 {
     if position > bitmap.len() {
@@ -118,7 +118,7 @@ fn abort<const N: usize>(bitmap: DirtyBitMap<N>) -> (Reply<N>, State<N>)
     (Reply::Done, State::Clean(bitmap.abort()))
 }
 
-fn len<const N: usize>(bitmap: &DirtyBitMap<N>) -> Reply<N>
+pub fn len<const N: usize>(bitmap: &DirtyBitMap<N>) -> Reply<N>
     ensures { StepTo N Agrees (dirty N bitmap.now) Command.Len (value_of result) (dirty N bitmap.now) }
 {
     Reply::Number(bitmap.len())
@@ -130,7 +130,7 @@ fn pruned_chunks<const N: usize>(bitmap: &DirtyBitMap<N>) -> Reply<N>
     Reply::Number(bitmap.pruned_chunks() as u64)
 }
 
-fn get<const N: usize>(bitmap: &DirtyBitMap<N>, position: u64) -> Reply<N>
+pub fn get<const N: usize>(bitmap: &DirtyBitMap<N>, position: u64) -> Reply<N>
     ensures { StepTo N Agrees (dirty N bitmap.now) (Command.Get position) (value_of result) (dirty N bitmap.now) }
 {
     match check_position(bitmap.len(), pruned_bits(bitmap), position) {
