@@ -1,4 +1,4 @@
-//! `set_range` of a batch at four widths: within a chunk, across chunks, of all retained bits, and of empty and reversed ranges.
+//! `set_range` of a batch at seven widths: within a chunk, across chunks, of all retained bits, and of empty and reversed ranges.
 //!
 //! The chunks of a range are edited, not edited, or appended by the batch. After each range the batch is committed, both commits are
 //! read in place, and the bitmap is rewound.
@@ -129,7 +129,7 @@ fn check_width<const N: usize>(rt: &impl Abort, alloc: Global, width: u64)
     requires { IsWidth N }
 {
     let before = committed::<N>(rt, alloc, width);
-    expect(rt, 8 <= width && width <= 256);
+    expect(rt, 8 <= width && width <= 512);
     for (start, end) in [
         (width + 2, width + 5),
         (2 * width, 3 * width),
@@ -151,6 +151,9 @@ fn check_width<const N: usize>(rt: &impl Abort, alloc: Global, width: u64)
 fn ranges_of_a_batch(rt: HostRuntime) {
     check_width::<1>(&rt, rt.alloc(), 8);
     check_width::<3>(&rt, rt.alloc(), 24);
+    check_width::<7>(&rt, rt.alloc(), 56);
     check_width::<8>(&rt, rt.alloc(), 64);
+    check_width::<9>(&rt, rt.alloc(), 72);
     check_width::<32>(&rt, rt.alloc(), 256);
+    check_width::<64>(&rt, rt.alloc(), 512);
 }
