@@ -7,4 +7,5 @@ pub mod Meanings
 pub mod Codec
 pub mod Examples
 pub mod Searches
+pub mod Slices
 pub mod Found

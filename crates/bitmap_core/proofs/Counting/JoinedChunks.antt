@@ -30,6 +30,14 @@ ones_of_chunks n chunks bytes a k p h e l =
     ones_from_same (chunks_bit n chunks) (bytes_bit bytes) a a k (λ t s.
     sym (ap (λ x. bytes_bit x (a + t)) e ∙ bytes_bit-flat n chunks p (λ i l. (h i l).len) (a + t)))
 
+-- the ones of chunks are those of their bytes
+pub count-flat : (n : ℕ) (chunks : List (List ℕ)) (bytes : List ℕ) → 0 < n → AreChunks n chunks → bytes ≡ flat_map (λ c. c) chunks
+    → count_by (λ b. b) (chunk_bits (length bytes) bytes) ≡ ones_from (chunks_bit n chunks) 0 (8 * n * length chunks)
+count-flat n chunks bytes p h e =
+    let l : length bytes ≡ n * length chunks = ap length e ∙ flat-length n chunks h in
+    let m : 8 * length bytes ≡ 8 * n * length chunks = ap (λ k. 8 * k) l ∙ grind arith in
+    count-chunk (length bytes) bytes ∙ ap (ones_from (bytes_bit bytes) 0) m ∙ sym (ones_of_chunks n chunks bytes 0 (8 * n * length chunks) p h e (omega arith))
+
 joined-length : (n : ℕ) (chunks : List (List ℕ)) (a b : List ℕ) → AreChunks n chunks → a ++ b ≡ flat_map (λ c. c) chunks
     → 8 * n * length chunks ≡ 8 * length a + 8 * length b
 joined-length n chunks a b h e =

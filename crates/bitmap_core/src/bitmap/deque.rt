@@ -24,5 +24,5 @@ pub use crate::bitmap::deque::growth::{
 };
 pub use crate::bitmap::deque::pairs::gives_none;
 pub use crate::bitmap::deque::ranges::set_range;
-pub use crate::bitmap::deque::runs::{bytes, slices};
+pub use crate::bitmap::deque::runs::{bytes, slice_around, slices};
 pub use crate::bitmap::deque::whole_chunks::{chunk_at, drop_front, put_front, set_chunk};

@@ -16,10 +16,11 @@
 //! }
 //! ```
 
-ghost use Rattle.std.specs.Prelude.{◌≡◌, ℕ, ◌+◌, ◌-◌, ◌*◌, ◌/◌, ◌%◌, ◌^◌, ◌<◌, ◌≤◌, ◌↔◌, [], false, not, length, IfOk, OnOk, OnErr, IsOk, ◌==◌};
+ghost use Rattle.std.specs.Prelude.{◌≡◌, ℕ, ◌+◌, ◌-◌, ◌*◌, ◌/◌, ◌%◌, ◌^◌, ◌<◌, ◌≤◌, ◌↔◌, ℕ, [], false, not, length, slice_index_or, IfOk, OnOk, OnErr, IsOk, ◌==◌};
 ghost use Rattle.std.specs.Int.{div_ceil};
 ghost use Rattle.std.specs.List.{count_by, list_all, range_with_len};
 ghost use Rattle.bitmap_bytes.specs.Chunk.{byte_bits, chunk_bit, chunk_bits, IsWidth};
+ghost use Rattle.bitmap_core.specs.Meaning.{pruned_meaning, ShowsChunk};
 ghost use Rattle.bitmap_core.specs.PrunedBits.{appended, bit_at, bit_len, chunk, extended, IsRetainedChunk, IsRetained, last_bit, popped, pruned_bits, pruned_to, pushed, set_at, set_range, truncated, unpruned, with_chunk};
 
 mod error;
@@ -276,6 +277,17 @@ impl<const N: usize> Prunable<N> {
         ensures { result.now ≡ chunk N self.now index }
     {
         self.bitmap.chunk_at(index - self.pruned_chunks)
+    }
+
+    // The slice of chunks that holds the chunk at an absolute index, and the absolute index of its first chunk.
+    pub(crate) fn slice_around(&self, index: usize) -> (&[[u8; N]], usize)
+        requires { IsRetainedChunk N self.now index }
+        ensures included { (result.1 ≤ index) × (index < result.1 + length result.0.now) }
+        ensures retained { (i : ℕ) → i < length result.0.now → IsRetainedChunk N self.now (result.1 + i) }
+        ensures shown { (i : ℕ) → i < length result.0.now → ShowsChunk N (pruned_meaning N self.now) (result.1 + i) (slice_index_or result.0.now i []) }
+    {
+        let (chunks, first) = self.bitmap.slice_around(index - self.pruned_chunks);
+        (chunks, self.pruned_chunks + first)
     }
 
     /// Returns the last chunk, and the number of its bits that are in use: `8N` if it is full. Its bits past the length are zero.

@@ -19,16 +19,16 @@
 //! }
 //! ```
 
-ghost use Rattle.std.specs.Prelude.{◌≡◌, ◌+◌, ◌-◌, ◌*◌, ◌/◌, ◌^◌, ◌<◌, ◌≤◌, ◌==◌, length};
+ghost use Rattle.std.specs.Prelude.{◌≡◌, ℕ, ◌+◌, ◌-◌, ◌*◌, ◌/◌, ◌^◌, ◌<◌, ◌≤◌, ◌==◌, [], length, slice_index_or};
 
+mod blocks;
 mod dense;
 mod ones;
 mod prunable;
 mod search;
 
 pub use crate::bitmap::readable::ones::OnesIter;
-use crate::bitmap::readable::ones::first_from;
-use crate::bitmap::readable::search::{count_ones, last_below, nth_one};
+use crate::bitmap::readable::search::{count_ones, first_from, last_below, nth_one};
 use crate::chunk;
 use std::ops::Range;
 
@@ -107,6 +107,19 @@ pub trait Readable<const N: usize> {
         requires { 8 * N * (meaning self.now).pruned < (meaning self.now).len }
         ensures chunk { ShowsChunk N (meaning self.now) (((meaning self.now).len - 1) / (8 * N)) result.0 }
         ensures used { 8 * N * (((meaning self.now).len - 1) / (8 * N)) + result.1 ≡ (meaning self.now).len };
+
+    /// Returns some consecutive chunks as a slice, and the absolute index of the first. They include the chunk at index `chunk`.
+    ///
+    /// `chunk` is absolute, and its chunk has a retained bit. So has each chunk of the slice. Their bits past the length may have any value.
+    /// An empty slice means that no slice holds that chunk. This is the result if an implementor has no body of its own.
+    fn chunks_around(&self, chunk: usize) -> (&[[u8; N]], usize)
+        requires { IsRetainedChunk N (meaning self.now) chunk }
+        ensures included { 0 < length result.0.now → (result.1 ≤ chunk) × (chunk < result.1 + length result.0.now) }
+        ensures retained { (i : ℕ) → i < length result.0.now → IsRetainedChunk N (meaning self.now) (result.1 + i) }
+        ensures shown { (i : ℕ) → i < length result.0.now → ShowsChunk N (meaning self.now) (result.1 + i) (slice_index_or result.0.now i []) }
+    {
+        (&[], chunk)
+    }
 
     /// Returns the number of pruned chunks.
     fn pruned_chunks(&self) -> usize

@@ -1,8 +1,9 @@
 //! Operations of a dense bitmap that bitmaps with a pruned prefix use: on whole chunks, and appending a byte.
 
-ghost use Rattle.std.specs.Prelude.{◌≡◌, ◌≤◌, ◌<◌, ◌+◌, ◌-◌, ◌*◌, ◌/◌, ◌%◌, ◌^◌, ◌++◌, ℕ, cond, ◌==◌, drop, false, length, slice_index_or, take, IsOk, OnOk, OnErr};
+ghost use Rattle.std.specs.Prelude.{◌≡◌, ◌≤◌, ◌<◌, ◌+◌, ◌-◌, ◌*◌, ◌/◌, ◌%◌, ◌^◌, ◌++◌, ℕ, cond, ◌==◌, drop, false, [], length, slice_index_or, take, IsOk, OnOk, OnErr};
 ghost use Rattle.std.specs.List.{flat_map};
 ghost use Rattle.bitmap_bytes.specs.Chunk.{byte_bits, chunk_bit, chunk_bits};
+ghost use Rattle.bitmap_core.specs.Meaning.{plain_meaning, ShowsChunk};
 ghost use Rattle.bitmap_core.specs.PrunedBits.{chunk, plain_bits};
 
 use crate::bitmap::{BitMap, deque};
@@ -16,6 +17,16 @@ impl<const N: usize> BitMap<N> {
         ensures { result.now ≡ chunk N (plain_bits self.now) index }
     {
         deque::chunk_at(&self.chunks, index)
+    }
+
+    // The slice of chunks that holds the chunk at an index, and the index of its first chunk.
+    pub(crate) fn slice_around(&self, index: usize) -> (&[[u8; N]], usize)
+        requires { 8 * N * index < length self.now }
+        ensures included { (result.1 ≤ index) × (index < result.1 + length result.0.now) }
+        ensures stored { (i : ℕ) → i < length result.0.now → 8 * N * (result.1 + i) < length self.now }
+        ensures shown { (i : ℕ) → i < length result.0.now → ShowsChunk N (plain_meaning self.now) (result.1 + i) (slice_index_or result.0.now i []) }
+    {
+        deque::slice_around(&self.chunks, index)
     }
 
     // Replaces the chunk at an index by one whose bits past the length are zero.

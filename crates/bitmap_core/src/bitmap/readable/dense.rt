@@ -4,8 +4,8 @@ ghost use Rattle.std.specs.Prelude.{◌≤◌};
 ghost use Rattle.std.specs.List.{filter, range_with_len};
 ghost use Rattle.bitmap_core.specs.Meaning.{words_between};
 
-use crate::bitmap::BitMap;
 use crate::bitmap::readable::{OnesIter, Readable};
+use crate::bitmap::BitMap;
 use crate::chunk::{chunk_index, chunk_width};
 
 impl<const N: usize> Readable<N> for BitMap<N> {
@@ -25,6 +25,11 @@ impl<const N: usize> Readable<N> for BitMap<N> {
         let last = self.len() - 1;
         let used = last % chunk_width::<N>() + 1;
         (self.chunks[chunk_index::<N>(last)], used)
+    }
+
+    fn chunks_around(&self, chunk: usize) -> (&[[u8; N]], usize) {
+        let _ = self.len();
+        self.slice_around(chunk)
     }
 
     fn pruned_chunks(&self) -> usize {

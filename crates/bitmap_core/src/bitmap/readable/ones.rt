@@ -198,21 +198,6 @@ impl<'a, B: Readable<N>, const N: usize> OnesIter<'a, B, N> {
     }
 }
 
-// The first wanted position at or above `from` of a bitmap of length `len`.
-pub(crate) fn first_from<B: Readable<N>, const N: usize>(
-    readable: &B,
-    len: u64,
-    from: u64,
-    wanted: bool,
-) -> Option<u64>
-    requires lawful { IsLawful N (B.meaning readable.now) }
-    requires len { len ≡ (B.meaning readable.now).len }
-    ensures { result ≡ first (ones N (seen_as wanted (B.meaning readable.now)) from (B.meaning readable.now).len) }
-{
-    let mut positions = OnesIter::over(readable, len, from..len, wanted);
-    positions.next()
-}
-
 impl<'a, B: Readable<N>, const N: usize> Iterator for OnesIter<'a, B, N> {
     type Item = u64;
 

@@ -23,6 +23,11 @@ impl<const N: usize> Readable<N> for Prunable<N> {
         (*chunk, used)
     }
 
+    fn chunks_around(&self, chunk: usize) -> (&[[u8; N]], usize) {
+        let _ = Prunable::len(self);
+        self.slice_around(chunk)
+    }
+
     fn pruned_chunks(&self) -> usize {
         let _ = Prunable::len(self);
         Prunable::pruned_chunks(self)

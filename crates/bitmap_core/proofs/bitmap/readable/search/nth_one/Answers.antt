@@ -1,6 +1,8 @@
-use Rattle.std.proofs.Common.{◌≡◌, ◌-◌, sym, ap, arith}
+use Rattle.std.proofs.Common.{◌≡◌, ◌+◌, ◌-◌, ◌*◌, true, sym, ap, arith}
+use Rattle.std.proofs.Math.Nat.{mul-le-mul_left}
 use Rattle.bitmap_bytes.proofs.Counting.Ones.{ones_from}
 use Rattle.bitmap_core.proofs.Searches.{IsTurn, count_more, nth_more, get_nth, get_none}
+use Rattle.bitmap_core.proofs.Slices.{first_more}
 use Rattle.bitmap_core.proofs.bitmap.readable.search.nth_one.Goals as goal
 use Rattle.bitmap_core.proofs.bitmap.readable.search.nth_one.Goals.{After-get_chunk-chunk}
 
@@ -31,10 +33,20 @@ loop-at-preserved g c =
       step_is = c.min-step.ensures;
       shown = rw c.chunk_index.ensures at c.get_chunk-chunk.ensures;
     } in
+    let run = c.slice_from.ensures in
+    let skipped = c.leading-skipped.ensures in
     record {
       low = omega (arith, loop.low);
-      high = omega (arith, loop.high, c.min-step.ensures, c.loop-at-test.true);
-      counted = omega (arith, loop.counted, c.if-left-count.false, count_more g.row.N m _ _ _ _ _ t c.ones_in-count.result c.ones_in-count.ensures);
+      high = omega (arith, loop.high, c.min-step.ensures, c.loop-at-test.true, run.within, mul-le-mul_left (8 * g.row.N) skipped.within);
+      counted =
+          omega (
+            arith,
+            loop.counted,
+            c.if-left-count.false,
+            skipped.few,
+            count_more g.row.N m _ _ _ _ _ t c.ones_in-count.result c.ones_in-count.ensures,
+            first_more g.row.N m true c.args.first (c.loop-at.at + c.min-step.result) _ _ _ (omega (arith, loop.low)) skipped.within run.bits skipped.counted,
+          );
     }
 
 pub returns : goal.returns
