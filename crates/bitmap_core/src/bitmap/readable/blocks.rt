@@ -1,4 +1,4 @@
-//! Counts of the wanted bits of a slice of chunks, one block of chunks per step.
+//! Counts of the wanted bits of a slice of chunks, many chunks per step.
 
 ghost use Rattle.std.specs.Prelude.{◌≡◌, ℕ, ◌+◌, ◌-◌, ◌*◌, ◌^◌, ◌<◌, ◌≤◌, false, length};
 ghost use Rattle.std.specs.List.{count_by, range_with_len};
@@ -8,8 +8,8 @@ ghost use Rattle.bitmap_bytes.specs.Chunk.{is_wanted, IsWidth};
 use crate::chunk::facts::all_known;
 use crate::chunk::words;
 
-// The number of chunks of a block.
-const BLOCK: usize = 64;
+// The most chunks per step.
+const BLOCK: usize = 256;
 
 // The number of bits of some chunks that are set or, if `wanted` is false, that are not set.
 pub fn wanted_in<const N: usize>(chunks: &[[u8; N]], wanted: bool) -> u64
@@ -26,7 +26,9 @@ pub fn wanted_in<const N: usize>(chunks: &[[u8; N]], wanted: bool) -> u64
     }
 }
 
-// The number of the first chunks, in whole blocks, that have at most `k` wanted bits together, and the number of these bits.
+// The number of the first chunks that have at most `k` wanted bits together, and the number of these bits.
+//
+// Takes more chunks per step after each step that succeeds, and fewer after one that fails. So few chunks are counted twice.
 pub fn leading<const N: usize>(chunks: &[[u8; N]], wanted: bool, k: u64) -> (usize, u64)
     requires width { IsWidth N }
     requires fits { 8 * N * length chunks.now < 2 ^ 64 }
@@ -36,18 +38,21 @@ pub fn leading<const N: usize>(chunks: &[[u8; N]], wanted: bool, k: u64) -> (usi
 {
     let mut count = 0;
     let mut total = 0;
-    while chunks.len() - count >= BLOCK {
-        let more = wanted_in(&chunks[count..count + BLOCK], wanted);
+    let mut size = chunks.len().min(1);
+    while size > 0 {
+        let more = wanted_in(&chunks[count..count + size], wanted);
         if more > k - total {
-            return (count, total);
+            size /= 2;
+            continue;
         }
         total += more;
-        count += BLOCK;
+        count += size;
+        size = (2 * size).min(BLOCK).min(chunks.len() - count);
     }
     (count, total)
 }
 
-// The number of the last chunks, in whole blocks, that have no wanted bit.
+// The number of the last chunks that have no wanted bit. The steps are those of `leading`.
 pub fn trailing<const N: usize>(chunks: &[[u8; N]], wanted: bool) -> usize
     requires width { IsWidth N }
     requires fits { 8 * N * length chunks.now < 2 ^ 64 }
@@ -55,11 +60,14 @@ pub fn trailing<const N: usize>(chunks: &[[u8; N]], wanted: bool) -> usize
     ensures none { (i : ℕ) → 8 * N * (length chunks.now - result) ≤ i → i < 8 * N * length chunks.now → is_wanted wanted (chunks_bit N chunks.now i) ≡ false }
 {
     let mut left = chunks.len();
-    while left >= BLOCK {
-        if wanted_in(&chunks[left - BLOCK..left], wanted) > 0 {
-            return chunks.len() - left;
+    let mut size = left.min(1);
+    while size > 0 {
+        if wanted_in(&chunks[left - size..left], wanted) > 0 {
+            size /= 2;
+            continue;
         }
-        left -= BLOCK;
+        left -= size;
+        size = (2 * size).min(BLOCK).min(left);
     }
     chunks.len() - left
 }

@@ -4,8 +4,8 @@ ghost use Rattle.std.specs.Prelude.{◌≤◌};
 ghost use Rattle.std.specs.List.{filter, range_with_len};
 ghost use Rattle.bitmap_core.specs.Meaning.{words_between};
 
-use crate::bitmap::readable::{OnesIter, Readable};
 use crate::bitmap::BitMap;
+use crate::bitmap::readable::{OnesIter, Readable};
 use crate::chunk::{chunk_index, chunk_width};
 
 impl<const N: usize> Readable<N> for BitMap<N> {
