@@ -38,10 +38,11 @@ use std::ops::Range;
 /// A position is retained if it is not pruned and below the length.
 ///
 /// An implementor states which bitmap a value holds (`meaning`) and implements the five functions without a body.
+/// It may also implement `chunks_around`, if it has chunks in memory. Searches and counts then read these in place, many per step.
 /// The contracts require that `N` is at least 1, and that `8N` and the length fit `u64`. At most the length is pruned.
 /// While the value is borrowed, the functions describe one and the same bitmap.
 /// The bits of a chunk at or past the length may have any value: no other function reads them.
-/// The other functions are final, and do not allocate themselves. For `BitMap` and `Prunable`, no function of the trait allocates.
+/// The final functions do not allocate themselves. For `BitMap` and `Prunable`, no function of the trait allocates.
 ///
 /// Complexities count words: 64 bits of one chunk each, or fewer at the end of a chunk.
 ///
@@ -108,10 +109,12 @@ pub trait Readable<const N: usize> {
         ensures chunk { ShowsChunk N (meaning self.now) (((meaning self.now).len - 1) / (8 * N)) result.0 }
         ensures used { 8 * N * (((meaning self.now).len - 1) / (8 * N)) + result.1 ≡ (meaning self.now).len };
 
-    /// Returns some consecutive chunks as a slice, and the absolute index of the first. They include the chunk at index `chunk`.
+    /// Returns consecutive chunks in place, among them the chunk at an absolute index, and the absolute index of the first.
     ///
-    /// `chunk` is absolute, and its chunk has a retained bit. So has each chunk of the slice. Their bits past the length may have any value.
-    /// An empty slice means that no slice holds that chunk. This is the result if an implementor has no body of its own.
+    /// The chunk has a retained bit, and so has each chunk of the slice. Bits past the length may have any value.
+    /// If the bitmap does not hold the chunk in a slice, the slice is empty. The default is an empty slice.
+    ///
+    /// For `BitMap` and `Prunable`, does not allocate; constant time.
     fn chunks_around(&self, chunk: usize) -> (&[[u8; N]], usize)
         requires { IsRetainedChunk N (meaning self.now) chunk }
         ensures included { 0 < length result.0.now → (result.1 ≤ chunk) × (chunk < result.1 + length result.0.now) }
@@ -264,6 +267,7 @@ pub trait Readable<const N: usize> {
     /// # Complexity
     ///
     /// Calls `len` and `pruned_chunks` once, and `get_chunk` at most once per chunk from `from` to the position found.
+    /// Calls `chunks_around` at most once per call of `get_chunk`, and does not get the chunks that it skips in a slice.
     /// Linear in the words from `from` to that position, or to the length if there is none.
     final fn next_one(&self, from: u64) -> Option<u64>
     where
@@ -299,6 +303,7 @@ pub trait Readable<const N: usize> {
     /// # Complexity
     ///
     /// Calls `len` and `pruned_chunks` once, and `get_chunk` at most once per chunk from the position found to `end`.
+    /// Calls `chunks_around` as `next_one` does.
     /// Linear in the words from that position, or from the first retained one if there is none, to `end`.
     final fn prev_one(&self, end: u64) -> Option<u64>
     where
@@ -337,7 +342,8 @@ pub trait Readable<const N: usize> {
     ///
     /// # Complexity
     ///
-    /// Calls `len` and `pruned_chunks` once, and `get_chunk` once per chunk that the range meets.
+    /// Calls `len` and `pruned_chunks` once, and `get_chunk` at most once per chunk that the range meets.
+    /// Calls `chunks_around` as `next_one` does.
     /// Linear in the words of the range.
     final fn count_ones_range(&self, range: Range<u64>) -> u64
     where
@@ -357,7 +363,8 @@ pub trait Readable<const N: usize> {
     ///
     /// # Complexity
     ///
-    /// Calls `len` and `pruned_chunks` once, and `get_chunk` once per retained chunk up to that of the position found.
+    /// Calls `len` and `pruned_chunks` once, and `get_chunk` at most once per retained chunk up to that of the position found.
+    /// Calls `chunks_around` as `next_one` does.
     /// Linear in the words of these chunks.
     final fn select_one(&self, k: u64) -> Option<u64>
     where

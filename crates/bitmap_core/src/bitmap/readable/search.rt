@@ -78,7 +78,7 @@ fn chunk_seen_as<B: Readable<N>, const N: usize>(
 
 // The first retained position at or above `from` that is set or, if `wanted` is false, that is not set, of a bitmap of length `len`.
 //
-// Gets each chunk that it does not find in a slice, up to that of the position, once.
+// Gets a chunk at most once, up to that of the position.
 pub(crate) fn first_from<B: Readable<N>, const N: usize>(
     readable: &B,
     len: u64,
@@ -106,7 +106,7 @@ pub(crate) fn first_from<B: Readable<N>, const N: usize>(
     None
 }
 
-// The number of set positions at or above `first` and below `end`. Gets each chunk that the range meets once.
+// The number of set positions at or above `first` and below `end`. Gets a chunk that the range meets at most once.
 pub(crate) fn count_ones<B: Readable<N>, const N: usize>(readable: &B, first: u64, end: u64) -> u64
     requires lawful { IsLawful N (B.meaning readable.now) }
     requires retained { 8 * N * (B.meaning readable.now).pruned ≤ first }
@@ -131,7 +131,7 @@ pub(crate) fn count_ones<B: Readable<N>, const N: usize>(readable: &B, first: u6
 
 // The set position at or above `first` and below `end` that has `k` set positions between `first` and itself.
 //
-// Gets each chunk up to that of the position once.
+// Gets a chunk at most once, up to that of the position.
 pub(crate) fn nth_one<B: Readable<N>, const N: usize>(
     readable: &B,
     first: u64,
@@ -166,7 +166,7 @@ pub(crate) fn nth_one<B: Readable<N>, const N: usize>(
 
 // The last retained position below `end` that is set or, if `wanted` is false, that is not set.
 //
-// Gets each chunk from that of `end` down to that of the position once.
+// Gets a chunk at most once, from that of `end` down to that of the position.
 pub(crate) fn last_below<B: Readable<N>, const N: usize>(
     readable: &B,
     end: u64,
