@@ -2,7 +2,7 @@ use Rattle.std.proofs.Common.{◌≡◌, ◌+◌, ◌-◌, ◌*◌, ◌∙◌, m
 use Rattle.std.specs.List.{slice_get}
 use Rattle.std.proofs.Math.Nat.{mul-le-mul_left}
 use Rattle.bitmap_bytes.proofs.Counting.Ones.{ones_from}
-use Rattle.bitmap_core.specs.Meaning.{Meaning, seen_as, ones_between}
+use Rattle.bitmap_core.specs.Meaning.{Meaning, seen_as}
 use Rattle.bitmap_core.proofs.Searches.{IsTurn, count_more, nth_more, get_nth, get_none}
 use Rattle.bitmap_core.proofs.Slices.{first_more}
 use Rattle.bitmap_core.proofs.Lists.SetPositions.{ones_between-at}
