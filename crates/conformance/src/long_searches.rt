@@ -6,6 +6,7 @@ ghost use Rattle.std.specs.Prelude.{◌*◌, ◌^◌, ◌<◌};
 
 use crate::checked_calls::{extend_from_bitmap, get_chunk, prune_to_bit};
 use crate::checks::{equal, equal_at, expect, expect_at, ok};
+use crate::readers::is_bit;
 use bitmap_core::bitmap::BitMap;
 use bitmap_core::bitmap::prunable::Prunable;
 use bitmap_core::bitmap::readable::Readable;
@@ -18,10 +19,8 @@ fn positions<B: Readable<N>, const N: usize>(
     map: &B,
     bit: bool,
 ) -> Result<Vec<u64>, AllocError> {
-    let first = map.pruned_bits();
-    let len = map.len();
-    (first..len)
-        .filter(|it| first <= *it && *it < len && map.get_bit(*it) == bit)
+    (0..map.len())
+        .filter(|it| is_bit(map, *it, bit))
         .collect(alloc)
 }
 
@@ -70,6 +69,7 @@ fn check_long<B: Readable<N>, const N: usize>(
     map: &B,
     period: usize,
 ) {
+    expect(rt, period > 0);
     let len = map.len();
     let ones = ok(rt, positions(alloc, map, true));
     let zeros = ok(rt, positions(alloc, map, false));
@@ -113,6 +113,8 @@ fn in_two_slices<const N: usize>(rt: &impl Abort, alloc: Global, map: &BitMap<N>
 
 // Each retained chunk is in its slice. There are two slices.
 fn check_slices<const N: usize>(rt: &impl Abort, map: &Prunable<N>) {
+    // The prover learns the bounds of `N` from this call.
+    let _ = map.len();
     let mut starts = 0u64;
     for index in map.pruned_chunks()..map.chunks_len() {
         let chunk = get_chunk(rt, map, index);

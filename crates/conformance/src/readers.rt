@@ -230,8 +230,8 @@ fn between(positions: &[u64], start: u64, end: u64) -> &[u64] {
     positions.get(low..high).unwrap_or(&[])
 }
 
-// Whether `position` is retained and its bit is `bit`.
-fn is_bit<B: Readable<N>, const N: usize>(map: &B, position: u64, bit: bool) -> bool {
+/// Returns whether `position` is retained and its bit is `bit`.
+pub fn is_bit<B: Readable<N>, const N: usize>(map: &B, position: u64, bit: bool) -> bool {
     map.pruned_bits() <= position && position < map.len() && map.get_bit(position) == bit
 }
 
