@@ -4,18 +4,23 @@ mod clean;
 mod dirty;
 mod shown;
 
-ghost use Rattle.std.specs.Prelude.{◌≡◌, ◌+◌, ◌≤◌, List, [], ◌++◌, None, length, map, IfErr, IfOk, IsOk, OnErr, OnOk, vec_len, vec_capacity};
+ghost use Rattle.std.specs.Prelude.{◌≡◌, ◌+◌, ◌^◌, ◌<◌, ◌≤◌, List, [], ◌++◌, None, Some, length, map, if◌then◌else◌, option_copied, IfErr, IfOk, IfSome, IsOk, OnErr, OnOk, vec_len, vec_capacity};
+ghost use Rattle.std.specs.Map.{keys_of};
 ghost use Rattle.bitmap_bytes.specs.Chunk.{IsWidth};
 ghost use Rattle.bitmap_core.specs.Decoding.{admits, decode_error, pruned_error, pruned_in};
 ghost use Rattle.bitmap_core.specs.Encoding.{pruned_encoding};
-ghost use Rattle.bitmap_session.specs.Machine.{Agrees, StepTo, RunsOn, first_machine};
+ghost use Rattle.historical_bitmap.specs.Changes.{changed_between};
+ghost use Rattle.historical_bitmap.specs.History.{kept_under};
+ghost use Rattle.bitmap_session.specs.Machine.{Agrees, StepTo, RunsOn, first_machine, is_dirty};
 ghost use Rattle.bitmap_session.specs.Abstraction.{machine_of, value_of};
 
 use crate::command::Command;
 use crate::reply::{Refusal, Reply};
 use bitmap_core::bitmap::Prunable;
 use bitmap_core::bitmap::codec::{CodecError, RangeCfg, Read};
-use historical_bitmap::bitmap::historical::{CleanBitMap, DirtyBitMap};
+use historical_bitmap::bitmap::historical::{
+    AtCommit, ChangedChunks, CleanBitMap, Commits, DirtyBitMap,
+};
 use std::alloc::{AllocError, Global};
 use std::marker::Model;
 use std::mem;
@@ -62,6 +67,42 @@ impl<const N: usize> Model for Session<N> {
     ghost view = { λ s. machine_of s.state };
 
     ghost invariant = { λ s. IsWidth N };
+}
+
+// Returns a copy of a state.
+fn copied<const N: usize>(state: &State<N>) -> Result<State<N>, AllocError>
+    ensures { IfOk result (λ copy. copy ≡ state.now) }
+{
+    match state {
+        State::Clean(bitmap) => Ok(State::Clean(bitmap.clone()?)),
+        State::Dirty(bitmap) => Ok(State::Dirty(bitmap.clone()?)),
+    }
+}
+
+impl<const N: usize> Clone for Session<N> {
+    ghost use Rattle.std.specs.Prelude.{◌≡◌};
+
+    ghost is_clone = { λ a b. b ≡ a };
+
+    /// Returns an equal session: with the same bitmap, commits and last number, and in the same batch if there is one.
+    ///
+    /// # Errors
+    ///
+    /// Returns `AllocError` if an allocation fails.
+    ///
+    /// # Memory
+    ///
+    /// Allocates as `clone` of `CleanBitMap` or `DirtyBitMap`.
+    ///
+    /// # Complexity
+    ///
+    /// As `clone` of `CleanBitMap` or `DirtyBitMap`.
+    fn clone(&self) -> Result<Self, AllocError> {
+        Ok(Session {
+            state: copied(&self.state)?,
+            alloc: self.alloc,
+        })
+    }
 }
 
 impl<const N: usize> Session<N> {
@@ -335,6 +376,81 @@ impl<const N: usize> Session<N> {
         match &self.state {
             State::Clean(bitmap) => clean::len(bitmap),
             State::Dirty(bitmap) => dirty::len(bitmap),
+        }
+    }
+
+    /// Returns the current bitmap, to be read in place, or `None` in a batch.
+    ///
+    /// # Memory
+    ///
+    /// Does not allocate.
+    ///
+    /// # Complexity
+    ///
+    /// Constant.
+    pub fn current(&self) -> Option<&Prunable<N>>
+        ensures { option_copied result ≡ if is_dirty self.now.state then None else Some self.now.state.current }
+    {
+        match &self.state {
+            State::Clean(bitmap) => Some(bitmap.current()),
+            State::Dirty(_) => None,
+        }
+    }
+
+    /// Returns the bitmap at commit `number`, to be read in place, or `None` if that commit is not kept or in a batch.
+    ///
+    /// # Memory
+    ///
+    /// Does not allocate.
+    ///
+    /// # Complexity
+    ///
+    /// As `at` of `CleanBitMap`.
+    pub fn at(&self, number: u64) -> Option<AtCommit<'_, N>>
+        ensures { result ≡ if is_dirty self.now.state then None else kept_under self.now.state.history number }
+    {
+        match &self.state {
+            State::Clean(bitmap) => bitmap.at(number),
+            State::Dirty(_) => None,
+        }
+    }
+
+    /// Returns an iterator over the kept commit numbers, ascending, each once, or `None` in a batch.
+    ///
+    /// # Memory
+    ///
+    /// Does not allocate.
+    ///
+    /// # Complexity
+    ///
+    /// As `commits` of `CleanBitMap`.
+    pub fn commits(&self) -> Option<Commits<'_, N>>
+        ensures { result ≡ if is_dirty self.now.state then None else Some (keys_of self.now.state.history) }
+    {
+        match &self.state {
+            State::Clean(bitmap) => Some(bitmap.commits()),
+            State::Dirty(_) => None,
+        }
+    }
+
+    /// Returns an iterator over the indices of the chunks that differ between the bitmaps at two commits, ascending, each once.
+    ///
+    /// Returns `None` unless both commits are kept and `from` is at most `to`, and in a batch.
+    ///
+    /// # Memory
+    ///
+    /// Does not allocate.
+    ///
+    /// # Complexity
+    ///
+    /// As `changed_chunks` of `CleanBitMap`.
+    pub fn changed_chunks(&self, from: u64, to: u64) -> Option<ChangedChunks<'_, N>>
+        ensures value { result ≡ if is_dirty self.now.state then None else changed_between N self.now.state.history from to }
+        ensures bound { IfSome result (λ changes. length changes < 2 ^ 64) }
+    {
+        match &self.state {
+            State::Clean(bitmap) => bitmap.changed_chunks(from, to),
+            State::Dirty(_) => None,
         }
     }
 
