@@ -183,3 +183,16 @@ fn serve_of_a_push_and_a_commit(rt: HostRuntime) {
     let aborted = matches!(session.serve(&Command::Abort), Reply::Done);
     expect(&rt, aborted != committed);
 }
+
+// A copy that is not made because an allocation fails leaves the session as it was.
+#[test]
+fn copy_of_a_batch(rt: HostRuntime) {
+    let mut session = Session::<4>::new(rt.alloc());
+    expect(&rt, matches!(session.serve(&Command::Begin), Reply::Done));
+    let push = session.serve(&Command::PushChunk([0xff; 4]));
+    let len = if matches!(push, Reply::Done) { 32 } else { 0 };
+    if let Ok(copy) = session.clone() {
+        expect(&rt, is_number(&copy.len(), len));
+    }
+    expect(&rt, is_number(&session.len(), len));
+}

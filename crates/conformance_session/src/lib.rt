@@ -12,6 +12,8 @@ mod commands;
 #[cfg(test)]
 mod ends;
 #[cfg(test)]
+mod in_place;
+#[cfg(test)]
 mod lists;
 #[cfg(test)]
 mod methods;
