@@ -16,7 +16,15 @@ use crate::chunk::whole::flip;
 // The width is written as `8 * N`: for a call of `chunk_width`, the goals of the proofs name its result and not this value.
 
 // The whole chunks from position `at` on that end at or before `end` and are in one slice. None if no chunk begins at `at`.
-fn slice_from<B: Readable<N>, const N: usize>(readable: &B, at: u64, end: u64) -> &[[u8; N]]
+//
+// None either if `read`, the number of bits that were read of the chunk before, is not that of a whole chunk.
+// A search that begins within a chunk so reads the next chunk first, which often has the position.
+fn slice_from<B: Readable<N>, const N: usize>(
+    readable: &B,
+    read: u64,
+    at: u64,
+    end: u64,
+) -> &[[u8; N]]
     requires lawful { IsLawful N (B.meaning readable.now) }
     requires retained { 8 * N * (B.meaning readable.now).pruned ≤ at }
     requires order { at ≤ end }
@@ -25,7 +33,7 @@ fn slice_from<B: Readable<N>, const N: usize>(readable: &B, at: u64, end: u64) -
     ensures bits { (i : ℕ) → i < 8 * N * length result.now → chunks_bit N result.now i ≡ (B.meaning readable.now).bit (at + i) }
 {
     let width = 8 * N as u64;
-    if at % width != 0 || end - at < width {
+    if read < width || at % width != 0 || end - at < width {
         return &[];
     }
     let index = chunk_index::<N>(at);
@@ -39,7 +47,14 @@ fn slice_from<B: Readable<N>, const N: usize>(readable: &B, at: u64, end: u64) -
 }
 
 // The retained chunks below position `top`, where a chunk ends, that are in one slice. `low` is the first position that is not pruned.
-fn slice_below<B: Readable<N>, const N: usize>(readable: &B, low: u64, top: u64) -> &[[u8; N]]
+//
+// None if `read`, the number of bits that were read of the chunk from `top` on, is not that of a whole chunk.
+fn slice_below<B: Readable<N>, const N: usize>(
+    readable: &B,
+    read: u64,
+    low: u64,
+    top: u64,
+) -> &[[u8; N]]
     requires lawful { IsLawful N (B.meaning readable.now) }
     requires low { low ≡ 8 * N * (B.meaning readable.now).pruned }
     requires order { low ≤ top }
@@ -48,7 +63,7 @@ fn slice_below<B: Readable<N>, const N: usize>(readable: &B, low: u64, top: u64)
     ensures within { low + 8 * N * length result.now ≤ top }
     ensures bits { (i : ℕ) → i < 8 * N * length result.now → chunks_bit N result.now i ≡ (B.meaning readable.now).bit (top - 8 * N * length result.now + i) }
 {
-    if low == top {
+    if read < 8 * N as u64 || low == top {
         return &[];
     }
     let index = chunk_index::<N>(top - 1);
@@ -100,7 +115,7 @@ pub(crate) fn first_from<B: Readable<N>, const N: usize>(
             return Some(at - place + bit);
         }
         at += step;
-        let (skipped, _) = leading(slice_from(readable, at, len), wanted, 0);
+        let (skipped, _) = leading(slice_from(readable, step, at, len), wanted, 0);
         at += width * skipped as u64;
     }
     None
@@ -122,7 +137,7 @@ pub(crate) fn count_ones<B: Readable<N>, const N: usize>(readable: &B, first: u6
         let chunk = readable.get_chunk(chunk_index::<N>(at));
         total += ones_in(&chunk, place, place + step);
         at += step;
-        let chunks = slice_from(readable, at, end);
+        let chunks = slice_from(readable, width, at, end);
         total += wanted_in(chunks, true);
         at += width * chunks.len() as u64;
     }
@@ -157,7 +172,7 @@ pub(crate) fn nth_one<B: Readable<N>, const N: usize>(
         }
         left -= count;
         at += step;
-        let (skipped, ones) = leading(slice_from(readable, at, end), true, left);
+        let (skipped, ones) = leading(slice_from(readable, step, at, end), true, left);
         left -= ones;
         at += width * skipped as u64;
     }
@@ -186,7 +201,7 @@ pub(crate) fn last_below<B: Readable<N>, const N: usize>(
         if let Some(bit) = last_in(&chunk, place + 1, wanted) {
             return Some(base + bit);
         }
-        top = base - width * trailing(slice_below(readable, first, base), wanted) as u64;
+        top = base - width * trailing(slice_below(readable, place + 1, first, base), wanted) as u64;
     }
     None
 }
