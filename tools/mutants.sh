@@ -28,7 +28,6 @@ copy_tenth() {
 
 # Tries the mutants in a copy of the repository, in which they are the only ones. The copy shares what checks have kept.
 try_all() {
-    local copy
     copy=$(mktemp -d)
     trap 'rm -rf "$copy"' EXIT
     cp -r HANDLES crates.txt crates "$copy"
