@@ -1,5 +1,5 @@
 -- Past states: the bitmap of each kept commit, by number. A chunk has n bytes.
-use Rattle.std.specs.Prelude.{◌≡◌, ℕ, ◌-◌, ◌*◌, ◌^◌, ◌<◌, ◌≤◌, List, [], ◌∷◌, length, map, take, Option, Some, None, slice_get, nat_eq, nat_lt, nat_le}
+use Rattle.std.specs.Prelude.{◌≡◌, ℕ, ◌-◌, ◌*◌, ◌^◌, ◌<◌, ◌≤◌, Bool, true, List, [], ◌∷◌, length, map, take, Option, Some, None, slice_get, nat_eq, nat_lt, nat_le}
 use Rattle.std.specs.List.{All, filter}
 use Rattle.std.specs.List.Sorted.{IsStrictlySortedBy}
 use Rattle.std.specs.Map.{lookup, keys_of}
@@ -85,6 +85,11 @@ AllCanUndo n (commit ∷ later) current = CanUndo n commit.1 (undone n later cur
 abbrev pub AreUpTo : List ℕ → Option ℕ → Type 0
 AreUpTo numbers None = numbers ≡ []
 AreUpTo numbers (Some last) = (last < 2 ^ 64 - 1) × All (λ number. number ≤ last) numbers
+
+-- whether a number is above the last number, or there is none
+abbrev pub is_above : Option ℕ → ℕ → Bool
+is_above None number = true
+is_above (Some last) number = nat_lt last number
 
 -- the invariant of kept commits: each record can be undone, and the numbers ascend up to the last number
 pub record AreKept (n : ℕ) (current : PrunedBits) (commits : List (ℕ × ReverseRecord)) (last : Option ℕ) : Type 0 where

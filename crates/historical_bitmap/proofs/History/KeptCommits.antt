@@ -1,7 +1,7 @@
 -- The kept commits as the calls use them: their numbers, dropping, rewinding, and undoing records newest first.
 use Rattle.std.proofs.Common.{◌≡◌, ℕ, suc, ◌-◌, ◌^◌, ◌<◌, ◌≤◌, List, [], ◌∷◌, ◌++◌, length, refl, ap, arith, sym, ◌∙◌}
 use mathlib.Core.Logic.{inl, inr}
-use Rattle.std.proofs.lemmas.Bool.{lt-ltb, le-ltb, le-leb, lt-leb, cases_lt, cases_eq, cases_order, eq-eqb, ne_eqb}
+use Rattle.std.proofs.lemmas.Bool.{ltb-true, lt-ltb, le-ltb, le-leb, lt-leb, cases_lt, cases_eq, cases_order, eq-eqb, ne_eqb}
 use Rattle.std.proofs.lemmas.List.Elements.{All-head, All-tail, All-weaker, All-filter, All-nil, All-cons}
 use Rattle.std.proofs.lemmas.List.Kept.{IsStrictlySortedBy-filter}
 use Rattle.std.proofs.lemmas.Map.Entries.{length-keys_of}
@@ -12,10 +12,10 @@ use Rattle.std.specs.declared.ops.Bound.TheVariants.{Excluded, Unbounded}
 use Rattle.std.specs.List.{All, filter}
 use Rattle.std.specs.Map.{lookup, keys_of}
 use Rattle.std.specs.Ordering.{nat_cmp}
-use Rattle.std.specs.Prelude.{Option, Some, None, is_some, IsSome, slice_get, nat_le}
+use Rattle.std.specs.Prelude.{true, Option, Some, None, is_some, IsSome, slice_get, nat_le}
 use Rattle.std.specs.Option.{option_map}
 use Rattle.bitmap_core.specs.PrunedBits.{PrunedBits}
-use Rattle.historical_bitmap.specs.History.{undone, snapshots, costs, from_number, past_number, up_to_number, latest, RiseInNumber, AllCanUndo, AreUpTo, AreKept, kept_under}
+use Rattle.historical_bitmap.specs.History.{undone, snapshots, costs, from_number, past_number, up_to_number, latest, RiseInNumber, AllCanUndo, AreUpTo, AreKept, is_above, kept_under}
 use Rattle.historical_bitmap.specs.Record.{ReverseRecord, before}
 use Rattle.historical_bitmap.specs.Undo.{CanUndo}
 use Rattle.historical_bitmap.proofs.History.PastStates.{same_lookup, snapshot_at, snapshot_none, snapshots_numbers, can_undo_from, can_undo_rewound, snapshots_rewound, undone_push}
@@ -57,6 +57,16 @@ none_kept m (e ∷ es) h = cc
 pub reserved_none : {X : Type 0} (es : List (ℕ × X)) (last : Option ℕ) → AreUpTo (keys_of es) last → kept_under es (2 ^ 64 - 1) ≡ None
 reserved_none es None h = none_kept (2 ^ 64 - 1) es h
 reserved_none es (Some last) h = none_past (2 ^ 64 - 1) es (All-weaker (λ k. k ≤ last) (λ k. k < 2 ^ 64 - 1) (λ k l. omega (arith, h.0)) (keys_of es) h.1)
+
+-- a number above the last one is not kept
+above_none : {X : Type 0} (m : ℕ) (es : List (ℕ × X)) (last : Option ℕ) → AreUpTo (keys_of es) last → is_above last m ≡ true → kept_under es m ≡ None
+above_none m es None h _ = none_kept m es h
+above_none m es (Some last) h above =
+    let l : last < m = ltb-true last m above in
+    none_past m es (All-weaker (λ k. k ≤ last) (λ k. k < m) (λ k low. omega arith) (keys_of es) h.1)
+
+pub above_never : (n m : ℕ) (b : PrunedBits) (cs : List (ℕ × ReverseRecord)) (last : Option ℕ) → AreKept n b cs last → is_above last m ≡ true → kept_under (snapshots n cs b) m ≡ None
+above_never n m b cs last kept above = snapshot_none n m cs b (above_none m cs last kept.numbers above)
 
 pub reserved_never : (n : ℕ) (b : PrunedBits) (cs : List (ℕ × ReverseRecord)) (last : Option ℕ) → AreKept n b cs last → kept_under (snapshots n cs b) (2 ^ 64 - 1) ≡ None
 reserved_never n b cs last kept = snapshot_none n (2 ^ 64 - 1) cs b (reserved_none cs last kept.numbers)

@@ -75,6 +75,7 @@ impl<const N: usize> BitMap<N, Clean> {
     /// Turns the bitmap into a batch with no pending edits: the pending bitmap is the current one, and no chunk is marked.
     ///
     /// Does not allocate; constant time.
+    #[inline]
     pub fn into_dirty(self) -> BitMap<N, Dirty<N>>
         ensures value { result ≡ record { current = self.entry.current; commits = self.entry.commits; last = self.entry.last; state = unedited N self.entry.current } }
         ensures pending { pending_of N result ≡ self.entry.current }

@@ -3,7 +3,7 @@
 ghost use Rattle.std.specs.Prelude.{◌≡◌, ℕ, ◌+◌, ◌-◌, ◌^◌, [], length, None, Some, Ok, is_some, IsSome, IfErr, IfOk, OnOk, if◌then◌else◌, alloc_error};
 ghost use Rattle.std.specs.List.{sum_by};
 ghost use Rattle.std.specs.Map.{keys_of};
-ghost use Rattle.historical_bitmap.specs.History.{AllCanUndo, earliest, from_number, kept_under, latest, past_number, RiseInNumber, undone, up_to_number};
+ghost use Rattle.historical_bitmap.specs.History.{AllCanUndo, earliest, from_number, is_above, kept_under, latest, past_number, RiseInNumber, undone, up_to_number};
 ghost use Rattle.historical_bitmap.specs.View.{costs_of, history_of};
 ghost use Rattle.historical_bitmap.specs.declared.bitmap.historical.error.RewindError.TheVariants.{Memory, NoSuchCommit};
 
@@ -95,6 +95,17 @@ fn last_number<const N: usize>(commits: &BTreeMap<u64, CommitDiff<N>>) -> Option
     }
 }
 
+// Returns whether a number is above the last number, or there is none: then no commit is kept under it.
+#[inline]
+fn is_past(last: Option<u64>, number: u64) -> bool
+    ensures { result ≡ is_above last number }
+{
+    match last {
+        Some(last) => last < number,
+        None => true,
+    }
+}
+
 // Drops the commits whose numbers are below a number, from the first on. Looks at these and at one more. Does not allocate.
 fn drop_before<const N: usize>(commits: &mut BTreeMap<u64, CommitDiff<N>>, number: u64)
     requires { RiseInNumber commits.old.entries }
@@ -178,6 +189,9 @@ impl<const N: usize> BitMap<N, Clean> {
         ensures value { result ≡ is_some (kept_under (history_of N self.now) number) }
         ensures reserved { kept_under (history_of N self.now) (2 ^ 64 - 1) ≡ None }
     {
+        if is_past(self.last, number) {
+            return false;
+        }
         self.commits.contains_key(&number)
     }
 

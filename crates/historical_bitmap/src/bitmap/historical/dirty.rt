@@ -343,6 +343,7 @@ impl<const N: usize> BitMap<N, Dirty<N>> {
     ///
     /// Per entry of the record, and per edited chunk; and a search among the commits.
     /// Amortized, since the current bitmap may have to reallocate to grow. Else independent of the bitmap's length.
+    #[inline(always)]
     pub fn commit(mut self, number: u64) -> Result<CleanBitMap<N>, (DirtyBitMap<N>, Error)>
         ensures accepted { OnOk result (commit_error self.entry.last number ≡ None) }
         ensures refused { IfErr result (λ e. e.1 ≡ unwrap_or (commit_error self.entry.last number) (Memory alloc_error)) }
@@ -368,6 +369,25 @@ impl<const N: usize> BitMap<N, Dirty<N>> {
                 state: Clean::new(alloc),
             });
         }
+        self.commit_edits(number)
+    }
+
+    // As `commit`, for a number that the commit may have. Kept out of `commit`, which is short then for a batch without edits.
+    #[inline(never)]
+    fn commit_edits(
+        mut self,
+        number: u64,
+    ) -> Result<CleanBitMap<N>, (DirtyBitMap<N>, Error)>
+        requires accepted { commit_error self.last number ≡ None }
+        ensures refused { IfErr result (λ e. e.1 ≡ Memory alloc_error) }
+        ensures unchanged { IfErr result (λ e. e.0 ≡ self.entry) }
+        ensures current { IfOk result (λ b. b.current ≡ pending_of N self.entry) }
+        ensures history { IfOk result (λ b. history_of N b ≡ history_of N self.entry ++ (number, pending_of N self.entry) ∷ []) }
+        ensures earlier { IfOk result (λ b. before_latest b.commits ≡ self.entry.commits) }
+        ensures last { IfOk result (λ b. b.last ≡ Some number) }
+        ensures costs { IfOk result (λ b. (cost : ℕ) × (cost ≤ most_cost N (marked_of N self.entry) self.entry.current (pending_of N self.entry)) × (costs_of b ≡ costs_of self.entry ++ (number, cost) ∷ [])) }
+    {
+        let alloc = self.state.allocator();
         let Ok(record) = self.state.record(&self.current, alloc) else {
             return Err((self, Error::Memory(AllocError)));
         };

@@ -338,6 +338,9 @@ impl<const N: usize> TailChunks<N> {
             self.tail.word &= !mask;
             return Some(old);
         }
+        if self.is_empty() {
+            return None;
+        }
         self.clear_other(bit)
     }
 

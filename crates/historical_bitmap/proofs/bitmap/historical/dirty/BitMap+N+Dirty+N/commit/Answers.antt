@@ -1,47 +1,9 @@
-use Rattle.std.proofs.Common.{◌≡◌, length, sym, ◌∙◌, arith}
-use Rattle.std.specs.BTreeMap.{insert_entry}
-use Rattle.std.specs.Ordering.{nat_cmp}
+use Rattle.std.proofs.Common.{◌≡◌, sym, arith}
 use Rattle.historical_bitmap.specs.Pending.{pending_bits}
-use Rattle.historical_bitmap.proofs.History.AddedCommit.{at_err, at_ok, earlier_same, kept_more, history_more, costs_more}
+use Rattle.historical_bitmap.proofs.History.AddedCommit.{earlier_same, kept_more, history_more, costs_more}
 use Rattle.historical_bitmap.proofs.Pending.Edits.{unedited_pending}
 use Rattle.historical_bitmap.proofs.Pending.Record.{none_can_undo, none_leads_back}
 use Rattle.historical_bitmap.proofs.bitmap.historical.dirty.BitMap+N+Dirty+N.commit.Goals as goal
-use Rattle.historical_bitmap.proofs.bitmap.historical.dirty.BitMap+N+Dirty+N.commit.Given.{Over}
-use Rattle.historical_bitmap.proofs.bitmap.historical.dirty.BitMap+N+Dirty+N.commit.Goals.{After-shrink_back}
-
-pub overwrite-requires : goal.overwrite-requires
-overwrite-requires g c =
-    (omega arith, (omega (arith, c.len-len.ensures.width), rw (c.len-len.ensures.value, c.pruned_chunks-pruned.ensures.value, c.into_edited-edited.ensures) (c.in-Ok-grow.ensures.ready c.self.inside.state (sym c.len-len.ensures.value) c.self.invariant.0)))
-
-pub returns-clause-current : goal.returns-clause-current
-returns-clause-current g c =
-    let made : c.overwrite.new.current ≡ pending_bits g.row.N c.self.inside.current c.self.inside.state =
-    c.overwrite.ensures ∙ (rw (c.len-len.ensures.value, c.pruned_chunks-pruned.ensures.value, c.into_edited-edited.ensures) (c.in-Ok-grow.ensures.pending c.self.inside.state (sym c.len-len.ensures.value) c.self.invariant.0)) in
-    rw (← c.self.view_is) made
-
-pub invariant_of-result-2 : goal.invariant_of-result-2
-invariant_of-result-2 g c =
-    let made : c.overwrite.new.current ≡ pending_bits g.row.N c.self.inside.current c.self.inside.state =
-    c.overwrite.ensures ∙ (rw (c.len-len.ensures.value, c.pruned_chunks-pruned.ensures.value, c.into_edited-edited.ensures) (c.in-Ok-grow.ensures.pending c.self.inside.state (sym c.len-len.ensures.value) c.self.invariant.0)) in
-    let inserted : c.insert.new.self.entries ≡ insert_entry nat_cmp c.self.inside.commits.entries c.args.number c.in-Ok-record.record = at_ok c.insert.result c.insert.ensures.entries (sym c.is_err.ensures.value ∙ c.if-is_err.false) in
-    (tt, rw made (kept_more g.row.N c.self.inside.commits.entries c.insert.new.self.entries c.self.inside.last c.args.number c.in-Ok-record.record c.self.inside.current (pending_bits g.row.N c.self.inside.current c.self.inside.state) c.len-len.ensures.width.positive c.ranges.number.fits (sym c.in_default.ensures) c.self.invariant.1 inserted c.in-Ok-record.ensures.leads_back c.in-Ok-record.ensures.can_undo))
-
-pub returns-clause-history : goal.returns-clause-history
-returns-clause-history g c =
-    let made : c.overwrite.new.current ≡ pending_bits g.row.N c.self.inside.current c.self.inside.state =
-    c.overwrite.ensures ∙ (rw (c.len-len.ensures.value, c.pruned_chunks-pruned.ensures.value, c.into_edited-edited.ensures) (c.in-Ok-grow.ensures.pending c.self.inside.state (sym c.len-len.ensures.value) c.self.invariant.0)) in
-    let inserted : c.insert.new.self.entries ≡ insert_entry nat_cmp c.self.inside.commits.entries c.args.number c.in-Ok-record.record = at_ok c.insert.result c.insert.ensures.entries (sym c.is_err.ensures.value ∙ c.if-is_err.false) in
-    rw (← c.self.view_is, made) (history_more g.row.N c.self.inside.commits.entries c.insert.new.self.entries c.self.inside.last c.args.number c.in-Ok-record.record c.self.inside.current (pending_bits g.row.N c.self.inside.current c.self.inside.state) c.len-len.ensures.width.positive c.ranges.number.fits (sym c.in_default.ensures) c.self.invariant.1 inserted c.in-Ok-record.ensures.leads_back)
-
-pub returns-clause-earlier : goal.returns-clause-earlier
-returns-clause-earlier g c =
-    let inserted : c.insert.new.self.entries ≡ insert_entry nat_cmp c.self.inside.commits.entries c.args.number c.in-Ok-record.record = at_ok c.insert.result c.insert.ensures.entries (sym c.is_err.ensures.value ∙ c.if-is_err.false) in
-    rw (← c.self.view_is) (earlier_same g.row.N c.self.inside.commits.entries c.insert.new.self.entries c.self.inside.last c.args.number c.in-Ok-record.record c.self.inside.current (pending_bits g.row.N c.self.inside.current c.self.inside.state) c.len-len.ensures.width.positive c.ranges.number.fits (sym c.in_default.ensures) c.self.invariant.1 inserted)
-
-pub returns-clause-costs : goal.returns-clause-costs
-returns-clause-costs g c =
-    let inserted : c.insert.new.self.entries ≡ insert_entry nat_cmp c.self.inside.commits.entries c.args.number c.in-Ok-record.record = at_ok c.insert.result c.insert.ensures.entries (sym c.is_err.ensures.value ∙ c.if-is_err.false) in
-    rw (← c.self.view_is) (length c.in-Ok-record.record.entries, omega (arith, c.in-Ok-record.ensures.bound), costs_more g.row.N c.self.inside.commits.entries c.insert.new.self.entries c.self.inside.last c.args.number c.in-Ok-record.record c.self.inside.current (pending_bits g.row.N c.self.inside.current c.self.inside.state) c.len-len.ensures.width.positive c.ranges.number.fits (sym c.in_default.ensures) c.self.invariant.1 inserted)
 
 -- the commit of a batch without edits
 pub returns-then-is_unedited-clause-current : goal.returns-then-is_unedited-clause-current
@@ -68,16 +30,3 @@ returns-then-is_unedited-clause-earlier g c =
 pub returns-then-is_unedited-clause-costs : goal.returns-then-is_unedited-clause-costs
 returns-then-is_unedited-clause-costs g c =
     rw (← c.self.view_is) (0, omega arith, costs_more g.row.N c.self.inside.commits.entries c.keep_current.new.commits.entries c.self.inside.last c.args.number _ c.self.inside.current c.self.inside.current c.is_unedited.ensures.width.positive c.ranges.number.fits (sym c.in_default.ensures) c.self.invariant.1 c.in-Ok.ensures.ok)
-
--- if the insertion of the record fails, the bitmap and the commits are unchanged
-current_again : (g : Over) (c : After-shrink_back g) → c.shrink_back.new.current ≡ c.self.inside.current
-current_again g c = c.shrink_back.ensures.undoes c.self.inside.current c.len-len.result c.in-Ok-grow.ensures.before c.in-Ok-grow.ensures.ok
-
-commits_again : (g : Over) (c : After-shrink_back g) → c.insert.new.self.entries ≡ c.self.inside.commits.entries
-commits_again g c = at_err c.insert.result c.insert.ensures.err (sym c.is_err.ensures.value ∙ c.if-is_err.true)
-
-pub invariant_of-self-then-is_err : goal.invariant_of-self-then-is_err
-invariant_of-self-then-is_err g c = rw (current_again g c, commits_again g c) c.self.invariant
-
-pub returns-then-is_err-clause-unchanged : goal.returns-then-is_err-clause-unchanged
-returns-then-is_err-clause-unchanged g c = rw (current_again g c, commits_again g c) c.self.view_is
