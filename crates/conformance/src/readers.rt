@@ -256,6 +256,11 @@ fn check_ranges<B: Readable<N>, const N: usize>(
     expect(rt, len < 10000);
     let found = ok(rt, positions(alloc, map));
     for start in 0..len + 3 {
+        let above = between(found.as_slice(), start, len);
+        let ones = map.ones_iter_from(start);
+        expect_at(rt, ("ones", start, N), ones.eq(above.iter().copied()));
+        let zeros = inverse.zeros_iter_from(start);
+        expect_at(rt, ("zeros", start, N), zeros.eq(above.iter().copied()));
         for end in start.saturating_sub(1)..len + 3 {
             let want = between(found.as_slice(), start, end);
             let ones = map.ones_iter_range(start..end);

@@ -8,6 +8,8 @@ mod applied;
 #[cfg(test)]
 mod calls;
 #[cfg(test)]
+mod changes;
+#[cfg(test)]
 mod checked_calls;
 #[cfg(test)]
 mod checks;

@@ -24,8 +24,8 @@ struct Filled {
     value: bool,
 }
 
-// The bit at a position before a range is set. The period divides the bits of no chunk.
-fn pattern(position: u64) -> bool {
+/// Returns the bit at a position before a range is set. The period divides the bits of no chunk.
+pub fn pattern(position: u64) -> bool {
     position % 3 == 0 || position % 7 == 2
 }
 
@@ -38,8 +38,8 @@ fn expected(position: u64, filled: Filled) -> bool {
     }
 }
 
-// Appends the bits of the pattern up to length `to`.
-fn grow<const N: usize>(rt: &impl Abort, map: &mut DirtyBitMap<N>, to: u64) {
+/// Appends the bits of the pattern up to length `to`.
+pub fn grow<const N: usize>(rt: &impl Abort, map: &mut DirtyBitMap<N>, to: u64) {
     for position in map.len()..to {
         push(rt, map, pattern(position));
     }

@@ -1,7 +1,8 @@
 //! One digest per chunk, kept up to date from version to version.
 
-ghost use Rattle.std.specs.Prelude.{◌≡◌, ℕ, ◌*◌, ◌^◌, ◌<◌, Ok, IfSome, IfOk, OnErr, None};
+ghost use Rattle.std.specs.Prelude.{◌≡◌, ℕ, ◌*◌, ◌^◌, ◌<◌, Ok, IfSome, IfOk, OnErr, None, is_some};
 ghost use Rattle.std.specs.Option.{option_map};
+ghost use Rattle.historical_bitmap.specs.Changes.{changed_between};
 ghost use Rattle.historical_bitmap.specs.History.{kept_under};
 ghost use Rattle.historical_bitmap.specs.View.{history_of};
 ghost use Rattle.uses.specs.Digests.{digest_at, digests_of};
@@ -78,6 +79,7 @@ pub fn update_digests<D: Digest<N>, const N: usize>(
 ) -> Result<Option<()>, AllocError>
     requires { IfSome (kept_under (history_of N versions.now) from) (λ version. digests.old.items ≡ digests_of N (D.of digest.now) version) }
     ensures updated { IfOk result (λ done. IfSome done (λ _. IfSome (kept_under (history_of N versions.now) to) (λ version. digests.new.items ≡ digests_of N (D.of digest.now) version))) }
+    ensures done { IfOk result (λ done. is_some done ≡ is_some (changed_between N (history_of N versions.now) from to)) }
     ensures absent { result ≡ Ok None → digests.new.items ≡ digests.old.items }
     ensures err { OnErr result (digests.new.items ≡ digests.old.items) }
 {

@@ -141,6 +141,56 @@ fn pending_bitmap_read(rt: HostRuntime) {
     expect(&rt, keeps(&map.abort(), &[1, 2]));
 }
 
+// Searches, counts and lists of positions of a batch. It retains 15 bits: those of `PENDING`, after a pruned chunk.
+#[test]
+fn pending_bitmap_searched(rt: HostRuntime) {
+    let Some((map, _before)) = batch_begun(&rt, rt.alloc()) else {
+        return;
+    };
+    equal(&rt, (map.next_one(0), map.next_one(20)), (Some(9), None));
+    equal(
+        &rt,
+        (map.next_zero(9), map.prev_zero(16)),
+        (Some(12), Some(14)),
+    );
+    equal(&rt, (map.prev_one(23), map.prev_one(9)), (Some(19), None));
+    equal(
+        &rt,
+        (map.count_ones_range(0..40), map.count_ones_range(10..13)),
+        (9, 2),
+    );
+    equal(
+        &rt,
+        (map.select_one(8), map.select_one(9)),
+        (Some(19), None),
+    );
+    expect(&rt, map.zeros_iter_from(12).eq([12, 14, 20, 21, 22]));
+    expect(&rt, map.ones_iter_range(12..18).eq([13, 15, 16, 17]));
+}
+
+// The chunks in which two commits differ, and those in which a batch differs from the current bitmap.
+#[test]
+fn changes_listed(rt: HostRuntime) {
+    let Some((mut map, before)) = batch_begun(&rt, rt.alloc()) else {
+        return;
+    };
+    // The batch has removed a zero, and then three more: the bytes are the same.
+    pop_run(&rt, &mut map, 3, false);
+    expect(&rt, map.changed_chunks().next().is_none());
+    pop_run(&rt, &mut map, 1, true);
+    expect(&rt, map.changed_chunks().eq([2]));
+    let Some(mut changes) = before.changed_chunks(1, 2) else {
+        expect(&rt, false);
+        return;
+    };
+    expect(&rt, changes.by_ref().eq([0, 2]));
+    expect(&rt, changes.next().is_none() && changes.next().is_none());
+    expect(
+        &rt,
+        before.changed_chunks(2, 1).is_none() && before.changed_chunks(1, 3).is_none(),
+    );
+}
+
 #[test]
 fn commits_that_fail(rt: HostRuntime) {
     let Some((map, _before)) = batch_begun(&rt, rt.alloc()) else {

@@ -3,8 +3,9 @@
 ghost use Rattle.std.specs.Prelude.{◌≡◌, ℕ, List, [], None, Some, IfOk, IfSome, nat_eq};
 ghost use Rattle.std.specs.Iterator.{YieldsFirst};
 ghost use Rattle.std.specs.List.Sorted.{IsStrictlyIncreasing};
+ghost use Rattle.std.specs.Option.{option_map};
 ghost use Rattle.std.specs.Set.{is_member};
-ghost use Rattle.historical_bitmap.specs.Changes.{changed, differs, patched};
+ghost use Rattle.historical_bitmap.specs.Changes.{changed_between, differs, patched};
 ghost use Rattle.historical_bitmap.specs.History.{kept_under};
 ghost use Rattle.historical_bitmap.specs.View.{history_of, pending_of};
 
@@ -26,6 +27,7 @@ pub fn changes_make_the_newer_state<'a, const N: usize>(
     from: u64,
     to: u64,
 ) -> Option<(AtCommit<'a, N>, AtCommit<'a, N>, ChangedChunks<'a, N>)>
+    ensures value { option_map (λ found. found.2) result ≡ changed_between N (history_of N bitmap.now) from to }
     ensures older { IfSome result (λ found. kept_under (history_of N bitmap.now) from ≡ Some found.0) }
     ensures newer { IfSome result (λ found. kept_under (history_of N bitmap.now) to ≡ Some found.1) }
     ensures exactly { IfSome result (λ found. (i : ℕ) → is_member nat_eq found.2 i ≡ differs N found.0 found.1 i) }

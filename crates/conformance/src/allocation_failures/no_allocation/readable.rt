@@ -27,6 +27,8 @@ fn check_reader<B: Readable<N>, const N: usize>(rt: &impl Abort, map: &B) {
         used > 0 && used <= width && chunk == map.get_chunk(((len - 1) / width) as usize),
     );
     check_ones(rt, map);
+    check_zeros(rt, map);
+    check_searches(rt, map);
 }
 
 // The set positions from each position on, to the end of the iterator and past it.
@@ -40,6 +42,38 @@ fn check_ones<B: Readable<N>, const N: usize>(rt: &impl Abort, map: &B) {
     let mut ones = map.ones_iter_range(first..len);
     expect(rt, ones.by_ref().last().is_some_and(|last| last % 3 == 0));
     expect(rt, ones.next().is_none() && ones.next().is_none());
+}
+
+// The positions from each position on, and below it, whose bit is not set.
+fn check_zeros<B: Readable<N>, const N: usize>(rt: &impl Abort, map: &B) {
+    let (first, len) = (map.pruned_bits(), map.len());
+    for at in first..len {
+        let above = (at..len).filter(|it| *it % 3 != 0);
+        expect(rt, map.zeros_iter_from(at).eq(above));
+        let below = (first..at).filter(|it| *it % 3 != 0);
+        expect(rt, map.zeros_iter_range(0..at).eq(below));
+    }
+}
+
+// The searches and counts at each position.
+fn check_searches<B: Readable<N>, const N: usize>(rt: &impl Abort, map: &B) {
+    let (first, len) = (map.pruned_bits(), map.len());
+    let mut below = 0u64;
+    for at in first..len {
+        let is_set = at % 3 == 0;
+        let next = (at..len).find(|it| *it % 3 == 0);
+        equal(rt, map.next_one(at), next);
+        let next = (at..len).find(|it| *it % 3 != 0);
+        equal(rt, map.next_zero(at), next);
+        let previous = (first..at).rev().find(|it| *it % 3 == 0);
+        equal(rt, map.prev_one(at), previous);
+        let previous = (first..at).rev().find(|it| *it % 3 != 0);
+        equal(rt, map.prev_zero(at), previous);
+        equal(rt, map.count_ones_range(0..at), below);
+        expect(rt, !is_set || map.select_one(below) == Some(at));
+        below = below.wrapping_add(u64::from(is_set));
+    }
+    equal(rt, map.select_one(below), None);
 }
 
 // Both bitmaps of one width. The pruned one is read at each place of its deque.
