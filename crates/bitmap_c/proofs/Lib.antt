@@ -1,0 +1,6 @@
+pub mod Handles
+pub mod Kept
+pub mod Lists
+pub mod Pushes
+pub mod Ranges
+pub mod Retained

@@ -1,0 +1,71 @@
+-- What the calls do that make, read and copy a session.
+use Rattle.std.specs.Prelude.{◌≡◌, ℕ, Bool, ◌&&◌, ◌⊎◌, List, [], length, Option, None, Some, nat_le, MatchBool, MatchOption}
+use Rattle.bitmap_core.specs.Decoding.{DecodeError, pruned_error, pruned_in}
+use Rattle.bitmap_core.specs.Decoding.DecodeError.{InvalidLength}
+use Rattle.bitmap_core.specs.Encoding.{pruned_encoding}
+use Rattle.bitmap_session.specs.Machine.{Machine, first_machine}
+use Rattle.bitmap_c.specs.declared.any.AnySession.{AnySession}
+use Rattle.bitmap_c.specs.Statuses.{decode_status}
+use Rattle.bitmap_c.specs.Widths.{is_width, machine, width}
+
+-- an empty handle gets a session with the property, with DONE, or stays empty, with NO_MEMORY
+abbrev pub Fills : (AnySession → Type 0) → ℕ → Option AnySession → Type 0
+Fills Is status new =
+    ((status ≡ 13) × (new ≡ None)) ⊎ ((status ≡ 0) × ((made : AnySession) × (new ≡ Some made) × Is made))
+
+-- a session is the first machine of a width
+abbrev pub IsFirst : ℕ → AnySession → Type 0
+IsFirst n made = (width made ≡ n) × (machine made ≡ first_machine)
+
+-- a full handle is unchanged, with FULL_HANDLE; an empty one gets the first machine of a width, or NO_SUCH_WIDTH
+abbrev pub Makes : Option AnySession → ℕ → ℕ → Option AnySession → Type 0
+Makes (Some old) n status new = (status ≡ 16) × (new ≡ Some old)
+Makes None n status new = MatchBool (is_width n) (Fills (IsFirst n) status new) ((status ≡ 17) × (new ≡ None))
+
+-- a session is equal to another one
+abbrev pub IsCopy : AnySession → AnySession → Type 0
+IsCopy old made = made ≡ old
+
+-- an empty handle has no copy, with EMPTY_HANDLE; a copy that is full is unchanged, with FULL_HANDLE; an empty one gets an equal session
+abbrev pub Copies : Option AnySession → Option AnySession → ℕ → Option AnySession → Type 0
+Copies None copy status new = (status ≡ 15) × (new ≡ copy)
+Copies (Some old) (Some copy) status new = (status ≡ 16) × (new ≡ Some copy)
+Copies (Some old) None status new = Fills (IsCopy old) status new
+
+-- a number of bits is from `least` to `most`, both included
+abbrev pub between : ℕ → ℕ → ℕ → Bool
+between least most bits = nat_le least bits && nat_le bits most
+
+-- the machine with the bitmap that the bytes encode, without a batch, commits and a last number
+abbrev pub read_machine : List ℕ → Machine
+read_machine bytes = record {
+  state = record { current = pruned_in bytes; pending = None; history = []; costs = []; last = None };
+  touched = [];
+}
+
+-- the number of bytes of the encoding that the bytes begin with
+abbrev pub encoding_size : ℕ → List ℕ → ℕ
+encoding_size n bytes = length (pruned_encoding n (pruned_in bytes))
+
+-- the number of retained bits of a decode error that is InvalidLength, and otherwise the old number
+abbrev pub length_or : Option DecodeError → ℕ → ℕ
+length_or (Some (InvalidLength bits)) old = bits
+length_or _ old = old
+
+-- a session of a width has the bitmap that the bytes encode
+abbrev pub IsRead : ℕ → List ℕ → AnySession → Type 0
+IsRead n bytes made = (width made ≡ n) × (machine made ≡ read_machine bytes)
+
+-- as Makes, with the bitmap that the bytes encode, or the status of their decode error
+abbrev pub Reads : Option AnySession → ℕ → (ℕ → Bool) → List ℕ → ℕ → Option AnySession → Type 0
+Reads (Some old) n range bytes status new = (status ≡ 16) × (new ≡ Some old)
+Reads None n range bytes status new = MatchBool (is_width n)
+    (MatchOption (pruned_error n range bytes)
+    (Fills (IsRead n bytes) status new)
+    (λ decode_error. (status ≡ decode_status (Some decode_error)) × (new ≡ None)))
+    ((status ≡ 17) × (new ≡ None))
+
+-- the status of an error of a read; one that is no decode error is out of memory
+abbrev pub read_status : Option DecodeError → ℕ
+read_status (Some decode_error) = decode_status (Some decode_error)
+read_status None = 13

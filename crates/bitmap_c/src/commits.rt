@@ -1,0 +1,138 @@
+//! Reads of the kept commits, in place.
+
+ghost use Rattle.std.specs.Prelude.{◌≡◌};
+ghost use Rattle.bitmap_c.specs.Pages.{ReturnsPage, changes_read, numbers_read};
+ghost use Rattle.bitmap_c.specs.Reads.{of_handle};
+ghost use Rattle.bitmap_c.specs.Widths.{machine, width};
+
+use crate::any::AnySession;
+use crate::handle::{Handle, put, take};
+use crate::pages::write_page;
+use crate::status::{DONE, EMPTY_HANDLE, NO_SUCH_COMMIT, WRONG_MODE};
+use bitmap_session::session::Session;
+use std::alloc::Global;
+
+// Writes a page of the kept commit numbers that are at least `from`.
+fn numbers_of<const N: usize>(
+    session: &Session<N>,
+    from: u64,
+    out: &mut [u64],
+    count: &mut usize,
+) -> u32
+    ensures { ReturnsPage result count.old count.new out.old out.new
+        (numbers_read session.now from) }
+{
+    let Some(mut numbers) = session.commits() else {
+        return WRONG_MODE;
+    };
+    *count = write_page(&mut numbers, from, out);
+    DONE
+}
+
+// Does the same for a session of any width.
+fn numbers(any: &AnySession, from: u64, out: &mut [u64], count: &mut usize) -> u32
+    ensures { ReturnsPage result count.old count.new out.old out.new
+        (numbers_read (machine any.now) from) }
+{
+    at_width!(any, session => numbers_of(session, from, out, count))
+}
+
+// Writes a page of the indices, from `first` on, of the chunks that differ between the bitmaps at two commits.
+fn changes_of<const N: usize>(
+    session: &Session<N>,
+    from: u64,
+    to: u64,
+    first: u64,
+    out: &mut [u64],
+    count: &mut usize,
+) -> u32
+    ensures { ReturnsPage result count.old count.new out.old out.new
+        (changes_read N session.now from to first) }
+{
+    if session.current().is_none() {
+        return WRONG_MODE;
+    }
+    let Some(mut chunks) = session.changed_chunks(from, to) else {
+        return NO_SUCH_COMMIT;
+    };
+    *count = write_page(&mut chunks, first, out);
+    DONE
+}
+
+// Does the same for a session of any width.
+fn changes(
+    any: &AnySession,
+    from: u64,
+    to: u64,
+    first: u64,
+    out: &mut [u64],
+    count: &mut usize,
+) -> u32
+    ensures { ReturnsPage result count.old count.new out.old out.new
+        (changes_read (width any.now) (machine any.now) from to first) }
+{
+    at_width!(any, session => changes_of(session, from, to, first, out, count))
+}
+
+/// Writes a page of the kept commit numbers from `from` on, ascending.
+///
+/// `count` becomes how many are written.
+///
+/// # Errors
+///
+/// Returns `WRONG_MODE` in a batch. `count` and `out` are then unchanged.
+///
+/// # Memory
+///
+/// Does not allocate.
+///
+/// # Complexity
+///
+/// Linear in the kept commits up to the last one written.
+#[unsafe(no_mangle)]
+pub extern "C" fn mortarpink_commits(
+    alloc: Global,
+    bitmap: &mut Handle,
+    from: u64,
+    out: &mut [u64],
+    count: &mut usize,
+) -> u32
+    ensures same { bitmap.new.value ≡ bitmap.old.value }
+    ensures page { ReturnsPage result count.old count.new out.old out.new
+        (of_handle bitmap.old.value (λ N m. numbers_read m from)) }
+{
+    in_handle!(alloc, bitmap, any => numbers(&any, from, out, count))
+}
+
+/// Writes a page of the indices, from `first` on, of the chunks that differ between the bitmaps at two commits.
+///
+/// Indices count chunks. They are absolute and ascending. `count` becomes how many are written.
+///
+/// # Errors
+///
+/// Returns `WRONG_MODE` in a batch, and `NO_SUCH_COMMIT` unless both commits are kept and `from` is at most `to`.
+/// `count` and `out` are then unchanged.
+///
+/// # Memory
+///
+/// Does not allocate.
+///
+/// # Complexity
+///
+/// Each chunk with an entry in a commit after `from` and up to `to` costs a search of each commit after `from`.
+#[unsafe(no_mangle)]
+pub extern "C" fn mortarpink_changed_chunks(
+    alloc: Global,
+    bitmap: &mut Handle,
+    from: u64,
+    to: u64,
+    first: u64,
+    out: &mut [u64],
+    count: &mut usize,
+) -> u32
+    ensures same { bitmap.new.value ≡ bitmap.old.value }
+    ensures page { ReturnsPage result count.old count.new out.old out.new
+        (of_handle bitmap.old.value (λ N m. changes_read N m from to first)) }
+{
+    in_handle!(alloc, bitmap, any => changes(&any, from, to, first, out, count))
+}

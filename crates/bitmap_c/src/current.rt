@@ -1,0 +1,269 @@
+//! Reads of the current bitmap, in place.
+
+ghost use Rattle.std.specs.Prelude.{◌≡◌, Ok};
+ghost use Rattle.bitmap_core.specs.Searches.{next_one, next_zero, ones_count, prev_one, prev_zero, select_one};
+ghost use Rattle.bitmap_c.specs.Pages.{ReturnsPage, ones_read};
+ghost use Rattle.bitmap_c.specs.Reads.{Returns, found, queried, read_current, session_current};
+ghost use Rattle.bitmap_c.specs.Widths.{machine, width};
+
+use crate::any::AnySession;
+use crate::handle::{Handle, put, take};
+use crate::pages::write_ones;
+use crate::queries::{Query, number_read};
+use crate::status::{DONE, EMPTY_HANDLE, NONE, WRONG_MODE};
+use bitmap_session::session::Session;
+use std::alloc::Global;
+
+// Writes the number that a query reads of the current bitmap.
+fn number_of<const N: usize>(session: &Session<N>, query: Query, out: &mut u64) -> u32
+    ensures { Returns result out.old out.new (session_current N session.now (queried query)) }
+{
+    let Some(bitmap) = session.current() else {
+        return WRONG_MODE;
+    };
+    let Some(number) = number_read(bitmap, query) else {
+        return NONE;
+    };
+    *out = number;
+    DONE
+}
+
+// Does the same for a session of any width.
+fn number(any: &AnySession, query: Query, out: &mut u64) -> u32
+    ensures { Returns result out.old out.new
+        (session_current (width any.now) (machine any.now) (queried query)) }
+{
+    at_width!(any, session => number_of(session, query, out))
+}
+
+// Writes a page of the set positions of a range of the current bitmap.
+fn ones_of<const N: usize>(
+    session: &Session<N>,
+    from: u64,
+    to: u64,
+    out: &mut [u64],
+    count: &mut usize,
+) -> u32
+    ensures { ReturnsPage result count.old count.new out.old out.new
+        (session_current N session.now (λ N b. ones_read N b from to)) }
+{
+    let Some(bitmap) = session.current() else {
+        return WRONG_MODE;
+    };
+    *count = write_ones(bitmap, from, to, out);
+    DONE
+}
+
+// Does the same for a session of any width.
+fn ones(any: &AnySession, from: u64, to: u64, out: &mut [u64], count: &mut usize) -> u32
+    ensures { ReturnsPage result count.old count.new out.old out.new
+        (session_current (width any.now) (machine any.now) (λ N b. ones_read N b from to)) }
+{
+    at_width!(any, session => ones_of(session, from, to, out, count))
+}
+
+/// Writes a page of the set positions of the current bitmap from `from` up to `to`, `to` excluded.
+///
+/// The positions are in bits, absolute and ascending. `count` becomes how many are written.
+///
+/// # Errors
+///
+/// Returns `WRONG_MODE` in a batch. `count` and `out` are then unchanged.
+///
+/// # Memory
+///
+/// Does not allocate.
+///
+/// # Complexity
+///
+/// Linear in the chunks that are read.
+#[unsafe(no_mangle)]
+pub extern "C" fn mortarpink_ones(
+    alloc: Global,
+    bitmap: &mut Handle,
+    from: u64,
+    to: u64,
+    out: &mut [u64],
+    count: &mut usize,
+) -> u32
+    ensures same { bitmap.new.value ≡ bitmap.old.value }
+    ensures page { ReturnsPage result count.old count.new out.old out.new
+        (read_current bitmap.old.value (λ N b. ones_read N b from to)) }
+{
+    in_handle!(alloc, bitmap, any => ones(&any, from, to, out, count))
+}
+
+/// Writes the least retained position of the current bitmap, from `from` on, whose bit is 1, to `position`.
+///
+/// Positions are in bits, and absolute.
+///
+/// # Errors
+///
+/// Returns `WRONG_MODE` in a batch, and `NONE` if there is no such position. `position` is then unchanged.
+///
+/// # Memory
+///
+/// Does not allocate.
+///
+/// # Complexity
+///
+/// Linear in the chunks that are read.
+#[unsafe(no_mangle)]
+pub extern "C" fn mortarpink_next_one(
+    alloc: Global,
+    bitmap: &mut Handle,
+    from: u64,
+    position: &mut u64,
+) -> u32
+    ensures same { bitmap.new.value ≡ bitmap.old.value }
+    ensures read { Returns result position.old position.new
+        (read_current bitmap.old.value (λ N b. found (next_one N b from))) }
+{
+    in_handle!(alloc, bitmap, any => number(&any, Query::NextOne(from), position))
+}
+
+/// Writes the least retained position of the current bitmap, from `from` on, whose bit is 0, to `position`.
+///
+/// Positions are in bits, and absolute.
+///
+/// # Errors
+///
+/// Returns `WRONG_MODE` in a batch, and `NONE` if there is no such position. `position` is then unchanged.
+///
+/// # Memory
+///
+/// Does not allocate.
+///
+/// # Complexity
+///
+/// Linear in the chunks that are read.
+#[unsafe(no_mangle)]
+pub extern "C" fn mortarpink_next_zero(
+    alloc: Global,
+    bitmap: &mut Handle,
+    from: u64,
+    position: &mut u64,
+) -> u32
+    ensures same { bitmap.new.value ≡ bitmap.old.value }
+    ensures read { Returns result position.old position.new
+        (read_current bitmap.old.value (λ N b. found (next_zero N b from))) }
+{
+    in_handle!(alloc, bitmap, any => number(&any, Query::NextZero(from), position))
+}
+
+/// Writes the greatest retained position of the current bitmap, below `end`, whose bit is 1, to `position`.
+///
+/// Positions are in bits, and absolute.
+///
+/// # Errors
+///
+/// Returns `WRONG_MODE` in a batch, and `NONE` if there is no such position. `position` is then unchanged.
+///
+/// # Memory
+///
+/// Does not allocate.
+///
+/// # Complexity
+///
+/// Linear in the chunks that are read.
+#[unsafe(no_mangle)]
+pub extern "C" fn mortarpink_prev_one(
+    alloc: Global,
+    bitmap: &mut Handle,
+    end: u64,
+    position: &mut u64,
+) -> u32
+    ensures same { bitmap.new.value ≡ bitmap.old.value }
+    ensures read { Returns result position.old position.new
+        (read_current bitmap.old.value (λ N b. found (prev_one N b end))) }
+{
+    in_handle!(alloc, bitmap, any => number(&any, Query::PrevOne(end), position))
+}
+
+/// Writes the greatest retained position of the current bitmap, below `end`, whose bit is 0, to `position`.
+///
+/// Positions are in bits, and absolute.
+///
+/// # Errors
+///
+/// Returns `WRONG_MODE` in a batch, and `NONE` if there is no such position. `position` is then unchanged.
+///
+/// # Memory
+///
+/// Does not allocate.
+///
+/// # Complexity
+///
+/// Linear in the chunks that are read.
+#[unsafe(no_mangle)]
+pub extern "C" fn mortarpink_prev_zero(
+    alloc: Global,
+    bitmap: &mut Handle,
+    end: u64,
+    position: &mut u64,
+) -> u32
+    ensures same { bitmap.new.value ≡ bitmap.old.value }
+    ensures read { Returns result position.old position.new
+        (read_current bitmap.old.value (λ N b. found (prev_zero N b end))) }
+{
+    in_handle!(alloc, bitmap, any => number(&any, Query::PrevZero(end), position))
+}
+
+/// Writes the number of set retained positions of the current bitmap from `from` up to `to` to `count`.
+///
+/// Positions are in bits, and absolute. `to` is excluded.
+///
+/// # Errors
+///
+/// Returns `WRONG_MODE` in a batch. `count` is then unchanged.
+///
+/// # Memory
+///
+/// Does not allocate.
+///
+/// # Complexity
+///
+/// Linear in the chunks of the range.
+#[unsafe(no_mangle)]
+pub extern "C" fn mortarpink_count_ones(
+    alloc: Global,
+    bitmap: &mut Handle,
+    from: u64,
+    to: u64,
+    count: &mut u64,
+) -> u32
+    ensures same { bitmap.new.value ≡ bitmap.old.value }
+    ensures read { Returns result count.old count.new
+        (read_current bitmap.old.value (λ N b. Ok (ones_count N b from to))) }
+{
+    in_handle!(alloc, bitmap, any => number(&any, Query::CountOnes(from, to), count))
+}
+
+/// Writes the set retained position of the current bitmap with `k` such positions below it to `position`.
+///
+/// Positions are in bits, and absolute.
+///
+/// # Errors
+///
+/// Returns `WRONG_MODE` in a batch, and `NONE` if there is no such position. `position` is then unchanged.
+///
+/// # Memory
+///
+/// Does not allocate.
+///
+/// # Complexity
+///
+/// Linear in the retained chunks up to that of the position.
+#[unsafe(no_mangle)]
+pub extern "C" fn mortarpink_select_one(
+    alloc: Global,
+    bitmap: &mut Handle,
+    k: u64,
+    position: &mut u64,
+) -> u32
+    ensures same { bitmap.new.value ≡ bitmap.old.value }
+    ensures read { Returns result position.old position.new
+        (read_current bitmap.old.value (λ N b. found (select_one N b k))) }
+{
+    in_handle!(alloc, bitmap, any => number(&any, Query::SelectOne(k), position))
+}

@@ -1,0 +1,285 @@
+//! Calls that begin a batch, edit the pending bitmap, and end the batch.
+
+ghost use Rattle.std.specs.Prelude.{◌≡◌, ◌==◌, length, not};
+ghost use Rattle.bitmap_c.specs.Calls.{Calls, CallsChunk, ServesAny, ServesAnyChunk};
+ghost use Rattle.bitmap_c.specs.Reports.{Reports, ReportsBit, ReportsPrevious};
+
+use crate::any::AnySession;
+use crate::handle::{Handle, put, take};
+use crate::run::{
+    run, run_commit, run_pop, run_prune, run_push, run_push_byte, run_push_chunk, run_set,
+};
+use crate::status::{EMPTY_HANDLE, WRONG_SIZE};
+use bitmap_session::command::Command;
+use std::alloc::Global;
+
+#[tactic(auto, unfolding(crate::specs::Calls::ServesAny))]
+fn begin(any: &mut AnySession) -> u32
+    ensures { ServesAny any.old (λ N. Command.Begin) (Reports result) any.new }
+{
+    at_width!(any, session => run(session, Command::Begin))
+}
+
+/// Begins a batch of edits on the current bitmap.
+///
+/// # Errors
+///
+/// Returns `WRONG_MODE` in a batch.
+///
+/// # Memory
+///
+/// Does not allocate.
+///
+/// # Complexity
+///
+/// Constant.
+#[unsafe(no_mangle)]
+pub extern "C" fn mortarpink_begin(alloc: Global, bitmap: &mut Handle) -> u32
+    ensures step { Calls bitmap.old.value (λ N. Command.Begin) (Reports result)
+        (result ≡ EMPTY_HANDLE) bitmap.new.value }
+{
+    in_handle!(alloc, bitmap, any => begin(&mut any))
+}
+
+#[tactic(auto, unfolding(crate::specs::Calls::ServesAny))]
+fn push(any: &mut AnySession, bit: bool) -> u32
+    ensures { ServesAny any.old (λ N. Command.Push bit) (Reports result) any.new }
+{
+    at_width!(any, session => run_push(session, bit))
+}
+
+/// Appends a bit: 0 if `bit` is 0, and otherwise 1.
+///
+/// # Errors
+///
+/// Returns `WRONG_MODE` outside a batch, `TOO_LONG` if the length would not fit `u64`, and `NO_MEMORY` if an allocation fails.
+///
+/// # Memory
+///
+/// May allocate.
+///
+/// # Complexity
+///
+/// Amortized constant.
+#[unsafe(no_mangle)]
+pub extern "C" fn mortarpink_push(alloc: Global, bitmap: &mut Handle, bit: u8) -> u32
+    ensures step { Calls bitmap.old.value (λ N. Command.Push (not (bit == 0))) (Reports result)
+        (result ≡ EMPTY_HANDLE) bitmap.new.value }
+{
+    in_handle!(alloc, bitmap, any => push(&mut any, bit != 0))
+}
+
+#[tactic(auto, unfolding(crate::specs::Calls::ServesAny))]
+fn push_byte(any: &mut AnySession, byte: u8) -> u32
+    ensures { ServesAny any.old (λ N. Command.PushByte byte) (Reports result) any.new }
+{
+    at_width!(any, session => run_push_byte(session, byte))
+}
+
+/// Appends the eight bits of a byte, the lowest first.
+///
+/// # Errors
+///
+/// As `mortarpink_push`.
+///
+/// # Memory
+///
+/// May allocate.
+///
+/// # Complexity
+///
+/// Amortized constant.
+#[unsafe(no_mangle)]
+pub extern "C" fn mortarpink_push_byte(alloc: Global, bitmap: &mut Handle, byte: u8) -> u32
+    ensures step { Calls bitmap.old.value (λ N. Command.PushByte byte) (Reports result)
+        (result ≡ EMPTY_HANDLE) bitmap.new.value }
+{
+    in_handle!(alloc, bitmap, any => push_byte(&mut any, byte))
+}
+
+#[tactic(auto, unfolding(crate::specs::Calls::ServesAnyChunk))]
+fn push_chunk(any: &mut AnySession, bytes: &[u8]) -> u32
+    ensures { ServesAnyChunk (length bytes.now) any.old (λ N. Command.PushChunk bytes.now)
+        (Reports result) (result ≡ WRONG_SIZE) any.new }
+{
+    at_width!(any, session => run_push_chunk(session, bytes))
+}
+
+/// Appends the bits of one chunk, the lowest bit of its first byte first.
+///
+/// # Errors
+///
+/// Returns `WRONG_SIZE` if the number of bytes is not the width. Otherwise as `mortarpink_push`.
+///
+/// # Memory
+///
+/// May allocate.
+///
+/// # Complexity
+///
+/// Linear in the width.
+#[unsafe(no_mangle)]
+pub extern "C" fn mortarpink_push_chunk(alloc: Global, bitmap: &mut Handle, bytes: &[u8]) -> u32
+    ensures step { CallsChunk (length bytes.now) bitmap.old.value (λ N. Command.PushChunk bytes.now)
+        (Reports result) (result ≡ EMPTY_HANDLE) (result ≡ WRONG_SIZE) bitmap.new.value }
+{
+    in_handle!(alloc, bitmap, any => push_chunk(&mut any, bytes))
+}
+
+#[tactic(auto, unfolding(crate::specs::Calls::ServesAny))]
+fn pop(any: &mut AnySession, bit: &mut u8) -> u32
+    ensures { ServesAny any.old (λ N. Command.Pop) (ReportsBit result bit.old bit.new) any.new }
+{
+    at_width!(any, session => run_pop(session, bit))
+}
+
+/// Removes the last bit; `bit` becomes it.
+///
+/// # Errors
+///
+/// Returns `WRONG_MODE` outside a batch, and `NO_RETAINED_BIT` if no bit is retained. `bit` is then unchanged.
+///
+/// # Memory
+///
+/// Does not allocate.
+///
+/// # Complexity
+///
+/// Logarithmic in the chunks edited in the batch.
+#[unsafe(no_mangle)]
+pub extern "C" fn mortarpink_pop(alloc: Global, bitmap: &mut Handle, bit: &mut u8) -> u32
+    ensures step { Calls bitmap.old.value (λ N. Command.Pop) (ReportsBit result bit.old bit.new)
+        ((result ≡ EMPTY_HANDLE) × (bit.new ≡ bit.old)) bitmap.new.value }
+{
+    in_handle!(alloc, bitmap, any => pop(&mut any, bit))
+}
+
+#[tactic(auto, unfolding(crate::specs::Calls::ServesAny))]
+fn set(any: &mut AnySession, position: u64, bit: bool) -> u32
+    ensures { ServesAny any.old (λ N. Command.Set position bit) (Reports result) any.new }
+{
+    at_width!(any, session => run_set(session, position, bit))
+}
+
+/// Replaces the bit at an absolute position: by 0 if `bit` is 0, and otherwise by 1.
+///
+/// # Errors
+///
+/// Returns `WRONG_MODE` outside a batch, `OUT_OF_BOUNDS` if the position is not below the length, `PRUNED` if it is pruned, and
+/// `NO_MEMORY` if an allocation fails.
+///
+/// # Memory
+///
+/// May allocate.
+///
+/// # Complexity
+///
+/// Logarithmic in the chunks edited in the batch.
+#[unsafe(no_mangle)]
+pub extern "C" fn mortarpink_set(alloc: Global, bitmap: &mut Handle, position: u64, bit: u8) -> u32
+    ensures step { Calls bitmap.old.value (λ N. Command.Set position (not (bit == 0)))
+        (Reports result) (result ≡ EMPTY_HANDLE) bitmap.new.value }
+{
+    in_handle!(alloc, bitmap, any => set(&mut any, position, bit != 0))
+}
+
+#[tactic(auto, unfolding(crate::specs::Calls::ServesAny))]
+fn prune(any: &mut AnySession, position: u64) -> u32
+    ensures { ServesAny any.old (λ N. Command.Prune position) (Reports result) any.new }
+{
+    at_width!(any, session => run_prune(session, position))
+}
+
+/// Prunes the chunks before the chunk of an absolute position, which may be the length.
+///
+/// # Errors
+///
+/// Returns `WRONG_MODE` outside a batch, `OUT_OF_BOUNDS` if the position is above the length, and `NO_MEMORY` if an allocation
+/// fails.
+///
+/// # Memory
+///
+/// May allocate.
+///
+/// # Complexity
+///
+/// Linear in the chunks pruned.
+#[unsafe(no_mangle)]
+pub extern "C" fn mortarpink_prune(alloc: Global, bitmap: &mut Handle, position: u64) -> u32
+    ensures step { Calls bitmap.old.value (λ N. Command.Prune position) (Reports result)
+        (result ≡ EMPTY_HANDLE) bitmap.new.value }
+{
+    in_handle!(alloc, bitmap, any => prune(&mut any, position))
+}
+
+#[tactic(auto, unfolding(crate::specs::Calls::ServesAny))]
+fn commit(any: &mut AnySession, number: u64, previous: &mut u64) -> u32
+    ensures { ServesAny any.old (λ N. Command.Commit number)
+        (ReportsPrevious result previous.old previous.new) any.new }
+{
+    at_width!(any, session => run_commit(session, number, previous))
+}
+
+/// Ends the batch: the pending bitmap becomes the current one, and is kept under the number.
+///
+/// # Errors
+///
+/// Returns the first status that applies. The batch then goes on.
+///
+/// | Status | If |
+/// |---|---|
+/// | `WRONG_MODE` | there is no batch |
+/// | `RESERVED_COMMIT_NUMBER` | the number is `u64::MAX` |
+/// | `NON_MONOTONIC_COMMIT` | the number is not above the last one |
+/// | `NO_MEMORY` | an allocation fails |
+///
+/// With `NON_MONOTONIC_COMMIT`, `previous` becomes the last number. Otherwise it is unchanged.
+///
+/// # Memory
+///
+/// Allocates the reverse record of the commit.
+///
+/// # Complexity
+///
+/// Linear in the chunks edited in the batch.
+#[unsafe(no_mangle)]
+pub extern "C" fn mortarpink_commit(
+    alloc: Global,
+    bitmap: &mut Handle,
+    number: u64,
+    previous: &mut u64,
+) -> u32
+    ensures step { Calls bitmap.old.value (λ N. Command.Commit number)
+        (ReportsPrevious result previous.old previous.new)
+        ((result ≡ EMPTY_HANDLE) × (previous.new ≡ previous.old)) bitmap.new.value }
+{
+    in_handle!(alloc, bitmap, any => commit(&mut any, number, previous))
+}
+
+#[tactic(auto, unfolding(crate::specs::Calls::ServesAny))]
+fn abort(any: &mut AnySession) -> u32
+    ensures { ServesAny any.old (λ N. Command.Abort) (Reports result) any.new }
+{
+    at_width!(any, session => run(session, Command::Abort))
+}
+
+/// Ends the batch and drops its edits.
+///
+/// # Errors
+///
+/// Returns `WRONG_MODE` outside a batch.
+///
+/// # Memory
+///
+/// Does not allocate.
+///
+/// # Complexity
+///
+/// Linear in the chunks edited in the batch.
+#[unsafe(no_mangle)]
+pub extern "C" fn mortarpink_abort(alloc: Global, bitmap: &mut Handle) -> u32
+    ensures step { Calls bitmap.old.value (λ N. Command.Abort) (Reports result)
+        (result ≡ EMPTY_HANDLE) bitmap.new.value }
+{
+    in_handle!(alloc, bitmap, any => abort(&mut any))
+}

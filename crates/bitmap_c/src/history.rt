@@ -1,0 +1,228 @@
+//! Calls on the kept commits.
+
+ghost use Rattle.std.specs.Prelude.{◌≡◌};
+ghost use Rattle.bitmap_c.specs.Calls.{Calls, ServesAny};
+ghost use Rattle.bitmap_c.specs.Reports.{Reports, ReportsBit, ReportsEntries, ReportsNumber};
+
+use crate::any::AnySession;
+use crate::handle::{Handle, put, take};
+use crate::run::{run, run_bit, run_entries, run_number};
+use crate::status::EMPTY_HANDLE;
+use bitmap_session::command::Command;
+use std::alloc::Global;
+
+#[tactic(auto, unfolding(crate::specs::Calls::ServesAny))]
+fn rewind(any: &mut AnySession, number: u64) -> u32
+    ensures { ServesAny any.old (λ N. Command.Rewind number) (Reports result) any.new }
+{
+    at_width!(any, session => run(session, Command::Rewind(number)))
+}
+
+/// Makes the bitmap committed under the number current again, and drops the commits after it.
+///
+/// # Errors
+///
+/// Returns `WRONG_MODE` in a batch, `NO_SUCH_COMMIT` if no commit is kept under the number, and `NO_MEMORY` if an allocation fails.
+///
+/// # Memory
+///
+/// Allocates.
+///
+/// # Complexity
+///
+/// Linear in the chunks that the dropped commits changed.
+#[unsafe(no_mangle)]
+pub extern "C" fn mortarpink_rewind(alloc: Global, bitmap: &mut Handle, number: u64) -> u32
+    ensures step { Calls bitmap.old.value (λ N. Command.Rewind number) (Reports result)
+        (result ≡ EMPTY_HANDLE) bitmap.new.value }
+{
+    in_handle!(alloc, bitmap, any => rewind(&mut any, number))
+}
+
+#[tactic(auto, unfolding(crate::specs::Calls::ServesAny))]
+fn exists(any: &mut AnySession, number: u64, exists: &mut u8) -> u32
+    ensures { ServesAny any.old (λ N. Command.Exists number)
+        (ReportsBit result exists.old exists.new) any.new }
+{
+    at_width!(any, session => run_bit(session, Command::Exists(number), exists))
+}
+
+/// Writes 1 to `exists` if a commit is kept under the number, and 0 otherwise.
+///
+/// # Errors
+///
+/// Returns `WRONG_MODE` in a batch. `exists` is then unchanged.
+///
+/// # Memory
+///
+/// Does not allocate.
+///
+/// # Complexity
+///
+/// Logarithmic in the commits.
+#[unsafe(no_mangle)]
+pub extern "C" fn mortarpink_exists(
+    alloc: Global,
+    bitmap: &mut Handle,
+    number: u64,
+    exists: &mut u8,
+) -> u32
+    ensures step { Calls bitmap.old.value (λ N. Command.Exists number)
+        (ReportsBit result exists.old exists.new)
+        ((result ≡ EMPTY_HANDLE) × (exists.new ≡ exists.old)) bitmap.new.value }
+{
+    in_handle!(alloc, bitmap, any => self::exists(&mut any, number, exists))
+}
+
+#[tactic(auto, unfolding(crate::specs::Calls::ServesAny))]
+fn latest(any: &mut AnySession, number: &mut u64) -> u32
+    ensures { ServesAny any.old (λ N. Command.Latest)
+        (ReportsNumber result number.old number.new) any.new }
+{
+    at_width!(any, session => run_number(session, Command::Latest, number))
+}
+
+/// Writes the greatest kept commit number to `number`.
+///
+/// # Errors
+///
+/// Returns `WRONG_MODE` in a batch, and `NONE` if no commit is kept. `number` is then unchanged.
+///
+/// # Memory
+///
+/// Does not allocate.
+///
+/// # Complexity
+///
+/// Logarithmic in the commits.
+#[unsafe(no_mangle)]
+pub extern "C" fn mortarpink_latest(alloc: Global, bitmap: &mut Handle, number: &mut u64) -> u32
+    ensures step { Calls bitmap.old.value (λ N. Command.Latest)
+        (ReportsNumber result number.old number.new)
+        ((result ≡ EMPTY_HANDLE) × (number.new ≡ number.old)) bitmap.new.value }
+{
+    in_handle!(alloc, bitmap, any => latest(&mut any, number))
+}
+
+#[tactic(auto, unfolding(crate::specs::Calls::ServesAny))]
+fn earliest(any: &mut AnySession, number: &mut u64) -> u32
+    ensures { ServesAny any.old (λ N. Command.Earliest)
+        (ReportsNumber result number.old number.new) any.new }
+{
+    at_width!(any, session => run_number(session, Command::Earliest, number))
+}
+
+/// Writes the least kept commit number to `number`.
+///
+/// # Errors
+///
+/// Returns `WRONG_MODE` in a batch, and `NONE` if no commit is kept. `number` is then unchanged.
+///
+/// # Memory
+///
+/// Does not allocate.
+///
+/// # Complexity
+///
+/// Logarithmic in the commits.
+#[unsafe(no_mangle)]
+pub extern "C" fn mortarpink_earliest(alloc: Global, bitmap: &mut Handle, number: &mut u64) -> u32
+    ensures step { Calls bitmap.old.value (λ N. Command.Earliest)
+        (ReportsNumber result number.old number.new)
+        ((result ≡ EMPTY_HANDLE) × (number.new ≡ number.old)) bitmap.new.value }
+{
+    in_handle!(alloc, bitmap, any => earliest(&mut any, number))
+}
+
+#[tactic(auto, unfolding(crate::specs::Calls::ServesAny))]
+fn drop_before(any: &mut AnySession, number: u64, dropped: &mut u64) -> u32
+    ensures { ServesAny any.old (λ N. Command.DropBefore number)
+        (ReportsNumber result dropped.old dropped.new) any.new }
+{
+    at_width!(any, session => run_number(session, Command::DropBefore(number), dropped))
+}
+
+/// Drops the commits below the number, and writes how many to `dropped`.
+///
+/// # Errors
+///
+/// Returns `WRONG_MODE` in a batch. `dropped` is then unchanged.
+///
+/// # Memory
+///
+/// Does not allocate.
+///
+/// # Complexity
+///
+/// Linear in what is dropped.
+#[unsafe(no_mangle)]
+pub extern "C" fn mortarpink_drop_before(
+    alloc: Global,
+    bitmap: &mut Handle,
+    number: u64,
+    dropped: &mut u64,
+) -> u32
+    ensures step { Calls bitmap.old.value (λ N. Command.DropBefore number)
+        (ReportsNumber result dropped.old dropped.new)
+        ((result ≡ EMPTY_HANDLE) × (dropped.new ≡ dropped.old)) bitmap.new.value }
+{
+    in_handle!(alloc, bitmap, any => drop_before(&mut any, number, dropped))
+}
+
+#[tactic(auto, unfolding(crate::specs::Calls::ServesAny))]
+fn clear(any: &mut AnySession) -> u32
+    ensures { ServesAny any.old (λ N. Command.Clear) (Reports result) any.new }
+{
+    at_width!(any, session => run(session, Command::Clear))
+}
+
+/// Drops all commits.
+///
+/// # Errors
+///
+/// Returns `WRONG_MODE` in a batch.
+///
+/// # Memory
+///
+/// Does not allocate.
+///
+/// # Complexity
+///
+/// Linear in what is dropped.
+#[unsafe(no_mangle)]
+pub extern "C" fn mortarpink_clear(alloc: Global, bitmap: &mut Handle) -> u32
+    ensures step { Calls bitmap.old.value (λ N. Command.Clear) (Reports result)
+        (result ≡ EMPTY_HANDLE) bitmap.new.value }
+{
+    in_handle!(alloc, bitmap, any => clear(&mut any))
+}
+
+#[tactic(auto, unfolding(crate::specs::Calls::ServesAny))]
+fn entries(any: &mut AnySession, entries: &mut u64) -> u32
+    ensures { ServesAny any.old (λ N. Command.Entries)
+        (ReportsEntries result entries.old entries.new) any.new }
+{
+    at_width!(any, session => run_entries(session, entries))
+}
+
+/// Writes the number of chunks in the reverse records of all kept commits to `entries`, or `u64::MAX` if it is above that.
+///
+/// # Errors
+///
+/// Returns `WRONG_MODE` in a batch. `entries` is then unchanged.
+///
+/// # Memory
+///
+/// Does not allocate.
+///
+/// # Complexity
+///
+/// Linear in the commits.
+#[unsafe(no_mangle)]
+pub extern "C" fn mortarpink_entries(alloc: Global, bitmap: &mut Handle, entries: &mut u64) -> u32
+    ensures step { Calls bitmap.old.value (λ N. Command.Entries)
+        (ReportsEntries result entries.old entries.new)
+        ((result ≡ EMPTY_HANDLE) × (entries.new ≡ entries.old)) bitmap.new.value }
+{
+    in_handle!(alloc, bitmap, any => self::entries(&mut any, entries))
+}

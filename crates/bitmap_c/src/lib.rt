@@ -1,0 +1,45 @@
+//! The C interface: sessions in handles, for callers in C and in every language that calls C.
+//!
+//! A handle is empty, or has a `Session` whose chunks have 1, 8, 32 or 64 bytes. The caller owns the handle. Each function checks
+//! its arguments and returns a status, so none has a `requires`. A call on an empty handle returns `EMPTY_HANDLE` and writes
+//! nothing, unless the call makes a bitmap in it. `bindings/c/mortarpink.h` documents the functions for callers.
+#![tactic(auto)]
+
+// Evaluates an expression with the session of any width.
+macro_rules! at_width {
+    ($any:expr, $session:ident => $body:expr) => {
+        match $any {
+            AnySession::Width1($session) => $body,
+            AnySession::Width8($session) => $body,
+            AnySession::Width32($session) => $body,
+            AnySession::Width64($session) => $body,
+        }
+    };
+}
+
+// Evaluates an expression with the session of a handle; the status of an empty handle is that it is empty.
+macro_rules! in_handle {
+    ($alloc:expr, $handle:expr, $any:ident => $body:expr) => {{
+        let Some(mut $any) = take($alloc, $handle) else {
+            return EMPTY_HANDLE;
+        };
+        let status = $body;
+        put($handle, $any);
+        status
+    }};
+}
+
+mod any;
+mod commits;
+mod current;
+mod edits;
+mod handle;
+mod history;
+mod making;
+mod many;
+mod pages;
+mod past;
+mod queries;
+mod reads;
+mod run;
+mod status;

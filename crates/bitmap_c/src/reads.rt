@@ -1,0 +1,205 @@
+//! Calls that read the pending bitmap in a batch and otherwise the current one, and calls that encode a bitmap.
+
+ghost use Rattle.std.specs.Prelude.{◌≡◌, length};
+ghost use Rattle.bitmap_c.specs.Calls.{Calls, CallsChunk, ServesAny, ServesAnyChunk};
+ghost use Rattle.bitmap_c.specs.Reports.{ReportsBit, ReportsBytes, ReportsChunk, ReportsNumber};
+
+use crate::any::AnySession;
+use crate::handle::{Handle, put, take};
+use crate::run::{run_bytes, run_chunk, run_get, run_len, run_number};
+use crate::status::{EMPTY_HANDLE, WRONG_SIZE};
+use bitmap_session::command::Command;
+use std::alloc::Global;
+
+#[tactic(auto, unfolding(crate::specs::Calls::ServesAny))]
+fn len(any: &AnySession, len: &mut u64) -> u32
+    ensures { ServesAny any.now (λ N. Command.Len) (ReportsNumber result len.old len.new) any.now }
+{
+    at_width!(any, session => run_len(session, len))
+}
+
+/// Writes the length in bits to `len`. Pruned bits count.
+///
+/// Does not allocate; constant time.
+#[unsafe(no_mangle)]
+pub extern "C" fn mortarpink_len(alloc: Global, bitmap: &mut Handle, len: &mut u64) -> u32
+    ensures step { Calls bitmap.old.value (λ N. Command.Len) (ReportsNumber result len.old len.new)
+        ((result ≡ EMPTY_HANDLE) × (len.new ≡ len.old)) bitmap.new.value }
+{
+    in_handle!(alloc, bitmap, any => self::len(&any, len))
+}
+
+#[tactic(auto, unfolding(crate::specs::Calls::ServesAny))]
+fn pruned_chunks(any: &mut AnySession, chunks: &mut u64) -> u32
+    ensures { ServesAny any.old (λ N. Command.PrunedChunks)
+        (ReportsNumber result chunks.old chunks.new) any.new }
+{
+    at_width!(any, session => run_number(session, Command::PrunedChunks, chunks))
+}
+
+/// Writes the number of pruned chunks to `chunks`.
+///
+/// Does not allocate; constant time.
+#[unsafe(no_mangle)]
+pub extern "C" fn mortarpink_pruned_chunks(
+    alloc: Global,
+    bitmap: &mut Handle,
+    chunks: &mut u64,
+) -> u32
+    ensures step { Calls bitmap.old.value (λ N. Command.PrunedChunks)
+        (ReportsNumber result chunks.old chunks.new)
+        ((result ≡ EMPTY_HANDLE) × (chunks.new ≡ chunks.old)) bitmap.new.value }
+{
+    in_handle!(alloc, bitmap, any => pruned_chunks(&mut any, chunks))
+}
+
+#[tactic(auto, unfolding(crate::specs::Calls::ServesAny))]
+fn get(any: &AnySession, position: u64, bit: &mut u8) -> u32
+    ensures { ServesAny any.now (λ N. Command.Get position) (ReportsBit result bit.old bit.new)
+        any.now }
+{
+    at_width!(any, session => run_get(session, position, bit))
+}
+
+/// Writes the bit at an absolute position to `bit`, as 0 or 1.
+///
+/// # Errors
+///
+/// Returns `OUT_OF_BOUNDS` if the position is not below the length, and `PRUNED` if it is pruned. `bit` is then unchanged.
+///
+/// # Memory
+///
+/// Does not allocate.
+///
+/// # Complexity
+///
+/// Constant; in a batch, logarithmic in the chunks edited.
+#[unsafe(no_mangle)]
+pub extern "C" fn mortarpink_get(
+    alloc: Global,
+    bitmap: &mut Handle,
+    position: u64,
+    bit: &mut u8,
+) -> u32
+    ensures step { Calls bitmap.old.value (λ N. Command.Get position)
+        (ReportsBit result bit.old bit.new) ((result ≡ EMPTY_HANDLE) × (bit.new ≡ bit.old)) bitmap.new.value }
+{
+    in_handle!(alloc, bitmap, any => get(&any, position, bit))
+}
+
+#[tactic(auto, unfolding(crate::specs::Calls::ServesAnyChunk))]
+fn chunk(any: &mut AnySession, position: u64, out: &mut [u8]) -> u32
+    ensures { ServesAnyChunk (length out.old) any.old (λ N. Command.Chunk position)
+        (ReportsChunk result out.old out.new) ((result ≡ WRONG_SIZE) × (out.new ≡ out.old))
+        any.new }
+{
+    at_width!(any, session => run_chunk(session, position, out))
+}
+
+/// Fills `out` with the chunk of an absolute position. Its bits past the length are zero.
+///
+/// # Errors
+///
+/// Returns the first status that applies. `out` is then unchanged.
+///
+/// | Status | If |
+/// |---|---|
+/// | `WRONG_SIZE` | the size of `out` is not the width |
+/// | `OUT_OF_BOUNDS` | the position is not below the length |
+/// | `PRUNED` | the position is pruned |
+///
+/// # Memory
+///
+/// Does not allocate.
+///
+/// # Complexity
+///
+/// Linear in the width; in a batch, also logarithmic in the chunks edited.
+#[unsafe(no_mangle)]
+pub extern "C" fn mortarpink_chunk(
+    alloc: Global,
+    bitmap: &mut Handle,
+    position: u64,
+    out: &mut [u8],
+) -> u32
+    ensures step { CallsChunk (length out.old) bitmap.old.value (λ N. Command.Chunk position)
+        (ReportsChunk result out.old out.new)
+        ((result ≡ EMPTY_HANDLE) × (out.new ≡ out.old))
+        ((result ≡ WRONG_SIZE) × (out.new ≡ out.old)) bitmap.new.value }
+{
+    in_handle!(alloc, bitmap, any => chunk(&mut any, position, out))
+}
+
+#[tactic(auto, unfolding(crate::specs::Calls::ServesAny))]
+fn encode(any: &mut AnySession, out: &mut [u8], size: &mut usize) -> u32
+    ensures { ServesAny any.old (λ N. Command.Encode)
+        (ReportsBytes result size.old size.new out.old out.new) any.new }
+{
+    at_width!(any, session => run_bytes(session, Command::Encode, out, size))
+}
+
+/// Fills `out` with the encoding of the current bitmap, and writes the size of the encoding in bytes to `size`.
+///
+/// # Errors
+///
+/// Returns `WRONG_MODE` in a batch, `NO_MEMORY` if an allocation fails, and `WRONG_SIZE` if the size of `out` is not that of the
+/// encoding. `out` is then unchanged. `size` is written with `WRONG_SIZE` too, and otherwise unchanged.
+///
+/// # Memory
+///
+/// Allocates the encoding, which is freed before the return.
+///
+/// # Complexity
+///
+/// Linear in the encoding.
+#[unsafe(no_mangle)]
+pub extern "C" fn mortarpink_encode(
+    alloc: Global,
+    bitmap: &mut Handle,
+    out: &mut [u8],
+    size: &mut usize,
+) -> u32
+    ensures step { Calls bitmap.old.value (λ N. Command.Encode)
+        (ReportsBytes result size.old size.new out.old out.new)
+        ((result ≡ EMPTY_HANDLE) × (size.new ≡ size.old) × (out.new ≡ out.old))
+        bitmap.new.value }
+{
+    in_handle!(alloc, bitmap, any => encode(&mut any, out, size))
+}
+
+#[tactic(auto, unfolding(crate::specs::Calls::ServesAny))]
+fn encode_at(any: &mut AnySession, number: u64, out: &mut [u8], size: &mut usize) -> u32
+    ensures { ServesAny any.old (λ N. Command.EncodeAt number)
+        (ReportsBytes result size.old size.new out.old out.new) any.new }
+{
+    at_width!(any, session => run_bytes(session, Command::EncodeAt(number), out, size))
+}
+
+/// Fills `out` with the encoding of the bitmap at commit `number`, and writes the size of the encoding in bytes to `size`.
+///
+/// # Errors
+///
+/// Returns `NONE` if the commit is not kept. Otherwise as `mortarpink_encode`.
+///
+/// # Memory
+///
+/// Allocates the bitmap and its encoding, which are freed before the return.
+///
+/// # Complexity
+///
+/// Linear in the encoding, with a search of each commit after `number` per chunk.
+#[unsafe(no_mangle)]
+pub extern "C" fn mortarpink_encode_at(
+    alloc: Global,
+    bitmap: &mut Handle,
+    number: u64,
+    out: &mut [u8],
+    size: &mut usize,
+) -> u32
+    ensures step { Calls bitmap.old.value (λ N. Command.EncodeAt number)
+        (ReportsBytes result size.old size.new out.old out.new)
+        ((result ≡ EMPTY_HANDLE) × (size.new ≡ size.old) × (out.new ≡ out.old))
+        bitmap.new.value }
+{
+    in_handle!(alloc, bitmap, any => encode_at(&mut any, number, out, size))
+}

@@ -1,0 +1,251 @@
+//! Commands that a session runs, with the status and the outputs of their replies.
+
+ghost use Rattle.std.specs.Prelude.{◌≡◌, length};
+ghost use Rattle.bitmap_session.specs.Abstraction.{value_of};
+ghost use Rattle.bitmap_c.specs.Calls.{Serves, ServesChunk};
+ghost use Rattle.bitmap_c.specs.Reports.{Reports, ReportsBit, ReportsBytes, ReportsChunk, ReportsEntries, ReportsNumber, ReportsPrevious, bit_or, chunk_or, entries_or, number_or, previous_or, reply_status};
+
+use crate::status::{DONE, NONE, WRONG_SIZE, refusal_status};
+use bitmap_session::command::Command;
+use bitmap_session::reply::{Refusal, Reply};
+use bitmap_session::session::Session;
+
+// Returns the status of a reply.
+fn reply_status<const N: usize>(reply: &Reply<N>) -> u32
+    ensures { result ≡ reply_status (value_of reply.now) }
+{
+    match reply {
+        Reply::Refused(refusal) => refusal_status(refusal),
+        Reply::Maybe(None) | Reply::Positions(None) | Reply::Bytes(None) | Reply::Snapshot(None) =>
+            { NONE }
+        _ => DONE,
+    }
+}
+
+// Returns the status of a reply, and writes its bit.
+fn report_bit<const N: usize>(reply: &Reply<N>, bit: &mut u8) -> u32
+    ensures status { result ≡ reply_status (value_of reply.now) }
+    ensures bit { bit.new ≡ bit_or (value_of reply.now) bit.old }
+{
+    if let Reply::Bit(value) = reply {
+        *bit = *value as u8;
+    }
+    reply_status(reply)
+}
+
+// Returns the status of a reply, and writes its number.
+fn report_number<const N: usize>(reply: &Reply<N>, number: &mut u64) -> u32
+    ensures status { result ≡ reply_status (value_of reply.now) }
+    ensures number { number.new ≡ number_or (value_of reply.now) number.old }
+{
+    match reply {
+        Reply::Number(value) | Reply::Maybe(Some(value)) => *number = *value,
+        _ => {}
+    }
+    reply_status(reply)
+}
+
+// Returns the status of a reply, and writes its number of entries, or `u64::MAX` if it is above that.
+fn report_entries<const N: usize>(reply: &Reply<N>, entries: &mut u64) -> u32
+    ensures status { result ≡ reply_status (value_of reply.now) }
+    ensures entries { entries.new ≡ entries_or (value_of reply.now) entries.old }
+{
+    if let Reply::Wide(value) = reply {
+        *entries = (*value).min(u64::MAX as u128) as u64;
+    }
+    reply_status(reply)
+}
+
+// Returns the status of a reply, and writes the last number if it refuses a commit number that is not above it.
+fn report_previous<const N: usize>(reply: &Reply<N>, previous: &mut u64) -> u32
+    ensures status { result ≡ reply_status (value_of reply.now) }
+    ensures previous { previous.new ≡ previous_or (value_of reply.now) previous.old }
+{
+    if let Reply::Refused(Refusal::NonMonotonicCommit { previous: last, .. }) = reply {
+        *previous = *last;
+    }
+    reply_status(reply)
+}
+
+// Writes a chunk to a buffer of its size.
+fn write_chunk<const N: usize>(chunk: &[u8; N], out: &mut [u8])
+    requires size { length out.old ≡ N }
+    ensures { out.new ≡ chunk.now }
+{
+    out.copy_from_slice(chunk);
+}
+
+// Returns the status of a reply, and writes its chunk.
+fn report_chunk<const N: usize>(reply: &Reply<N>, out: &mut [u8]) -> u32
+    requires size { length out.old ≡ N }
+    ensures status { result ≡ reply_status (value_of reply.now) }
+    ensures chunk { out.new ≡ chunk_or (value_of reply.now) out.old }
+{
+    if let Reply::Chunk(bytes) = reply {
+        write_chunk(bytes, out);
+    }
+    reply_status(reply)
+}
+
+// Returns the status of a reply, and writes the size of its bytes, and the bytes if the buffer has this size.
+#[tactic(auto, unfolding(crate::specs::Reports::ReportsBytes))]
+fn report_bytes<const N: usize>(reply: &Reply<N>, out: &mut [u8], size: &mut usize) -> u32
+    ensures { ReportsBytes result size.old size.new out.old out.new (value_of reply.now) }
+{
+    match reply {
+        Reply::Bytes(Some(bytes)) => {
+            *size = bytes.len();
+            if bytes.len() != out.len() {
+                return WRONG_SIZE;
+            }
+            out.copy_from_slice(bytes.as_slice());
+            DONE
+        }
+        _ => reply_status(reply),
+    }
+}
+
+/// Runs a command, and returns the status of its reply.
+#[tactic(auto, unfolding(crate::specs::Calls::Serves, crate::specs::Reports::Reports))]
+pub fn run<const N: usize>(session: &mut Session<N>, command: Command<N>) -> u32
+    ensures { Serves N session.old command.entry (Reports result) session.new }
+{
+    reply_status(&session.serve(&command))
+}
+
+/// Runs a command, returns the status of its reply, and writes its bit.
+#[tactic(auto, unfolding(crate::specs::Calls::Serves, crate::specs::Reports::ReportsBit))]
+pub fn run_bit<const N: usize>(session: &mut Session<N>, command: Command<N>, bit: &mut u8) -> u32
+    ensures { Serves N session.old command.entry (ReportsBit result bit.old bit.new) session.new }
+{
+    report_bit(&session.serve(&command), bit)
+}
+
+/// Runs a command, returns the status of its reply, and writes its number.
+#[tactic(auto, unfolding(crate::specs::Calls::Serves, crate::specs::Reports::ReportsNumber))]
+pub fn run_number<const N: usize>(
+    session: &mut Session<N>,
+    command: Command<N>,
+    number: &mut u64,
+) -> u32
+    ensures { Serves N session.old command.entry (ReportsNumber result number.old number.new)
+        session.new }
+{
+    report_number(&session.serve(&command), number)
+}
+
+/// Runs a command, returns the status of its reply, and writes the size of its bytes, and the bytes if the buffer has this size.
+#[tactic(auto, unfolding(crate::specs::Calls::Serves))]
+pub fn run_bytes<const N: usize>(
+    session: &mut Session<N>,
+    command: Command<N>,
+    out: &mut [u8],
+    size: &mut usize,
+) -> u32
+    ensures { Serves N session.old command.entry
+        (ReportsBytes result size.old size.new out.old out.new) session.new }
+{
+    report_bytes(&session.serve(&command), out, size)
+}
+
+/// Runs `Commit`, returns the status of its reply, and writes the last number if the reply has one.
+#[tactic(auto, unfolding(crate::specs::Calls::Serves, crate::specs::Reports::ReportsPrevious))]
+pub fn run_commit<const N: usize>(session: &mut Session<N>, number: u64, previous: &mut u64) -> u32
+    ensures { Serves N session.old (Command.Commit number)
+        (ReportsPrevious result previous.old previous.new) session.new }
+{
+    report_previous(&session.serve(&Command::Commit(number)), previous)
+}
+
+/// Runs `Entries`, returns the status of its reply, and writes the number of entries.
+#[tactic(auto, unfolding(crate::specs::Calls::Serves, crate::specs::Reports::ReportsEntries))]
+pub fn run_entries<const N: usize>(session: &mut Session<N>, entries: &mut u64) -> u32
+    ensures { Serves N session.old Command.Entries (ReportsEntries result entries.old entries.new)
+        session.new }
+{
+    report_entries(&session.serve(&Command::Entries), entries)
+}
+
+/// Runs `Chunk` if the buffer has the size of a chunk: returns the status of the reply, and writes its chunk.
+#[tactic(auto, unfolding(crate::specs::Calls::Serves, crate::specs::Calls::ServesChunk, crate::specs::Reports::ReportsChunk))]
+pub fn run_chunk<const N: usize>(session: &mut Session<N>, position: u64, out: &mut [u8]) -> u32
+    ensures { ServesChunk N (length out.old) session.old (Command.Chunk position)
+        (ReportsChunk result out.old out.new) ((result ≡ WRONG_SIZE) × (out.new ≡ out.old))
+        session.new }
+{
+    if out.len() != N {
+        return WRONG_SIZE;
+    }
+    report_chunk(&session.serve(&Command::Chunk(position)), out)
+}
+
+/// Runs `Push` in place, and returns the status of its reply.
+#[tactic(auto, unfolding(crate::specs::Calls::Serves, crate::specs::Reports::Reports))]
+pub fn run_push<const N: usize>(session: &mut Session<N>, bit: bool) -> u32
+    ensures { Serves N session.old (Command.Push bit) (Reports result) session.new }
+{
+    reply_status(&session.push(bit))
+}
+
+/// Runs `PushByte` in place, and returns the status of its reply.
+#[tactic(auto, unfolding(crate::specs::Calls::Serves, crate::specs::Reports::Reports))]
+pub fn run_push_byte<const N: usize>(session: &mut Session<N>, byte: u8) -> u32
+    ensures { Serves N session.old (Command.PushByte byte) (Reports result) session.new }
+{
+    reply_status(&session.push_byte(byte))
+}
+
+/// Runs `PushChunk` in place if the bytes have the size of a chunk, and returns the status of its reply.
+#[tactic(auto, unfolding(crate::specs::Calls::Serves, crate::specs::Calls::ServesChunk, crate::specs::Reports::Reports))]
+pub fn run_push_chunk<const N: usize>(session: &mut Session<N>, bytes: &[u8]) -> u32
+    ensures { ServesChunk N (length bytes.now) session.old (Command.PushChunk bytes.now)
+        (Reports result) (result ≡ WRONG_SIZE) session.new }
+{
+    if bytes.len() != N {
+        return WRONG_SIZE;
+    }
+    let mut chunk = [0; N];
+    chunk.copy_from_slice(bytes);
+    reply_status(&session.push_chunk(&chunk))
+}
+
+/// Runs `Pop` in place, returns the status of its reply, and writes the bit.
+#[tactic(auto, unfolding(crate::specs::Calls::Serves, crate::specs::Reports::ReportsBit))]
+pub fn run_pop<const N: usize>(session: &mut Session<N>, bit: &mut u8) -> u32
+    ensures { Serves N session.old Command.Pop (ReportsBit result bit.old bit.new) session.new }
+{
+    report_bit(&session.pop(), bit)
+}
+
+/// Runs `Set` in place, and returns the status of its reply.
+#[tactic(auto, unfolding(crate::specs::Calls::Serves, crate::specs::Reports::Reports))]
+pub fn run_set<const N: usize>(session: &mut Session<N>, position: u64, bit: bool) -> u32
+    ensures { Serves N session.old (Command.Set position bit) (Reports result) session.new }
+{
+    reply_status(&session.set(position, bit))
+}
+
+/// Runs `Prune` in place, and returns the status of its reply.
+#[tactic(auto, unfolding(crate::specs::Calls::Serves, crate::specs::Reports::Reports))]
+pub fn run_prune<const N: usize>(session: &mut Session<N>, position: u64) -> u32
+    ensures { Serves N session.old (Command.Prune position) (Reports result) session.new }
+{
+    reply_status(&session.prune(position))
+}
+
+/// Runs `Get` in place, returns the status of its reply, and writes the bit.
+#[tactic(auto, unfolding(crate::specs::Calls::Serves, crate::specs::Reports::ReportsBit))]
+pub fn run_get<const N: usize>(session: &Session<N>, position: u64, bit: &mut u8) -> u32
+    ensures { Serves N session.now (Command.Get position) (ReportsBit result bit.old bit.new)
+        session.now }
+{
+    report_bit(&session.get(position), bit)
+}
+
+/// Runs `Len` in place, returns the status of its reply, and writes the length.
+#[tactic(auto, unfolding(crate::specs::Calls::Serves, crate::specs::Reports::ReportsNumber))]
+pub fn run_len<const N: usize>(session: &Session<N>, len: &mut u64) -> u32
+    ensures { Serves N session.now Command.Len (ReportsNumber result len.old len.new) session.now }
+{
+    report_number(&session.len(), len)
+}
