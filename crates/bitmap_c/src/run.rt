@@ -23,6 +23,7 @@ fn reply_status<const N: usize>(reply: &Reply<N>) -> u32
 }
 
 // Returns the status of a reply, and writes its bit.
+#[inline(always)]
 fn report_bit<const N: usize>(reply: &Reply<N>, bit: &mut u8) -> u32
     ensures status { result ≡ reply_status (value_of reply.now) }
     ensures bit { bit.new ≡ bit_or (value_of reply.now) bit.old }

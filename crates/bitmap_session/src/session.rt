@@ -352,6 +352,8 @@ impl<const N: usize> Session<N> {
     /// # Complexity
     ///
     /// As `get_bit` of `CleanBitMap` or `DirtyBitMap`.
+    // Inlined, so that a caller that needs the bit alone does not write the reply to memory.
+    #[inline(always)]
     pub fn get(&self, position: u64) -> Reply<N>
         ensures { StepTo N Agrees self.now (Command.Get position) (value_of result) self.now }
     {

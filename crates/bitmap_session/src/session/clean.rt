@@ -65,6 +65,7 @@ fn pruned_chunks<const N: usize>(bitmap: &CleanBitMap<N>) -> Reply<N>
     Reply::Number(bitmap.pruned_chunks() as u64)
 }
 
+#[inline(always)]
 pub fn get<const N: usize>(bitmap: &CleanBitMap<N>, position: u64) -> Reply<N>
     ensures { StepTo N Agrees (clean N bitmap.now) (Command.Get position) (value_of result) (clean N bitmap.now) }
 {

@@ -21,6 +21,7 @@ use std::alloc::Global;
 /// # Errors
 ///
 /// Returns `OutOfBounds` if the position is not below `len`, and else `Pruned` if it is below `pruned_bits`.
+#[inline(always)]
 pub fn check_position(len: u64, pruned_bits: u64, position: u64) -> Result<(), Refusal>
     ensures why { option_map reason (result_err result)
         ≡ first (when (nat_le len position) replies.Refusal.OutOfBounds ∷ when (nat_lt position pruned_bits) replies.Refusal.Pruned ∷ []) }
