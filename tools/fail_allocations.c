@@ -1,5 +1,5 @@
 /*
- * A preloaded allocator that lets allocations fail. Allocations are counted from 1.
+ * An allocator that lets allocations fail, preloaded or as a part of a program. Allocations are counted from 1.
  *
  * FAIL_AT=K fails the K-th allocation, FAIL_TWO=K that one and the next, and FAIL_FROM=K each one from the K-th on.
  * At the end the number of allocations is written to standard error.
@@ -10,6 +10,7 @@
 #include <stddef.h>
 #include <stdio.h>
 #include <stdlib.h>
+#include <string.h>
 #include <unistd.h>
 
 static unsigned long allocations;
@@ -28,15 +29,21 @@ static int fails(void) {
     return 1;
 }
 
+/* Stores a pointer to the next function of a name. ISO C converts no object pointer to a function pointer. */
+static void find(const char *name, void *next) {
+    void *found = dlsym(RTLD_NEXT, name);
+    memcpy(next, &found, sizeof found);
+}
+
 void *malloc(size_t size) {
     static void *(*next)(size_t);
-    if (!next) next = dlsym(RTLD_NEXT, "malloc");
+    if (!next) find("malloc", &next);
     return fails() ? NULL : next(size);
 }
 
 void *realloc(void *old, size_t size) {
     static void *(*next)(void *, size_t);
-    if (!next) next = dlsym(RTLD_NEXT, "realloc");
+    if (!next) find("realloc", &next);
     return fails() ? NULL : next(old, size);
 }
 

@@ -1,0 +1,28 @@
+/* The English texts of the statuses. */
+#include "mortarpink.h"
+
+static const char *const texts[] = {
+    "done",
+    "the call needs a batch and there is none, or the reverse",
+    "the position is out of bounds",
+    "the position is pruned",
+    "the bitmap would be too long",
+    "there is no retained bit",
+    "the commit number is reserved",
+    "the commit number is not above the last one",
+    "there would be too many pruned bits",
+    "the bytes end before the encoding does",
+    "the encoded number of retained bits is out of range",
+    "the bytes are not an encoding",
+    "there is no such commit",
+    "out of memory",
+    "there is nothing to return",
+    "the handle is empty",
+    "the handle is not empty",
+    "the width is not 1, 8, 32 or 64",
+    "the buffer has the wrong size",
+};
+
+const char *mortarpink_status_text(mortarpink_status status) {
+    return status < sizeof texts / sizeof *texts ? texts[status] : "the number is not a status";
+}

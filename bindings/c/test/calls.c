@@ -1,0 +1,932 @@
+/* Tests of each call, with values worked out by hand.
+ *
+ * B is the number of bits per chunk. Texts such as "..10" have one sign per position, and a dot for a pruned one. */
+#include "check.h"
+
+#include <string.h>
+
+/* Where calls write. */
+struct outputs {
+    uint64_t number, numbers[8];
+    size_t size;
+    uint8_t bit, bytes[256];
+};
+
+static struct outputs out;
+
+static void fill_outputs(void) {
+    memset(&out, 0xA5, sizeof out);
+}
+
+static int outputs_are_filled(void) {
+    const uint8_t *bytes = (const uint8_t *)&out;
+    size_t same = 0;
+    while (same < sizeof out && bytes[same] == 0xA5) same++;
+    return same == sizeof out;
+}
+
+/* Checks that a call returns a status and writes no output. */
+#define check_unwritten(call, status)  \
+    do {                               \
+        fill_outputs();                \
+        check_status(call, status);    \
+        check(outputs_are_filled());   \
+    } while (0)
+
+/* Checks that a call returns DONE and writes a value. */
+#define check_value(call, output, value) \
+    do {                                 \
+        fill_outputs();                  \
+        check_done(call);                \
+        check_equal(output, value);      \
+    } while (0)
+
+#define check_number(call, value) check_value(call, out.number, value)
+#define check_bit(call, value) check_value(call, out.bit, value)
+#define check_none(call) check_unwritten(call, MORTARPINK_NONE)
+
+/* The bitmap that a test reads: the visible one, or the one at a commit. */
+struct view {
+    mortarpink_bitmap *bitmap;
+    int is_past;
+    uint64_t number;
+};
+
+static struct view visible(mortarpink_bitmap *bitmap) {
+    struct view view = {bitmap, 0, 0};
+    return view;
+}
+
+static struct view at_commit(mortarpink_bitmap *bitmap, uint64_t number) {
+    struct view view = {bitmap, 1, number};
+    return view;
+}
+
+/* Calls the function of a name, or for a past bitmap that with `_at`. */
+#define read_of(view, name, ...)                                                             \
+    ((view).is_past ? mortarpink_##name##_at((view).bitmap, (view).number, __VA_ARGS__)     \
+                    : mortarpink_##name((view).bitmap, __VA_ARGS__))
+
+/* Whether a bitmap has exactly these bits. */
+static int has_bits(struct view view, const char *bits) {
+    uint64_t len = 0;
+    size_t same = 0;
+    if (read_of(view, len, &len) != MORTARPINK_DONE || len != strlen(bits)) return 0;
+    while (same < len) {
+        uint8_t bit = 2;
+        mortarpink_status status = read_of(view, get, same, &bit);
+        int is_pruned = status == MORTARPINK_PRUNED && bit == 2;
+        if (bits[same] == '.' ? !is_pruned : status != MORTARPINK_DONE || bit != bits[same] - '0') return 0;
+        same++;
+    }
+    return 1;
+}
+
+static void push_text(mortarpink_bitmap *bitmap, const char *bits) {
+    for (; *bits; bits++) check_done(mortarpink_push(bitmap, *bits == '1'));
+}
+
+/* Makes a bitmap in a batch, with these bits. */
+static void make(mortarpink_bitmap *bitmap, uint32_t width, const char *bits) {
+    check_done(mortarpink_new(bitmap, width));
+    check_done(mortarpink_begin(bitmap));
+    push_text(bitmap, bits);
+}
+
+static void commit(mortarpink_bitmap *bitmap, uint64_t number) {
+    check_unwritten(mortarpink_commit(bitmap, number, &out.number), MORTARPINK_DONE);
+}
+
+/* Whether an encoding, which begins with two numbers of eight bytes, has these two and these chunks. */
+static int is_encoding(const uint8_t *bytes, uint64_t pruned, uint64_t bits, const uint8_t *chunks, size_t size) {
+    uint64_t head[2] = {0, 0};
+    for (size_t k = 0; k < 16; k++) head[k / 8] = head[k / 8] << 8 | bytes[k];
+    return head[0] == pruned && head[1] == bits && memcmp(bytes + 16, chunks, size) == 0;
+}
+
+
+/* ---- The version and the texts ---- */
+
+static void test_texts(void) {
+    check_equal(mortarpink_version(), MORTARPINK_VERSION);
+    check_equal(mortarpink_version(), 1);
+    check(strcmp(mortarpink_status_text(MORTARPINK_DONE), "done") == 0);
+    check(strcmp(mortarpink_status_text(MORTARPINK_NO_MEMORY), "out of memory") == 0);
+    check(strcmp(mortarpink_status_text(MORTARPINK_WRONG_SIZE), "the buffer has the wrong size") == 0);
+    check(strcmp(mortarpink_status_text(19), "the number is not a status") == 0);
+    check(strcmp(mortarpink_status_text(UINT32_MAX), "the number is not a status") == 0);
+    for (uint32_t pair = 0; pair < 20 * 20; pair++) {
+        const char *one = mortarpink_status_text(pair / 20), *other = mortarpink_status_text(pair % 20);
+        check((strcmp(one, other) == 0) == (pair / 20 == pair % 20));
+    }
+}
+
+
+/* ---- Calls that return one status, whatever their arguments are ---- */
+
+static void check_edits(mortarpink_bitmap *bitmap, uint32_t width, mortarpink_status status) {
+    const uint8_t chunk[64] = {0};
+    check_unwritten(mortarpink_push(bitmap, 1), status);
+    check_unwritten(mortarpink_push_byte(bitmap, 1), status);
+    check_unwritten(mortarpink_push_chunk(bitmap, chunk, width), status);
+    check_unwritten(mortarpink_pop(bitmap, &out.bit), status);
+    check_unwritten(mortarpink_set(bitmap, 0, 1), status);
+    check_unwritten(mortarpink_prune(bitmap, 0), status);
+    check_unwritten(mortarpink_commit(bitmap, 9, &out.number), status);
+    check_unwritten(mortarpink_abort(bitmap), status);
+}
+
+static void check_current_reads(mortarpink_bitmap *bitmap, mortarpink_status status) {
+    check_unwritten(mortarpink_ones(bitmap, 0, 9, out.numbers, 8, &out.size), status);
+    check_unwritten(mortarpink_next_one(bitmap, 0, &out.number), status);
+    check_unwritten(mortarpink_next_zero(bitmap, 0, &out.number), status);
+    check_unwritten(mortarpink_prev_one(bitmap, 9, &out.number), status);
+    check_unwritten(mortarpink_prev_zero(bitmap, 9, &out.number), status);
+    check_unwritten(mortarpink_count_ones(bitmap, 0, 9, &out.number), status);
+    check_unwritten(mortarpink_select_one(bitmap, 0, &out.number), status);
+    check_unwritten(mortarpink_encode(bitmap, out.bytes, sizeof out.bytes, &out.size), status);
+}
+
+static void check_past_reads(mortarpink_bitmap *bitmap, uint64_t number, mortarpink_status status) {
+    check_unwritten(mortarpink_len_at(bitmap, number, &out.number), status);
+    check_unwritten(mortarpink_pruned_chunks_at(bitmap, number, &out.number), status);
+    check_unwritten(mortarpink_get_at(bitmap, number, 0, &out.bit), status);
+    check_unwritten(mortarpink_chunk_at(bitmap, number, 0, out.bytes, 8), status);
+    check_unwritten(mortarpink_ones_at(bitmap, number, 0, 9, out.numbers, 8, &out.size), status);
+    check_unwritten(mortarpink_next_one_at(bitmap, number, 0, &out.number), status);
+    check_unwritten(mortarpink_next_zero_at(bitmap, number, 0, &out.number), status);
+    check_unwritten(mortarpink_prev_one_at(bitmap, number, 9, &out.number), status);
+    check_unwritten(mortarpink_prev_zero_at(bitmap, number, 9, &out.number), status);
+    check_unwritten(mortarpink_count_ones_at(bitmap, number, 0, 9, &out.number), status);
+    check_unwritten(mortarpink_select_one_at(bitmap, number, 0, &out.number), status);
+    if (status == MORTARPINK_NO_SUCH_COMMIT) status = MORTARPINK_NONE;
+    check_unwritten(mortarpink_encode_at(bitmap, number, out.bytes, sizeof out.bytes, &out.size), status);
+}
+
+static void check_commit_calls(mortarpink_bitmap *bitmap, mortarpink_status status) {
+    check_unwritten(mortarpink_start(bitmap, 1), status);
+    check_unwritten(mortarpink_begin(bitmap), status);
+    check_unwritten(mortarpink_rewind(bitmap, 1), status);
+    check_unwritten(mortarpink_commits(bitmap, 0, out.numbers, 8, &out.size), status);
+    check_unwritten(mortarpink_exists(bitmap, 1, &out.bit), status);
+    check_unwritten(mortarpink_latest(bitmap, &out.number), status);
+    check_unwritten(mortarpink_earliest(bitmap, &out.number), status);
+    check_unwritten(mortarpink_changed_chunks(bitmap, 1, 1, 0, out.numbers, 8, &out.size), status);
+    check_unwritten(mortarpink_drop_before(bitmap, 1, &out.number), status);
+    check_unwritten(mortarpink_clear(bitmap), status);
+    check_unwritten(mortarpink_entries(bitmap, &out.number), status);
+}
+
+static void test_empty_handle(void) {
+    mortarpink_bitmap none = MORTARPINK_EMPTY, copy = MORTARPINK_EMPTY;
+    const mortarpink_status status = MORTARPINK_EMPTY_HANDLE;
+    check_edits(&none, 8, status);
+    check_current_reads(&none, status);
+    check_past_reads(&none, 1, status);
+    check_commit_calls(&none, status);
+    check_unwritten(mortarpink_push_bytes(&none, (const uint8_t *)"a", 1, &out.size), status);
+    check_unwritten(mortarpink_len(&none, &out.number), status);
+    check_unwritten(mortarpink_pruned_chunks(&none, &out.number), status);
+    check_unwritten(mortarpink_get(&none, 0, &out.bit), status);
+    check_unwritten(mortarpink_chunk(&none, 0, out.bytes, 8), status);
+    check_unwritten(mortarpink_clone(&none, &copy), status);
+    check_unwritten(mortarpink_free(&copy), status);
+    check_unwritten(mortarpink_free(&none), status);
+}
+
+/* Calls of the other mode return WRONG_MODE and change nothing. */
+static void test_modes(uint32_t width) {
+    mortarpink_bitmap bitmap = MORTARPINK_EMPTY;
+    make(&bitmap, width, "101");
+    commit(&bitmap, 1);
+    check_edits(&bitmap, width, MORTARPINK_WRONG_MODE);
+    fill_outputs();
+    check_status(mortarpink_push_bytes(&bitmap, (const uint8_t *)"ab", 2, &out.size), MORTARPINK_WRONG_MODE);
+    check_equal(out.size, 0);
+    check(has_bits(visible(&bitmap), "101"));
+
+    check_done(mortarpink_begin(&bitmap));
+    push_text(&bitmap, "1");
+    check_current_reads(&bitmap, MORTARPINK_WRONG_MODE);
+    check_past_reads(&bitmap, 1, MORTARPINK_WRONG_MODE);
+    check_commit_calls(&bitmap, MORTARPINK_WRONG_MODE);
+    check(has_bits(visible(&bitmap), "1011"));
+    check_done(mortarpink_abort(&bitmap));
+    check(has_bits(visible(&bitmap), "101"));
+    check(has_bits(at_commit(&bitmap, 1), "101"));
+    check_done(mortarpink_free(&bitmap));
+}
+
+static void test_unknown_commits(uint32_t width) {
+    mortarpink_bitmap bitmap = MORTARPINK_EMPTY;
+    make(&bitmap, width, "1");
+    commit(&bitmap, 1);
+    check_past_reads(&bitmap, 0, MORTARPINK_NO_SUCH_COMMIT);
+    check_past_reads(&bitmap, 2, MORTARPINK_NO_SUCH_COMMIT);
+    check_past_reads(&bitmap, UINT64_MAX, MORTARPINK_NO_SUCH_COMMIT);
+    check_unwritten(mortarpink_rewind(&bitmap, 2), MORTARPINK_NO_SUCH_COMMIT);
+    check_done(mortarpink_free(&bitmap));
+}
+
+
+/* ---- Making, copying and freeing ---- */
+
+static void test_widths(void) {
+    static const uint32_t others[] = {0, 2, 3, 4, 7, 9, 16, 31, 33, 63, 65, 128, 256, UINT32_MAX};
+    const uint8_t bytes[16] = {0};
+    for (size_t k = 0; k < sizeof others / sizeof *others; k++) {
+        mortarpink_bitmap bitmap = MORTARPINK_EMPTY;
+        check_unwritten(mortarpink_new(&bitmap, others[k]), MORTARPINK_NO_SUCH_WIDTH);
+        check_unwritten(mortarpink_read(&bitmap, others[k], 0, UINT64_MAX, bytes, 16, &out.size, &out.number),
+                        MORTARPINK_NO_SUCH_WIDTH);
+        check_unwritten(mortarpink_free(&bitmap), MORTARPINK_EMPTY_HANDLE);
+    }
+}
+
+static void test_full_handle(uint32_t width) {
+    mortarpink_bitmap bitmap = MORTARPINK_EMPTY, other = MORTARPINK_EMPTY;
+    const uint8_t bytes[16] = {0};
+    make(&bitmap, width, "01");
+    make(&other, width, "1");
+    check_unwritten(mortarpink_new(&bitmap, width), MORTARPINK_FULL_HANDLE);
+    check_unwritten(mortarpink_read(&bitmap, width, 0, 9, bytes, 16, &out.size, &out.number), MORTARPINK_FULL_HANDLE);
+    check_unwritten(mortarpink_clone(&other, &bitmap), MORTARPINK_FULL_HANDLE);
+    check(has_bits(visible(&bitmap), "01"));
+    check(has_bits(visible(&other), "1"));
+    check_done(mortarpink_free(&bitmap));
+    check_done(mortarpink_free(&other));
+}
+
+/* A freed handle is empty, and takes a new bitmap. */
+static void test_free(uint32_t width) {
+    mortarpink_bitmap bitmap = MORTARPINK_EMPTY;
+    make(&bitmap, width, "110");
+    check_done(mortarpink_free(&bitmap));
+    check_unwritten(mortarpink_free(&bitmap), MORTARPINK_EMPTY_HANDLE);
+    check_unwritten(mortarpink_len(&bitmap, &out.number), MORTARPINK_EMPTY_HANDLE);
+    check_done(mortarpink_new(&bitmap, 32));
+    check(has_bits(visible(&bitmap), ""));
+    check_number(mortarpink_pruned_chunks(&bitmap, &out.number), 0);
+    check_none(mortarpink_latest(&bitmap, &out.number));
+    check_done(mortarpink_free(&bitmap));
+}
+
+/* A copy has the bitmap, the commits, the last number and the batch, and changes alone. */
+static void test_clone(uint32_t width) {
+    mortarpink_bitmap bitmap = MORTARPINK_EMPTY, copy = MORTARPINK_EMPTY;
+    make(&bitmap, width, "110");
+    commit(&bitmap, 4);
+    check_done(mortarpink_begin(&bitmap));
+    push_text(&bitmap, "1");
+    check_done(mortarpink_clone(&bitmap, &copy));
+    check(has_bits(visible(&copy), "1101"));
+    check_done(mortarpink_set(&copy, 0, 0));
+    push_text(&bitmap, "0");
+    fill_outputs();
+    check_status(mortarpink_commit(&copy, 4, &out.number), MORTARPINK_NON_MONOTONIC_COMMIT);
+    check_equal(out.number, 4);
+    commit(&copy, 5);
+    commit(&bitmap, 6);
+    check(has_bits(visible(&copy), "0101"));
+    check(has_bits(visible(&bitmap), "11010"));
+    check(has_bits(at_commit(&copy, 4), "110"));
+    check_bit(mortarpink_exists(&copy, 6, &out.bit), 0);
+    check_bit(mortarpink_exists(&bitmap, 5, &out.bit), 0);
+    check_done(mortarpink_free(&bitmap));
+    check(has_bits(at_commit(&copy, 5), "0101"));
+    check_done(mortarpink_free(&copy));
+}
+
+/* A start drops the bits, the commits and the last number. */
+static void test_start(uint32_t width) {
+    const uint64_t B = 8 * (uint64_t)width;
+    mortarpink_bitmap bitmap = MORTARPINK_EMPTY;
+    make(&bitmap, width, "11");
+    commit(&bitmap, 7);
+    check_done(mortarpink_start(&bitmap, 3));
+    check_number(mortarpink_len(&bitmap, &out.number), 3 * B);
+    check_number(mortarpink_pruned_chunks(&bitmap, &out.number), 3);
+    check_unwritten(mortarpink_get(&bitmap, 3 * B - 1, &out.bit), MORTARPINK_PRUNED);
+    check_unwritten(mortarpink_get(&bitmap, 3 * B, &out.bit), MORTARPINK_OUT_OF_BOUNDS);
+    check_none(mortarpink_next_zero(&bitmap, 0, &out.number));
+    check_none(mortarpink_earliest(&bitmap, &out.number));
+    check_done(mortarpink_begin(&bitmap));
+    check_unwritten(mortarpink_pop(&bitmap, &out.bit), MORTARPINK_NO_RETAINED_BIT);
+    commit(&bitmap, 0);
+    check_done(mortarpink_start(&bitmap, 0));
+    check(has_bits(visible(&bitmap), ""));
+    check_done(mortarpink_free(&bitmap));
+}
+
+
+/* ---- Edits ---- */
+
+/* Bits, bytes and pops. 0xA5 is 10100101, its lowest bit first. */
+static void test_pushes(uint32_t width) {
+    mortarpink_bitmap bitmap = MORTARPINK_EMPTY;
+    const uint8_t bytes[] = {0x01, 0x80, 0xFF};
+    make(&bitmap, width, "");
+    check_unwritten(mortarpink_pop(&bitmap, &out.bit), MORTARPINK_NO_RETAINED_BIT);
+    check_done(mortarpink_push(&bitmap, 0));
+    check_done(mortarpink_push(&bitmap, 1));
+    check_done(mortarpink_push(&bitmap, 255));
+    check_done(mortarpink_push(&bitmap, 2));
+    check_done(mortarpink_push_byte(&bitmap, 0xA5));
+    check(has_bits(visible(&bitmap), "011110100101"));
+    check_value(mortarpink_push_bytes(&bitmap, bytes, 2, &out.size), out.size, 2);
+    check(has_bits(visible(&bitmap), "0111101001011000000000000001"));
+    check_value(mortarpink_push_bytes(&bitmap, bytes, 0, &out.size), out.size, 0);
+    check_bit(mortarpink_pop(&bitmap, &out.bit), 1);
+    check_bit(mortarpink_pop(&bitmap, &out.bit), 0);
+    check(has_bits(visible(&bitmap), "01111010010110000000000000"));
+    check_done(mortarpink_set(&bitmap, 0, 128));
+    check_done(mortarpink_set(&bitmap, 25, 1));
+    check_done(mortarpink_set(&bitmap, 1, 0));
+    check_unwritten(mortarpink_set(&bitmap, 26, 1), MORTARPINK_OUT_OF_BOUNDS);
+    check_unwritten(mortarpink_set(&bitmap, UINT64_MAX, 1), MORTARPINK_OUT_OF_BOUNDS);
+    commit(&bitmap, 1);
+    check(has_bits(visible(&bitmap), "10111010010110000000000001"));
+    check_done(mortarpink_free(&bitmap));
+}
+
+/* A chunk of the bytes 64, 65 and so on is appended after one bit, and then read by chunks. */
+static void test_chunks(uint32_t width) {
+    const uint64_t B = 8 * (uint64_t)width;
+    mortarpink_bitmap bitmap = MORTARPINK_EMPTY;
+    uint8_t chunk[64], shifted[64];
+    for (uint32_t k = 0; k < 64; k++) {
+        chunk[k] = (uint8_t)(k + 64);
+        shifted[k] = (uint8_t)((k + 64) << 1 | (k == 0));
+    }
+    make(&bitmap, width, "1");
+    check_unwritten(mortarpink_push_chunk(&bitmap, chunk, width - 1), MORTARPINK_WRONG_SIZE);
+    check_unwritten(mortarpink_push_chunk(&bitmap, chunk, width + 1), MORTARPINK_WRONG_SIZE);
+    check_unwritten(mortarpink_push_chunk(&bitmap, chunk, 0), MORTARPINK_WRONG_SIZE);
+    check_done(mortarpink_push_chunk(&bitmap, chunk, width));
+    check_number(mortarpink_len(&bitmap, &out.number), B + 1);
+    check_value(mortarpink_chunk(&bitmap, 3, out.bytes, width), memcmp(out.bytes, shifted, width), 0);
+    check_value(mortarpink_chunk(&bitmap, B, out.bytes, width), out.bytes[0], 0);
+    check_unwritten(mortarpink_chunk(&bitmap, B, out.bytes, width - 1), MORTARPINK_WRONG_SIZE);
+    check_unwritten(mortarpink_chunk(&bitmap, B + 1, out.bytes, width), MORTARPINK_OUT_OF_BOUNDS);
+    check_done(mortarpink_prune(&bitmap, B));
+    check_unwritten(mortarpink_chunk(&bitmap, B - 1, out.bytes, width), MORTARPINK_PRUNED);
+    check_done(mortarpink_free(&bitmap));
+}
+
+/* Pruning drops whole chunks, also all of them. */
+static void test_prune(void) {
+    mortarpink_bitmap bitmap = MORTARPINK_EMPTY;
+    make(&bitmap, 1, "1111000011001100101");
+    check_done(mortarpink_prune(&bitmap, 7));
+    check_number(mortarpink_pruned_chunks(&bitmap, &out.number), 0);
+    check_done(mortarpink_prune(&bitmap, 8));
+    check_number(mortarpink_pruned_chunks(&bitmap, &out.number), 1);
+    check(has_bits(visible(&bitmap), "........11001100101"));
+    check_done(mortarpink_prune(&bitmap, 0));
+    check_unwritten(mortarpink_prune(&bitmap, 20), MORTARPINK_OUT_OF_BOUNDS);
+    check_unwritten(mortarpink_set(&bitmap, 7, 1), MORTARPINK_PRUNED);
+    check_unwritten(mortarpink_get(&bitmap, 7, &out.bit), MORTARPINK_PRUNED);
+    check_done(mortarpink_prune(&bitmap, 19));
+    check(has_bits(visible(&bitmap), "................101"));
+    check_bit(mortarpink_pop(&bitmap, &out.bit), 1);
+    check_bit(mortarpink_pop(&bitmap, &out.bit), 0);
+    check_bit(mortarpink_pop(&bitmap, &out.bit), 1);
+    check_unwritten(mortarpink_pop(&bitmap, &out.bit), MORTARPINK_NO_RETAINED_BIT);
+    check(has_bits(visible(&bitmap), "................"));
+    push_text(&bitmap, "01010101");
+    check_done(mortarpink_prune(&bitmap, 24));
+    check(has_bits(visible(&bitmap), "........................"));
+    commit(&bitmap, 1);
+    check_number(mortarpink_pruned_chunks(&bitmap, &out.number), 3);
+    check_done(mortarpink_free(&bitmap));
+}
+
+
+/* ---- Reads of one bitmap ---- */
+
+/* Commits, under 1, a bitmap of length 3B + 4 whose first chunk is pruned. B+1, 2B-1, 2B and 3B+2 are set. */
+static void make_sample(mortarpink_bitmap *bitmap, uint32_t width) {
+    const uint64_t B = 8 * (uint64_t)width;
+    const uint8_t zeros[192] = {0};
+    make(bitmap, width, "");
+    check_value(mortarpink_push_bytes(bitmap, zeros, 3 * width, &out.size), out.size, 3 * width);
+    push_text(bitmap, "0010");
+    check_done(mortarpink_set(bitmap, 3, 1));
+    check_done(mortarpink_set(bitmap, B + 1, 1));
+    check_done(mortarpink_set(bitmap, 2 * B - 1, 1));
+    check_done(mortarpink_set(bitmap, 2 * B, 1));
+    check_done(mortarpink_prune(bitmap, B + 5));
+    commit(bitmap, 1);
+}
+
+/* The chunks 1, 2 and 3 of the sample. */
+static void sample_chunks(uint8_t *chunks, uint32_t width) {
+    memset(chunks, 0, 3 * width);
+    chunks[0] |= 0x02;
+    chunks[width - 1] |= 0x80;
+    chunks[width] = 0x01;
+    chunks[2 * width] = 0x04;
+}
+
+static void check_sample_bits(struct view view, uint32_t width) {
+    const uint64_t B = 8 * (uint64_t)width;
+    uint8_t chunks[192];
+    sample_chunks(chunks, width);
+    check_number(read_of(view, len, &out.number), 3 * B + 4);
+    check_number(read_of(view, pruned_chunks, &out.number), 1);
+    check_bit(read_of(view, get, B, &out.bit), 0);
+    check_bit(read_of(view, get, B + 1, &out.bit), 1);
+    check_bit(read_of(view, get, 2 * B - 1, &out.bit), 1);
+    check_bit(read_of(view, get, 3 * B + 3, &out.bit), 0);
+    check_unwritten(read_of(view, get, 3 * B + 4, &out.bit), MORTARPINK_OUT_OF_BOUNDS);
+    check_unwritten(read_of(view, get, UINT64_MAX, &out.bit), MORTARPINK_OUT_OF_BOUNDS);
+    check_unwritten(read_of(view, get, B - 1, &out.bit), MORTARPINK_PRUNED);
+    check_unwritten(read_of(view, get, 0, &out.bit), MORTARPINK_PRUNED);
+    check_value(read_of(view, chunk, B, out.bytes, width), memcmp(out.bytes, chunks, width), 0);
+    check_value(read_of(view, chunk, 3 * B - 1, out.bytes, width), memcmp(out.bytes, chunks + width, width), 0);
+    check_value(read_of(view, chunk, 3 * B + 3, out.bytes, width), memcmp(out.bytes, chunks + 2 * width, width), 0);
+    check_equal(out.bytes[width], 0xA5);
+    check_unwritten(read_of(view, chunk, 3 * B + 4, out.bytes, width), MORTARPINK_OUT_OF_BOUNDS);
+    check_unwritten(read_of(view, chunk, B - 1, out.bytes, width), MORTARPINK_PRUNED);
+    check_unwritten(read_of(view, chunk, B, out.bytes, width - 1), MORTARPINK_WRONG_SIZE);
+    check_unwritten(read_of(view, chunk, B, out.bytes, width + 1), MORTARPINK_WRONG_SIZE);
+    check_unwritten(read_of(view, chunk, B, out.bytes, 0), MORTARPINK_WRONG_SIZE);
+}
+
+static void check_sample_searches(struct view view, uint64_t B) {
+    check_number(read_of(view, next_one, 0, &out.number), B + 1);
+    check_number(read_of(view, next_one, B + 1, &out.number), B + 1);
+    check_number(read_of(view, next_one, B + 2, &out.number), 2 * B - 1);
+    check_number(read_of(view, next_one, 2 * B + 1, &out.number), 3 * B + 2);
+    check_none(read_of(view, next_one, 3 * B + 3, &out.number));
+    check_none(read_of(view, next_one, UINT64_MAX, &out.number));
+    check_number(read_of(view, next_zero, 0, &out.number), B);
+    check_number(read_of(view, next_zero, B + 1, &out.number), B + 2);
+    check_number(read_of(view, next_zero, 2 * B - 1, &out.number), 2 * B + 1);
+    check_number(read_of(view, next_zero, 3 * B + 3, &out.number), 3 * B + 3);
+    check_none(read_of(view, next_zero, 3 * B + 4, &out.number));
+    check_none(read_of(view, next_zero, UINT64_MAX, &out.number));
+    check_number(read_of(view, prev_one, UINT64_MAX, &out.number), 3 * B + 2);
+    check_number(read_of(view, prev_one, 3 * B + 2, &out.number), 2 * B);
+    check_number(read_of(view, prev_one, 2 * B, &out.number), 2 * B - 1);
+    check_number(read_of(view, prev_one, B + 2, &out.number), B + 1);
+    check_none(read_of(view, prev_one, B + 1, &out.number));
+    check_none(read_of(view, prev_one, 0, &out.number));
+    check_number(read_of(view, prev_zero, UINT64_MAX, &out.number), 3 * B + 3);
+    check_number(read_of(view, prev_zero, 3 * B + 3, &out.number), 3 * B + 1);
+    check_number(read_of(view, prev_zero, 2 * B + 1, &out.number), 2 * B - 2);
+    check_number(read_of(view, prev_zero, B + 1, &out.number), B);
+    check_none(read_of(view, prev_zero, B, &out.number));
+    check_none(read_of(view, prev_zero, 0, &out.number));
+}
+
+static void check_sample_counts(struct view view, uint64_t B) {
+    check_number(read_of(view, count_ones, 0, UINT64_MAX, &out.number), 4);
+    check_number(read_of(view, count_ones, B + 1, B + 2, &out.number), 1);
+    check_number(read_of(view, count_ones, B + 2, 2 * B, &out.number), 1);
+    check_number(read_of(view, count_ones, 2 * B - 1, 3 * B + 2, &out.number), 2);
+    check_number(read_of(view, count_ones, 3 * B + 3, UINT64_MAX, &out.number), 0);
+    check_number(read_of(view, count_ones, 0, B + 1, &out.number), 0);
+    check_number(read_of(view, count_ones, 3 * B, B, &out.number), 0);
+    check_number(read_of(view, count_ones, UINT64_MAX, UINT64_MAX, &out.number), 0);
+    check_number(read_of(view, select_one, 0, &out.number), B + 1);
+    check_number(read_of(view, select_one, 1, &out.number), 2 * B - 1);
+    check_number(read_of(view, select_one, 2, &out.number), 2 * B);
+    check_number(read_of(view, select_one, 3, &out.number), 3 * B + 2);
+    check_none(read_of(view, select_one, 4, &out.number));
+    check_none(read_of(view, select_one, UINT64_MAX, &out.number));
+}
+
+/* Whether `out` has a page of these numbers, and nothing after it. */
+static int has_page(const uint64_t *numbers, size_t count) {
+    struct outputs untouched;
+    memset(&untouched, 0xA5, sizeof untouched);
+    return out.size == count && memcmp(out.numbers, numbers, count * sizeof *numbers) == 0
+        && memcmp(out.numbers + count, untouched.numbers + count, (8 - count) * sizeof *numbers) == 0;
+}
+
+/* Checks that a call writes a page of these numbers, and nothing after it. */
+#define check_page(call, numbers, count)      \
+    do {                                      \
+        fill_outputs();                       \
+        check_done(call);                     \
+        check(has_page((numbers), (count)));  \
+    } while (0)
+
+static void check_sample_pages(struct view view, uint64_t B) {
+    const uint64_t all[] = {B + 1, 2 * B - 1, 2 * B, 3 * B + 2};
+    check_page(read_of(view, ones, 0, UINT64_MAX, out.numbers, 0, &out.size), all, 0);
+    check_page(read_of(view, ones, 0, UINT64_MAX, out.numbers, 1, &out.size), all, 1);
+    check_page(read_of(view, ones, 0, UINT64_MAX, out.numbers, 3, &out.size), all, 3);
+    check_page(read_of(view, ones, 2 * B + 1, UINT64_MAX, out.numbers, 3, &out.size), all + 3, 1);
+    check_page(read_of(view, ones, 0, UINT64_MAX, out.numbers, 4, &out.size), all, 4);
+    check_page(read_of(view, ones, 3 * B + 3, UINT64_MAX, out.numbers, 4, &out.size), all, 0);
+    check_page(read_of(view, ones, 0, UINT64_MAX, out.numbers, 8, &out.size), all, 4);
+    check_page(read_of(view, ones, B + 1, 3 * B + 3, out.numbers, 8, &out.size), all, 4);
+    check_page(read_of(view, ones, B + 2, 3 * B + 2, out.numbers, 8, &out.size), all + 1, 2);
+    check_page(read_of(view, ones, B + 1, B + 1, out.numbers, 8, &out.size), all, 0);
+    check_page(read_of(view, ones, 3 * B, 2, out.numbers, 8, &out.size), all, 0);
+}
+
+static void check_sample_encoding(struct view view, uint32_t width) {
+    const uint64_t B = 8 * (uint64_t)width;
+    const size_t size = 16 + 3 * (size_t)width;
+    uint8_t chunks[192];
+    sample_chunks(chunks, width);
+    fill_outputs();
+    check_status(read_of(view, encode, out.bytes, 0, &out.size), MORTARPINK_WRONG_SIZE);
+    check_equal(out.size, size);
+    check_equal(out.bytes[0], 0xA5);
+    check_value(read_of(view, encode, out.bytes, size, &out.size), out.size, size);
+    check(is_encoding(out.bytes, 1, 2 * B + 4, chunks, 3 * width));
+    check_equal(out.bytes[size], 0xA5);
+    fill_outputs();
+    check_status(read_of(view, encode, out.bytes, size - 1, &out.size), MORTARPINK_WRONG_SIZE);
+    check_equal(out.bytes[0], 0xA5);
+    check_equal(out.size, size);
+    check_status(read_of(view, encode, out.bytes, size + 1, &out.size), MORTARPINK_WRONG_SIZE);
+    check_equal(out.bytes[0], 0xA5);
+}
+
+static void check_sample(struct view view, uint32_t width) {
+    check_sample_bits(view, width);
+    check_sample_searches(view, 8 * (uint64_t)width);
+    check_sample_counts(view, 8 * (uint64_t)width);
+    check_sample_pages(view, 8 * (uint64_t)width);
+    check_sample_encoding(view, width);
+}
+
+/* The sample is the same as a copy, in its bytes, and as a past bitmap after all of it has changed. */
+static void test_reads(uint32_t width) {
+    const uint64_t B = 8 * (uint64_t)width;
+    mortarpink_bitmap bitmap = MORTARPINK_EMPTY, copy = MORTARPINK_EMPTY;
+    size_t used = 0;
+    make_sample(&bitmap, width);
+    check_sample(visible(&bitmap), width);
+    check_sample(at_commit(&bitmap, 1), width);
+
+    check_done(mortarpink_begin(&bitmap));
+    check_done(mortarpink_set(&bitmap, B + 1, 0));
+    check_done(mortarpink_set(&bitmap, 3 * B + 3, 1));
+    check_done(mortarpink_prune(&bitmap, 2 * B));
+    check_bit(mortarpink_pop(&bitmap, &out.bit), 1);
+    check_done(mortarpink_prune(&bitmap, 3 * B));
+    commit(&bitmap, 2);
+    check_number(mortarpink_len(&bitmap, &out.number), 3 * B + 3);
+    check_number(mortarpink_pruned_chunks(&bitmap, &out.number), 3);
+    check_number(mortarpink_count_ones(&bitmap, 0, UINT64_MAX, &out.number), 1);
+    check_sample(at_commit(&bitmap, 1), width);
+
+    check_done(mortarpink_encode_at(&bitmap, 1, out.bytes, 16 + 3 * width, &out.size));
+    check_done(mortarpink_read(&copy, width, 0, UINT64_MAX, out.bytes, out.size, &used, &out.number));
+    check_equal(used, 16 + 3 * width);
+    check_sample(visible(&copy), width);
+    check_done(mortarpink_rewind(&bitmap, 1));
+    check_sample(visible(&bitmap), width);
+    check_done(mortarpink_free(&bitmap));
+    check_done(mortarpink_free(&copy));
+}
+
+
+/* ---- Decoding ---- */
+
+/* Two pruned chunks of width 1, and ten set bits. Two bytes follow. */
+static const uint8_t ten[] = {0, 0, 0, 0, 0, 0, 0, 2, 0, 0, 0, 0, 0, 0, 0, 10, 0xFF, 0x03, 'a', 'b'};
+
+/* Reads bytes with one of them replaced, in an empty handle. */
+static mortarpink_status read_changed(size_t index, uint8_t byte, size_t len, uint64_t least, uint64_t most) {
+    mortarpink_bitmap bitmap = MORTARPINK_EMPTY;
+    mortarpink_status status;
+    uint8_t bytes[sizeof ten];
+    memcpy(bytes, ten, sizeof ten);
+    bytes[index] = byte;
+    fill_outputs();
+    status = mortarpink_read(&bitmap, 1, least, most, bytes, len, &out.size, &out.number);
+    check_equal(mortarpink_free(&bitmap) == MORTARPINK_DONE, status == MORTARPINK_DONE);
+    return status;
+}
+
+static void test_read(void) {
+    mortarpink_bitmap bitmap = MORTARPINK_EMPTY;
+    fill_outputs();
+    check_done(mortarpink_read(&bitmap, 1, 10, 10, ten, sizeof ten, &out.size, &out.number));
+    check_equal(out.size, 18);
+    check_equal(out.number, UINT64_C(0xA5A5A5A5A5A5A5A5));
+    check(has_bits(visible(&bitmap), "................1111111111"));
+    check_number(mortarpink_pruned_chunks(&bitmap, &out.number), 2);
+    check_none(mortarpink_latest(&bitmap, &out.number));
+    check_done(mortarpink_begin(&bitmap));
+    push_text(&bitmap, "0");
+    commit(&bitmap, 0);
+    check(has_bits(visible(&bitmap), "................11111111110"));
+    check_done(mortarpink_free(&bitmap));
+    for (size_t len = 0; len < 18; len++) {
+        check_unwritten(mortarpink_read(&bitmap, 1, 0, UINT64_MAX, ten, len, &out.size, &out.number),
+                        MORTARPINK_END_OF_BUFFER);
+    }
+    check_unwritten(mortarpink_free(&bitmap), MORTARPINK_EMPTY_HANDLE);
+}
+
+static void check_length_error(uint64_t least, uint64_t most, size_t len) {
+    check_status(read_changed(0, 0, len, least, most), MORTARPINK_INVALID_LENGTH);
+    check_equal(out.number, 10);
+    check_equal(out.size, (size_t)UINT64_C(0xA5A5A5A5A5A5A5A5));
+}
+
+static void test_read_errors(void) {
+    check_done(read_changed(0, 0, 18, 0, UINT64_MAX));
+    check_done(read_changed(0, 0, 18, 10, UINT64_MAX));
+    check_done(read_changed(0, 0, 18, 0, 10));
+    check_length_error(11, UINT64_MAX, 18);
+    check_length_error(0, 9, 18);
+    check_length_error(11, 9, 18);
+    check_length_error(0, 9, 16);
+    check_unwritten(read_changed(0, 0, 15, 0, 9), MORTARPINK_END_OF_BUFFER);
+    check_unwritten(read_changed(17, 0x07, 18, 0, UINT64_MAX), MORTARPINK_INVALID);
+    check_unwritten(read_changed(17, 0x83, 18, 0, UINT64_MAX), MORTARPINK_INVALID);
+    check_unwritten(read_changed(0, 0x20, 8, 0, UINT64_MAX), MORTARPINK_INVALID);
+    check_unwritten(read_changed(0, 0x20, 7, 0, UINT64_MAX), MORTARPINK_END_OF_BUFFER);
+    check_done(read_changed(0, 0x1F, 18, 0, UINT64_MAX));
+    check_unwritten(read_changed(8, 0xFF, 18, 0, UINT64_MAX), MORTARPINK_END_OF_BUFFER);
+    check_done(read_changed(17, 0x00, 18, 0, UINT64_MAX));
+    check_unwritten(read_changed(15, 9, 18, 0, UINT64_MAX), MORTARPINK_INVALID);
+}
+
+
+/* ---- Commits ---- */
+
+/* Three commits of width 8: 3 has the bits 10, 5 these and 64 set bits, and 9 the same with position 65 cleared. */
+static void make_commits(mortarpink_bitmap *bitmap) {
+    const uint8_t full[] = {255, 255, 255, 255, 255, 255, 255, 255};
+    make(bitmap, 8, "10");
+    commit(bitmap, 3);
+    check_done(mortarpink_begin(bitmap));
+    check_done(mortarpink_push_chunk(bitmap, full, 8));
+    commit(bitmap, 5);
+    check_done(mortarpink_begin(bitmap));
+    check_done(mortarpink_set(bitmap, 65, 0));
+    commit(bitmap, 9);
+}
+
+static void test_commit_lists(void) {
+    const uint64_t all[] = {3, 5, 9};
+    mortarpink_bitmap bitmap = MORTARPINK_EMPTY;
+    make_commits(&bitmap);
+    check_page(mortarpink_commits(&bitmap, 0, out.numbers, 0, &out.size), all, 0);
+    check_page(mortarpink_commits(&bitmap, 0, out.numbers, 1, &out.size), all, 1);
+    check_page(mortarpink_commits(&bitmap, 4, out.numbers, 1, &out.size), all + 1, 1);
+    check_page(mortarpink_commits(&bitmap, 0, out.numbers, 3, &out.size), all, 3);
+    check_page(mortarpink_commits(&bitmap, 3, out.numbers, 8, &out.size), all, 3);
+    check_page(mortarpink_commits(&bitmap, 9, out.numbers, 8, &out.size), all + 2, 1);
+    check_page(mortarpink_commits(&bitmap, 10, out.numbers, 8, &out.size), all, 0);
+    check_page(mortarpink_commits(&bitmap, UINT64_MAX, out.numbers, 8, &out.size), all, 0);
+    check_bit(mortarpink_exists(&bitmap, 3, &out.bit), 1);
+    check_bit(mortarpink_exists(&bitmap, 4, &out.bit), 0);
+    check_bit(mortarpink_exists(&bitmap, UINT64_MAX, &out.bit), 0);
+    check_number(mortarpink_latest(&bitmap, &out.number), 9);
+    check_number(mortarpink_earliest(&bitmap, &out.number), 3);
+    check_number(mortarpink_entries(&bitmap, &out.number), 4);
+    check_number(mortarpink_count_ones_at(&bitmap, 3, 0, 99, &out.number), 1);
+    check_number(mortarpink_count_ones_at(&bitmap, 5, 0, 99, &out.number), 65);
+    check_number(mortarpink_count_ones_at(&bitmap, 9, 0, 99, &out.number), 64);
+    check_done(mortarpink_free(&bitmap));
+}
+
+static void test_changed_chunks(void) {
+    const uint64_t chunks[] = {0, 1};
+    mortarpink_bitmap bitmap = MORTARPINK_EMPTY;
+    make_commits(&bitmap);
+    check_page(mortarpink_changed_chunks(&bitmap, 3, 5, 0, out.numbers, 0, &out.size), chunks, 0);
+    check_page(mortarpink_changed_chunks(&bitmap, 3, 5, 0, out.numbers, 1, &out.size), chunks, 1);
+    check_page(mortarpink_changed_chunks(&bitmap, 3, 5, 1, out.numbers, 1, &out.size), chunks + 1, 1);
+    check_page(mortarpink_changed_chunks(&bitmap, 3, 5, 0, out.numbers, 2, &out.size), chunks, 2);
+    check_page(mortarpink_changed_chunks(&bitmap, 3, 9, 0, out.numbers, 8, &out.size), chunks, 2);
+    check_page(mortarpink_changed_chunks(&bitmap, 5, 9, 0, out.numbers, 8, &out.size), chunks + 1, 1);
+    check_page(mortarpink_changed_chunks(&bitmap, 3, 9, 2, out.numbers, 8, &out.size), chunks, 0);
+    check_page(mortarpink_changed_chunks(&bitmap, 3, 9, UINT64_MAX, out.numbers, 8, &out.size), chunks, 0);
+    check_page(mortarpink_changed_chunks(&bitmap, 5, 5, 0, out.numbers, 8, &out.size), chunks, 0);
+    check_unwritten(mortarpink_changed_chunks(&bitmap, 5, 3, 0, out.numbers, 8, &out.size), MORTARPINK_NO_SUCH_COMMIT);
+    check_unwritten(mortarpink_changed_chunks(&bitmap, 3, 4, 0, out.numbers, 8, &out.size), MORTARPINK_NO_SUCH_COMMIT);
+    check_unwritten(mortarpink_changed_chunks(&bitmap, 4, 5, 0, out.numbers, 8, &out.size), MORTARPINK_NO_SUCH_COMMIT);
+    check_done(mortarpink_free(&bitmap));
+}
+
+/* Checks that a batch is not committed under a number, because of the last one. */
+static void check_not_above(mortarpink_bitmap *bitmap, uint64_t number, uint64_t last) {
+    fill_outputs();
+    check_status(mortarpink_commit(bitmap, number, &out.number), MORTARPINK_NON_MONOTONIC_COMMIT);
+    check_equal(out.number, last);
+}
+
+static void test_commit_numbers(void) {
+    mortarpink_bitmap bitmap = MORTARPINK_EMPTY;
+    make(&bitmap, 1, "1");
+    check_unwritten(mortarpink_commit(&bitmap, UINT64_MAX, &out.number), MORTARPINK_RESERVED_COMMIT_NUMBER);
+    commit(&bitmap, 0);
+    check_done(mortarpink_begin(&bitmap));
+    push_text(&bitmap, "0");
+    check_not_above(&bitmap, 0, 0);
+    check_unwritten(mortarpink_commit(&bitmap, UINT64_MAX, &out.number), MORTARPINK_RESERVED_COMMIT_NUMBER);
+    check(has_bits(visible(&bitmap), "10"));
+    commit(&bitmap, 7);
+    check_done(mortarpink_begin(&bitmap));
+    check_not_above(&bitmap, 7, 7);
+    check_not_above(&bitmap, 6, 7);
+    commit(&bitmap, UINT64_MAX - 1);
+    check_done(mortarpink_begin(&bitmap));
+    check_not_above(&bitmap, UINT64_MAX - 1, UINT64_MAX - 1);
+    check_done(mortarpink_abort(&bitmap));
+    check_number(mortarpink_entries(&bitmap, &out.number), 2);
+    check_number(mortarpink_latest(&bitmap, &out.number), UINT64_MAX - 1);
+    check(has_bits(at_commit(&bitmap, UINT64_MAX - 1), "10"));
+    check_done(mortarpink_free(&bitmap));
+}
+
+/* After a rewind, numbers continue from the commit that is current again. */
+static void test_rewind(void) {
+    const uint64_t kept[] = {3, 5, 6};
+    mortarpink_bitmap bitmap = MORTARPINK_EMPTY;
+    make_commits(&bitmap);
+    check_unwritten(mortarpink_rewind(&bitmap, 4), MORTARPINK_NO_SUCH_COMMIT);
+    check_done(mortarpink_rewind(&bitmap, 9));
+    check_number(mortarpink_latest(&bitmap, &out.number), 9);
+    check_bit(mortarpink_get(&bitmap, 65, &out.bit), 0);
+    check_done(mortarpink_rewind(&bitmap, 5));
+    check_bit(mortarpink_get(&bitmap, 65, &out.bit), 1);
+    check_unwritten(mortarpink_rewind(&bitmap, 9), MORTARPINK_NO_SUCH_COMMIT);
+    check_number(mortarpink_entries(&bitmap, &out.number), 3);
+    check_done(mortarpink_begin(&bitmap));
+    check_not_above(&bitmap, 5, 5);
+    check_bit(mortarpink_pop(&bitmap, &out.bit), 1);
+    commit(&bitmap, 6);
+    check_page(mortarpink_commits(&bitmap, 0, out.numbers, 8, &out.size), kept, 3);
+    check_number(mortarpink_len(&bitmap, &out.number), 65);
+    check_done(mortarpink_rewind(&bitmap, 3));
+    check(has_bits(visible(&bitmap), "10"));
+    check_page(mortarpink_commits(&bitmap, 0, out.numbers, 8, &out.size), kept, 1);
+    check_done(mortarpink_free(&bitmap));
+}
+
+/* Dropped commits leave the current bitmap, and their numbers are not used again. */
+static void test_dropping(void) {
+    const uint64_t kept[] = {5, 9};
+    mortarpink_bitmap bitmap = MORTARPINK_EMPTY;
+    make_commits(&bitmap);
+    check_number(mortarpink_drop_before(&bitmap, 3, &out.number), 0);
+    check_number(mortarpink_drop_before(&bitmap, 4, &out.number), 1);
+    check_page(mortarpink_commits(&bitmap, 0, out.numbers, 8, &out.size), kept, 2);
+    check_number(mortarpink_earliest(&bitmap, &out.number), 5);
+    check_number(mortarpink_entries(&bitmap, &out.number), 3);
+    check_unwritten(mortarpink_len_at(&bitmap, 3, &out.number), MORTARPINK_NO_SUCH_COMMIT);
+    check_number(mortarpink_count_ones_at(&bitmap, 5, 0, 99, &out.number), 65);
+    check_number(mortarpink_drop_before(&bitmap, UINT64_MAX, &out.number), 2);
+    check_none(mortarpink_latest(&bitmap, &out.number));
+    check_number(mortarpink_entries(&bitmap, &out.number), 0);
+    check_number(mortarpink_count_ones(&bitmap, 0, 99, &out.number), 64);
+    check_done(mortarpink_begin(&bitmap));
+    check_not_above(&bitmap, 9, 9);
+    commit(&bitmap, 10);
+    check_done(mortarpink_clear(&bitmap));
+    check_done(mortarpink_clear(&bitmap));
+    check_none(mortarpink_latest(&bitmap, &out.number));
+    check_none(mortarpink_earliest(&bitmap, &out.number));
+    check_page(mortarpink_commits(&bitmap, 0, out.numbers, 8, &out.size), kept, 0);
+    check_unwritten(mortarpink_rewind(&bitmap, 10), MORTARPINK_NO_SUCH_COMMIT);
+    check_number(mortarpink_len(&bitmap, &out.number), 66);
+    check_done(mortarpink_begin(&bitmap));
+    check_not_above(&bitmap, 10, 10);
+    check_done(mortarpink_free(&bitmap));
+}
+
+
+/* ---- The ends of the positions ---- */
+
+/* Makes a bitmap of 2^64 - 1 bits, in a batch. Its last seven bits are set, and its other retained bits are not. */
+static void make_longest(mortarpink_bitmap *bitmap, uint32_t width) {
+    const uint64_t B = 8 * (uint64_t)width;
+    const uint8_t zeros[64] = {0};
+    check_done(mortarpink_new(bitmap, width));
+    check_unwritten(mortarpink_start(bitmap, (size_t)(UINT64_MAX / B + 1)), MORTARPINK_PRUNED_CHUNKS_OVERFLOW);
+    check_unwritten(mortarpink_start(bitmap, SIZE_MAX), MORTARPINK_PRUNED_CHUNKS_OVERFLOW);
+    check(has_bits(visible(bitmap), ""));
+    check_done(mortarpink_start(bitmap, (size_t)(UINT64_MAX / B)));
+    check_number(mortarpink_len(bitmap, &out.number), UINT64_MAX - B + 1);
+    check_done(mortarpink_begin(bitmap));
+    fill_outputs();
+    check_status(mortarpink_push_bytes(bitmap, zeros, width, &out.size), MORTARPINK_TOO_LONG);
+    check_equal(out.size, width - 1);
+    push_text(bitmap, "1111111");
+    check_number(mortarpink_len(bitmap, &out.number), UINT64_MAX);
+}
+
+static void test_longest_edits(uint32_t width) {
+    const uint8_t zeros[64] = {0};
+    mortarpink_bitmap bitmap = MORTARPINK_EMPTY;
+    make_longest(&bitmap, width);
+    check_unwritten(mortarpink_push(&bitmap, 1), MORTARPINK_TOO_LONG);
+    check_unwritten(mortarpink_push_byte(&bitmap, 1), MORTARPINK_TOO_LONG);
+    check_unwritten(mortarpink_push_chunk(&bitmap, zeros, width), MORTARPINK_TOO_LONG);
+    check_value(mortarpink_chunk(&bitmap, UINT64_MAX - 1, out.bytes, width), out.bytes[width - 1], 0x7F);
+    check_unwritten(mortarpink_chunk(&bitmap, UINT64_MAX, out.bytes, width), MORTARPINK_OUT_OF_BOUNDS);
+    check_done(mortarpink_set(&bitmap, UINT64_MAX - 1, 0));
+    check_unwritten(mortarpink_set(&bitmap, UINT64_MAX, 0), MORTARPINK_OUT_OF_BOUNDS);
+    check_bit(mortarpink_get(&bitmap, UINT64_MAX - 1, &out.bit), 0);
+    check_unwritten(mortarpink_get(&bitmap, UINT64_MAX, &out.bit), MORTARPINK_OUT_OF_BOUNDS);
+    check_bit(mortarpink_pop(&bitmap, &out.bit), 0);
+    check_unwritten(mortarpink_prune(&bitmap, UINT64_MAX), MORTARPINK_OUT_OF_BOUNDS);
+    push_text(&bitmap, "1");
+    check_done(mortarpink_prune(&bitmap, UINT64_MAX));
+    check_number(mortarpink_pruned_chunks(&bitmap, &out.number), UINT64_MAX / (8 * (uint64_t)width));
+    check_done(mortarpink_free(&bitmap));
+}
+
+static void check_longest(struct view view, uint32_t width) {
+    const uint64_t most = UINT64_MAX;
+    const uint64_t last[] = {most - 7, most - 6, most - 5, most - 4, most - 3, most - 2, most - 1};
+    check_page(read_of(view, ones, 0, most, out.numbers, 8, &out.size), last, 7);
+    check_page(read_of(view, ones, most - 1, most, out.numbers, 8, &out.size), last + 6, 1);
+    check_page(read_of(view, ones, most, most, out.numbers, 8, &out.size), last, 0);
+    check_number(read_of(view, next_one, 0, &out.number), most - 7);
+    check_number(read_of(view, next_one, most - 1, &out.number), most - 1);
+    check_none(read_of(view, next_one, most, &out.number));
+    check_none(read_of(view, next_zero, most - 7, &out.number));
+    check_none(read_of(view, next_zero, most, &out.number));
+    check_number(read_of(view, prev_one, most, &out.number), most - 1);
+    check_none(read_of(view, prev_one, most - 7, &out.number));
+    check_number(read_of(view, count_ones, 0, most, &out.number), 7);
+    check_number(read_of(view, select_one, 6, &out.number), most - 1);
+    if (width == 1) {
+        check_none(read_of(view, prev_zero, most, &out.number));
+    } else {
+        check_number(read_of(view, prev_zero, most, &out.number), most - 8);
+        check_number(read_of(view, next_zero, 0, &out.number), most - 8 * (uint64_t)width + 1);
+    }
+}
+
+/* The bytes of the longest bitmap are read back, but not with one bit or one chunk more. */
+static void test_longest_bytes(mortarpink_bitmap *bitmap, uint32_t width) {
+    const size_t size = 16 + (size_t)width;
+    mortarpink_bitmap copy = MORTARPINK_EMPTY;
+    uint8_t bytes[80];
+    check_value(mortarpink_encode(bitmap, bytes, size, &out.size), out.size, size);
+    check_value(mortarpink_read(&copy, width, 0, UINT64_MAX, bytes, size, &out.size, &out.number), out.size, size);
+    check_longest(visible(&copy), width);
+    check_done(mortarpink_free(&copy));
+    bytes[15]++;
+    bytes[14] = (uint8_t)(bytes[14] + (bytes[15] == 0));
+    check_unwritten(mortarpink_read(&copy, width, 0, UINT64_MAX, bytes, size, &out.size, &out.number),
+                    MORTARPINK_INVALID);
+    memset(bytes, 0xFF, 8);
+    check_unwritten(mortarpink_read(&copy, width, 0, UINT64_MAX, bytes, size, &out.size, &out.number),
+                    MORTARPINK_INVALID);
+    check_unwritten(mortarpink_free(&copy), MORTARPINK_EMPTY_HANDLE);
+}
+
+static void test_longest_reads(uint32_t width) {
+    mortarpink_bitmap bitmap = MORTARPINK_EMPTY;
+    make_longest(&bitmap, width);
+    commit(&bitmap, 1);
+    check_longest(visible(&bitmap), width);
+    test_longest_bytes(&bitmap, width);
+    check_done(mortarpink_begin(&bitmap));
+    check_bit(mortarpink_pop(&bitmap, &out.bit), 1);
+    commit(&bitmap, 2);
+    check_longest(at_commit(&bitmap, 1), width);
+    check_page(mortarpink_changed_chunks(&bitmap, 1, 2, UINT64_MAX / (8 * (uint64_t)width), out.numbers, 8, &out.size),
+               (const uint64_t[]){UINT64_MAX / (8 * (uint64_t)width)}, 1);
+    check_done(mortarpink_free(&bitmap));
+}
+
+
+static void test_width(uint32_t width) {
+    test_modes(width);
+    test_unknown_commits(width);
+    test_full_handle(width);
+    test_free(width);
+    test_clone(width);
+    test_start(width);
+    test_pushes(width);
+    test_chunks(width);
+    test_reads(width);
+    test_longest_edits(width);
+    test_longest_reads(width);
+}
+
+int main(void) {
+    test_texts();
+    test_empty_handle();
+    test_widths();
+    test_width(1);
+    test_width(8);
+    test_width(32);
+    test_width(64);
+    test_prune();
+    test_read();
+    test_read_errors();
+    test_commit_lists();
+    test_changed_chunks();
+    test_commit_numbers();
+    test_rewind();
+    test_dropping();
+    return finish("checks", checks, failures);
+}

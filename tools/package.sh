@@ -1,0 +1,92 @@
+#!/usr/bin/env bash
+# Builds the C library and installs it.
+#
+# usage: package.sh PREFIX
+#
+# Under PREFIX come the static and the shared library, the header, the file of pkg-config and the licence. Next to PREFIX
+# comes an archive of the same tree, which is the same byte for byte if it is made again from the same build.
+#
+# This needs the Rattle toolchain (`rt`), a C compiler and binutils. The first build proves crates/bitmap_c and every crate
+# below it, which is most of the gate's work. Later builds reuse what is in crates/*/out.
+set -euo pipefail
+umask 022
+version=0.1.0
+name=mortarpink-$version-x86_64-linux
+
+if (($# != 1)) || [[ $1 == -* ]]; then
+    echo "usage: package.sh PREFIX" >&2
+    exit 2
+fi
+for tool in rt cc ld objcopy ar tar gzip; do
+    if ! command -v "$tool" >/dev/null; then
+        echo "package: this machine has no $tool" >&2
+        exit 1
+    fi
+done
+mkdir -p "$1"
+prefix=$(cd "$1" && pwd)
+cd "$(dirname "$0")/.."
+work=$(mktemp -d)
+trap 'rm -rf "$work"' EXIT
+tree=$work/$name
+
+# Builds the archive that `rt lib` makes of crates/bitmap_c.
+build() {
+    if [[ ! -e crates/bitmap_c/out/libbitmap_c.a ]]; then
+        echo "package: the first build proves bitmap_c and every crate below it; this takes long" >&2
+    fi
+    (cd crates/bitmap_c && rt lib)
+}
+
+# Makes one object of the archive, its C library and the status texts. Only the names of the header stay global.
+link_object() {
+    cc -O2 -fPIC -Wall -Wextra -Wpedantic -Ibindings/c -c -o "$work/status_text.o" bindings/c/status_text.c
+    ld -r -o "$work/all.o" --whole-archive crates/bitmap_c/out/libbitmap_c.a "$(dirname "$(rt doc)")/c/liblibc_c.a" \
+        --no-whole-archive "$work/status_text.o"
+    objcopy --wildcard --keep-global-symbol='mortarpink_*' "$work/all.o" "$work/mortarpink.o"
+}
+
+write_libraries() {
+    local shared=libmortarpink.so
+    mkdir -p "$tree/lib"
+    ar rcsD "$tree/lib/libmortarpink.a" "$work/mortarpink.o"
+    cc -shared -Wl,-soname,"$shared.${version%%.*}" -Wl,-z,defs,-z,text -o "$tree/lib/$shared.$version" "$work/mortarpink.o"
+    ln -s "$shared.$version" "$tree/lib/$shared.${version%%.*}"
+    ln -s "$shared.${version%%.*}" "$tree/lib/$shared"
+}
+
+# The file finds the prefix from its own place, so the tree can be moved.
+write_pkgconfig() {
+    mkdir -p "$tree/lib/pkgconfig"
+    cat >"$tree/lib/pkgconfig/mortarpink.pc" <<END
+prefix=\${pcfiledir}/../..
+libdir=\${prefix}/lib
+includedir=\${prefix}/include
+
+Name: mortarpink
+Description: Bitmaps with numbered commits, past versions of which are read in place
+Version: $version
+Cflags: -I\${includedir}
+Libs: -L\${libdir} -lmortarpink
+END
+}
+
+write_rest() {
+    install -D -m 644 bindings/c/mortarpink.h "$tree/include/mortarpink.h"
+    install -D -m 644 LICENSE "$tree/share/licenses/mortarpink/LICENSE"
+}
+
+# Installs the tree, and writes its archive with sorted names, one owner and one time.
+install_tree() {
+    cp -dR --remove-destination "$tree/." "$prefix/"
+    tar --sort=name --format=ustar --owner=0 --group=0 --numeric-owner --mtime='2026-01-01 00:00:00Z' \
+        -C "$work" -cf - "$name" | gzip -9n >"$(dirname "$prefix")/$name.tar.gz"
+}
+
+build
+link_object
+write_libraries
+write_pkgconfig
+write_rest
+install_tree
+echo "package: $prefix, and $(dirname "$prefix")/$name.tar.gz"
