@@ -1,0 +1,537 @@
+use std::cell::Cell;
+use std::fmt;
+use std::ops::RangeBounds;
+
+use crate::ffi::Session;
+use crate::{Batch, ChangedChunks, Chunk, Commits, Error, Ones, Version, Width, range};
+
+/// A bitmap with numbered commits.
+///
+/// A bitmap has a current version, which a [`Batch`] edits, and the versions of its kept commits,
+/// which are read in place as [`Version`]s.
+///
+/// # Memory
+///
+/// Reads do not allocate, except for [`to_bytes`](Bitmap::to_bytes).
+///
+/// # Threads
+///
+/// A bitmap is `Send`, so it may move to another thread. It is not `Sync`, because the library takes
+/// a bitmap for itself during each call, reads included. This does not compile:
+///
+/// ```compile_fail,E0277
+/// use mortarpink::{Bitmap, Width};
+///
+/// let bitmap = Bitmap::new(Width::Bytes8).unwrap();
+/// std::thread::scope(|scope| {
+///     scope.spawn(|| bitmap.len());
+/// });
+/// ```
+///
+/// # Examples
+///
+/// ```
+/// use mortarpink::{Bitmap, Width};
+///
+/// let mut bitmap = Bitmap::new(Width::Bytes8)?;
+///
+/// let mut batch = bitmap.begin();
+/// batch.push_bytes(&[0xff, 0x0f])?;
+/// batch.commit(1)?;
+///
+/// assert_eq!(bitmap.len(), 16);
+/// assert_eq!(bitmap.count_ones(..), 12);
+/// assert_eq!(bitmap.next_zero(0), Some(12));
+/// # Ok::<(), mortarpink::Error>(())
+/// ```
+pub struct Bitmap {
+    pub(crate) session: Session,
+    pub(crate) width: Width,
+    /// Whether the session is in a batch. Out of `Batch`, it is so only if a batch was leaked.
+    pub(crate) in_batch: Cell<bool>,
+}
+
+/// Making, encoding and copying.
+impl Bitmap {
+    fn from_session(session: Session, width: Width) -> Bitmap {
+        Bitmap { session, width, in_batch: Cell::new(false) }
+    }
+
+    /// Makes an empty bitmap.
+    ///
+    /// # Errors
+    ///
+    /// [`Error::NoMemory`] if an allocation fails.
+    ///
+    /// # Examples
+    ///
+    /// ```
+    /// use mortarpink::{Bitmap, Width};
+    ///
+    /// let bitmap = Bitmap::new(Width::Bytes1)?;
+    /// assert!(bitmap.is_empty());
+    /// # Ok::<(), mortarpink::Error>(())
+    /// ```
+    pub fn new(width: Width) -> Result<Bitmap, Error> {
+        let session = Session::new(width.bytes() as u32)?;
+        Ok(Bitmap::from_session(session, width))
+    }
+
+    /// Makes a bitmap with pruned chunks and no retained bit.
+    ///
+    /// # Errors
+    ///
+    /// - [`Error::PrunedChunksOverflow`] if the number of pruned bits would pass `u64::MAX`.
+    /// - [`Error::NoMemory`] if an allocation fails.
+    ///
+    /// # Examples
+    ///
+    /// ```
+    /// use mortarpink::{Bitmap, Width};
+    ///
+    /// let bitmap = Bitmap::with_pruned_chunks(Width::Bytes8, 2)?;
+    /// assert_eq!(bitmap.len(), 128);
+    /// # Ok::<(), mortarpink::Error>(())
+    /// ```
+    pub fn with_pruned_chunks(width: Width, pruned_chunks: u64) -> Result<Bitmap, Error> {
+        let mut bitmap = Bitmap::new(width)?;
+        bitmap.session.start(pruned_chunks)?;
+        Ok(bitmap)
+    }
+
+    /// Makes a bitmap, without commits, from the encoding that `bytes` begin with.
+    ///
+    /// `retained` is the range of accepted numbers of retained bits. Returns the bitmap, and the
+    /// number of bytes of the encoding.
+    ///
+    /// # Errors
+    ///
+    /// - [`Error::EndOfBuffer`] if the bytes end before the encoding does.
+    /// - [`Error::InvalidLength`] if the number of retained bits is not in the range.
+    /// - [`Error::Invalid`] if the bytes are not an encoding.
+    /// - [`Error::NoMemory`] if an allocation fails.
+    ///
+    /// # Complexity
+    ///
+    /// Linear in the encoding.
+    ///
+    /// # Examples
+    ///
+    /// ```
+    /// use mortarpink::{Bitmap, Error, Width};
+    ///
+    /// let mut bitmap = Bitmap::new(Width::Bytes8)?;
+    /// let mut batch = bitmap.begin();
+    /// batch.push_byte(0x81)?;
+    /// batch.commit(1)?;
+    ///
+    /// let bytes = bitmap.to_bytes()?;
+    /// let (copy, used) = Bitmap::from_bytes(Width::Bytes8, &bytes, ..=4096)?;
+    /// assert_eq!(used, bytes.len());
+    /// assert!(copy.ones(..).eq([0, 7]));
+    ///
+    /// let short = Bitmap::from_bytes(Width::Bytes8, &bytes, ..8);
+    /// assert_eq!(short.unwrap_err(), Error::InvalidLength { length: 8 });
+    /// # Ok::<(), Error>(())
+    /// ```
+    pub fn from_bytes(
+        width: Width,
+        bytes: &[u8],
+        retained: impl RangeBounds<u64>,
+    ) -> Result<(Bitmap, usize), Error> {
+        let retained = range::inclusive(retained);
+        let (session, used) = Session::decode(width.bytes() as u32, retained, bytes)?;
+        Ok((Bitmap::from_session(session, width), used))
+    }
+
+    /// Returns the encoding of the current bitmap. It has no commits.
+    ///
+    /// The encoding is the number of pruned chunks, then the number of retained bits, then the
+    /// retained chunks. Both numbers have eight bytes, the most significant first.
+    ///
+    /// # Errors
+    ///
+    /// [`Error::NoMemory`] if an allocation fails.
+    ///
+    /// # Complexity
+    ///
+    /// Linear in the encoding.
+    pub fn to_bytes(&self) -> Result<Vec<u8>, Error> {
+        self.settled().encode(None)
+    }
+
+    /// Returns a copy of the bitmap and its commits.
+    ///
+    /// # Errors
+    ///
+    /// [`Error::NoMemory`] if an allocation fails.
+    ///
+    /// # Complexity
+    ///
+    /// Linear in what is copied.
+    pub fn try_clone(&self) -> Result<Bitmap, Error> {
+        let session = self.settled().try_clone()?;
+        Ok(Bitmap::from_session(session, self.width))
+    }
+
+    /// Aborts the batch, if there is one.
+    pub(crate) fn settle(&self) {
+        if self.in_batch.replace(false) {
+            self.session.abort();
+        }
+    }
+
+    /// Returns the session, out of a batch.
+    fn settled(&self) -> &Session {
+        self.settle();
+        &self.session
+    }
+
+    fn settled_mut(&mut self) -> &mut Session {
+        self.settle();
+        &mut self.session
+    }
+}
+
+/// Reads of the current bitmap.
+impl Bitmap {
+    /// Returns the number of bytes per chunk.
+    pub fn width(&self) -> Width {
+        self.width
+    }
+
+    /// Returns the length in bits, pruned bits included.
+    pub fn len(&self) -> u64 {
+        self.settled().len(None)
+    }
+
+    /// Returns whether the length is 0.
+    pub fn is_empty(&self) -> bool {
+        self.len() == 0
+    }
+
+    /// Returns the number of pruned chunks.
+    pub fn pruned_chunks(&self) -> u64 {
+        self.settled().pruned_chunks(None)
+    }
+
+    /// Returns the bit at a position.
+    ///
+    /// # Errors
+    ///
+    /// - [`Error::OutOfBounds`] if the position is at or past the length.
+    /// - [`Error::Pruned`] if the position is pruned.
+    ///
+    /// # Examples
+    ///
+    /// ```
+    /// use mortarpink::{Bitmap, Error, Width};
+    ///
+    /// let mut bitmap = Bitmap::new(Width::Bytes1)?;
+    /// let mut batch = bitmap.begin();
+    /// batch.push_bytes(&[0x01, 0x02])?;
+    /// batch.prune(8)?;
+    /// batch.commit(1)?;
+    ///
+    /// assert_eq!(bitmap.get(9), Ok(true));
+    /// assert_eq!(bitmap.get(7), Err(Error::Pruned));
+    /// assert_eq!(bitmap.get(16), Err(Error::OutOfBounds));
+    /// # Ok::<(), Error>(())
+    /// ```
+    pub fn get(&self, position: u64) -> Result<bool, Error> {
+        self.settled().get(None, position)
+    }
+
+    /// Returns the chunk of a position.
+    ///
+    /// # Errors
+    ///
+    /// The errors of [`get`](Bitmap::get).
+    ///
+    /// # Examples
+    ///
+    /// ```
+    /// use mortarpink::{Bitmap, Width};
+    ///
+    /// let mut bitmap = Bitmap::new(Width::Bytes8)?;
+    /// let mut batch = bitmap.begin();
+    /// batch.push_bytes(&[0x01, 0x02])?;
+    /// batch.commit(1)?;
+    ///
+    /// assert_eq!(bitmap.chunk(15)?.as_slice(), [1, 2, 0, 0, 0, 0, 0, 0]);
+    /// # Ok::<(), mortarpink::Error>(())
+    /// ```
+    pub fn chunk(&self, position: u64) -> Result<Chunk, Error> {
+        let mut chunk = Chunk::zeroed(self.width);
+        self.settled().chunk(None, position, chunk.as_mut_slice())?;
+        Ok(chunk)
+    }
+
+    /// Returns an iterator over the set retained positions of a range, ascending.
+    ///
+    /// # Complexity
+    ///
+    /// Linear in the chunks of the range, read in pages of 64 positions.
+    ///
+    /// # Examples
+    ///
+    /// ```
+    /// use mortarpink::{Bitmap, Width};
+    ///
+    /// let mut bitmap = Bitmap::new(Width::Bytes8)?;
+    /// let mut batch = bitmap.begin();
+    /// batch.push_byte(0b1010_0110)?;
+    /// batch.commit(1)?;
+    ///
+    /// assert!(bitmap.ones(..).eq([1, 2, 5, 7]));
+    /// assert!(bitmap.ones(2..7).eq([2, 5]));
+    /// # Ok::<(), mortarpink::Error>(())
+    /// ```
+    pub fn ones(&self, range: impl RangeBounds<u64>) -> Ones<'_> {
+        Ones::new(self.settled(), None, range::half_open(range))
+    }
+
+    /// Returns the least retained position, from `from` on, whose bit is 1.
+    ///
+    /// # Complexity
+    ///
+    /// Linear in the chunks that are read, as are the other searches.
+    ///
+    /// # Examples
+    ///
+    /// ```
+    /// use mortarpink::{Bitmap, Width};
+    ///
+    /// let mut bitmap = Bitmap::new(Width::Bytes8)?;
+    /// let mut batch = bitmap.begin();
+    /// batch.push_byte(0b0010_0110)?;
+    /// batch.commit(1)?;
+    ///
+    /// assert_eq!(bitmap.next_one(3), Some(5));
+    /// assert_eq!(bitmap.next_one(6), None);
+    /// assert_eq!(bitmap.prev_one(5), Some(2));
+    /// assert_eq!(bitmap.prev_zero(3), Some(0));
+    /// # Ok::<(), mortarpink::Error>(())
+    /// ```
+    pub fn next_one(&self, from: u64) -> Option<u64> {
+        self.settled().next_one(None, from)
+    }
+
+    /// Returns the least retained position, from `from` on, whose bit is 0.
+    pub fn next_zero(&self, from: u64) -> Option<u64> {
+        self.settled().next_zero(None, from)
+    }
+
+    /// Returns the greatest retained position below `end` whose bit is 1.
+    pub fn prev_one(&self, end: u64) -> Option<u64> {
+        self.settled().prev_one(None, end)
+    }
+
+    /// Returns the greatest retained position below `end` whose bit is 0.
+    pub fn prev_zero(&self, end: u64) -> Option<u64> {
+        self.settled().prev_zero(None, end)
+    }
+
+    /// Returns the number of set retained positions in a range.
+    ///
+    /// # Complexity
+    ///
+    /// Linear in the chunks of the range.
+    pub fn count_ones(&self, range: impl RangeBounds<u64>) -> u64 {
+        self.settled().count_ones(None, range::half_open(range))
+    }
+
+    /// Returns the set retained position number `k`, counted from 0.
+    ///
+    /// # Complexity
+    ///
+    /// Linear in the chunks.
+    pub fn select_one(&self, k: u64) -> Option<u64> {
+        self.settled().select_one(None, k)
+    }
+}
+
+/// Batches and commits.
+impl Bitmap {
+    /// Begins a batch of edits on the current bitmap.
+    ///
+    /// If an earlier batch was leaked, for example by [`std::mem::forget`], the next call on the
+    /// bitmap aborts it.
+    pub fn begin(&mut self) -> Batch<'_> {
+        self.settle();
+        Batch::begin(self)
+    }
+
+    /// Returns the bitmap at a commit, to be read in place.
+    ///
+    /// # Errors
+    ///
+    /// [`Error::NoSuchCommit`] if no commit is kept under the number.
+    ///
+    /// # Examples
+    ///
+    /// ```
+    /// use mortarpink::{Bitmap, Error, Width};
+    ///
+    /// let mut bitmap = Bitmap::new(Width::Bytes8)?;
+    /// bitmap.begin().commit(3)?;
+    ///
+    /// assert!(bitmap.at(3)?.is_empty());
+    /// assert_eq!(bitmap.at(2).unwrap_err(), Error::NoSuchCommit);
+    /// # Ok::<(), Error>(())
+    /// ```
+    pub fn at(&self, number: u64) -> Result<Version<'_>, Error> {
+        let session = self.settled();
+        if !session.exists(number) {
+            return Err(Error::NoSuchCommit);
+        }
+        Ok(Version::new(session, self.width, number))
+    }
+
+    /// Returns an iterator over the numbers of the kept commits, ascending.
+    ///
+    /// # Complexity
+    ///
+    /// The numbers are read in pages of 64. A page is linear in the commits up to its last one.
+    ///
+    /// # Examples
+    ///
+    /// ```
+    /// use mortarpink::{Bitmap, Width};
+    ///
+    /// let mut bitmap = Bitmap::new(Width::Bytes8)?;
+    /// bitmap.begin().commit(3)?;
+    /// bitmap.begin().commit(5)?;
+    ///
+    /// assert!(bitmap.commits().eq([3, 5]));
+    /// # Ok::<(), mortarpink::Error>(())
+    /// ```
+    pub fn commits(&self) -> Commits<'_> {
+        Commits::new(self.settled())
+    }
+
+    /// Returns whether a commit is kept under a number.
+    pub fn commit_exists(&self, number: u64) -> bool {
+        self.settled().exists(number)
+    }
+
+    /// Returns the greatest number of a kept commit.
+    pub fn latest(&self) -> Option<u64> {
+        self.settled().latest()
+    }
+
+    /// Returns the least number of a kept commit.
+    pub fn earliest(&self) -> Option<u64> {
+        self.settled().earliest()
+    }
+
+    /// Returns an iterator over the indices of the chunks that differ between two commits.
+    ///
+    /// The indices are absolute and ascending. A chunk that only one of the versions has differs.
+    ///
+    /// # Errors
+    ///
+    /// [`Error::NoSuchCommit`] unless both commits are kept and `from` is at most `to`.
+    ///
+    /// # Complexity
+    ///
+    /// The indices are read in pages of 64. A page examines the chunks up to its last one that a
+    /// commit after `from` changed. Each costs a search of each commit after `from`.
+    ///
+    /// # Examples
+    ///
+    /// ```
+    /// use mortarpink::{Bitmap, Width};
+    ///
+    /// let mut bitmap = Bitmap::new(Width::Bytes1)?;
+    /// let mut batch = bitmap.begin();
+    /// batch.push_bytes(&[0, 0, 0])?;
+    /// batch.commit(1)?;
+    ///
+    /// let mut batch = bitmap.begin();
+    /// batch.set(8, true)?;
+    /// batch.push(false)?;
+    /// batch.commit(2)?;
+    ///
+    /// assert!(bitmap.changed_chunks(1, 2)?.eq([1, 3]));
+    /// # Ok::<(), mortarpink::Error>(())
+    /// ```
+    pub fn changed_chunks(&self, from: u64, to: u64) -> Result<ChangedChunks<'_>, Error> {
+        let session = self.settled();
+        session.changed_chunks((from, to), 0, &mut [])?;
+        Ok(ChangedChunks::new(session, (from, to)))
+    }
+
+    /// Makes the bitmap at a commit current again, and drops the commits after it.
+    ///
+    /// # Errors
+    ///
+    /// - [`Error::NoSuchCommit`] if no commit is kept under the number.
+    /// - [`Error::NoMemory`] if an allocation fails.
+    ///
+    /// # Complexity
+    ///
+    /// Linear in the chunks that the dropped commits changed.
+    ///
+    /// # Examples
+    ///
+    /// ```
+    /// use mortarpink::{Bitmap, Width};
+    ///
+    /// let mut bitmap = Bitmap::new(Width::Bytes8)?;
+    /// bitmap.begin().commit(1)?;
+    /// let mut batch = bitmap.begin();
+    /// batch.push(true)?;
+    /// batch.commit(2)?;
+    ///
+    /// bitmap.rewind_to(1)?;
+    /// assert!(bitmap.is_empty());
+    /// assert_eq!(bitmap.latest(), Some(1));
+    /// # Ok::<(), mortarpink::Error>(())
+    /// ```
+    pub fn rewind_to(&mut self, number: u64) -> Result<(), Error> {
+        self.settled_mut().rewind(number)
+    }
+
+    /// Drops the commits below a number. Returns how many.
+    ///
+    /// # Examples
+    ///
+    /// ```
+    /// use mortarpink::{Bitmap, Width};
+    ///
+    /// let mut bitmap = Bitmap::new(Width::Bytes8)?;
+    /// bitmap.begin().commit(3)?;
+    /// bitmap.begin().commit(5)?;
+    ///
+    /// assert_eq!(bitmap.drop_before(5), 1);
+    /// assert_eq!(bitmap.earliest(), Some(5));
+    /// # Ok::<(), mortarpink::Error>(())
+    /// ```
+    pub fn drop_before(&mut self, number: u64) -> u64 {
+        self.settled_mut().drop_before(number)
+    }
+
+    /// Drops all commits. The current bitmap stays.
+    pub fn clear(&mut self) {
+        self.settled_mut().clear();
+    }
+
+    /// Returns the number of chunks that the kept commits hold: the memory that they take.
+    ///
+    /// If it passes `u64::MAX`, returns `u64::MAX`.
+    pub fn entries(&self) -> u64 {
+        self.settled().entries()
+    }
+}
+
+impl fmt::Debug for Bitmap {
+    fn fmt(&self, f: &mut fmt::Formatter<'_>) -> fmt::Result {
+        f.debug_struct("Bitmap")
+            .field("width", &self.width)
+            .field("len", &self.len())
+            .field("pruned_chunks", &self.pruned_chunks())
+            .field("latest", &self.latest())
+            .finish()
+    }
+}

@@ -1,0 +1,144 @@
+use std::fmt;
+
+use crate::Batch;
+
+/// The reason why a call failed.
+///
+/// A call that fails leaves the bitmap and its batch as they were, with two exceptions.
+/// [`Batch::push_bytes`] appends the bytes before the one that fails, and [`Batch::commit`] aborts
+/// the batch.
+#[derive(Clone, Copy, Debug, PartialEq, Eq, Hash)]
+#[non_exhaustive]
+pub enum Error {
+    /// The position is at or past the length; for a prune, past it.
+    OutOfBounds,
+    /// The position is pruned.
+    Pruned,
+    /// The length would pass `u64::MAX`.
+    TooLong,
+    /// There is no retained bit to pop.
+    NoRetainedBit,
+    /// The commit number is `u64::MAX`.
+    ReservedCommitNumber,
+    /// The commit number is not above the last one.
+    NonMonotonicCommit {
+        /// The last commit number.
+        previous: u64,
+        /// The number given to the call.
+        attempted: u64,
+    },
+    /// The number of pruned bits would pass `u64::MAX`.
+    PrunedChunksOverflow,
+    /// The bytes end before the encoding does.
+    EndOfBuffer,
+    /// The encoded number of retained bits is out of range.
+    InvalidLength {
+        /// The number of retained bits that the bytes have.
+        length: u64,
+    },
+    /// The bytes are not an encoding.
+    Invalid,
+    /// No commit is kept under the number.
+    NoSuchCommit,
+    /// An allocation failed.
+    NoMemory,
+    /// The chunk has the wrong size.
+    WrongSize,
+}
+
+impl fmt::Display for Error {
+    fn fmt(&self, f: &mut fmt::Formatter<'_>) -> fmt::Result {
+        f.write_str(match self {
+            Error::OutOfBounds => "position out of bounds",
+            Error::Pruned => "position is pruned",
+            Error::TooLong => "length would pass 2^64 - 1",
+            Error::NoRetainedBit => "no retained bit to pop",
+            Error::ReservedCommitNumber => "commit number 2^64 - 1 is reserved",
+            Error::NonMonotonicCommit { previous, attempted } => {
+                return write!(
+                    f,
+                    "commit number {attempted} is not above the last one, {previous}"
+                );
+            }
+            Error::PrunedChunksOverflow => "number of pruned bits would pass 2^64 - 1",
+            Error::EndOfBuffer => "bytes end before the encoding does",
+            Error::InvalidLength { length } => {
+                return write!(f, "encoded number of retained bits, {length}, is out of range");
+            }
+            Error::Invalid => "bytes are not an encoding",
+            Error::NoSuchCommit => "no commit is kept under the number",
+            Error::NoMemory => "memory allocation failed",
+            Error::WrongSize => "chunk has the wrong size",
+        })
+    }
+}
+
+impl std::error::Error for Error {}
+
+/// The error of [`Batch::try_commit`]: the batch, which may go on, and the reason.
+///
+/// If it is dropped or converted to an [`Error`], the batch is aborted.
+#[derive(Debug)]
+pub struct CommitError<'a> {
+    pub(crate) batch: Batch<'a>,
+    pub(crate) error: Error,
+}
+
+impl<'a> CommitError<'a> {
+    /// Returns the reason.
+    pub fn error(&self) -> Error {
+        self.error
+    }
+
+    /// Returns the batch.
+    pub fn into_batch(self) -> Batch<'a> {
+        self.batch
+    }
+}
+
+impl fmt::Display for CommitError<'_> {
+    fn fmt(&self, f: &mut fmt::Formatter<'_>) -> fmt::Result {
+        self.error.fmt(f)
+    }
+}
+
+impl std::error::Error for CommitError<'_> {}
+
+impl From<CommitError<'_>> for Error {
+    fn from(commit: CommitError<'_>) -> Error {
+        commit.error
+    }
+}
+
+/// The error of [`Batch::push_bytes`]: how many bytes were appended, and why the next one was not.
+#[derive(Clone, Copy, Debug, PartialEq, Eq, Hash)]
+pub struct PushBytesError {
+    pub(crate) appended: usize,
+    pub(crate) error: Error,
+}
+
+impl PushBytesError {
+    /// Returns the number of bytes that were appended.
+    pub fn appended(&self) -> usize {
+        self.appended
+    }
+
+    /// Returns the reason why the next byte was not appended.
+    pub fn error(&self) -> Error {
+        self.error
+    }
+}
+
+impl fmt::Display for PushBytesError {
+    fn fmt(&self, f: &mut fmt::Formatter<'_>) -> fmt::Result {
+        write!(f, "{} after {} bytes", self.error, self.appended)
+    }
+}
+
+impl std::error::Error for PushBytesError {}
+
+impl From<PushBytesError> for Error {
+    fn from(push: PushBytesError) -> Error {
+        push.error
+    }
+}

@@ -1,0 +1,445 @@
+//! The C interface: its declarations, and a safe function per call.
+//!
+//! This module has all unsafe code of the crate.
+//!
+//! # Safety
+//!
+//! Each call of the library is sound for the same reasons:
+//!
+//! - **Declarations.** They are those of the header of one version of the interface. A handle is
+//!   made only after the library reported this version.
+//! - **Handles.** Only [`Session`] has a handle. The handle starts empty, is written by the library
+//!   alone, and is freed once, by `drop`. It is never copied: if a `Session` is moved, its old place
+//!   is not used again.
+//! - **One call at a time.** The library takes each handle for itself, reads included. A `Session`
+//!   is not `Sync`, so all calls through `&Session` are on one thread. The library calls nothing
+//!   of this crate, so a call ends before the next one starts. That is why a read may take
+//!   `&self`: the handle is in an [`UnsafeCell`], and no reference to it exists at any time.
+//! - **Pointers.** Each other pointer comes from a reference or a slice of the caller, so it is not
+//!   null and points to memory of its type. Outputs come from `&mut` references, so they overlap
+//!   neither each other nor the handle.
+
+use std::cell::UnsafeCell;
+use std::ffi::{CStr, c_char, c_void};
+use std::ptr;
+
+use crate::Error;
+
+/// The version of the interface that this module declares.
+const VERSION: u32 = 1;
+
+/// A handle of the library.
+#[repr(C)]
+struct Handle {
+    session: *mut c_void,
+}
+
+/// The outcome of a call.
+type Status = u32;
+
+const DONE: Status = 0;
+const OUT_OF_BOUNDS: Status = 2;
+const PRUNED: Status = 3;
+const TOO_LONG: Status = 4;
+const NO_RETAINED_BIT: Status = 5;
+const RESERVED_COMMIT_NUMBER: Status = 6;
+const NON_MONOTONIC_COMMIT: Status = 7;
+const PRUNED_CHUNKS_OVERFLOW: Status = 8;
+const END_OF_BUFFER: Status = 9;
+const INVALID_LENGTH: Status = 10;
+const INVALID: Status = 11;
+const NO_SUCH_COMMIT: Status = 12;
+const NO_MEMORY: Status = 13;
+const NONE: Status = 14;
+const WRONG_SIZE: Status = 18;
+
+#[rustfmt::skip]
+unsafe extern "C" {
+    fn mortarpink_version() -> u32;
+    fn mortarpink_status_text(status: Status) -> *const c_char;
+    fn mortarpink_new(bitmap: *mut Handle, width: u32) -> Status;
+    fn mortarpink_read(bitmap: *mut Handle, width: u32, least: u64, most: u64, bytes: *const u8, len: usize, used: *mut usize, length: *mut u64) -> Status;
+    fn mortarpink_free(bitmap: *mut Handle) -> Status;
+    fn mortarpink_clone(bitmap: *mut Handle, copy: *mut Handle) -> Status;
+    fn mortarpink_start(bitmap: *mut Handle, pruned_chunks: usize) -> Status;
+    fn mortarpink_begin(bitmap: *mut Handle) -> Status;
+    fn mortarpink_push(bitmap: *mut Handle, bit: u8) -> Status;
+    fn mortarpink_push_byte(bitmap: *mut Handle, byte: u8) -> Status;
+    fn mortarpink_push_bytes(bitmap: *mut Handle, bytes: *const u8, len: usize, count: *mut usize) -> Status;
+    fn mortarpink_push_chunk(bitmap: *mut Handle, bytes: *const u8, len: usize) -> Status;
+    fn mortarpink_pop(bitmap: *mut Handle, bit: *mut u8) -> Status;
+    fn mortarpink_set(bitmap: *mut Handle, position: u64, bit: u8) -> Status;
+    fn mortarpink_prune(bitmap: *mut Handle, position: u64) -> Status;
+    fn mortarpink_commit(bitmap: *mut Handle, number: u64, previous: *mut u64) -> Status;
+    fn mortarpink_abort(bitmap: *mut Handle) -> Status;
+    fn mortarpink_len(bitmap: *mut Handle, len: *mut u64) -> Status;
+    fn mortarpink_pruned_chunks(bitmap: *mut Handle, chunks: *mut u64) -> Status;
+    fn mortarpink_get(bitmap: *mut Handle, position: u64, bit: *mut u8) -> Status;
+    fn mortarpink_chunk(bitmap: *mut Handle, position: u64, out: *mut u8, len: usize) -> Status;
+    fn mortarpink_ones(bitmap: *mut Handle, from: u64, to: u64, out: *mut u64, len: usize, count: *mut usize) -> Status;
+    fn mortarpink_next_one(bitmap: *mut Handle, from: u64, position: *mut u64) -> Status;
+    fn mortarpink_next_zero(bitmap: *mut Handle, from: u64, position: *mut u64) -> Status;
+    fn mortarpink_prev_one(bitmap: *mut Handle, end: u64, position: *mut u64) -> Status;
+    fn mortarpink_prev_zero(bitmap: *mut Handle, end: u64, position: *mut u64) -> Status;
+    fn mortarpink_count_ones(bitmap: *mut Handle, from: u64, to: u64, count: *mut u64) -> Status;
+    fn mortarpink_select_one(bitmap: *mut Handle, k: u64, position: *mut u64) -> Status;
+    fn mortarpink_encode(bitmap: *mut Handle, out: *mut u8, len: usize, size: *mut usize) -> Status;
+    fn mortarpink_len_at(bitmap: *mut Handle, number: u64, len: *mut u64) -> Status;
+    fn mortarpink_pruned_chunks_at(bitmap: *mut Handle, number: u64, chunks: *mut u64) -> Status;
+    fn mortarpink_get_at(bitmap: *mut Handle, number: u64, position: u64, bit: *mut u8) -> Status;
+    fn mortarpink_chunk_at(bitmap: *mut Handle, number: u64, position: u64, out: *mut u8, len: usize) -> Status;
+    fn mortarpink_ones_at(bitmap: *mut Handle, number: u64, from: u64, to: u64, out: *mut u64, len: usize, count: *mut usize) -> Status;
+    fn mortarpink_next_one_at(bitmap: *mut Handle, number: u64, from: u64, position: *mut u64) -> Status;
+    fn mortarpink_next_zero_at(bitmap: *mut Handle, number: u64, from: u64, position: *mut u64) -> Status;
+    fn mortarpink_prev_one_at(bitmap: *mut Handle, number: u64, end: u64, position: *mut u64) -> Status;
+    fn mortarpink_prev_zero_at(bitmap: *mut Handle, number: u64, end: u64, position: *mut u64) -> Status;
+    fn mortarpink_count_ones_at(bitmap: *mut Handle, number: u64, from: u64, to: u64, count: *mut u64) -> Status;
+    fn mortarpink_select_one_at(bitmap: *mut Handle, number: u64, k: u64, position: *mut u64) -> Status;
+    fn mortarpink_encode_at(bitmap: *mut Handle, number: u64, out: *mut u8, len: usize, size: *mut usize) -> Status;
+    fn mortarpink_rewind(bitmap: *mut Handle, number: u64) -> Status;
+    fn mortarpink_commits(bitmap: *mut Handle, from: u64, out: *mut u64, len: usize, count: *mut usize) -> Status;
+    fn mortarpink_exists(bitmap: *mut Handle, number: u64, exists: *mut u8) -> Status;
+    fn mortarpink_latest(bitmap: *mut Handle, number: *mut u64) -> Status;
+    fn mortarpink_earliest(bitmap: *mut Handle, number: *mut u64) -> Status;
+    fn mortarpink_changed_chunks(bitmap: *mut Handle, from: u64, to: u64, first: u64, out: *mut u64, len: usize, count: *mut usize) -> Status;
+    fn mortarpink_drop_before(bitmap: *mut Handle, number: u64, dropped: *mut u64) -> Status;
+    fn mortarpink_clear(bitmap: *mut Handle) -> Status;
+    fn mortarpink_entries(bitmap: *mut Handle, entries: *mut u64) -> Status;
+}
+
+/// Calls a function of the library. The module says why that is sound.
+macro_rules! call {
+    ($name:ident($($argument:expr),*)) => {
+        // SAFETY: See the module.
+        unsafe { $name($($argument),*) }
+    };
+}
+
+/// Calls the function that reads the current bitmap, or the one that reads the bitmap at a commit.
+macro_rules! read {
+    ($at:expr, $current:ident | $past:ident, $handle:expr $(, $argument:expr)*) => {
+        match $at {
+            None => call!($current($handle $(, $argument)*)),
+            Some(number) => call!($past($handle, number $(, $argument)*)),
+        }
+    };
+}
+
+/// Defines a method that reads a position. It returns `None` if there is no such position.
+macro_rules! search {
+    ($name:ident, $current:ident | $past:ident) => {
+        pub fn $name(&self, at: Option<u64>, argument: u64) -> Option<u64> {
+            self.found(|handle, position| read!(at, $current | $past, handle, argument, position))
+        }
+    };
+}
+
+/// Returns the version of the C interface that the library has.
+pub fn version() -> u32 {
+    call!(mortarpink_version())
+}
+
+/// Panics because of a status that the library never returns for the call.
+fn unexpected(status: Status) -> ! {
+    // SAFETY: The library returns a constant text that ends with a zero byte, for any status.
+    let text = unsafe { CStr::from_ptr(mortarpink_status_text(status)) };
+    panic!("the library mortarpink returned status {status}: {}", text.to_string_lossy());
+}
+
+/// Checks the status of a call that always succeeds.
+fn always(status: Status) {
+    if status != DONE {
+        unexpected(status);
+    }
+}
+
+/// Returns the error of a status that has no details.
+fn check(status: Status) -> Result<(), Error> {
+    Err(match status {
+        DONE => return Ok(()),
+        OUT_OF_BOUNDS => Error::OutOfBounds,
+        PRUNED => Error::Pruned,
+        TOO_LONG => Error::TooLong,
+        NO_RETAINED_BIT => Error::NoRetainedBit,
+        RESERVED_COMMIT_NUMBER => Error::ReservedCommitNumber,
+        PRUNED_CHUNKS_OVERFLOW => Error::PrunedChunksOverflow,
+        END_OF_BUFFER => Error::EndOfBuffer,
+        INVALID => Error::Invalid,
+        NO_SUCH_COMMIT => Error::NoSuchCommit,
+        NO_MEMORY => Error::NoMemory,
+        WRONG_SIZE => Error::WrongSize,
+        status => unexpected(status),
+    })
+}
+
+/// A bitmap with its commits. Reads take `at`: a commit number, or `None` for the current bitmap.
+pub struct Session {
+    handle: UnsafeCell<Handle>,
+}
+
+// SAFETY: The memory of a handle comes from `malloc`, and no call keeps anything per thread.
+unsafe impl Send for Session {}
+
+impl Drop for Session {
+    fn drop(&mut self) {
+        // The handle is empty if it could not be filled. There is nothing to free then.
+        call!(mortarpink_free(self.handle.get()));
+    }
+}
+
+/// Making, and helpers.
+impl Session {
+    /// Returns a session with an empty handle.
+    fn empty() -> Session {
+        assert_eq!(
+            version(),
+            VERSION,
+            "the library mortarpink has another version of the interface"
+        );
+        let session = ptr::null_mut();
+        Session { handle: UnsafeCell::new(Handle { session }) }
+    }
+
+    pub fn new(width: u32) -> Result<Session, Error> {
+        let session = Session::empty();
+        check(call!(mortarpink_new(session.handle.get(), width)))?;
+        Ok(session)
+    }
+
+    pub fn decode(
+        width: u32,
+        (least, most): (u64, u64),
+        bytes: &[u8],
+    ) -> Result<(Session, usize), Error> {
+        let session = Session::empty();
+        let (handle, start, len) = (session.handle.get(), bytes.as_ptr(), bytes.len());
+        let (mut used, mut length) = (0, 0);
+        match call!(mortarpink_read(handle, width, least, most, start, len, &mut used, &mut length))
+        {
+            INVALID_LENGTH => Err(Error::InvalidLength { length }),
+            status => check(status).map(|()| (session, used)),
+        }
+    }
+
+    pub fn try_clone(&self) -> Result<Session, Error> {
+        let copy = Session::empty();
+        check(call!(mortarpink_clone(self.handle.get(), copy.handle.get())))?;
+        Ok(copy)
+    }
+
+    pub fn start(&mut self, pruned_chunks: u64) -> Result<(), Error> {
+        let chunks = usize::try_from(pruned_chunks).map_err(|_| Error::PrunedChunksOverflow)?;
+        check(call!(mortarpink_start(self.handle.get(), chunks)))
+    }
+
+    /// Returns the output of a call that can fail.
+    fn output<T: Default>(
+        &self,
+        call: impl FnOnce(*mut Handle, &mut T) -> Status,
+    ) -> Result<T, Error> {
+        let mut output = T::default();
+        check(call(self.handle.get(), &mut output))?;
+        Ok(output)
+    }
+
+    /// Returns the output of a call that always succeeds.
+    fn value<T: Default>(&self, call: impl FnOnce(*mut Handle, &mut T) -> Status) -> T {
+        let mut output = T::default();
+        always(call(self.handle.get(), &mut output));
+        output
+    }
+
+    /// Returns the output of a call, or `None` if there is nothing to return.
+    fn found(&self, call: impl FnOnce(*mut Handle, &mut u64) -> Status) -> Option<u64> {
+        let mut output = 0;
+        match call(self.handle.get(), &mut output) {
+            NONE => None,
+            status => {
+                always(status);
+                Some(output)
+            }
+        }
+    }
+}
+
+/// A batch.
+impl Session {
+    pub fn begin(&mut self) {
+        always(call!(mortarpink_begin(self.handle.get())));
+    }
+
+    pub fn push(&mut self, bit: bool) -> Result<(), Error> {
+        check(call!(mortarpink_push(self.handle.get(), bit.into())))
+    }
+
+    pub fn push_byte(&mut self, byte: u8) -> Result<(), Error> {
+        check(call!(mortarpink_push_byte(self.handle.get(), byte)))
+    }
+
+    /// Returns the number of bytes appended, and the error of the next byte.
+    pub fn push_bytes(&mut self, bytes: &[u8]) -> (usize, Result<(), Error>) {
+        let (start, len, mut count) = (bytes.as_ptr(), bytes.len(), 0);
+        let status = call!(mortarpink_push_bytes(self.handle.get(), start, len, &mut count));
+        (count, check(status))
+    }
+
+    pub fn push_chunk(&mut self, bytes: &[u8]) -> Result<(), Error> {
+        check(call!(mortarpink_push_chunk(self.handle.get(), bytes.as_ptr(), bytes.len())))
+    }
+
+    pub fn pop(&mut self) -> Result<bool, Error> {
+        let bit: u8 = self.output(|handle, bit| call!(mortarpink_pop(handle, bit)))?;
+        Ok(bit != 0)
+    }
+
+    pub fn set(&mut self, position: u64, bit: bool) -> Result<(), Error> {
+        check(call!(mortarpink_set(self.handle.get(), position, bit.into())))
+    }
+
+    pub fn prune(&mut self, position: u64) -> Result<(), Error> {
+        check(call!(mortarpink_prune(self.handle.get(), position)))
+    }
+
+    pub fn commit(&mut self, number: u64) -> Result<(), Error> {
+        let mut previous = 0;
+        match call!(mortarpink_commit(self.handle.get(), number, &mut previous)) {
+            NON_MONOTONIC_COMMIT => Err(Error::NonMonotonicCommit { previous, attempted: number }),
+            status => check(status),
+        }
+    }
+
+    pub fn abort(&self) {
+        always(call!(mortarpink_abort(self.handle.get())));
+    }
+}
+
+/// Reads.
+impl Session {
+    pub fn len(&self, at: Option<u64>) -> u64 {
+        self.value(|handle, len| read!(at, mortarpink_len | mortarpink_len_at, handle, len))
+    }
+
+    pub fn pruned_chunks(&self, at: Option<u64>) -> u64 {
+        self.value(|handle, chunks| {
+            read!(at, mortarpink_pruned_chunks | mortarpink_pruned_chunks_at, handle, chunks)
+        })
+    }
+
+    pub fn get(&self, at: Option<u64>, position: u64) -> Result<bool, Error> {
+        let bit: u8 = self.output(|handle, bit| {
+            read!(at, mortarpink_get | mortarpink_get_at, handle, position, bit)
+        })?;
+        Ok(bit != 0)
+    }
+
+    pub fn chunk(&self, at: Option<u64>, position: u64, out: &mut [u8]) -> Result<(), Error> {
+        let (handle, start, len) = (self.handle.get(), out.as_mut_ptr(), out.len());
+        check(read!(at, mortarpink_chunk | mortarpink_chunk_at, handle, position, start, len))
+    }
+
+    /// Fills a page with set positions, and returns how many there are.
+    pub fn ones(&self, at: Option<u64>, (from, to): (u64, u64), page: &mut [u64]) -> usize {
+        let (start, len) = (page.as_mut_ptr(), page.len());
+        self.value(|handle, count| {
+            read!(at, mortarpink_ones | mortarpink_ones_at, handle, from, to, start, len, count)
+        })
+    }
+
+    search!(next_one, mortarpink_next_one | mortarpink_next_one_at);
+    search!(next_zero, mortarpink_next_zero | mortarpink_next_zero_at);
+    search!(prev_one, mortarpink_prev_one | mortarpink_prev_one_at);
+    search!(prev_zero, mortarpink_prev_zero | mortarpink_prev_zero_at);
+    search!(select_one, mortarpink_select_one | mortarpink_select_one_at);
+
+    pub fn count_ones(&self, at: Option<u64>, (from, to): (u64, u64)) -> u64 {
+        self.value(|handle, count| {
+            read!(at, mortarpink_count_ones | mortarpink_count_ones_at, handle, from, to, count)
+        })
+    }
+
+    pub fn encode(&self, at: Option<u64>) -> Result<Vec<u8>, Error> {
+        let (mut bytes, mut size) = (Vec::new(), 0);
+        loop {
+            let (handle, start, len) = (self.handle.get(), bytes.as_mut_ptr(), bytes.len());
+            match read!(at, mortarpink_encode | mortarpink_encode_at, handle, start, len, &mut size)
+            {
+                WRONG_SIZE => {
+                    bytes.try_reserve_exact(size).map_err(|_| Error::NoMemory)?;
+                    bytes.resize(size, 0);
+                }
+                status => return check(status).map(|()| bytes),
+            }
+        }
+    }
+}
+
+/// Commits.
+impl Session {
+    pub fn rewind(&mut self, number: u64) -> Result<(), Error> {
+        check(call!(mortarpink_rewind(self.handle.get(), number)))
+    }
+
+    /// Fills a page with commit numbers, and returns how many there are.
+    pub fn commits(&self, from: u64, page: &mut [u64]) -> usize {
+        let (start, len) = (page.as_mut_ptr(), page.len());
+        self.value(|handle, count| call!(mortarpink_commits(handle, from, start, len, count)))
+    }
+
+    pub fn exists(&self, number: u64) -> bool {
+        let exists: u8 =
+            self.value(|handle, exists| call!(mortarpink_exists(handle, number, exists)));
+        exists != 0
+    }
+
+    pub fn latest(&self) -> Option<u64> {
+        self.found(|handle, number| call!(mortarpink_latest(handle, number)))
+    }
+
+    pub fn earliest(&self) -> Option<u64> {
+        self.found(|handle, number| call!(mortarpink_earliest(handle, number)))
+    }
+
+    /// Fills a page with indices of chunks, and returns how many there are.
+    pub fn changed_chunks(
+        &self,
+        (from, to): (u64, u64),
+        first: u64,
+        page: &mut [u64],
+    ) -> Result<usize, Error> {
+        let (start, len) = (page.as_mut_ptr(), page.len());
+        self.output(|handle, count| {
+            call!(mortarpink_changed_chunks(handle, from, to, first, start, len, count))
+        })
+    }
+
+    pub fn drop_before(&mut self, number: u64) -> u64 {
+        self.value(|handle, dropped| call!(mortarpink_drop_before(handle, number, dropped)))
+    }
+
+    pub fn clear(&mut self) {
+        always(call!(mortarpink_clear(self.handle.get())));
+    }
+
+    pub fn entries(&self) -> u64 {
+        self.value(|handle, entries| call!(mortarpink_entries(handle, entries)))
+    }
+}
+
+#[cfg(test)]
+mod tests {
+    use super::*;
+
+    #[test]
+    #[should_panic(expected = "the library mortarpink returned status 17")]
+    fn an_unexpected_status_panics() {
+        let _ = Session::new(3);
+    }
+
+    #[test]
+    #[should_panic(expected = "the library mortarpink returned status 1:")]
+    fn a_call_in_the_wrong_mode_panics() {
+        let mut session = Session::new(8).unwrap();
+        session.begin();
+        session.begin();
+    }
+}

@@ -1,0 +1,94 @@
+//! Bitmaps with numbered commits, past versions of which are read in place.
+//!
+//! The crate is a safe interface to the C library `mortarpink`. That library is written in Rattle,
+//! and each of its calls is proved to do what its contract says.
+//!
+//! # Quick start
+//!
+//! ```
+//! use mortarpink::{Bitmap, Width};
+//!
+//! let mut bitmap = Bitmap::new(Width::Bytes8)?;
+//!
+//! // Version 1 has two bits.
+//! let mut batch = bitmap.begin();
+//! batch.push(true)?;
+//! batch.push(false)?;
+//! batch.commit(1)?;
+//!
+//! // Version 2 clears the first one.
+//! let mut batch = bitmap.begin();
+//! batch.set(0, false)?;
+//! batch.commit(2)?;
+//!
+//! // Version 1 is still there to read.
+//! assert_eq!(bitmap.get(0), Ok(false));
+//! assert_eq!(bitmap.at(1)?.get(0), Ok(true));
+//!
+//! // Rewinding makes it current again.
+//! bitmap.rewind_to(1)?;
+//! assert!(bitmap.ones(..).eq([0]));
+//! # Ok::<(), mortarpink::Error>(())
+//! ```
+//!
+//! # Units
+//!
+//! Positions and lengths are in bits. They are absolute: they count from 0, and pruned bits count.
+//! Bits are kept in chunks, whose size is the [`Width`]. Chunks have indices from 0, also absolute.
+//!
+//! # Costs
+//!
+//! | Call | Time |
+//! |---|---|
+//! | [`Batch::push`], [`Batch::push_byte`], [`Batch::push_chunk`] | amortized constant |
+//! | [`Batch::push_bytes`] | linear in the bytes |
+//! | [`Batch::set`], [`Batch::pop`], [`Batch::get`], [`Batch::chunk`] | logarithmic in the chunks edited in the batch |
+//! | [`Batch::prune`] | linear in the chunks pruned |
+//! | [`Batch::commit`], [`Batch::try_commit`], [`Batch::abort`] | linear in the chunks edited in the batch |
+//! | [`Bitmap::get`], [`Bitmap::chunk`], [`Bitmap::len`] | constant |
+//! | [`Bitmap::latest`], [`Bitmap::earliest`], [`Bitmap::commit_exists`], [`Bitmap::at`] | logarithmic in the commits |
+//! | a chunk read through a [`Version`] | a search of each later commit |
+//!
+//! # Finding the library
+//!
+//! The build script links `libmortarpink.a` from the folder in `MORTARPINK_LIB_DIR`. Without that
+//! variable, it uses the folder that `pkg-config` reports. If `MORTARPINK_SHARED` is set, it links
+//! `libmortarpink.so`.
+//!
+//! Making a bitmap panics if the library has another version of the C interface than this crate.
+
+#![deny(unsafe_code)]
+#![warn(missing_docs)]
+
+mod batch;
+mod bitmap;
+mod chunk;
+mod error;
+#[allow(unsafe_code)]
+mod ffi;
+mod pages;
+mod range;
+mod version;
+
+pub use batch::Batch;
+pub use bitmap::Bitmap;
+pub use chunk::{Chunk, Width};
+pub use error::{CommitError, Error, PushBytesError};
+pub use pages::{ChangedChunks, Commits, Ones};
+pub use version::Version;
+
+/// Runs the example of the README as a test.
+#[cfg(doctest)]
+#[doc = include_str!("../README.md")]
+struct Readme;
+
+/// Returns the version of the C interface that the library has.
+///
+/// # Examples
+///
+/// ```
+/// assert_eq!(mortarpink::interface_version(), 1);
+/// ```
+pub fn interface_version() -> u32 {
+    ffi::version()
+}

@@ -1,0 +1,68 @@
+//! Calls that fail because an allocation fails.
+
+mod common;
+
+use std::env;
+use std::process::Command;
+
+use common::{WIDTHS, bitmap_of, commit};
+use mortarpink::{Bitmap, Error, Width};
+
+/// The variable of the environment that the small process has.
+const IS_SMALL: &str = "MORTARPINK_TEST_IS_SMALL";
+
+/// Runs the checks in a process of its own, whose address space has 160 MiB.
+#[test]
+fn allocations_may_fail() {
+    if env::var_os(IS_SMALL).is_some() {
+        return WIDTHS.into_iter().for_each(check);
+    }
+    let mut shell = Command::new("sh");
+    shell.args(["-c", "ulimit -v 163840 && exec \"$0\" --exact allocations_may_fail"]);
+    shell.arg(env::current_exe().unwrap()).env(IS_SMALL, "1");
+    let output = shell.output().unwrap();
+    assert!(output.status.success(), "{}", String::from_utf8_lossy(&output.stdout));
+}
+
+/// Copies the bitmap until an allocation fails.
+fn fill_memory(bitmap: &Bitmap) -> Vec<Bitmap> {
+    let mut copies = Vec::with_capacity(1000);
+    loop {
+        match bitmap.try_clone() {
+            Ok(copy) => copies.push(copy),
+            Err(error) => {
+                assert_eq!(error, Error::NoMemory);
+                return copies;
+            }
+        }
+    }
+}
+
+/// Checks the calls that allocate while there is no memory, and once there is.
+fn check(width: Width) {
+    let mut bytes = bitmap_of(width, &[0xff; 1 << 10]).to_bytes().unwrap();
+    bytes[8..16].copy_from_slice(&(8u64 << 20).to_be_bytes());
+    bytes.resize(16 + (1 << 20), 0xff);
+    let (mut bitmap, _) = Bitmap::from_bytes(width, &bytes, ..).unwrap();
+    commit(&mut bitmap, 1, |batch| batch.set(0, true).unwrap());
+    let copies = fill_memory(&bitmap);
+
+    assert_eq!(bitmap.to_bytes(), Err(Error::NoMemory));
+    assert_eq!(bitmap.at(1).unwrap().to_bytes(), Err(Error::NoMemory));
+    let decoded = Bitmap::from_bytes(width, &bytes, ..);
+    assert_eq!(decoded.unwrap_err(), Error::NoMemory);
+    let mut batch = bitmap.begin();
+    let mut pushes = (0..).map(|count| (count, batch.push_bytes(&[1; 4096])));
+    let (count, failed) = pushes.find_map(|(count, push)| Some((count, push.err()?))).unwrap();
+    assert_eq!(failed.error(), Error::NoMemory);
+    let pushed = (1 << 20) + count * 4096 + failed.appended() as u64;
+    assert_eq!(batch.len(), 8 * pushed);
+
+    // The same calls succeed as soon as there is memory.
+    drop(copies);
+    batch.push_byte(0).unwrap();
+    batch.commit(2).unwrap();
+    assert_eq!(bitmap.len(), 8 * pushed + 8);
+    assert_eq!(bitmap.at(1).unwrap().count_ones(..), 8 << 20);
+    assert_eq!(bitmap.at(1).unwrap().to_bytes(), Ok(bytes));
+}

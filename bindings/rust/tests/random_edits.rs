@@ -1,0 +1,238 @@
+//! Random batches, compared with lists of bits.
+
+use mortarpink::{Batch, Bitmap, Error, Version, Width};
+
+/// A generator of numbers that are the same in each run.
+struct Random(u64);
+
+impl Random {
+    /// Returns a number below a bound.
+    fn below(&mut self, bound: u64) -> u64 {
+        self.0 =
+            self.0.wrapping_mul(6_364_136_223_846_793_005).wrapping_add(1_442_695_040_888_963_407);
+        (self.0 >> 33) % bound
+    }
+
+    fn bit(&mut self) -> bool {
+        self.below(2) == 1
+    }
+}
+
+/// A bitmap as a list of its retained bits.
+#[derive(Clone)]
+struct List {
+    width: Width,
+    pruned_chunks: u64,
+    bits: Vec<bool>,
+}
+
+impl List {
+    fn first(&self) -> u64 {
+        self.pruned_chunks * self.width.bits()
+    }
+
+    fn len(&self) -> u64 {
+        self.first() + self.bits.len() as u64
+    }
+
+    fn get(&self, position: u64) -> Result<bool, Error> {
+        if position >= self.len() {
+            return Err(Error::OutOfBounds);
+        }
+        let index = position.checked_sub(self.first()).ok_or(Error::Pruned)?;
+        Ok(self.bits[index as usize])
+    }
+
+    /// Returns the retained positions with a bit.
+    fn positions(&self, bit: bool) -> impl DoubleEndedIterator<Item = u64> {
+        (self.first()..self.len()).filter(move |position| self.get(*position) == Ok(bit))
+    }
+
+    fn chunk(&self, position: u64) -> Result<Vec<u8>, Error> {
+        self.get(position)?;
+        let first = position / self.width.bits() * self.width.bits();
+        let mut bytes = vec![0; self.width.bytes()];
+        for bit in 0..self.width.bits() {
+            if self.get(first + bit) == Ok(true) {
+                bytes[bit as usize / 8] |= 1 << (bit % 8);
+            }
+        }
+        Ok(bytes)
+    }
+
+    fn to_bytes(&self) -> Vec<u8> {
+        let numbers = [self.pruned_chunks.to_be_bytes(), (self.len() - self.first()).to_be_bytes()];
+        let firsts = (self.first()..self.len()).step_by(self.width.bits() as usize);
+        numbers
+            .concat()
+            .into_iter()
+            .chain(firsts.flat_map(|first| self.chunk(first).unwrap()))
+            .collect()
+    }
+
+    /// Returns the indices of the chunks that differ.
+    fn changed_chunks(&self, to: &List) -> Vec<u64> {
+        let chunks = self.len().max(to.len()).div_ceil(self.width.bits());
+        let last = |list: &List, index| list.len().min((index + 1) * self.width.bits()).max(1) - 1;
+        let bytes = |list: &List, index| {
+            let position = last(list, index);
+            (position / self.width.bits() == index).then(|| list.chunk(position).ok()).flatten()
+        };
+        (0..chunks).filter(|index| bytes(self, *index) != bytes(to, *index)).collect()
+    }
+
+    fn push_bytes(&mut self, bytes: &[u8]) {
+        let bits = bytes.iter().flat_map(|byte| (0..8).map(move |k| byte >> k & 1 == 1));
+        self.bits.extend(bits);
+    }
+
+    fn set(&mut self, position: u64, bit: bool) -> Result<(), Error> {
+        self.get(position)?;
+        let index = position - self.first();
+        self.bits[index as usize] = bit;
+        Ok(())
+    }
+
+    fn prune(&mut self, position: u64) -> Result<(), Error> {
+        if position > self.len() {
+            return Err(Error::OutOfBounds);
+        }
+        let first = (position / self.width.bits() * self.width.bits()).max(self.first());
+        self.bits.drain(..(first - self.first()) as usize);
+        self.pruned_chunks = first / self.width.bits();
+        Ok(())
+    }
+}
+
+/// Makes the same random edit in a batch and in a list.
+fn edit(batch: &mut Batch<'_>, list: &mut List, random: &mut Random) {
+    let (position, bit) = (random.below(list.len() + 2), random.bit());
+    let bytes: Vec<u8> = (0..random.below(20)).map(|_| random.below(256) as u8).collect();
+    match random.below(8) {
+        0 => {
+            batch.push(bit).unwrap();
+            list.bits.push(bit);
+        }
+        1 => {
+            batch.push_byte(position as u8).unwrap();
+            list.push_bytes(&[position as u8]);
+        }
+        2 => {
+            batch.push_bytes(&bytes).unwrap();
+            list.push_bytes(&bytes);
+        }
+        3 => {
+            let chunk = vec![random.below(256) as u8; list.width.bytes()];
+            batch.push_chunk(&chunk).unwrap();
+            list.push_bytes(&chunk);
+        }
+        4 => assert_eq!(batch.pop().ok(), list.bits.pop()),
+        5 if random.below(4) == 0 => assert_eq!(batch.prune(position), list.prune(position)),
+        _ => assert_eq!(batch.set(position, bit), list.set(position, bit)),
+    }
+    let position = random.below(list.len() + 2);
+    assert_eq!(batch.get(position), list.get(position));
+    assert_eq!(batch.chunk(position).map(|chunk| chunk.to_vec()), list.chunk(position));
+    assert_eq!((batch.len(), batch.pruned_chunks()), (list.len(), list.pruned_chunks));
+}
+
+/// Compares all reads of a bitmap or of a version with those of a list.
+macro_rules! compare {
+    ($name:ident, $of:ty) => {
+        fn $name(reads: $of, list: &List, random: &mut Random) {
+            assert_eq!((reads.len(), reads.pruned_chunks()), (list.len(), list.pruned_chunks));
+            assert!(reads.ones(..).eq(list.positions(true)));
+            assert_eq!(reads.to_bytes().unwrap(), list.to_bytes());
+            let (from, to) = (random.below(list.len() + 2), random.below(list.len() + 2));
+            let ones: Vec<u64> =
+                list.positions(true).filter(|one| (from..to).contains(one)).collect();
+            assert!(reads.ones(from..to).eq(ones.iter().copied()));
+            assert_eq!(reads.count_ones(from..to), ones.len() as u64);
+            assert_eq!(reads.select_one(from / 2), list.positions(true).nth(from as usize / 2));
+            assert_eq!(reads.next_one(from), list.positions(true).find(|one| *one >= from));
+            assert_eq!(reads.next_zero(from), list.positions(false).find(|zero| *zero >= from));
+            assert_eq!(reads.prev_one(to), list.positions(true).rfind(|one| *one < to));
+            assert_eq!(reads.prev_zero(to), list.positions(false).rfind(|zero| *zero < to));
+            assert_eq!(reads.get(from), list.get(from));
+            assert_eq!(reads.chunk(to).map(|chunk| chunk.to_vec()), list.chunk(to));
+        }
+    };
+}
+
+compare!(compare_current, &Bitmap);
+compare!(compare_version, Version<'_>);
+
+/// A bitmap, and lists of its current version and of its commits.
+struct Pair {
+    bitmap: Bitmap,
+    current: List,
+    commits: Vec<(u64, List)>,
+}
+
+impl Pair {
+    fn new(width: Width) -> Pair {
+        let current = List { width, pruned_chunks: 0, bits: Vec::new() };
+        Pair { bitmap: Bitmap::new(width).unwrap(), current, commits: Vec::new() }
+    }
+
+    /// Runs a batch of random edits, and commits or aborts it.
+    fn batch(&mut self, random: &mut Random, number: u64) {
+        let mut list = self.current.clone();
+        let mut batch = self.bitmap.begin();
+        for _ in 0..random.below(12) {
+            edit(&mut batch, &mut list, random);
+        }
+        if random.below(5) == 0 {
+            return batch.abort();
+        }
+        batch.commit(number).unwrap();
+        self.current = list.clone();
+        self.commits.push((number, list));
+    }
+
+    /// Rewinds, drops commits, or replaces the bitmap by a copy.
+    fn change(&mut self, random: &mut Random) {
+        let index = random.below(self.commits.len() as u64) as usize;
+        let number = self.commits[index].0;
+        match random.below(12) {
+            0 => {
+                self.bitmap.rewind_to(number).unwrap();
+                self.current = self.commits[index].1.clone();
+                self.commits.truncate(index + 1);
+            }
+            1 => {
+                assert_eq!(self.bitmap.drop_before(number), index as u64);
+                self.commits.drain(..index);
+            }
+            2 => self.bitmap = self.bitmap.try_clone().unwrap(),
+            _ => {}
+        }
+    }
+
+    fn compare(&self, random: &mut Random) {
+        compare_current(&self.bitmap, &self.current, random);
+        assert!(self.bitmap.commits().eq(self.commits.iter().map(|commit| commit.0)));
+        for (number, list) in &self.commits {
+            compare_version(self.bitmap.at(*number).unwrap(), list, random);
+        }
+        let (from, to) = (&self.commits[0], &self.commits[self.commits.len() / 2]);
+        let changed = self.bitmap.changed_chunks(from.0, to.0).unwrap();
+        assert_eq!(changed.collect::<Vec<u64>>(), from.1.changed_chunks(&to.1));
+    }
+}
+
+#[test]
+fn random_batches_match_lists() {
+    let widths = [Width::Bytes1, Width::Bytes8, Width::Bytes32, Width::Bytes64];
+    for (seed, width) in (1..).zip(widths) {
+        let mut random = Random(seed);
+        let mut pair = Pair::new(width);
+        for number in 0..40 {
+            pair.batch(&mut random, number);
+            if !pair.commits.is_empty() {
+                pair.change(&mut random);
+                pair.compare(&mut random);
+            }
+        }
+    }
+}
