@@ -1,0 +1,401 @@
+"""Bitmaps, their past versions, and batches."""
+
+from __future__ import annotations
+
+from operator import index
+from types import TracebackType
+from typing import Iterator, Optional
+
+from ._errors import (
+    DONE,
+    ClosedError,
+    Error,
+    InvalidError,
+    InvalidLengthError,
+    NonMonotonicCommitError,
+    NoSuchCommitError,
+    WrongModeError,
+    check,
+)
+from ._library import SIZE, U8, U64
+from ._session import MAX, Buffer, Caller, Session, ascending, bytes_of, position_of, u64
+
+
+class _Bits(Caller):
+    """The reads that batches have too. All positions are absolute."""
+
+    # Iteration over all positions would meet pruned ones: `Bitmap.ones` iterates over the set positions.
+    __iter__ = None
+    __reversed__ = None
+
+    @property
+    def width(self) -> int:
+        """The number of bytes per chunk."""
+        return self._session.width
+
+    @property
+    def length(self) -> int:
+        """The length in bits, pruned bits included. `len()` is the same, but Python limits it to `sys.maxsize`."""
+        return self._number("len")
+
+    @property
+    def pruned_chunks(self) -> int:
+        """The number of pruned chunks."""
+        return self._number("pruned_chunks")
+
+    def __len__(self) -> int:
+        return self.length
+
+    def __bool__(self) -> bool:
+        return self.length > 0
+
+    def _from_start(self, position: int) -> int:
+        """Returns the position from the start of one that counts from the end if it is negative."""
+        position = index(position)
+        return position if position >= 0 else position + self.length
+
+    def __getitem__(self, position: int) -> bool:
+        """Returns the bit at a position. A negative position counts from the end."""
+        return self.get(self._from_start(position))
+
+    def get(self, position: int) -> bool:
+        """Returns the bit at a position.
+
+        Raises OutOfBoundsError or PrunedError, which are IndexErrors.
+        """
+        return self._bit("get", position_of(position))
+
+    def chunk(self, position: int) -> bytes:
+        """Returns the bytes of the chunk of a position. Bits past the length are 0.
+
+        Raises OutOfBoundsError or PrunedError, which are IndexErrors.
+        """
+        out = (U8 * self.width)()
+        self._run("chunk", position_of(position), out, len(out))
+        return bytes(out)
+
+
+class _Reads(_Bits):
+    """The reads that the current bitmap and its past versions have, but no batch. They raise WrongModeError in a batch."""
+
+    def ones(self, start: int = 0, stop: int = MAX) -> Iterator[int]:
+        """Returns an iterator over the set retained positions from `start` to `stop` (excluded), ascending.
+
+        It reads in pages. Positions that it has not read yet are those of the bitmap at the time of the next page.
+        """
+        stop = u64(stop)
+        return ascending(lambda least: self._page("ones", least, stop), u64(start))
+
+    def next_one(self, start: int) -> Optional[int]:
+        """Returns the least retained position, from `start` on, whose bit is 1, or None."""
+        return self._found("next_one", u64(start))
+
+    def next_zero(self, start: int) -> Optional[int]:
+        """Returns the least retained position, from `start` on, whose bit is 0, or None."""
+        return self._found("next_zero", u64(start))
+
+    def prev_one(self, stop: int) -> Optional[int]:
+        """Returns the greatest retained position below `stop` whose bit is 1, or None."""
+        return self._found("prev_one", u64(stop))
+
+    def prev_zero(self, stop: int) -> Optional[int]:
+        """Returns the greatest retained position below `stop` whose bit is 0, or None."""
+        return self._found("prev_zero", u64(stop))
+
+    def count_ones(self, start: int = 0, stop: int = MAX) -> int:
+        """Returns the number of set retained positions from `start` to `stop` (excluded)."""
+        return self._number("count_ones", u64(start), u64(stop))
+
+    def select_one(self, k: int) -> Optional[int]:
+        """Returns the set retained position number `k`, counted from 0, or None."""
+        return self._found("select_one", u64(k))
+
+    def __bytes__(self) -> bytes:
+        """Returns the encoding, which has no commits. Raises NoMemoryError."""
+        return self._encoding("encode")
+
+
+class Version(_Reads):
+    """The bitmap at a commit, read in place. `Bitmap.at` returns it.
+
+    Its reads are of the commit that is kept under the number. They raise NoSuchCommitError if there is none any more.
+    """
+
+    def __init__(self, session: Session, number: int) -> None:
+        super().__init__(session)
+        self._commit = number
+
+    def _status(self, name: str, *arguments: object) -> int:
+        return self._session.status(name + "_at", self._commit, *arguments)
+
+    @property
+    def number(self) -> int:
+        """The commit number."""
+        return self._commit
+
+    def __repr__(self) -> str:
+        return f"<mortarpink.Version {self.number}>"
+
+
+class Batch(_Bits):
+    """A batch of edits on a bitmap. `Bitmap.batch` begins it. Its reads are of the pending bitmap.
+
+    At the end of a `with` block the batch is committed if it has a number, and aborted otherwise.
+    If the block or the commit raises an exception, the batch is aborted. So is an open batch without references.
+    """
+
+    _open = False
+
+    def __init__(self, session: Session, number: Optional[int]) -> None:
+        super().__init__(session)
+        self._commit = number
+        check(session.status("begin"))
+        self._open = True
+
+    def _status(self, name: str, *arguments: object) -> int:
+        """Calls a function unless the batch has ended. Another batch may be open then."""
+        with self._session.lock:
+            if not self._open:
+                raise WrongModeError("the batch has ended")
+            return self._session.status(name, *arguments)
+
+    def _end(self, name: str, *arguments: object) -> int:
+        """Calls a function that ends the batch if it succeeds."""
+        with self._session.lock:
+            status = self._status(name, *arguments)
+            if status == DONE:
+                self._open = False
+            return status
+
+    def push(self, bit: object) -> None:
+        """Appends a bit, by its truth value. Raises TooLongError or NoMemoryError."""
+        self._run("push", bool(bit))
+
+    def push_byte(self, byte: int) -> None:
+        """Appends the eight bits of a byte, the lowest first. Raises TooLongError or NoMemoryError."""
+        (byte,) = bytes([byte])
+        self._run("push_byte", byte)
+
+    def push_bytes(self, data: Buffer) -> None:
+        """Appends the bits of the bytes in order, up to the first byte that fails.
+
+        Raises TooLongError or NoMemoryError, whose attribute `appended` is the number of bytes appended.
+        """
+        data, count = bytes_of(data), SIZE()
+        try:
+            self._run("push_bytes", data, len(data), count)
+        except Error as error:
+            error.appended = count.value
+            raise
+
+    def push_chunk(self, data: Buffer) -> None:
+        """Appends the bits of one chunk. Raises WrongSizeError, TooLongError or NoMemoryError."""
+        data = bytes_of(data)
+        self._run("push_chunk", data, len(data))
+
+    def pop(self) -> bool:
+        """Removes the last bit, and returns it. Raises NoRetainedBitError, an IndexError."""
+        return self._bit("pop")
+
+    def set(self, position: int, bit: object) -> None:
+        """Replaces the bit at a position, by a truth value. Raises OutOfBoundsError, PrunedError or NoMemoryError."""
+        self._run("set", position_of(position), bool(bit))
+
+    def __setitem__(self, position: int, bit: object) -> None:
+        """Replaces the bit at a position. A negative position counts from the end."""
+        self.set(self._from_start(position), bit)
+
+    def prune(self, position: int) -> None:
+        """Prunes the chunks before the chunk of a position. Raises OutOfBoundsError or NoMemoryError."""
+        self._run("prune", position_of(position))
+
+    def commit(self, number: int) -> None:
+        """Ends the batch. The pending bitmap becomes the current one, and is kept under the number.
+
+        Raises ReservedCommitNumberError, NonMonotonicCommitError or NoMemoryError. The batch goes on then.
+        """
+        number, previous = u64(number), U64()
+        status = self._end("commit", number, previous)
+        if status == NonMonotonicCommitError.status:
+            raise NonMonotonicCommitError(previous.value, number)
+        check(status)
+
+    def abort(self) -> None:
+        """Ends the batch, and drops its edits."""
+        check(self._end("abort"))
+
+    def __enter__(self) -> Batch:
+        return self
+
+    def __exit__(
+        self, kind: Optional[type[BaseException]], value: Optional[BaseException], traceback: Optional[TracebackType]
+    ) -> None:
+        try:
+            if kind is None and self._open and self._commit is not None:
+                self.commit(self._commit)
+        finally:
+            # The bitmap may be closed, which has ended the batch.
+            if self._open:
+                self._end("abort")
+                self._open = False
+
+    def __del__(self) -> None:
+        if self._open:
+            self._session.abandon()
+
+    def __repr__(self) -> str:
+        return f"<mortarpink.Batch, {'open' if self._open else 'ended'}>"
+
+
+class Bitmap(_Reads):
+    """A bitmap with numbered commits, past versions of which are read in place.
+
+    Chunks have 1, 8, 32 or 64 bytes: the width. The bitmap is freed by `close`, at the end of a `with` block, or with
+    its last reference. Positions and lengths are in bits. They are absolute: they count from 0, and pruned bits count.
+
+        >>> bitmap = Bitmap()
+        >>> with bitmap.batch(commit=7) as batch:
+        ...     batch.push(True)
+        >>> with bitmap.batch(commit=8) as batch:
+        ...     batch[0] = False
+        >>> bitmap[0], bitmap.at(7)[0]
+        (False, True)
+
+    In a batch, `length`, `pruned_chunks`, `get`, `chunk` and `[]` read the pending bitmap, and the other calls raise
+    WrongModeError. Only `copy` and `close` do not.
+
+    Several threads may use a bitmap. Each call has it to itself, so calls of other threads wait. A batch is several
+    calls: threads that begin batches on one bitmap need a lock of their own.
+    """
+
+    def __init__(self, width: int = 8, pruned_chunks: int = 0) -> None:
+        """Makes a bitmap with pruned chunks and no retained bit.
+
+        Raises NoSuchWidthError, PrunedChunksOverflowError or NoMemoryError.
+        """
+        super().__init__(Session(width))
+        self._run("new", self.width)
+        self._run("start", u64(pruned_chunks))
+
+    @classmethod
+    def _of(cls, session: Session) -> Bitmap:
+        bitmap = cls.__new__(cls)
+        Caller.__init__(bitmap, session)
+        return bitmap
+
+    @classmethod
+    def decode(cls, data: Buffer, width: int = 8, least: int = 0, most: int = MAX) -> tuple[Bitmap, int]:
+        """Makes a bitmap, without commits, from the encoding that the bytes begin with.
+
+        The number of retained bits is from `least` to `most`, both included. Returns the bitmap, and the number of
+        bytes of the encoding. Raises NoSuchWidthError, a DecodeError or NoMemoryError.
+        """
+        session, data = Session(width), bytes_of(data)
+        used, length = SIZE(), U64()
+        status = session.status("read", session.width, u64(least), u64(most), data, len(data), used, length)
+        if status == InvalidLengthError.status:
+            raise InvalidLengthError(length.value)
+        check(status)
+        return cls._of(session), used.value
+
+    @classmethod
+    def from_bytes(cls, data: Buffer, width: int = 8, least: int = 0, most: int = MAX) -> Bitmap:
+        """Makes a bitmap, without commits, from its encoding: the reverse of `bytes(bitmap)`.
+
+        The arguments and errors are those of `decode`. Raises InvalidError if bytes follow the encoding.
+        """
+        data = bytes_of(data)
+        bitmap, used = cls.decode(data, width, least, most)
+        if used != len(data):
+            raise InvalidError("bytes follow the encoding")
+        return bitmap
+
+    def copy(self) -> Bitmap:
+        """Returns a copy of the bitmap and its commits. It is not in a batch. Raises NoMemoryError."""
+        copy = Session(self.width)
+        self._run("clone", copy.handle)
+        copy.status("abort")
+        return self._of(copy)
+
+    def __copy__(self) -> Bitmap:
+        return self.copy()
+
+    def __deepcopy__(self, memo: object) -> Bitmap:
+        return self.copy()
+
+    def close(self) -> None:
+        """Frees the bitmap. Other calls raise ClosedError afterwards, a ValueError."""
+        self._session.free()
+
+    def __enter__(self) -> Bitmap:
+        return self
+
+    def __exit__(self, *exception: object) -> None:
+        self.close()
+
+    def __repr__(self) -> str:
+        try:
+            return f"<mortarpink.Bitmap, {self.length} bits, {self.pruned_chunks} pruned chunks>"
+        except ClosedError:
+            return "<mortarpink.Bitmap, closed>"
+
+    def batch(self, commit: Optional[int] = None) -> Batch:
+        """Begins a batch of edits. In a `with` block it ends by a commit under the number, if there is one.
+
+        Raises WrongModeError if there is a batch already.
+        """
+        return Batch(self._session, None if commit is None else u64(commit))
+
+    def at(self, number: int) -> Version:
+        """Returns the bitmap at a commit, to be read in place. Raises NoSuchCommitError, a LookupError."""
+        number = u64(number)
+        if not self.commit_exists(number):
+            raise NoSuchCommitError()
+        return Version(self._session, number)
+
+    def commits(self) -> Iterator[int]:
+        """Returns an iterator over the numbers of the kept commits, ascending. It reads in pages, as `ones`."""
+        return ascending(lambda least: self._page("commits", least), 0)
+
+    def commit_exists(self, number: int) -> bool:
+        """Returns whether a commit is kept under the number."""
+        return self._bit("exists", u64(number))
+
+    @property
+    def latest(self) -> Optional[int]:
+        """The greatest number of a kept commit, or None."""
+        return self._found("latest")
+
+    @property
+    def earliest(self) -> Optional[int]:
+        """The least number of a kept commit, or None."""
+        return self._found("earliest")
+
+    @property
+    def entries(self) -> int:
+        """The number of chunks that the kept commits hold: the memory that they take. At most 2^64 - 1."""
+        return self._number("entries")
+
+    def changed_chunks(self, older: int, newer: int) -> Iterator[int]:
+        """Returns an iterator over the indices of the chunks that differ between two commits, ascending.
+
+        It reads in pages, as `ones`. Raises NoSuchCommitError unless both commits are kept and `older` is at most
+        `newer`.
+        """
+        commits = u64(older), u64(newer)
+        return ascending(lambda least: self._page("changed_chunks", *commits, least), 0)
+
+    def rewind_to(self, number: int) -> None:
+        """Makes the bitmap at a commit current again, and drops the commits after it.
+
+        Raises NoSuchCommitError or NoMemoryError.
+        """
+        self._run("rewind", u64(number))
+
+    def drop_before(self, number: int) -> int:
+        """Drops the commits below the number. Returns how many."""
+        return self._number("drop_before", u64(number))
+
+    def clear(self) -> None:
+        """Drops all commits. The current bitmap stays."""
+        self._run("clear")

@@ -1,0 +1,141 @@
+"""The exceptions, one per status of the library."""
+
+from __future__ import annotations
+
+from typing import Optional
+
+from ._library import CALLS
+
+# The statuses that are not errors. Each error has its own.
+DONE = 0
+NONE = 14
+
+# The class of each status.
+BY_STATUS: dict[int, type[Error]] = {}
+
+
+class Error(Exception):
+    """The base of the exceptions of this package.
+
+    A call that raises one changes nothing. `Batch.push_bytes` is the only exception.
+    """
+
+    # The status of the library, or DONE.
+    status = DONE
+
+    # The number of bytes that `Batch.push_bytes` appended before the error.
+    appended = 0
+
+    def __init_subclass__(cls, status: Optional[int] = None) -> None:
+        if status is not None:
+            cls.status = status
+            BY_STATUS[status] = cls
+
+    def _detail(self) -> str:
+        return str(self.args[0]) if self.args else ""
+
+    def _text(self) -> str:
+        text: str = CALLS["status_text"](self.status).decode()
+        return text
+
+    def __str__(self) -> str:
+        texts = (self._text() if self.status else "", self._detail())
+        return ": ".join(text for text in texts if text)
+
+
+class WrongModeError(Error, RuntimeError, status=1):
+    """The call needs a batch and there is none, or the reverse."""
+
+
+class OutOfBoundsError(Error, IndexError, status=2):
+    """The position is at or past the length; for a prune, past it."""
+
+
+class PrunedError(Error, IndexError, status=3):
+    """The position is pruned."""
+
+
+class TooLongError(Error, OverflowError, status=4):
+    """The length would pass 2^64 - 1."""
+
+
+class NoRetainedBitError(Error, IndexError, status=5):
+    """There is no retained bit to pop."""
+
+
+class ReservedCommitNumberError(Error, ValueError, status=6):
+    """The commit number is 2^64 - 1."""
+
+
+class NonMonotonicCommitError(Error, ValueError, status=7):
+    """The commit number is not above the last one."""
+
+    @property
+    def previous(self) -> int:
+        """The last commit number."""
+        return int(self.args[0])
+
+    @property
+    def attempted(self) -> int:
+        """The number given to the call."""
+        return int(self.args[1])
+
+    def _detail(self) -> str:
+        return f"{self.attempted} after {self.previous}"
+
+
+class PrunedChunksOverflowError(Error, OverflowError, status=8):
+    """The number of pruned bits would pass 2^64 - 1."""
+
+
+class DecodeError(Error, ValueError):
+    """The base of the errors of `Bitmap.from_bytes` and `Bitmap.decode` in their input."""
+
+
+class EndOfBufferError(DecodeError, status=9):
+    """The bytes end before the encoding does."""
+
+
+class InvalidLengthError(DecodeError, status=10):
+    """The encoded number of retained bits is out of range."""
+
+    @property
+    def length(self) -> int:
+        """The number of retained bits that the bytes have."""
+        return int(self.args[0])
+
+    def _detail(self) -> str:
+        return f"{self.length} retained bits"
+
+
+class InvalidError(DecodeError, status=11):
+    """The bytes are not an encoding."""
+
+
+class NoSuchCommitError(Error, LookupError, status=12):
+    """No commit is kept under the number."""
+
+
+class NoMemoryError(Error, MemoryError, status=13):
+    """An allocation failed."""
+
+
+class ClosedError(Error, ValueError, status=15):
+    """The bitmap is closed."""
+
+    def _text(self) -> str:
+        return "the bitmap is closed"
+
+
+class NoSuchWidthError(Error, ValueError, status=17):
+    """The width is not 1, 8, 32 or 64."""
+
+
+class WrongSizeError(Error, ValueError, status=18):
+    """The chunk has the wrong size."""
+
+
+def check(status: int) -> None:
+    """Raises the error of a status that has no details."""
+    if status != DONE:
+        raise BY_STATUS[status]()
