@@ -1,10 +1,12 @@
 #!/usr/bin/env bash
 # Builds the C library and installs it.
 #
-# usage: package.sh PREFIX
+# usage: package.sh [--built] PREFIX
 #
 # Under PREFIX come the static and the shared library, the header, the file of pkg-config and the licence. Next to PREFIX
 # comes an archive of the same tree, which is the same byte for byte if it is made again from the same build.
+#
+# With --built the library of crates/bitmap_c is not built again. It has to be newer than the sources.
 #
 # This needs the Rattle toolchain (`rt`), a C compiler and binutils. The first build proves crates/bitmap_c and every crate
 # below it, which is most of the gate's work. Later builds reuse what is in crates/*/out.
@@ -13,8 +15,13 @@ umask 022
 version=0.1.0
 name=mortarpink-$version-x86_64-linux
 
+built=
+if [[ ${1:-} == --built ]]; then
+    built=yes
+    shift
+fi
 if (($# != 1)) || [[ $1 == -* ]]; then
-    echo "usage: package.sh PREFIX" >&2
+    echo "usage: package.sh [--built] PREFIX" >&2
     exit 2
 fi
 for tool in rt cc ld objcopy ar tar gzip; do
@@ -30,18 +37,28 @@ work=$(mktemp -d)
 trap 'rm -rf "$work"' EXIT
 tree=$work/$name
 
+built_library=crates/bitmap_c/out/libbitmap_c.a
+
 # Builds the archive that `rt lib` makes of crates/bitmap_c.
 build() {
-    if [[ ! -e crates/bitmap_c/out/libbitmap_c.a ]]; then
+    if [[ ! -e $built_library ]]; then
         echo "package: the first build proves bitmap_c and every crate below it; this takes long" >&2
     fi
     (cd crates/bitmap_c && rt lib)
 }
 
+# Fails if there is no archive, or if it is older than a source of any crate.
+check_built() {
+    if [[ ! -e $built_library ]] || [[ -n $(find crates.txt crates/*/src crates/*/specs ! -type d -newer "$built_library" -print -quit) ]]; then
+        echo "package: $built_library is missing, or older than the sources: run this without --built" >&2
+        return 1
+    fi
+}
+
 # Makes one object of the archive, its C library and the status texts. Only the names of the header stay global.
 link_object() {
     cc -O2 -fPIC -Wall -Wextra -Wpedantic -Ibindings/c -c -o "$work/status_text.o" bindings/c/status_text.c
-    ld -r -o "$work/all.o" --whole-archive crates/bitmap_c/out/libbitmap_c.a "$(dirname "$(rt doc)")/c/liblibc_c.a" \
+    ld -r -o "$work/all.o" --whole-archive "$built_library" "$(dirname "$(rt doc)")/c/liblibc_c.a" \
         --no-whole-archive "$work/status_text.o"
     objcopy --wildcard --keep-global-symbol='mortarpink_*' "$work/all.o" "$work/mortarpink.o"
 }
@@ -83,7 +100,11 @@ install_tree() {
         -C "$work" -cf - "$name" | gzip -9n >"$(dirname "$prefix")/$name.tar.gz"
 }
 
-build
+if [[ $built ]]; then
+    check_built
+else
+    build
+fi
 link_object
 write_libraries
 write_pkgconfig

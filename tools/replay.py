@@ -78,10 +78,10 @@ def difference(width, lines, printed, may_fail=False):
     return first_difference(commands, replies_to(width, commands, printed, may_fail), printed)
 
 
-def report(name, cases):
-    """Prints each failed case and the number of runs, and returns the exit status. A case is a name and what is wrong with it, or None."""
+def report(name, cases, kind="runs"):
+    """Prints each failed case and the number of cases, and returns the exit status. A case is a name and what is wrong with it, or None."""
     failures = [f"{case}: {failure}" for case, failure in cases if failure]
     for failure in failures[:20]:
         print(failure)
-    print(f"{name}: {len(cases)} runs, {len(failures)} failed")
+    print(f"{name}: {len(cases)} {kind}, {len(failures)} failed")
     return 1 if failures else 0

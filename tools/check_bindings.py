@@ -1,0 +1,276 @@
+#!/usr/bin/env python3
+"""Checks the C library, and its bindings for Rust and Python.
+
+usage: check_bindings.py                  builds the library and installs it twice by tools/package.sh, in a temporary folder
+       check_bindings.py --prefix DIR     takes the library that is installed in DIR
+       check_bindings.py --declarations   compares the declarations alone
+
+- The declarations agree in the Rattle sources, the header, the Rust block and the Python table.
+- The libraries export the functions of the header and nothing else, and need only the memory functions of the C library.
+- Two packages of one build are the same byte for byte.
+- The header compiles as C99 and as C++11 without a warning. The C example prints what it should, with the static and with the shared library.
+- The C tests pass with sanitizers, under valgrind, and with failing allocations. The tests of the Rust crate and of the Python package pass.
+- Random scripts through the C interface give what the reference model gives.
+
+A run without valgrind, a C++ compiler or clippy leaves out what needs it, and says so.
+"""
+
+import argparse
+import filecmp
+import os
+import re
+import shutil
+import subprocess
+import sys
+import tempfile
+from pathlib import Path
+from typing import NamedTuple
+
+import agreements
+import declarations
+import interface_runs
+from declarations import HEADER, PREFIX, TOP
+from replay import report
+
+TOOLS = ("cc", "cargo", "python3", "pkg-config", "nm")
+SCRIPTS = 2000
+SECONDS = 3600  # the most that one command may take
+WARNINGS = ("-Wall", "-Wextra", "-Wpedantic", "-Werror")
+SANITIZERS = ("-g", "-fsanitize=address,undefined", "-fno-sanitize-recover=all")
+C_TESTS = {"calls": "checks", "allocation_failures": "runs"}
+
+# What the libraries may need of the C library.
+NEEDED = {"bcmp", "free", "malloc", "memcmp", "memcpy", "memmove", "memset", "realloc"}
+
+# A program that uses the header, in C and in C++.
+USER = """#include <mortarpink.h>
+#include <mortarpink.h>
+int main(void) {
+    mortarpink_bitmap bitmap = MORTARPINK_EMPTY;
+    return mortarpink_free(&bitmap) == MORTARPINK_EMPTY_HANDLE && mortarpink_version() == MORTARPINK_VERSION ? 0 : 1;
+}
+"""
+
+
+class Place(NamedTuple):
+    prefix: Path  # where the library is installed
+    folder: Path  # for what the checks make
+
+    @property
+    def libraries(self):
+        return self.prefix / "lib"
+
+    @property
+    def static(self):
+        return self.libraries / "libmortarpink.a"
+
+    @property
+    def shared(self):
+        return self.libraries / "libmortarpink.so"
+
+
+def run(command, environment=None, **more):
+    """Runs a command: its status, and what it prints."""
+    ended = subprocess.run([str(word) for word in command], env={**os.environ, **(environment or {})}, stdout=subprocess.PIPE,
+                           stderr=subprocess.STDOUT, stdin=subprocess.DEVNULL, text=True, errors="replace", timeout=SECONDS, **more)
+    return ended.returncode, ended.stdout
+
+
+def failure_of(command, environment=None, wanted="", **more):
+    """What is wrong with a run of a command, or None. Its output has to match a pattern, which holds for no output that counts nothing."""
+    status, printed = run(command, environment, **more)
+    if status:
+        return f"status {status} of {' '.join(map(str, command))}:\n{printed[-3000:]}"
+    return None if re.search(wanted, printed, re.MULTILINE) else f"no line as {wanted} from {' '.join(map(str, command))}:\n{printed[-3000:]}"
+
+
+def first_failure(*calls):
+    """The first failure of some calls in turn, or None."""
+    return next((failure for failure in (call() for call in calls) if failure), None)
+
+
+def is_there(tool, *words):
+    """Whether the machine has a tool that a check can do without. If it does not, a line says so."""
+    found = shutil.which(tool) and run([tool, *words, "--version"])[0] == 0
+    if not found:
+        print(f"not run: this machine has no {' '.join([tool, *words])}")
+    return found
+
+
+# The package
+
+def made_packages(folder):
+    """Installs the library twice from one build. The prefix of the first, and the cases."""
+    print("building the library: this proves what has changed since its last build", flush=True)
+    prefixes = [folder / name / "mortarpink" for name in ("first", "second")]
+    for prefix, words in zip(prefixes, ([], ["--built"])):
+        prefix.mkdir(parents=True)
+        failure = failure_of([TOP / "tools/package.sh", *words, prefix])
+        if failure:
+            return None, [("the package", failure)]
+    archives = [list(prefix.parent.glob("*.tar.gz")) for prefix in prefixes]
+    is_same = all(len(each) == 1 for each in archives) and filecmp.cmp(archives[0][0], archives[1][0], shallow=False)
+    return prefixes[0], [("two packages of one build", None if is_same else f"the archives differ: {archives}"),
+                         ("the archive", archive_difference(archives[0], prefixes[0], folder))]
+
+
+def files_of(top):
+    """The files and links below a folder, each with its mode and its bytes or its target."""
+    paths = [path for path in sorted(top.rglob("*")) if path.is_symlink() or not path.is_dir()]
+    return {path.relative_to(top).as_posix(): os.readlink(path) if path.is_symlink() else (path.stat().st_mode, path.read_bytes()) for path in paths}
+
+
+def archive_difference(archives, prefix, folder):
+    """How the tree in the archive differs from the installed one, or None."""
+    (folder / "unpacked").mkdir()
+    failure = failure_of(["tar", "-xpzf", *archives, "-C", folder / "unpacked"])
+    if failure:
+        return failure
+    trees = [files_of(top) for top in (prefix, *(folder / "unpacked").iterdir())]
+    names = {name for tree in trees for name in tree if any(tree[name] != other.get(name) for other in trees)}
+    return f"these files differ: {sorted(names)}" if names or len(trees) != 2 else None
+
+
+# The libraries
+
+def symbols(*words):
+    """The symbols that `nm` lists of a library: the names, each with the letter of its kind."""
+    status, printed = run(["nm", "--format=posix", *words])
+    lines = [line.split(" ") for line in printed.splitlines() if " " in line]
+    return {words[0].partition("@")[0]: words[1] for words in lines} if status == 0 else {f"nm fails: {printed}": ""}
+
+
+def symbol_cases(place):
+    wanted = {f"{PREFIX}{name}" for name in declarations.header().functions}
+    for file, words in ((place.static, ["--extern-only"]), (place.shared, ["--dynamic"])):
+        found = {*symbols("--defined-only", *words, file)}
+        difference = f"missing: {sorted(wanted - found)}; not in the header: {sorted(found - wanted)}"
+        yield f"the functions of {file.name}", None if found == wanted else difference
+        needed = {name for name, kind in symbols("--undefined-only", *words, file).items() if kind == "U"}
+        yield f"the needs of {file.name}", f"it needs {sorted(needed - NEEDED)}" if needed - NEEDED else None
+
+
+def header_cases(place):
+    is_same = filecmp.cmp(place.prefix / "include/mortarpink.h", TOP / HEADER, shallow=False)
+    yield "the installed header", None if is_same else f"it is not {HEADER}"
+    languages = [("cc", "c", "c99")] + [("c++", "c++", "c++11")] * bool(is_there("c++"))
+    for compiler, language, standard in languages:
+        source, program = place.folder / f"user.{language}", place.folder / f"user_{language}"
+        source.write_text(USER)
+        command = [compiler, "-x", language, f"-std={standard}", *WARNINGS, f"-I{place.prefix}/include", source, "-x", "none", place.static, "-o", program]
+        yield f"the header as {standard}", first_failure(lambda: failure_of(command), lambda: failure_of([program]))
+
+
+def flags(place):
+    """The environment of pkg-config, and the flags that it gives."""
+    environment = {"PKG_CONFIG_PATH": str(place.libraries / "pkgconfig")}
+    status, printed = run(["pkg-config", "--cflags", "--libs", "mortarpink"], environment)
+    return printed.split() if status == 0 else [f"pkg-config-fails: {printed}"]
+
+
+def example_cases(place):
+    """Builds the example with what pkg-config says, and compares its output."""
+    wanted = (TOP / "bindings/c/example.stdout").read_text()
+    given = flags(place)
+    for kind, words in (("shared", given), ("static", ["-Wl,-Bstatic", *given, "-Wl,-Bdynamic"])):
+        program = place.folder / f"example_{kind}"
+        failure = failure_of(["cc", *WARNINGS, TOP / "bindings/c/example.c", *words, "-o", program])
+        status, printed = run([program], {"LD_LIBRARY_PATH": str(place.libraries)} if kind == "shared" else {}) if not failure else (0, wanted)
+        if status or printed != wanted:
+            failure = f"status {status}, and this is not bindings/c/example.stdout:\n{printed}"
+        yield f"the example with the {kind} library", failure
+
+
+# The C tests
+
+def c_test(place, name, how, compiler_words=(), run_words=(), is_shared=False):
+    """Builds and runs a test program of bindings/c/test: its case."""
+    program = place.folder / f"{name}_{how.replace(' ', '_')}"
+    library = place.shared if is_shared else place.static
+    source = TOP / f"bindings/c/test/{name}.c"
+    build = ["cc", "-std=c99", "-O1", *WARNINGS, *compiler_words, f"-I{place.prefix}/include", source, library, "-ldl", "-o", program]
+    environment = {"LD_LIBRARY_PATH": str(place.libraries)} if is_shared else {}
+    ending = rf"^[1-9]\d* {C_TESTS[name]}, 0 failed$"
+    return f"{name}.c {how}", first_failure(lambda: failure_of(build), lambda: failure_of([*run_words, program], environment, ending))
+
+
+def c_test_cases(place):
+    valgrind = ["valgrind", "--quiet", "--error-exitcode=9", "--leak-check=full", "--errors-for-leak-kinds=all"]
+    has_valgrind = is_there("valgrind")
+    yield c_test(place, "calls", "with the shared library", is_shared=True)
+    yield c_test(place, "calls", "with sanitizers", SANITIZERS)
+    if has_valgrind:
+        yield c_test(place, "calls", "under valgrind", ["-g"], valgrind)
+    yield c_test(place, "allocation_failures", "with the static library")
+
+
+# The bindings
+
+def copied(place, name):
+    """The folder of a binding in a copy of all of them, without what was built there."""
+    copy = place.folder / "bindings"
+    if not copy.exists():
+        shutil.copytree(TOP / "bindings", copy, ignore=shutil.ignore_patterns("target", "__pycache__"))
+    return copy / name
+
+
+def rust_cases(place):
+    how = {"cwd": copied(place, "rust")}
+    environment = {"MORTARPINK_LIB_DIR": str(place.libraries), "CARGO_TARGET_DIR": str(place.folder / "target"), "CARGO_NET_OFFLINE": "true"}
+    shared = {**environment, "MORTARPINK_SHARED": "1", "LD_LIBRARY_PATH": str(place.libraries)}
+    ending = r"^test result: ok\. [1-9]\d* passed"
+    yield "cargo test with the static library", failure_of(["cargo", "test", "--offline"], environment, ending, **how)
+    yield "cargo test with the shared library", failure_of(["cargo", "test", "--offline"], shared, ending, **how)
+    if is_there("cargo", "clippy"):
+        words = ["--offline", "--all-targets", "--", "-D", "warnings"]
+        yield "cargo clippy", failure_of(["cargo", "clippy", *words], environment, **how)
+
+
+def python_cases(place):
+    environment = {"MORTARPINK_LIB_DIR": str(place.libraries), "PYTHONDONTWRITEBYTECODE": "1"}
+    command = [sys.executable, "-W", "error", "-m", "unittest", "discover", "-s", "tests"]
+    yield "the tests of the Python package", failure_of(command, environment, r"^Ran [1-9]\d* tests? in .*\n\nOK$", cwd=copied(place, "python"))
+
+
+def script_cases(place):
+    """The random scripts: one case, and one for each failure."""
+    cases = interface_runs.all_cases(place.shared, SCRIPTS)
+    failed = [case for case in cases if case[1]]
+    return failed or [(f"{SCRIPTS} random scripts", None)]
+
+
+def library_cases(place):
+    """Every check of an installed library. The random scripts are last, since a call that crashes ends their process."""
+    for cases in (symbol_cases, header_cases, example_cases, c_test_cases, rust_cases, python_cases, script_cases):
+        try:
+            yield from cases(place)
+        except (OSError, subprocess.TimeoutExpired) as error:
+            yield cases.__name__.replace("_", " "), str(error)
+
+
+def all_cases(given):
+    yield from agreements.all_cases()
+    if given.declarations:
+        return
+    with tempfile.TemporaryDirectory() as name:
+        folder = Path(name)
+        prefix, cases = (Path(given.prefix).resolve(), []) if given.prefix else made_packages(folder)
+        yield from cases
+        if prefix:
+            yield from library_cases(Place(prefix, folder))
+
+
+def main():
+    parser = argparse.ArgumentParser(usage=__doc__.split("usage: ")[1].split("\n\n")[0])
+    parser.add_argument("--prefix")
+    parser.add_argument("--declarations", action="store_true")
+    given = parser.parse_args()
+    missing = [tool for tool in TOOLS if not shutil.which(tool)]
+    if missing and not given.declarations:
+        print(f"bindings: this machine has no {', '.join(missing)}", file=sys.stderr)
+        return 1
+    return report("bindings", list(all_cases(given)), "checks")
+
+
+if __name__ == "__main__":
+    sys.exit(main())

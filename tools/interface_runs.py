@@ -1,0 +1,419 @@
+#!/usr/bin/env python3
+"""Runs random scripts through the C interface, and compares each status and output with the reference model of tools/model.py.
+
+usage: interface_runs.py LIBRARY COUNT   COUNT random scripts on the shared library LIBRARY, at each of its four widths in turn. Prints how many calls
+                                         there are, and fails if a function never succeeds or a status is never returned: 2000 scripts suffice
+
+The scripts are those of tools/check_runs.py, with fixed seeds. After each step come reads of the current bitmap, of a past one and of the commits, whose
+values are computed from the model's lists, and calls with wrong arguments.
+"""
+
+import sys
+from collections import Counter, deque
+from concurrent.futures import ProcessPoolExecutor
+from concurrent.futures.process import BrokenProcessPool
+from functools import lru_cache, partial
+
+from check_runs import RandomScript
+from library import Handle, Library, Overrun, outcome
+from model import LAST, Bitmap, bytes_of
+from replay import report
+
+WIDTHS = (1, 8, 32, 64)
+WRONG_WIDTHS = (0, 2, 3, 4, 16, 63, 65, 128, 2**32 - 1)
+
+# The status that no run here returns: allocations do not fail.
+NEVER = {"NO_MEMORY"}
+
+# The commands whose reply is the outcome of one call of the same name.
+DIRECT = {"start", "begin", "push", "pop", "set", "prune", "commit", "abort", "rewind", "len", "pruned-chunks", "get", "exists", "latest", "earliest",
+          "drop-before", "clear"}
+
+# The commands whose last argument is a bit, and the bytes that are the bit 1.
+BITS = {"push", "set"}
+ONES = (1, 1, 2, 128, 254, 255)
+
+# What each search finds in the positions that are set and in those that are not.
+SEARCHES = {
+    "next_one": lambda ones, zeros, at: next((position for position in ones if position >= at), None),
+    "next_zero": lambda ones, zeros, at: next((position for position in zeros if position >= at), None),
+    "prev_one": lambda ones, zeros, at: next((position for position in reversed(ones) if position < at), None),
+    "prev_zero": lambda ones, zeros, at: next((position for position in reversed(zeros) if position < at), None),
+    "select_one": lambda ones, zeros, at: ones[at] if at < len(ones) else None,
+}
+
+
+class Difference(Exception):
+    """A call does not do what the model does."""
+
+
+def outcome_of(reply):
+    """The status of a reply of the model, and the value that comes with it, or None."""
+    word, *rest = reply.split(" ")
+    if word == "refused":
+        codec = rest[0] == "codec"
+        name, *numbers = rest[1:] if codec else rest
+        return name.upper().replace("-", "_"), int(numbers[0]) if numbers and numbers[0].isdigit() else None
+    if word in ("done", "none"):
+        return word.upper(), None
+    if word in ("chunk", "bytes"):
+        return "DONE", bytes.fromhex(rest[0])
+    return "DONE", [int(number) for number in rest] if word == "positions" else int(rest[0])
+
+
+def ends_of(text):
+    """The least and the greatest number of a range of the script language."""
+    kind, *ends = text.split(":")
+    low, high = int(ends[0]) if ends else 0, int(ends[-1]) if ends else LAST
+    return 0 if kind == "most" else low, LAST if kind == "least" else high
+
+
+class InterfaceScript(RandomScript):
+    """A random script, each line of which runs on the model and on the library."""
+
+    def __init__(self, library, seed, width):
+        super().__init__(seed, width)
+        self.library, self.calls, self.spare = library, Counter(), None
+        self.handle, self.recent = Handle(), deque(maxlen=10)
+
+    def expect(self, name, status, *given, **written):
+        """Calls a function with the handle. It has to return the status, and to write these outputs and no others."""
+        self.expect_of(self.handle, name, status, *given, **written)
+
+    def expect_of(self, handle, name, status, *given, **written):
+        self.recent.append((name, given))
+        found, wanted = self.library.call(name, handle, *given), outcome(status, written)
+        self.calls[name, found.status] += 1
+        if found != wanted:
+            raise Difference(f"{found}, not {wanted}")
+
+    def shown(self):
+        """The last calls."""
+        return "; ".join(f"{name}({', '.join(str(each) for each in given if not isinstance(each, Handle))})" for name, given in self.recent)
+
+    # The lines of the script
+
+    def add(self, *lines):
+        for line in lines:
+            super().add(line)
+            name, *words = line.split(" ")
+            if name in DIRECT:
+                numbers = [int(word) for word in words]
+                if name in BITS:
+                    numbers[-1] = self.random.choice(ONES) if numbers[-1] else 0
+                self.direct(name.replace("-", "_"), numbers, self.replies[-1])
+            else:
+                getattr(self, f"run_{name.replace('-', '_')}")(*words, self.replies[-1])
+        self.random.choice(self.extra_steps())()
+
+    def direct(self, name, given, reply):
+        """Runs a command by one call. The value of its reply is the last output."""
+        status, value = outcome_of(reply)
+        self.expect(name, status, *given, **({} if value is None else {self.library.outputs(name)[-1]: value}))
+
+    def run_push_byte(self, digits, reply):
+        self.direct("push_byte", [int(digits, 16)], reply)
+
+    def run_push_chunk(self, digits, reply):
+        self.direct("push_chunk", [bytes.fromhex(digits)], reply)
+
+    def run_chunk(self, position, reply):
+        self.direct("chunk", [int(position), self.model.width], reply)
+
+    def run_entries(self, reply):
+        """The model has an upper limit of the number of entries."""
+        if isinstance(reply, str):
+            return self.direct("entries", [], reply)
+        found = self.library.call("entries", self.handle)
+        self.calls["entries", found.status] += 1
+        if found.status != "DONE" or not 0 <= found.written.get("entries", -1) <= reply:
+            raise Difference(f"entries: {found}, not at most {reply}")
+
+    def run_ones(self, start, end, reply):
+        self.pages("ones", [int(start), int(end)], 0, reply)
+
+    def run_ones_at(self, number, start, end, reply):
+        self.pages("ones_at", [int(number), int(start), int(end)], 1, self.reply_of_read(number, reply))
+
+    def run_commits(self, reply):
+        self.pages("commits", [0], 0, reply)
+
+    def run_encode(self, reply):
+        self.encode("encode", [], reply)
+
+    def run_encode_at(self, number, reply):
+        self.encode("encode_at", [int(number)], reply)
+
+    def run_at(self, number, reply):
+        """Reads a past bitmap whole, in place."""
+        reply = self.reply_of_read(number, reply)
+        if not reply.startswith("bitmap"):
+            return self.direct("len_at", [int(number)], reply)
+        bitmap = self.state.history[int(number)].bitmap
+        self.expect("len_at", "DONE", int(number), len=self.model.length(bitmap))
+        self.expect("pruned_chunks_at", "DONE", int(number), chunks=bitmap.pruned)
+        self.pages("ones_at", [int(number), 0, LAST], 1, self.model.set_positions(bitmap, 0, LAST), most=LAST)
+
+    def run_decode(self, digits, ends, reply):
+        """Reads a bitmap into another handle, and encodes it."""
+        data, handle = bytes.fromhex(digits.strip("-")), Handle()
+        given = (self.model.width, *ends_of(ends), data)
+        if not reply.startswith("read"):
+            status, length = outcome_of(reply)
+            return self.expect_of(handle, "read", status, *given, **({} if length is None else {"length": length}))
+        _, pruned, bits, left = reply.split(" ")
+        encoded = bytes.fromhex(self.model.encoded(Bitmap(int(pruned), tuple(map(int, bits.strip("-"))))).removeprefix("bytes "))
+        self.expect_of(handle, "read", "DONE", *given, used=len(data) - int(left))
+        self.expect_of(handle, "encode", "DONE", len(encoded), out=encoded, size=len(encoded))
+        self.expect_of(handle, "latest", "NONE")
+        self.expect_of(handle, "free", "DONE")
+
+    def reply_of_read(self, number, reply):
+        """The reply of a read in place: a commit that is not kept is refused."""
+        return "refused no-such-commit" if reply == "none" else reply
+
+    def pages(self, name, given, at, reply, most=3):
+        """Reads the first pages of a list. Argument `at` is the number at which a page begins."""
+        status, wanted = outcome_of(reply)
+        sizes = [64, len(wanted or ()), len(wanted or ()) + 1]
+        size = self.random.choice(sizes if most > 3 else [0, 1, 2, 7, *sizes])
+        if status != "DONE":
+            return self.expect(name, status, *given, size)
+        for page in range(min(most, len(wanted) // max(size, 1) + 1)):
+            found = wanted[page * size : (page + 1) * size]
+            self.expect(name, "DONE", *given, size, out=found, count=len(found))
+            if found:
+                given = [*given[:at], found[-1] + 1, *given[at + 1 :]]
+
+    def encode(self, name, given, reply):
+        """Encodes into a buffer of a wrong size, and then of the right one."""
+        status, wanted = outcome_of(reply)
+        if status != "DONE":
+            return self.expect(name, status, *given, self.random.randint(0, 20))
+        for size in self.random.sample([0, len(wanted) - 1, len(wanted) + 1], 1):
+            self.expect(name, "WRONG_SIZE", *given, size, size=len(wanted))
+        self.expect(name, "DONE", *given, len(wanted), out=wanted, size=len(wanted))
+
+    # Steps that the scripts do not have
+
+    def extra_steps(self):
+        return [self.search, self.search, self.search, self.count_ones, self.read_past, self.read_past, self.page_of_commits, self.page_of_changes,
+                self.use_wrong_arguments, self.push_in_one_call, *[self.clone] * (self.random.random() < 0.1)]
+
+    def any_number(self):
+        return self.kept_number(list(self.state.history))
+
+    def view(self, number):
+        """The status of a read of the bitmap at a commit, or of the current one, and the bitmap or None."""
+        if self.state.pending is not None:
+            return "WRONG_MODE", None
+        if number is not None and number not in self.state.history:
+            return "NO_SUCH_COMMIT", None
+        return "DONE", self.state.current if number is None else self.state.history[number].bitmap
+
+    def positions(self, bitmap, bit):
+        first = self.model.first(bitmap)
+        return [first + at for at, each in enumerate(bitmap.bits) if each == bit]
+
+    def commit_or_none(self):
+        """A commit number or None, the ending of the names of its reads, and their first arguments."""
+        if self.random.random() < 0.5:
+            return None, "", []
+        number = self.any_number()
+        return number, "_at", [number]
+
+    def search(self):
+        number, ending, given = self.commit_or_none()
+        status, bitmap = self.view(number)
+        name, find = self.random.choice(list(SEARCHES.items()))
+        argument = self.random.choice([self.position(), self.random.randint(0, 40), LAST])
+        found = None if bitmap is None else find(self.positions(bitmap, 1), self.positions(bitmap, 0), argument)
+        if status == "DONE" and found is None:
+            status = "NONE"
+        self.expect(name + ending, status, *given, argument, **({} if found is None else {"position": found}))
+
+    def count_ones(self):
+        number, ending, given = self.commit_or_none()
+        status, bitmap = self.view(number)
+        start, end = self.position(), self.random.choice([self.position(), LAST])
+        counted = {} if bitmap is None else {"count": sum(start <= position < end for position in self.positions(bitmap, 1))}
+        self.expect(f"count_ones{ending}", status, *given, start, end, **counted)
+
+    def read_past(self):
+        """Reads the lengths of a past bitmap, a bit and a chunk."""
+        number, position, width = self.any_number(), self.position(), self.model.width
+        status, bitmap = self.view(number)
+        if bitmap is None:
+            for name, given in (("len_at", []), ("pruned_chunks_at", []), ("get_at", [position]), ("chunk_at", [position, width])):
+                self.expect(name, status, number, *given)
+            return
+        self.expect("len_at", "DONE", number, len=self.model.length(bitmap))
+        self.expect("pruned_chunks_at", "DONE", number, chunks=bitmap.pruned)
+        self.expect("chunk_at", "WRONG_SIZE", number, position, self.random.choice([0, width - 1, width + 1]))
+        past = self.state._replace(current=bitmap)
+        self.direct("get_at", [number, position], self.model.step(past, ["get", str(position)]).reply)
+        self.direct("chunk_at", [number, position, width], self.model.step(past, ["chunk", str(position)]).reply)
+
+    def page_of_commits(self):
+        status, _ = self.view(None)
+        start = self.any_number()
+        wanted = [number for number in self.state.history if number >= start]
+        self.pages("commits", [start], 0, self.listed(wanted) if status == "DONE" else "refused wrong-mode")
+
+    def listed(self, numbers):
+        return "positions" + "".join(f" {number}" for number in numbers)
+
+    def retained_chunks(self, bitmap):
+        """The bytes of the retained chunks by index."""
+        size = self.model.chunk_bits
+        return {bitmap.pruned + at // size: bytes_of(bitmap.bits[at : at + size]).ljust(self.model.width, bytes(1))
+                for at in range(0, len(bitmap.bits), size)}
+
+    def page_of_changes(self):
+        start, end = self.any_number(), self.any_number()
+        first = self.random.choice([0, 0, self.position() // self.model.chunk_bits])
+        status, old = self.view(start)
+        if status == "DONE":
+            status, new = self.view(end)
+        if status == "DONE" and start > end:
+            status = "NO_SUCH_COMMIT"
+        if status != "DONE":
+            return self.expect("changed_chunks", status, start, end, first, 3)
+        before, after = self.retained_chunks(old), self.retained_chunks(new)
+        changed = sorted(index for index in {*before, *after} if index >= first and before.get(index) != after.get(index))
+        self.pages("changed_chunks", [start, end, first], 2, self.listed(changed))
+
+    def use_wrong_arguments(self):
+        """Calls that are refused in or out of a batch, since an argument has no meaning."""
+        width, handle = self.model.width, Handle()
+        wrong = self.random.choice([size for size in (0, 1, width - 1, width + 1, 64) if size != width])
+        self.expect("chunk", "WRONG_SIZE", self.position(), wrong)
+        self.expect("push_chunk", "WRONG_SIZE", bytes(wrong))
+        self.expect("new", "FULL_HANDLE", self.random.choice(WIDTHS + WRONG_WIDTHS))
+        self.expect("read", "FULL_HANDLE", self.random.choice(WIDTHS + WRONG_WIDTHS), 0, LAST, bytes(16))
+        self.expect("push_bytes", "DONE", b"", count=0)
+        self.expect_of(handle, "new", "NO_SUCH_WIDTH", self.random.choice(WRONG_WIDTHS))
+        self.expect_of(handle, "read", "NO_SUCH_WIDTH", self.random.choice(WRONG_WIDTHS), 0, LAST, bytes(16))
+        self.expect_of(handle, "clone", "EMPTY_HANDLE", self.handle)
+
+    def push_in_one_call(self):
+        """Pushes bytes by one call, up to the first that is refused."""
+        data, count, status = self.random.randbytes(self.random.randint(1, 2 * self.model.width + 1)), 0, "DONE"
+        while count < len(data) and status == "DONE":
+            step = self.model.step(self.state, ["push-byte", f"{data[count]:02x}"])
+            status, _ = outcome_of(step.reply)
+            self.state = step.state
+            count += status == "DONE"
+        self.expect("push_bytes", status, data, count=count)
+
+    def clone(self):
+        """Clones the bitmap, and goes on with either. The other one is compared with what it was, later."""
+        self.check_spare()
+        copy = Handle()
+        self.expect("clone", "DONE", copy)
+        self.expect("clone", "FULL_HANDLE", copy)
+        self.handle, other = self.random.sample([self.handle, copy], 2)
+        self.spare = other, self.state
+
+    def check_spare(self):
+        """Reads the bitmap that was set aside, with its commits, and frees it."""
+        if self.spare is None:
+            return
+        now = self.handle, self.state
+        (self.handle, self.state), self.spare = self.spare, None
+        if self.state.pending is not None:
+            self.expect("len", "DONE", len=self.model.length(self.state.pending))
+            self.expect("abort", "DONE")
+            self.state = self.state._replace(pending=None)
+        self.encode("encode", [], self.model.encoded(self.state.current))
+        self.pages("commits", [0], 0, self.listed(self.state.history), most=LAST)
+        for number, commit in self.state.history.items():
+            self.encode("encode_at", [number], self.model.encoded(commit.bitmap))
+        self.free()
+        self.handle, self.state = now
+
+    # The whole script
+
+    def use_empty_handle(self):
+        """Calls each function that has a handle with an empty one."""
+        samples = {"u8": 1, "u32": 8, "u64": 0, "size": 0, "u8 array in": b"ab", "u8 array out": 2, "u64 array out": 3}
+        for name, function in self.library.declared.functions.items():
+            kinds = [kind for _, kind in function.parameters]
+            if kinds[:1] == ["handle"] and name not in ("new", "read"):
+                others = [Handle() if kind == "handle" else samples[kind] for kind in kinds[1:] if kind == "handle" or kind in samples]
+                self.expect_of(Handle(), name, "EMPTY_HANDLE", *others)
+
+    def free(self):
+        self.expect("free", "DONE")
+        if self.handle.session is not None:
+            raise Difference("free leaves a handle that is not empty")
+        self.expect("free", "EMPTY_HANDLE")
+
+    def run(self, count):
+        """Takes so many random steps from a new bitmap to a freed one."""
+        self.use_empty_handle()
+        self.expect("new", "DONE", self.model.width)
+        self.steps(count)
+        self.read_all()
+        self.check_spare()
+        self.free()
+
+
+@lru_cache(maxsize=None)
+def loaded(path):
+    return Library(path)
+
+
+def check_script(path, number):
+    """Runs a random script: the counts of its calls, and its case."""
+    width = WIDTHS[number % len(WIDTHS)]
+    script = InterfaceScript(loaded(path), number, width)
+    try:
+        script.run(20 + number % 80)
+        failure = None
+    except (Difference, Overrun) as difference:
+        failure = f"{script.shown()}: {difference}"
+    return script.calls, (f"script {number} at width {width}", failure)
+
+
+def text_cases(library):
+    """Whether each status has a text of its own, and another number the text of none; and whether the library has the header's version."""
+    texts = [library.text(number) for number in sorted(library.names)]
+    yield "the texts of the statuses", None if len({*texts}) == len(texts) and all(texts) else f"two are the same, or one is empty: {texts}"
+    others = {library.text(number) for number in (len(texts), 1000, 2**32 - 1)}
+    yield "the text of a number that is no status", None if len(others) == 1 and not others & {*texts} else f"{others}"
+    version = library.functions["version"]()
+    yield "the version", None if version == library.declared.version else f"it is {version}, and {library.declared.version} in the header"
+
+
+def coverage_cases(library, calls):
+    """Whether each function that has a handle has succeeded, and each status has been returned."""
+    statuses = {status for _, status in calls}
+    for name, function in library.declared.functions.items():
+        if "handle" in [kind for _, kind in function.parameters]:
+            yield f"the function {name}", None if calls[name, "DONE"] else "it never succeeds"
+    for status in sorted({*library.declared.statuses} - NEVER):
+        yield f"the status {status}", None if status in statuses else "no call returns it"
+
+
+def all_cases(path, count):
+    """All runs, as cases."""
+    library, calls = Library(path), Counter()
+    try:
+        with ProcessPoolExecutor() as pool:
+            checked = list(pool.map(partial(check_script, str(path)), range(count), chunksize=10))
+    except BrokenProcessPool:
+        return [("the random scripts", "a call has ended its process")]
+    for found, _ in checked:
+        calls += found
+    print(f"calls: {sum(calls.values())} of {len({name for name, _ in calls})} functions")
+    return [*text_cases(library), *coverage_cases(library, calls), *[case for _, case in checked]]
+
+
+def main():
+    path, count = sys.argv[1:]
+    return report("interface", all_cases(path, int(count)))
+
+
+if __name__ == "__main__":
+    sys.exit(main())
