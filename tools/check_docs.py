@@ -1,7 +1,8 @@
 #!/usr/bin/env python3
 """Checks the documents and doc comments.
 
-- Each Rust example is in the crate `uses`, word for word and with its imports, so that it is proved and tested.
+- Each Rattle example is in the crate `uses`, word for word and with its imports, so that it is proved and tested.
+- Each example in C, Rust or Python is in a tested file of `bindings`.
 - Each relative link of a document leads to a file, and to a heading if it names one.
 - Each file that a document names exists.
 - Each mutant that a table names exists, and each clause that a table names is the label of a clause.
@@ -72,10 +73,14 @@ def fences(path):
         sys.exit(f"{path.relative_to(TOP)}:{block[1]}: the fence has no end")
 
 
-def examples(path):
-    """The Rust examples: a fence is one with the word `rust` in a document, and without a word in a doc comment."""
-    word = "rust" if path.suffix == ".md" else ""
+def examples(path, word):
+    """The examples whose fence has the word."""
     return [Example(f"{path.relative_to(TOP)}:{number}", lines) for found, number, lines in fences(path) if found == word]
+
+
+def rattle_examples(path):
+    """The Rattle examples: their fence has the word `rust` in a document, and no word in a doc comment."""
+    return examples(path, "rust" if path.suffix == ".md" else "")
 
 
 def agreeing(example, lines, start):
@@ -92,10 +97,24 @@ def agreeing(example, lines, start):
 def example_errors(example, callers):
     if not any(line.startswith("use ") for line in example.lines):
         return [f"{example.place}: the example does not show its imports"]
+    return difference(example, callers, "crates/uses/src")
+
+
+def foreign_errors():
+    """The examples of the documents that are in no tested file of `bindings`. A fence of Rust has the word `rs`."""
+    for word, folder, pattern in [("c", "c", "*.c"), ("rs", "rust", "README.md"), ("python", "python", "README.md")]:
+        callers = [lines_of(path) for path in sorted((TOP / "bindings" / folder).rglob(pattern))]
+        for path in documents():
+            for example in examples(path, word):
+                yield from difference(example, callers, f"bindings/{folder}")
+
+
+def difference(example, callers, folder):
+    """Where the example differs from each of the callers."""
     found = max(agreeing(example.lines, lines, start) for lines in callers for start in range(len(lines)))
     if found == len(example.lines):
         return []
-    return [f"{example.place}: the example is not in crates/uses/src, from this line on: {example.lines[found]}"]
+    return [f"{example.place}: the example is not in {folder}, from this line on: {example.lines[found]}"]
 
 
 def without_code(path):
@@ -200,13 +219,14 @@ def length_errors(name, most):
 def main():
     texts = [path for path in sources(TOP / "crates") if USES not in path.parents] + documents()
     callers = [lines_of(path) for path in sources(USES / "src")]
-    all_examples = [example for path in texts for example in examples(path)]
-    all_links = [(path, link) for path in documents() for link in links(path)]
+    all_examples = [example for path in texts for example in rattle_examples(path)]
+    all_links = [(path, link) for path in [*documents(), *sorted(TOP.glob("bindings/**/README.md"))] for link in links(path)]
     files = [str(path.relative_to(TOP)) for path in TOP.rglob("*") if path.is_file() and "out" not in path.relative_to(TOP).parts]
     second_tier = sorted(TOP.glob("crates/*/mutants/*.edit"))
     mutants = {path.stem for path in [*TOP.glob("crates/*/must-fail/*.edit"), *second_tier]}
     labels = known_labels()
     errors = [error for example in all_examples for error in example_errors(example, callers)]
+    errors += foreign_errors()
     errors += [error for path, link in all_links for error in link_errors(path, link)]
     errors += [error for path in documents() for error in file_errors(path, files)]
     errors += [error for path in documents() for error in name_errors(path, mutants, labels)]

@@ -1,0 +1,144 @@
+/* Prints the nanoseconds per call at widths 8 and 32, each the least of several rounds, on 2^20 bits.
+ *
+ *     cc -O2 speed.c $(pkg-config --cflags --libs mortarpink) -o speed && ./speed */
+#define _POSIX_C_SOURCE 199309L
+#include <mortarpink.h>
+
+#include <inttypes.h>
+#include <stdio.h>
+#include <stdlib.h>
+#include <time.h>
+
+enum { BITS = 1 << 20, COMMITS = 1000, ROUNDS = 9, WIDTHS = 2 };
+
+static const uint32_t widths[WIDTHS] = { 8, 32 };
+
+/* What the reads return is added up, so that no loop is left out. */
+static uint64_t total;
+
+static void check(mortarpink_status status) {
+    if (status == MORTARPINK_DONE) return;
+    fprintf(stderr, "speed: %s\n", mortarpink_status_text(status));
+    exit(1);
+}
+
+/* Returns a position that differs much from one call to the next. */
+static uint64_t scattered(uint64_t call) {
+    return call * 7919 % BITS;
+}
+
+static uint64_t pushes(mortarpink_bitmap *bitmap) {
+    check(mortarpink_begin(bitmap));
+    for (uint64_t k = 0; k < BITS; k++) check(mortarpink_push(bitmap, k % 3 == 0));
+    check(mortarpink_abort(bitmap));
+    return BITS;
+}
+
+static uint64_t byte_pushes(mortarpink_bitmap *bitmap) {
+    check(mortarpink_begin(bitmap));
+    for (uint64_t k = 0; k < BITS; k++) check(mortarpink_push_byte(bitmap, (uint8_t)k));
+    check(mortarpink_abort(bitmap));
+    return BITS;
+}
+
+static uint64_t scattered_sets(mortarpink_bitmap *bitmap) {
+    check(mortarpink_begin(bitmap));
+    for (uint64_t k = 0; k < COMMITS; k++) check(mortarpink_set(bitmap, scattered(k), k & 1));
+    check(mortarpink_abort(bitmap));
+    return COMMITS;
+}
+
+static uint64_t near_sets(mortarpink_bitmap *bitmap) {
+    check(mortarpink_begin(bitmap));
+    for (uint64_t k = 0; k < BITS; k++) check(mortarpink_set(bitmap, 512 + k % 64, k & 1));
+    check(mortarpink_abort(bitmap));
+    return BITS;
+}
+
+static uint64_t current_gets(mortarpink_bitmap *bitmap) {
+    uint8_t bit;
+    for (uint64_t k = 0; k < BITS; k++) {
+        check(mortarpink_get(bitmap, scattered(k), &bit));
+        total += bit;
+    }
+    return BITS;
+}
+
+/* Reads a past bitmap, after which there are ten commits. */
+static uint64_t past_gets(mortarpink_bitmap *bitmap) {
+    uint64_t latest;
+    uint8_t bit;
+    check(mortarpink_latest(bitmap, &latest));
+    for (uint64_t k = 0; k < BITS; k++) {
+        check(mortarpink_get_at(bitmap, latest - 10, scattered(k), &bit));
+        total += bit;
+    }
+    return BITS;
+}
+
+/* Commits batches of one set. */
+static uint64_t commits(mortarpink_bitmap *bitmap) {
+    uint64_t latest, previous;
+    check(mortarpink_latest(bitmap, &latest));
+    for (uint64_t k = 1; k <= COMMITS; k++) {
+        check(mortarpink_begin(bitmap));
+        check(mortarpink_set(bitmap, scattered(k), k & 1));
+        check(mortarpink_commit(bitmap, latest + k, &previous));
+    }
+    return COMMITS;
+}
+
+static void fill(mortarpink_bitmap *bitmap) {
+    uint64_t previous;
+    check(mortarpink_begin(bitmap));
+    for (uint64_t k = 0; k < BITS; k++) check(mortarpink_push(bitmap, k % 3 == 0));
+    check(mortarpink_commit(bitmap, 0, &previous));
+    commits(bitmap);
+}
+
+static double seconds(void) {
+    struct timespec now;
+    clock_gettime(CLOCK_PROCESS_CPUTIME_ID, &now);
+    return (double)now.tv_sec + 1e-9 * (double)now.tv_nsec;
+}
+
+/* Returns the nanoseconds per call of the fastest round. */
+static double least(uint64_t (*calls)(mortarpink_bitmap *), mortarpink_bitmap *bitmap) {
+    double best = 1e9;
+    for (int round = 0; round < ROUNDS; round++) {
+        double start = seconds();
+        uint64_t count = calls(bitmap);
+        double each = 1e9 * (seconds() - start) / (double)count;
+        if (each < best) best = each;
+    }
+    return best;
+}
+
+int main(void) {
+    static const struct {
+        const char *name;
+        uint64_t (*calls)(mortarpink_bitmap *);
+    } rows[] = {
+        { "push", pushes },
+        { "push_byte", byte_pushes },
+        { "set, scattered", scattered_sets },
+        { "set, within 64 bits", near_sets },
+        { "get", current_gets },
+        { "get_at, ten commits back", past_gets },
+        { "begin, set and commit", commits },
+    };
+    mortarpink_bitmap bitmaps[WIDTHS] = { MORTARPINK_EMPTY, MORTARPINK_EMPTY };
+    for (int k = 0; k < WIDTHS; k++) {
+        check(mortarpink_new(&bitmaps[k], widths[k]));
+        fill(&bitmaps[k]);
+    }
+    printf("| ns per call | width 8 | 32 |\n|---|---|---|\n");
+    for (size_t row = 0; row < sizeof rows / sizeof *rows; row++) {
+        printf("| %s |", rows[row].name);
+        for (int k = 0; k < WIDTHS; k++) printf(" %.1f |", least(rows[row].calls, &bitmaps[k]));
+        printf("\n");
+    }
+    for (int k = 0; k < WIDTHS; k++) check(mortarpink_free(&bitmaps[k]));
+    fprintf(stderr, "speed: %" PRIu64 " set bits were read\n", total);
+    return 0;
+}
