@@ -41,7 +41,8 @@ def lines_of(path):
 
 def crates():
     """The crates that have specs, each after those that it depends on."""
-    needs = {crate: after.split() for crate, after in (line.split(":") for line in (TOP / "crates.txt").read_text().splitlines())}
+    lines = [line.split(":") for line in (TOP / "crates.txt").read_text().splitlines()]
+    needs = {crate.split()[0]: after.split() for crate, after in lines}
     order = []
     while len(order) < len(needs):
         order += [crate for crate in needs if crate not in order and all(need in order or need not in needs for need in needs[crate])]

@@ -115,7 +115,8 @@ mortarpink_status mortarpink_push(mortarpink_bitmap *bitmap, uint8_t bit);
 mortarpink_status mortarpink_push_byte(mortarpink_bitmap *bitmap, uint8_t byte);
 
 /* Appends the bits of the bytes in order, up to the first byte that is refused. *count becomes the number of bytes
- * appended, with every status but MORTARPINK_EMPTY_HANDLE. Linear; may allocate. */
+ * appended, with every status but MORTARPINK_EMPTY_HANDLE. If `len` is 0, the status is MORTARPINK_DONE, also outside a
+ * batch. Linear; may allocate. */
 mortarpink_status mortarpink_push_bytes(mortarpink_bitmap *bitmap, const uint8_t *bytes, size_t len, size_t *count);
 
 /* Appends the bits of one chunk: `len` is the width, else MORTARPINK_WRONG_SIZE. May allocate. */

@@ -374,10 +374,7 @@ impl<const N: usize> BitMap<N, Dirty<N>> {
 
     // As `commit`, for a number that the commit may have. Kept out of `commit`, which is short then for a batch without edits.
     #[inline(never)]
-    fn commit_edits(
-        mut self,
-        number: u64,
-    ) -> Result<CleanBitMap<N>, (DirtyBitMap<N>, Error)>
+    fn commit_edits(mut self, number: u64) -> Result<CleanBitMap<N>, (DirtyBitMap<N>, Error)>
         requires accepted { commit_error self.last number ≡ None }
         ensures refused { IfErr result (λ e. e.1 ≡ Memory alloc_error) }
         ensures unchanged { IfErr result (λ e. e.0 ≡ self.entry) }
