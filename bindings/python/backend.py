@@ -52,7 +52,7 @@ def folder_of_library() -> Path:
     """Returns the folder of the shared library."""
     folder = os.environ.get("MORTARPINK_LIB_DIR")
     if not folder or not Path(folder, LIBRARY).exists():
-        raise SystemExit(f"mortarpink: set MORTARPINK_LIB_DIR to the folder of {LIBRARY}")
+        raise SystemExit(f"mortarpink: set MORTARPINK_LIB_DIR to the absolute path of the folder of {LIBRARY}")
     return Path(folder)
 
 

@@ -1,6 +1,7 @@
 //! Finds the library `mortarpink`, and links it.
 
 use std::env;
+use std::path::Path;
 use std::process::Command;
 
 fn main() {
@@ -12,9 +13,23 @@ fn main() {
         Some(_) => ("dylib", "libmortarpink.so"),
         None => ("static", "libmortarpink.a"),
     };
+    if let Err(error) = check_library(Path::new(&folder), file) {
+        panic!("{error}");
+    }
     println!("cargo:rerun-if-changed={folder}/{file}");
     println!("cargo:rustc-link-search=native={folder}");
     println!("cargo:rustc-link-lib={kind}=mortarpink");
+}
+
+/// Checks that a folder has the library, and an absolute path. The script, the compiler and the
+/// linker run in different folders, and would look for a relative one in each of them.
+pub fn check_library(folder: &Path, file: &str) -> Result<(), String> {
+    if folder.is_absolute() && folder.join(file).is_file() {
+        return Ok(());
+    }
+    Err(format!(
+        "set MORTARPINK_LIB_DIR to the absolute path of the folder of {file}: it is not {folder:?}"
+    ))
 }
 
 /// Returns the folder of the library that the program `pkg-config` reports.

@@ -81,7 +81,8 @@ class Wheel(unittest.TestCase):
         for folder in "", ".":
             with self.assertRaises(SystemExit) as caught:
                 self.build(folder)
-            self.assertEqual(str(caught.exception), "mortarpink: set MORTARPINK_LIB_DIR to the folder of libmortarpink.so")
+            wanted = "mortarpink: set MORTARPINK_LIB_DIR to the absolute path of the folder of libmortarpink.so"
+            self.assertEqual(str(caught.exception), wanted)
         with mock.patch.dict(os.environ), self.assertRaises(SystemExit):
             os.environ.pop("MORTARPINK_LIB_DIR", None)
             backend().build_wheel(str(self.prefix))
