@@ -25,7 +25,11 @@
  *
  * Units: positions and lengths are in bits. They are absolute: they count from 0, and pruned bits count. Chunks have
  * indices from 0, also absolute. A bit is 0 or 1 as output; as input, any byte but 0 is 1. The lowest bit of a byte
- * comes first. Ranges include `from` and exclude `to`.
+ * comes first. Ranges include `from` and exclude `to`. They may be empty, and may go past the length.
+ *
+ * Encoding: the number of pruned chunks, then the number of retained bits, then the retained chunks. Both numbers have
+ * eight bytes, the most significant first. There are no commits, no width and no checksum in it. Damaged bytes, or bytes
+ * read with another width, can be the encoding of another bitmap.
  *
  * Cost: a call takes constant time and does not allocate, unless its comment says otherwise. */
 #ifndef MORTARPINK_H
@@ -132,9 +136,9 @@ mortarpink_status mortarpink_set(mortarpink_bitmap *bitmap, uint64_t position, u
 mortarpink_status mortarpink_prune(mortarpink_bitmap *bitmap, uint64_t position);
 
 /* Ends the batch: the pending bitmap becomes the current one, and is kept under the number. The number is above the
- * last one that was committed or rewound to. With MORTARPINK_NON_MONOTONIC_COMMIT, *previous becomes that last
- * number. After any status but MORTARPINK_DONE the batch goes on. Linear in the chunks edited in the batch;
- * allocates. */
+ * last one that was committed or rewound to, even if that commit was dropped since. With
+ * MORTARPINK_NON_MONOTONIC_COMMIT, *previous becomes that last number. After any status but MORTARPINK_DONE the batch
+ * goes on. Linear in the chunks edited in the batch; allocates. */
 mortarpink_status mortarpink_commit(mortarpink_bitmap *bitmap, uint64_t number, uint64_t *previous);
 
 /* Ends the batch and drops its edits. Linear in the chunks edited in the batch. */
@@ -159,8 +163,8 @@ mortarpink_status mortarpink_chunk(mortarpink_bitmap *bitmap, uint64_t position,
 
 /* ---- Reading the current bitmap; not in a batch ---- */
 
-/* Writes the set positions of a range to `out`, ascending, up to `len` of them; *count becomes how many. The next
- * page begins after the last one; a page that is not full is the last. Linear in the chunks that are read. */
+/* Writes the set retained positions of a range to `out`, ascending, up to `len` of them; *count becomes how many. The
+ * next page begins after the last one; a page that is not full is the last. Linear in the chunks that are read. */
 mortarpink_status mortarpink_ones(mortarpink_bitmap *bitmap, uint64_t from, uint64_t to, uint64_t *out, size_t len,
                                   size_t *count);
 
@@ -182,7 +186,7 @@ mortarpink_status mortarpink_count_ones(mortarpink_bitmap *bitmap, uint64_t from
 mortarpink_status mortarpink_select_one(mortarpink_bitmap *bitmap, uint64_t k, uint64_t *position);
 
 /* Fills `out` with the encoding. *size becomes its size in bytes, also with MORTARPINK_WRONG_SIZE, which means that
- * `len` is not that size: call with `len` 0 first. Linear in the encoding; allocates. */
+ * `len` is not that size. Call with `len` 0 first; `out` is not NULL then either. Linear in the encoding; allocates. */
 mortarpink_status mortarpink_encode(mortarpink_bitmap *bitmap, uint8_t *out, size_t len, size_t *size);
 
 
@@ -230,9 +234,9 @@ mortarpink_status mortarpink_latest(mortarpink_bitmap *bitmap, uint64_t *number)
 mortarpink_status mortarpink_earliest(mortarpink_bitmap *bitmap, uint64_t *number);
 
 /* Writes the indices of the chunks that differ between the bitmaps at two commits, from index `first` on, to `out`,
- * ascending, up to `len` of them; *count becomes how many. Pages as mortarpink_ones. Returns
- * MORTARPINK_NO_SUCH_COMMIT unless both commits are kept and `from` is at most `to`. Per chunk examined, it costs
- * searches of the later commits. */
+ * ascending, up to `len` of them; *count becomes how many. A chunk that only one of them retains differs. Pages as
+ * mortarpink_ones. Returns MORTARPINK_NO_SUCH_COMMIT unless both commits are kept and `from` is at most `to`. Per chunk
+ * examined, it costs searches of the later commits. */
 mortarpink_status mortarpink_changed_chunks(mortarpink_bitmap *bitmap, uint64_t from, uint64_t to, uint64_t first,
                                             uint64_t *out, size_t len, size_t *count);
 

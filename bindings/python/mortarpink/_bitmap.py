@@ -111,7 +111,7 @@ class _Reads(_Bits):
         return self._found("select_one", u64(k))
 
     def __bytes__(self) -> bytes:
-        """Returns the encoding, which has no commits. Raises NoMemoryError."""
+        """Returns the encoding, which has no commits, no width and no checksum. Raises NoMemoryError."""
         return self._encoding("encode")
 
 
@@ -119,6 +119,7 @@ class Version(_Reads):
     """The bitmap at a commit, read in place. `Bitmap.at` returns it.
 
     Its reads are of the commit that is kept under the number. They raise NoSuchCommitError if there is none any more.
+    After a rewind, that can be another commit under the same number.
     """
 
     def __init__(self, session: Session, number: int) -> None:
@@ -212,6 +213,7 @@ class Batch(_Bits):
     def commit(self, number: int) -> None:
         """Ends the batch. The pending bitmap becomes the current one, and is kept under the number.
 
+        The number is above the last one that was committed or rewound to, even if that commit was dropped since.
         Raises ReservedCommitNumberError, NonMonotonicCommitError or NoMemoryError. The batch goes on then.
         """
         number, previous = u64(number), U64()
@@ -289,6 +291,9 @@ class Bitmap(_Reads):
 
         The number of retained bits is from `least` to `most`, both included. Returns the bitmap, and the number of
         bytes of the encoding. Raises NoSuchWidthError, a DecodeError or NoMemoryError.
+
+        The encoding has no width and no checksum. Damaged bytes, or bytes read with another width, can be the encoding
+        of another bitmap.
         """
         session, data = Session(width), bytes_of(data)
         used, length = SIZE(), U64()
@@ -379,8 +384,8 @@ class Bitmap(_Reads):
     def changed_chunks(self, older: int, newer: int) -> Iterator[int]:
         """Returns an iterator over the indices of the chunks that differ between two commits, ascending.
 
-        It reads in pages, as `ones`. Raises NoSuchCommitError unless both commits are kept and `older` is at most
-        `newer`.
+        A chunk that only one of the versions retains differs. The iterator reads in pages, as `ones`. Raises
+        NoSuchCommitError unless both commits are kept and `older` is at most `newer`.
         """
         commits = u64(older), u64(newer)
         return ascending(lambda least: self._page("changed_chunks", *commits, least), 0)

@@ -6,7 +6,8 @@ use crate::{Bitmap, Chunk, CommitError, Error, PushBytesError};
 ///
 /// [`Bitmap::begin`] makes it. Its edits are pending: they change the bitmap when
 /// [`commit`](Batch::commit) succeeds. [`abort`](Batch::abort), or dropping the batch, drops the
-/// edits. The reads of a batch are of the pending bitmap.
+/// edits. The reads of a batch are of the pending bitmap. A batch has no searches: search the
+/// bitmap before it begins.
 ///
 /// # Memory
 ///

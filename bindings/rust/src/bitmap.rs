@@ -104,6 +104,9 @@ impl Bitmap {
     /// `retained` is the range of accepted numbers of retained bits. Returns the bitmap, and the
     /// number of bytes of the encoding.
     ///
+    /// The encoding has no width and no checksum. Damaged bytes, or bytes read with another width,
+    /// can be the encoding of another bitmap.
+    ///
     /// # Errors
     ///
     /// - [`Error::EndOfBuffer`] if the bytes end before the encoding does.
@@ -427,7 +430,8 @@ impl Bitmap {
 
     /// Returns an iterator over the indices of the chunks that differ between two commits.
     ///
-    /// The indices are absolute and ascending. A chunk that only one of the versions has differs.
+    /// The indices are absolute and ascending. A chunk that only one of the versions retains
+    /// differs.
     ///
     /// # Errors
     ///
