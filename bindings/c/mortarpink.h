@@ -12,7 +12,8 @@
  *
  * Ownership: a handle owns its bitmap from mortarpink_new, mortarpink_read or mortarpink_clone until
  * mortarpink_free. A handle starts as MORTARPINK_EMPTY, and only these functions write it. Do not copy a handle that
- * is not empty. An empty handle is valid in every call, and a freed handle is empty again.
+ * is not empty, except to move it: the old place is not used again. An empty handle is valid in every call, and a freed
+ * handle is empty again.
  *
  * Pointers are never NULL, not even for a length of 0. They point to memory of their type, to `len` elements if a
  * length follows. No two pointers of one call overlap. Nothing else is assumed: every other argument is checked.
@@ -28,8 +29,8 @@
  * comes first. Ranges include `from` and exclude `to`. They may be empty, and may go past the length.
  *
  * Encoding: the number of pruned chunks, then the number of retained bits, then the retained chunks. Both numbers have
- * eight bytes, the most significant first. There are no commits, no width and no checksum in it. Damaged bytes, or bytes
- * read with another width, can be the encoding of another bitmap.
+ * eight bytes, the most significant first. There are no commits, no width and no checksum in it. Damaged bytes, or
+ * bytes read with another width, can be the encoding of another bitmap.
  *
  * Cost: a call takes constant time and does not allocate, unless its comment says otherwise. */
 #ifndef MORTARPINK_H
