@@ -1,7 +1,8 @@
-//! `set_range` of a batch at seven widths: within a chunk, across chunks, of all retained bits, and of empty and reversed ranges.
+//! `set_range` of a batch at seven widths: within a chunk, across chunks, of all retained bits, and of empty and reversed ranges; and
+//! every range at width 1.
 //!
-//! The chunks of a range are edited, not edited, or appended by the batch. After each range the batch is committed, both commits are
-//! read in place, and the bitmap is rewound.
+//! The chunks of a range are edited, not edited, or appended by the batch. After each range the batch is searched and committed, both
+//! commits are read in place, and the bitmap is rewound.
 
 ghost use Rattle.bitmap_bytes.specs.Chunk.{IsWidth};
 
@@ -77,6 +78,23 @@ fn check_pending<const N: usize>(rt: &impl Abort, map: &DirtyBitMap<N>, filled: 
     }
 }
 
+// The searches of the batch from each position, compared with a scan from the end.
+fn check_searches<const N: usize>(rt: &impl Abort, map: &DirtyBitMap<N>, filled: Filled) {
+    let (mut next_one, mut next_zero) = (None, None);
+    for position in (pending_pruned_bits(rt, map)..map.len()).rev() {
+        if expected(position, filled) {
+            next_one = Some(position);
+        } else {
+            next_zero = Some(position);
+        }
+        expect_at(
+            rt,
+            ("next", position, filled.start, filled.end, N),
+            map.next_one(position) == next_one && map.next_zero(position) == next_zero,
+        );
+    }
+}
+
 // Each bit of a readable bitmap after the range is set.
 fn check_read<B: Readable<N>, const N: usize>(rt: &impl Abort, map: &B, filled: Filled) {
     for position in map.pruned_bits()..map.len() {
@@ -112,6 +130,7 @@ fn check_range<const N: usize>(
     let mut map = begun(rt, ok(rt, before.clone()), width);
     set_range(rt, &mut map, filled.start..filled.end, filled.value);
     check_pending(rt, &map, filled);
+    check_searches(rt, &map, filled);
     let map = commit(rt, map, 2);
     check_read(rt, map.current(), filled);
     check_at(rt, &map, 1, nothing);
@@ -145,6 +164,31 @@ fn check_width<const N: usize>(rt: &impl Abort, alloc: Global, width: u64)
             check_range(rt, &before, width, Filled { start, end, value });
         }
     }
+}
+
+// Each range of retained bits that begins at `start`, with either value in turn.
+fn check_from<const N: usize>(rt: &impl Abort, before: &CleanBitMap<N>, width: u64, start: u64) {
+    expect(rt, width <= 24);
+    for end in start..7 * width + 4 {
+        let value = end % 2 == 0;
+        check_range(rt, before, width, Filled { start, end, value });
+    }
+}
+
+// Every range of the retained bits.
+fn check_every_range<const N: usize>(rt: &impl Abort, alloc: Global, width: u64)
+    requires { IsWidth N }
+{
+    let before = committed::<N>(rt, alloc, width);
+    expect(rt, width <= 24);
+    for start in width..7 * width + 4 {
+        check_from(rt, &before, width, start);
+    }
+}
+
+#[test]
+fn every_range_of_a_batch(rt: HostRuntime) {
+    check_every_range::<1>(&rt, rt.alloc(), 8);
 }
 
 #[test]
