@@ -1,6 +1,6 @@
 //! Laws of the searches and counts over any bitmap.
 
-ghost use Rattle.std.specs.Prelude.{◌≡◌, ◌+◌, ◌≤◌, true, false, Some, MatchOption};
+ghost use Rattle.std.specs.Prelude.{◌≡◌, ◌+◌, ◌≤◌, true, false, Some, IfSome, MatchOption};
 ghost use Rattle.bitmap_core.specs.Meaning.{IsRetained};
 ghost use Rattle.bitmap_core.specs.Searches.{next_one, ones_count, HasNoNext, HasNoPrevious, IsNext, IsPrevious};
 
@@ -56,7 +56,8 @@ pub fn select_one_has_k_below<B: Readable<N>, const N: usize>(
     readable: &B,
     k: u64,
 ) -> Option<(u64, u64)>
-    ensures { MatchOption result (ones_count N (B.meaning readable.now) 0 (B.meaning readable.now).len ≤ k) (λ r. IsRetained N (B.meaning readable.now) r.0 × ((B.meaning readable.now).bit r.0 ≡ true) × (r.1 ≡ k)) }
+    ensures found { MatchOption result (ones_count N (B.meaning readable.now) 0 (B.meaning readable.now).len ≤ k) (λ r. IsRetained N (B.meaning readable.now) r.0 × ((B.meaning readable.now).bit r.0 ≡ true) × (r.1 ≡ k)) }
+    ensures counted { IfSome result (λ r. r.1 ≡ ones_count N (B.meaning readable.now) 0 r.0) }
 {
     let position = readable.select_one(k)?;
     let below = readable.count_ones_range(0..position);
@@ -85,7 +86,10 @@ pub fn split_counts_add_up<B: Readable<N>, const N: usize>(
 ) -> (u64, u64, u64)
     requires low { from ≤ middle }
     requires high { middle ≤ to }
-    ensures { result.0 ≡ result.1 + result.2 }
+    ensures sum { result.0 ≡ result.1 + result.2 }
+    ensures all { result.0 ≡ ones_count N (B.meaning readable.now) from to }
+    ensures below { result.1 ≡ ones_count N (B.meaning readable.now) from middle }
+    ensures above { result.2 ≡ ones_count N (B.meaning readable.now) middle to }
 {
     let all = readable.count_ones_range(from..to);
     let low = readable.count_ones_range(from..middle);

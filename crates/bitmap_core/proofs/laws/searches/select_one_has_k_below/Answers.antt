@@ -2,7 +2,7 @@ use Rattle.std.proofs.Common.{◌∙◌, sym}
 use Rattle.bitmap_core.proofs.Found.{selected}
 use Rattle.bitmap_core.proofs.laws.searches.select_one_has_k_below.Goals as goal
 
-pub returns : goal.returns
-returns g c =
+pub returns-clause-found : goal.returns-clause-found
+returns-clause-found g c =
     selected g.row.N (g.B.Readable.meaning c.args.readable.now) c.args.k c.in_ok-position.position c.count_ones_range-below.result
     (sym c.in_ok-position.was ∙ c.select_one.ensures) c.count_ones_range-below.ensures
