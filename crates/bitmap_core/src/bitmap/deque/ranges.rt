@@ -1,8 +1,8 @@
 //! Ranges of the bits of a deque of chunks.
 
-ghost use Rattle.std.specs.Prelude.{◌≡◌, ℕ, ◌*◌, ◌/◌, ◌%◌, ◌<◌, ◌≤◌, ◌⊎◌, length};
+ghost use Rattle.std.specs.Prelude.{◌≡◌, ℕ, ◌*◌, ◌/◌, ◌%◌, ◌<◌, ◌≤◌, ◌⊎◌, [], length, slice_index_or};
 ghost use Rattle.bitmap_bytes.specs.Bits.{chunks_bit};
-ghost use Rattle.bitmap_bytes.specs.Chunk.{IsWidth};
+ghost use Rattle.bitmap_bytes.specs.Chunk.{IsWidth, chunk_bit};
 ghost use Rattle.bitmap_core.specs.Ranges.{IsRangePut};
 
 use crate::chunk::{chunk_index, chunk_width, range, whole};
@@ -49,7 +49,7 @@ fn set_in_chunk<const N: usize>(
     range::set_in(&mut chunks[index], from, to, value);
 }
 
-// Sets every bit of the chunks at the indices from `from` up to `to`. By index: the chunks outside the range are not touched.
+// Sets every bit of the chunks at the indices from `from` up to `to`. The chunks outside the range are not touched.
 fn fill_chunks<const N: usize>(chunks: &mut VecDeque<[u8; N]>, from: usize, to: usize, value: bool)
     requires positive { 0 < N }
     requires order { from ≤ to }
@@ -57,6 +57,38 @@ fn fill_chunks<const N: usize>(chunks: &mut VecDeque<[u8; N]>, from: usize, to: 
     ensures inside { (i : ℕ) → from ≤ i / (8 * N) → i / (8 * N) < to → chunks_bit N chunks.new.items i ≡ value }
     ensures outside { (i : ℕ) → (i / (8 * N) < from) ⊎ (to ≤ i / (8 * N)) → chunks_bit N chunks.new.items i ≡ chunks_bit N chunks.old.items i }
     ensures count { length chunks.new.items ≡ length chunks.old.items }
+{
+    let is_contiguous = chunks.as_slices().1.is_empty();
+    if is_contiguous {
+        fill_slice(chunks.make_contiguous(), from, to, value);
+    } else {
+        fill_each(chunks, from, to, value);
+    }
+}
+
+// As `fill_chunks`, for a deque that wraps around: to make it contiguous would move the chunks outside the range.
+fn fill_each<const N: usize>(chunks: &mut VecDeque<[u8; N]>, from: usize, to: usize, value: bool)
+    requires positive { 0 < N }
+    requires order { from ≤ to }
+    requires within { to ≤ length chunks.old.items }
+    ensures inside { (i : ℕ) → from ≤ i / (8 * N) → i / (8 * N) < to → chunks_bit N chunks.new.items i ≡ value }
+    ensures outside { (i : ℕ) → (i / (8 * N) < from) ⊎ (to ≤ i / (8 * N)) → chunks_bit N chunks.new.items i ≡ chunks_bit N chunks.old.items i }
+    ensures count { length chunks.new.items ≡ length chunks.old.items }
+{
+    for i in from..to {
+        whole::fill(&mut chunks[i], value);
+    }
+}
+
+// Sets every bit of the chunks of a slice at the indices from `from` up to `to`.
+fn fill_slice<const N: usize>(chunks: &mut [[u8; N]], from: usize, to: usize, value: bool)
+    requires positive { 0 < N }
+    requires order { from ≤ to }
+    requires within { to ≤ length chunks.old }
+    ensures count { length chunks.new ≡ length chunks.old }
+    ensures inside { (k : ℕ) → from ≤ k → k < to → (t : ℕ) → chunk_bit N (slice_index_or chunks.new k []) t ≡ value }
+    ensures below { (k : ℕ) → k < from → slice_index_or chunks.new k [] ≡ slice_index_or chunks.old k [] }
+    ensures above { (k : ℕ) → to ≤ k → slice_index_or chunks.new k [] ≡ slice_index_or chunks.old k [] }
 {
     for i in from..to {
         whole::fill(&mut chunks[i], value);

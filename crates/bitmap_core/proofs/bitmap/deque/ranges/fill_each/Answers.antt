@@ -1,6 +1,6 @@
 use Rattle.std.proofs.Common.{◌*◌, ◌/◌, inl, inr, arith}
 use Rattle.std.proofs.lemmas.Bool.{cases_lt}
-use Rattle.bitmap_core.proofs.bitmap.deque.ranges.fill_chunks.Goals as goal
+use Rattle.bitmap_core.proofs.bitmap.deque.ranges.fill_each.Goals as goal
 
 pub returns-clause-outside : goal.returns-clause-outside
 returns-clause-outside g c i h =

@@ -1,6 +1,6 @@
 use Rattle.std.proofs.Common.{◌≡◌, ℕ, ◌*◌, ◌/◌, ◌<◌, ◌≤◌, length}
 use Rattle.bitmap_bytes.specs.Bits.{chunks_bit}
-use Rattle.bitmap_core.proofs.bitmap.deque.ranges.fill_chunks.Given as goal
+use Rattle.bitmap_core.proofs.bitmap.deque.ranges.fill_each.Given as goal
 
 abbrev pub invariant-loop-i : goal.invariant-loop-i
 invariant-loop-i g l = record {
