@@ -1,17 +1,22 @@
 -- Chunks in place, as a slice: their bits are bits of the bitmap, and wanted bits are counted in parts of the slice.
-use Rattle.std.proofs.Common.{◌≡◌, ℕ, suc, zero, ◌+◌, ◌-◌, ◌*◌, ◌/◌, ◌%◌, ◌<◌, ◌≤◌, min, Bool, true, false, not, cond, List, [], length, get_or, take, drop, refl, sym, ap, ◌∙◌, inl, inr, arith}
+use Rattle.std.proofs.Common.{◌≡◌, ℕ, suc, zero, ◌+◌, ◌-◌, ◌*◌, ◌/◌, ◌%◌, ◌<◌, ◌≤◌, min, Bool, true, false, not, cond, List, [], length, get_or, take, drop, refl, sym, ap, ◌∙◌, ◌⊎◌, inl, inr, eqb, arith}
+use Rattle.std.specs.Int.{bit_at}
 use Rattle.std.specs.List.{count_by, range_with_len, flat_map}
-use Rattle.std.proofs.Math.Nat.{mul-add, mul-mod_left, lt_of_mul-lt-mul_left, mul-le-mul_left}
+use Rattle.std.specs.Simd.{first_chunks}
+use Rattle.std.proofs.Math.Nat.{mul-add, mul-mod_left, mul-mod_right, add-mul-mod_self_right, lt_of_mul-lt-mul_left, mul-le-mul_left}
 use Rattle.std.proofs.lemmas.Nat.{div-add-mod', mod_below}
 use Rattle.std.proofs.lemmas.List.{get_or-take, get_or-drop, length-take, length-drop}
 use Rattle.std.proofs.lemmas.Bool.{cases_lt}
 use Rattle.bitmap_bytes.specs.Bits.{chunks_bit, AreChunks}
-use Rattle.bitmap_bytes.specs.Chunk.{chunk_bit, chunk_bits, is_wanted}
+use Rattle.bitmap_bytes.specs.Chunk.{chunk_bit, chunk_bits, bytes_bit, is_wanted}
+use Rattle.bitmap_bytes.proofs.Bytes.Bits.{bit_of_zero_byte}
+use Rattle.bitmap_bytes.proofs.Bytes.Shifted.{bytes_bit-flat}
+use Rattle.bitmap_bytes.proofs.Chunks.OfBytes.{chunks_bit-first_chunks, length-first_chunks}
 use Rattle.bitmap_bytes.proofs.Counting.Blocks.{block_bit}
 use Rattle.bitmap_bytes.proofs.Counting.Ones.{ones_from, ones_from_add, ones_from_same, ones_from_le}
 use Rattle.bitmap_bytes.proofs.Counting.Parts.{count_range}
 use Rattle.bitmap_core.specs.Meaning.{Meaning, ShowsChunk, seen_as}
-use Rattle.bitmap_core.proofs.Counting.JoinedChunks.{count-flat}
+use Rattle.bitmap_core.proofs.Counting.JoinedChunks.{count-flat, flat-length}
 
 -- ---- wanted bits
 
@@ -116,6 +121,80 @@ none_wanted n d k chunks wanted p b e i l h =
     ap (λ k. is_wanted wanted (chunks_bit n chunks k)) (sym at)
     ∙ ap (is_wanted wanted) (sym (part_bit n d chunks part p (part_items k d chunks) t w))
     ∙ clear_at g 0 (8 * n * length part) t (sym (count_range g 0 (8 * n * length part)) ∙ e) (omega arith) (omega arith)
+
+-- ---- words of 64 bits of a slice
+
+-- the words of some bytes that are whole words
+whole_words : (n count : ℕ) → (n % 8 ≡ 0) ⊎ (count % 8 ≡ 0) → 64 * (n * count / 8) ≡ 8 * n * count
+whole_words n count h =
+    let e : 8 * n * count ≡ 8 * (n * count) = grind arith in
+    elim h [
+      | inl z ↦
+          let q : n ≡ n / 8 * 8 = omega arith in
+          let w : n / 8 * 8 * count ≡ n / 8 * count * 8 = grind arith in
+          omega (arith, ap (λ k. k * count) q, w)
+      | inr z ↦
+          let q : count ≡ count / 8 * 8 = omega arith in
+          let w : n * (count / 8 * 8) ≡ n * (count / 8) * 8 = grind arith in
+          omega (arith, ap (λ k. n * k) q, w)
+    ]
+
+module _ (n count : ℕ) (chunks part words : List (List ℕ)) (bytes : List ℕ) (positive : 0 < n) (known : AreChunks n part) (size : length part ≡ count)
+    (items : (j : ℕ) → j < length part → get_or part j [] ≡ get_or chunks (0 + j) []) (flat : bytes ≡ flat_map (λ c. c) part)
+    (are : words ≡ first_chunks 8 (length bytes / 8) bytes) (whole : (n % 8 ≡ 0) ⊎ (count % 8 ≡ 0)) where
+  words_size : 64 * length words ≡ 8 * n * count
+  words_size =
+      let l : length bytes ≡ n * count = ap length flat ∙ flat-length n part known ∙ ap (λ k. n * k) size in
+      ap (λ w. 64 * length w) are
+      ∙ ap (λ k. 64 * k) (length-first_chunks 8 (length bytes / 8) bytes ∙ ap (λ k. k / 8) l)
+      ∙ whole_words n count whole
+
+  -- they end with a chunk
+  pub words_whole : 64 * length words % (8 * n) ≡ 0
+  words_whole = ap (λ k. k % (8 * n)) words_size ∙ mul-mod_right (8 * n) count
+
+  pub words_within : count ≤ length chunks → 64 * length words ≤ 8 * n * length chunks
+  words_within h = omega (arith, words_size, mul-le-mul_left (8 * n) h)
+
+  -- their bits are those of the chunks
+  pub words_bit : (i : ℕ) → i < 64 * length words → chunks_bit 8 words i ≡ chunks_bit n chunks i
+  words_bit i h =
+      let l : length words ≡ length bytes / 8 = ap length are ∙ length-first_chunks 8 (length bytes / 8) bytes in
+      let k : i / (8 * 8) < length bytes / 8 = omega arith in
+      let s : i < 8 * n * length part = omega (arith, words_size, ap (λ k. 8 * n * k) size) in
+      let z : 8 * n * 0 + i ≡ i = omega arith in
+      ap (λ w. chunks_bit 8 w i) are
+      ∙ chunks_bit-first_chunks 8 (length bytes / 8) bytes i (omega arith) k
+      ∙ ap (λ b. bytes_bit b i) flat
+      ∙ bytes_bit-flat n part positive (λ j w. (known j w).len) i
+      ∙ part_bit n 0 chunks part positive items i s
+      ∙ ap (chunks_bit n chunks) z
+
+-- a multiple of w after a multiple of w
+pub aligned_after : (w at k : ℕ) → at % w ≡ 0 → k % w ≡ 0 → (at + k) % w ≡ 0
+aligned_after w at k a b =
+    let e : k ≡ k / w * w = omega (arith, div-add-mod' k w) in
+    ap (λ x. (at + x) % w) e ∙ add-mul-mod_self_right at (k / w) w ∙ a
+
+-- a loaded word in place: its bits, counted from the first word
+pub word_in_place : (words : List (List ℕ)) (wanted : Bool) (index word : ℕ)
+    → ((t : ℕ) → t < 64 → eqb (bit_at word t) 1 ≡ is_wanted wanted (chunk_bit 8 (get_or words index []) (0 + t)))
+    → (t : ℕ) → t < 64 → eqb (bit_at word t) 1 ≡ is_wanted wanted (chunks_bit 8 words (64 * index + t))
+word_in_place words wanted index word bits t h =
+    let z : 0 + t ≡ t = omega arith in
+    bits t h ∙ ap (is_wanted wanted) (ap (chunk_bit 8 (get_or words index [])) z ∙ sym (block_bit 8 words index t (omega arith) h))
+
+-- the words without a wanted bit are one more after a word that is 0
+pub one_more_clear : (words : List (List ℕ)) (wanted : Bool) (index word : ℕ) → word ≡ 0
+    → ((t : ℕ) → t < 64 → eqb (bit_at word t) 1 ≡ is_wanted wanted (chunks_bit 8 words (64 * index + t)))
+    → ((i : ℕ) → i < 64 * index → is_wanted wanted (chunks_bit 8 words i) ≡ false)
+    → (i : ℕ) → i < 64 * (index + 1) → is_wanted wanted (chunks_bit 8 words i) ≡ false
+one_more_clear words wanted index word z bits before i h = elim (cases_lt i (64 * index)) [
+  | inl lt ↦ before i lt
+  | inr ge ↦
+      let e : 64 * index + (i - 64 * index) ≡ i = omega arith in
+      ap (λ k. is_wanted wanted (chunks_bit 8 words k)) (sym e) ∙ sym (bits (i - 64 * index) (omega arith)) ∙ bit_of_zero_byte word (i - 64 * index) z
+]
 
 -- ---- chunks of a bitmap
 

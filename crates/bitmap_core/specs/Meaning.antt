@@ -1,10 +1,11 @@
 -- A bitmap as the trait `Readable` describes it. A chunk has n bytes.
-use Rattle.std.specs.Prelude.{◌≡◌, ℕ, ◌+◌, ◌-◌, ◌*◌, ◌/◌, ◌^◌, ◌<◌, ◌≤◌, min, max, Bool, true, false, not, List, ◌++◌, length, slice_index_or, ◌==◌, nat_lt, if◌then◌else◌, Option}
+use Rattle.std.specs.Prelude.{◌≡◌, ℕ, ◌+◌, ◌-◌, ◌*◌, ◌/◌, ◌%◌, ◌^◌, ◌<◌, ◌≤◌, min, max, Bool, true, false, not, List, ◌++◌, length, slice_index_or, ◌==◌, nat_lt, if◌then◌else◌, Option}
 use Rattle.std.specs.Int.{bit_at as digit_at}
 use Rattle.std.specs.Iterator.{YieldsFirst}
 use Rattle.std.specs.List.{filter, range_with_len}
+use Rattle.bitmap_bytes.specs.Bits.{chunks_bit}
 use Rattle.bitmap_bytes.specs.Chunk.{chunk_bit, is_wanted, IsWidth}
-use Rattle.bitmap_bytes.specs.Words.{starts_word, word_start, next_word, IsCut}
+use Rattle.bitmap_bytes.specs.Words.{starts_word, word_start, IsCut}
 use Rattle.bitmap_core.specs.PrunedBits.{PrunedBits, bit_len, bit_at}
 
 -- a bitmap: its number of pruned chunks, its length in bits (pruned bits included), and the bit at each position
@@ -85,20 +86,26 @@ pub record IsScanStep (old : Scan) (result : Option ℕ) (new : Scan) : Type 0 w
 abbrev pub word_bit : ℕ → ℕ → ℕ → Bool
 word_bit base word k = digit_at word (k - base) == 1
 
--- the set positions in a word at base, followed by those of the bitmap from the next word on
-abbrev pub left_from : ℕ → Meaning → ℕ → ℕ → ℕ → List ℕ
-left_from n m base word end = ones_between (word_bit base word) base (base + 64) ++ ones_between m.bit (next_word n base) end
+-- the set positions in a word at base, followed by those of the bitmap from `next` on
+abbrev pub left_from : Meaning → ℕ → ℕ → ℕ → ℕ → List ℕ
+left_from m base word next end = ones_between (word_bit base word) base (base + 64) ++ ones_between m.bit next end
 
--- what holds of the cursor of an iterator: it is at a word of a retained chunk, which it has, and it counts each word once
-pub record IsScan (n : ℕ) (m : Meaning) (base : ℕ) (end : ℕ) (chunk : List ℕ) (loads : ℕ) (first : ℕ) : Type 0 where
+-- the position after some words of 64 bits that begin at `next`
+abbrev pub run_end : ℕ → List (List ℕ) → ℕ
+run_end next run = next + 64 * length run
+
+-- what holds of the cursor of an iterator: from `next` on it has words in place. Where they end, a word of a retained chunk begins, and it has a copy of that chunk unless the chunk begins there too. It loads at most the words of its range.
+pub record IsScan (n : ℕ) (m : Meaning) (next end : ℕ) (run : List (List ℕ)) (chunk : List ℕ) (loads first : ℕ) : Type 0 where
   pub lawful : IsLawful n m
   pub within : end ≤ m.len
-  pub aligned : base < end → starts_word n base ≡ true
-  pub retained : base < end → 8 * n * m.pruned ≤ base
-  pub shown : base < end → ShowsChunk n m (base / (8 * n)) chunk
-  pub counted : loads + length (ones_between (starts_word n) (base + 1) end) ≡ words_between n first end
+  pub retained : next < end → 8 * n * m.pruned ≤ next
+  pub inside : run_end next run ≤ end
+  pub bits : (i : ℕ) → i < 64 * length run → chunks_bit 8 run i ≡ m.bit (next + i)
+  pub aligned : run_end next run < end → starts_word n (run_end next run) ≡ true
+  pub shown : run_end next run < end → (run_end next run % (8 * n) ≡ 0 → ⊥) → ShowsChunk n m (run_end next run / (8 * n)) chunk
+  pub counted : loads + words_between n next end ≤ words_between n first end
 
 -- what holds of an iterator: its cursor is right, and its word has no set bit at or past the end
-pub record IsIterating (n : ℕ) (m : Meaning) (base word end : ℕ) (chunk : List ℕ) (loads first : ℕ) : Type 0 where
-  pub scan : IsScan n m base end chunk loads first
+pub record IsIterating (n : ℕ) (m : Meaning) (base word next end : ℕ) (run : List (List ℕ)) (chunk : List ℕ) (loads first : ℕ) : Type 0 where
+  pub scan : IsScan n m next end run chunk loads first
   pub cut : IsCut base word end

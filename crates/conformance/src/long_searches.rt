@@ -13,8 +13,8 @@ use bitmap_core::bitmap::readable::Readable;
 use std::alloc::{AllocError, Global};
 use std::process::Abort;
 
-// The retained positions whose bit is `bit`.
-fn positions<B: Readable<N>, const N: usize>(
+/// Returns the retained positions whose bit is `bit`.
+pub fn positions<B: Readable<N>, const N: usize>(
     alloc: Global,
     map: &B,
     bit: bool,
@@ -86,8 +86,13 @@ fn check_long<B: Readable<N>, const N: usize>(
     equal(rt, map.select_one(ones.len() as u64), None);
 }
 
-// A bitmap of `len` bits, of which every `period`th is set.
-fn spread_bits<const N: usize>(rt: &impl Abort, alloc: Global, len: u64, period: u64) -> BitMap<N>
+/// Returns a bitmap of `len` bits, of which every `period`th is set.
+pub fn spread_bits<const N: usize>(
+    rt: &impl Abort,
+    alloc: Global,
+    len: u64,
+    period: u64,
+) -> BitMap<N>
     requires positive { 0 < N }
     requires fits { 8 * N < 2 ^ 64 }
 {
@@ -96,8 +101,12 @@ fn spread_bits<const N: usize>(rt: &impl Abort, alloc: Global, len: u64, period:
     ok(rt, BitMap::from_bools(alloc, bits.as_slice()))
 }
 
-// The last 700 chunks of `map`, and its bits once more. A clone has no spare capacity, so the latter begin in the space of pruned chunks.
-fn in_two_slices<const N: usize>(rt: &impl Abort, alloc: Global, map: &BitMap<N>) -> Prunable<N> {
+/// Returns the last 700 chunks of `map`, and its bits once more. A clone has no spare capacity, so the latter begin in the space of pruned chunks.
+pub fn in_two_slices<const N: usize>(
+    rt: &impl Abort,
+    alloc: Global,
+    map: &BitMap<N>,
+) -> Prunable<N> {
     // The prover learns the bounds of `N` from this call.
     let _ = map.len();
     expect(rt, N <= 64);
@@ -111,8 +120,8 @@ fn in_two_slices<const N: usize>(rt: &impl Abort, alloc: Global, map: &BitMap<N>
     pruned
 }
 
-// Each retained chunk is in its slice. There are two slices.
-fn check_slices<const N: usize>(rt: &impl Abort, map: &Prunable<N>) {
+/// Fails the test unless each retained chunk is in its slice, and there are two slices.
+pub fn check_slices<const N: usize>(rt: &impl Abort, map: &Prunable<N>) {
     // The prover learns the bounds of `N` from this call.
     let _ = map.len();
     let mut starts = 0u64;

@@ -223,8 +223,8 @@ fn positions_in_the_last_chunk(rt: HostRuntime) {
     }
 }
 
-// The part of ascending `positions` at or above `start` and below `end`.
-fn between(positions: &[u64], start: u64, end: u64) -> &[u64] {
+/// Returns the part of ascending `positions` at or above `start` and below `end`.
+pub fn between(positions: &[u64], start: u64, end: u64) -> &[u64] {
     let low = positions.partition_point(|it| *it < start);
     let high = positions.partition_point(|it| *it < end);
     positions.get(low..high).unwrap_or(&[])

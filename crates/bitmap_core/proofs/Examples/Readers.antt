@@ -1,12 +1,13 @@
 -- Meanings of bitmaps, set positions, and words.
 use Rattle.std.specs.Prelude.{◌≡◌, ◌^◌, true, false, ◌==◌, ◌||◌, [], ◌∷◌}
 use Rattle.std.specs.Int.{bit_at as digit_at}
-use Rattle.std.proofs.Common.{zero, suc, refl, arith}
+use Rattle.std.proofs.Common.{zero, suc, refl, sym, arith}
 use Rattle.std.proofs.lemmas.Bool.{false≢true}
 use Rattle.bitmap_bytes.proofs.Counting.Tests.{any_range_at}
 use Rattle.bitmap_core.specs.PrunedBits.{PrunedBits}
+use Rattle.bitmap_bytes.specs.Bits.{chunks_bit}
 use Rattle.bitmap_bytes.specs.Words.{starts_word, word_start, next_word, IsCut}
-use Rattle.bitmap_core.specs.Meaning.{Meaning, plain_meaning, pruned_meaning, IsLawful, IsRetainedChunk, IsRetained, ShowsChunk, ones_between, ones, words_between, words, word_bit, left_from, IsScan}
+use Rattle.bitmap_core.specs.Meaning.{Meaning, plain_meaning, pruned_meaning, IsLawful, IsRetainedChunk, IsRetained, ShowsChunk, ones_between, ones, words_between, words, word_bit, left_from, run_end, IsScan}
 
 -- two bits, 1 and 0, with nothing pruned
 abbrev pub plain : Meaning
@@ -210,15 +211,19 @@ abbrev pub ten : Meaning
 ten = plain_meaning (true ∷ false ∷ true ∷ false ∷ false ∷ false ∷ false ∷ false ∷ true ∷ true ∷ [])
 
 -- the bit at 2 is left of the word at 0, and then come those from the word at 8 on
-left_in_the_first_word : left_from 1 ten 0 4 10 ≡ 2 ∷ 8 ∷ 9 ∷ []
+left_in_the_first_word : left_from ten 0 4 8 10 ≡ 2 ∷ 8 ∷ 9 ∷ []
 left_in_the_first_word = refl
 
 -- if nothing is left of the last word, nothing is left
-nothing_left : left_from 1 ten 8 0 10 ≡ []
+nothing_left : left_from ten 8 0 10 10 ≡ []
 nothing_left = refl
 
--- an iterator over all ten bits that has loaded the word at 0 from its chunk, 5: one of two words is to come
-iterator : IsScan 1 ten 0 10 (5 ∷ []) 1 0
+-- two words in place from position 3 on end at position 131
+two_words_in_place : run_end 3 ([] ∷ [] ∷ []) ≡ 131
+two_words_in_place = refl
+
+-- an iterator over all ten bits that has loaded the word at 0: one of two words is to come
+iterator : IsScan 1 ten 8 10 [] (5 ∷ []) 1 0
 iterator = record {
   lawful = record {
     width = record { positive = omega arith; fits = omega arith };
@@ -227,32 +232,48 @@ iterator = record {
     chunks_fit = omega arith;
   };
   within = omega arith;
-  aligned = λ h. refl;
   retained = λ h. omega arith;
-  shown = λ h. shows;
+  inside = omega arith;
+  bits = λ i h. absurd (omega arith);
+  aligned = λ h. refl;
+  shown = λ h ne. absurd (ne refl);
   counted = omega arith;
 }
-  where
-    shows : ShowsChunk 1 ten 0 (5 ∷ [])
-    shows zero h s = refl
-    shows (suc zero) h s = refl
-    shows (suc (suc zero)) h s = refl
-    shows (suc (suc (suc zero))) h s = refl
-    shows (suc (suc (suc (suc zero)))) h s = refl
-    shows (suc (suc (suc (suc (suc zero))))) h s = refl
-    shows (suc (suc (suc (suc (suc (suc zero)))))) h s = refl
-    shows (suc (suc (suc (suc (suc (suc (suc zero))))))) h s = refl
-    shows (suc (suc (suc (suc (suc (suc (suc (suc k)))))))) h s = absurd (omega arith)
 
--- not valid: two words loaded already, another chunk in the iterator, and a base at which no word begins
-too_many_loads : IsScan 1 ten 0 10 (5 ∷ []) 2 0 → ⊥
+-- 70 bits, none set
+abbrev pub unset : Meaning
+unset = record { pruned = 0; len = 70; bit = λ _. false }
+
+-- an iterator over them at its start, with the first 64 bits in place
+iterator_in_place : IsScan 1 unset 0 70 ((0 ∷ 0 ∷ 0 ∷ 0 ∷ 0 ∷ 0 ∷ 0 ∷ 0 ∷ []) ∷ []) [] 0 0
+iterator_in_place = record {
+  lawful = record {
+    width = record { positive = omega arith; fits = omega arith };
+    pruned_within = omega arith;
+    len_fits = omega arith;
+    chunks_fit = omega arith;
+  };
+  within = omega arith;
+  retained = λ h. omega arith;
+  inside = omega arith;
+  bits = λ i h. any_range_at (chunks_bit 8 ((0 ∷ 0 ∷ 0 ∷ 0 ∷ 0 ∷ 0 ∷ 0 ∷ 0 ∷ []) ∷ [])) 0 64 i refl (omega arith) h;
+  aligned = λ h. refl;
+  shown = λ h ne. absurd (ne refl);
+  counted = omega arith;
+}
+
+-- not valid: two words loaded already, another chunk in the iterator, a position at which no word begins, and another word in place
+too_many_loads : IsScan 1 ten 8 10 [] (5 ∷ []) 2 0 → ⊥
 too_many_loads s = omega (arith, s.counted)
 
-another_chunk : IsScan 1 ten 0 10 (4 ∷ []) 1 0 → ⊥
-another_chunk s = false≢true (let e = s.shown (omega arith) 0 (omega arith) (omega arith) in cc)
+another_chunk : IsScan 9 unset 64 70 [] (1 ∷ []) 1 0 → ⊥
+another_chunk s = false≢true (sym (s.shown (omega arith) (λ e. absurd (omega (arith, e))) 0 (omega arith) (omega arith)))
 
-within_a_word : IsScan 1 ten 3 10 (5 ∷ []) 1 0 → ⊥
+within_a_word : IsScan 1 ten 3 10 [] (5 ∷ []) 1 0 → ⊥
 within_a_word s = false≢true (s.aligned (omega arith))
+
+another_word : IsScan 1 unset 0 70 ((1 ∷ []) ∷ []) [] 0 0 → ⊥
+another_word s = false≢true (sym (s.bits 0 (omega arith)))
 
 -- 5 has no bit from its fourth on: a word at 64 that ends at 67
 cut : IsCut 64 5 67

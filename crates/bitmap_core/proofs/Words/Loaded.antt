@@ -1,9 +1,10 @@
 -- A loaded word, and the bits of the bitmap.
-use Rattle.std.proofs.Common.{◌≡◌, ◌≢◌, eqb, ℕ, ◌+◌, ◌-◌, ◌*◌, ◌/◌, ◌%◌, ◌<◌, ◌≤◌, inl, inr, ⊎_elim, min, Bool, true, false, List, [], ◌∷◌, ◌++◌, arith, ap, sym, ◌∙◌}
+use Rattle.std.proofs.Common.{◌≡◌, ◌≢◌, eqb, ℕ, ◌+◌, ◌-◌, ◌*◌, ◌/◌, ◌%◌, ◌<◌, ◌≤◌, inl, inr, ⊎_elim, min, Bool, true, false, List, [], ◌∷◌, ◌++◌, length, arith, ap, sym, ◌∙◌}
 use Rattle.std.proofs.lemmas.Bool.{cases_lt, cases_eq}
 use Rattle.std.proofs.lemmas.List.{append-nil}
 use Rattle.std.proofs.lemmas.Nat.{div-add-mod'}
 use Rattle.bitmap_bytes.specs.Words.{starts_word, next_word, word_start, IsCut}
+use Rattle.bitmap_bytes.specs.Bits.{chunks_bit}
 use Rattle.bitmap_core.specs.Meaning.{Meaning, ShowsChunk, seen_as, word_bit, ones_between, left_from}
 use Rattle.std.specs.Int.{bit_at}
 use Rattle.bitmap_bytes.specs.Chunk.{chunk_bit, is_wanted}
@@ -67,33 +68,75 @@ module _ (n : ℕ) (m : Meaning) (base lo end : ℕ) (wanted : Bool) (bytes : Li
       rw (one, none, two, none2, three) (append-nil (ones_between (seen_as wanted m).bit lo top))
 
   -- a load leaves the same positions to be yielded
-  pub left_loaded : left_from n (seen_as wanted m) base word end ≡ ones_between (seen_as wanted m).bit lo end
+  pub left_loaded : left_from (seen_as wanted m) base word top end ≡ ones_between (seen_as wanted m).bit lo end
   left_loaded =
-      let w : ones_between (word_bit base word) base (base + 64) ≡ ones_between (seen_as wanted m).bit lo top = in_word in
-      ⊎_elim
-      (λ (lt : next < end). let e : top ≡ next = omega arith in rw (w, e) (sym (ones_between-append (seen_as wanted m).bit lo next end (omega arith) (omega arith))))
-      (λ (ge : end ≤ next).
-      let e : top ≡ end = omega arith in
-      let none : ones_between (seen_as wanted m).bit next end ≡ [] = ones_between-none (seen_as wanted m).bit next end ge in
-      rw (w, e, none) (append-nil (ones_between (seen_as wanted m).bit lo end)))
-      (cases_lt next end)
+      ap (λ (l : List ℕ). l ++ ones_between (seen_as wanted m).bit top end) in_word
+      ∙ sym (ones_between-append (seen_as wanted m).bit lo top end (omega arith) (omega arith))
 
 -- ---- a word with no bit left
 
-left_empty : (n : ℕ) (m : Meaning) (base word end : ℕ) → word ≡ 0 → left_from n m base word end ≡ ones_between m.bit (next_word n base) end
-left_empty n m base word end e =
+left_empty : (m : Meaning) (base word next end : ℕ) → word ≡ 0 → left_from m base word next end ≡ ones_between m.bit next end
+left_empty m base word next end e =
     let none : ones_between (word_bit base word) base (base + 64) ≡ [] =
     ones_between-false (word_bit base word) base (base + 64) (λ k a b. bit_of_zero_byte word (k - base) e) in
     rw none
 
-pub left_none : (n : ℕ) (m : Meaning) (base word end : ℕ) → word ≡ 0 → end ≤ next_word n base → left_from n m base word end ≡ []
-left_none n m base word end e h = left_empty n m base word end e ∙ ones_between-none m.bit (next_word n base) end h
+pub left_none : (m : Meaning) (base word next end : ℕ) → word ≡ 0 → end ≤ next → left_from m base word next end ≡ []
+left_none m base word next end e h = left_empty m base word next end e ∙ ones_between-none m.bit next end h
 
--- going on to the next word leaves the same positions to be yielded
-pub left_moved : (n : ℕ) (m : Meaning) (base word end after : ℕ) (new old : List ℕ) → word ≡ 0 → after ≡ next_word n base
-    → new ≡ ones_between m.bit after end → left_from n m base word end ≡ old
-    → new ≡ old
-left_moved n m base word end after new old z is e f = e ∙ ap (λ (k : ℕ). ones_between m.bit k end) is ∙ sym (left_empty n m base word end z) ∙ f
+-- a word without a bit has no bit at or past any position
+pub empty_cut : (base word end : ℕ) → word ≡ 0 → IsCut base word end
+empty_cut base word end e i h a = bit_of_zero_byte word i e
+
+-- a cursor without a bit left may be anywhere before `next`
+pub left_same : (m : Meaning) (base word next at end : ℕ) → word ≡ 0 → next ≡ at → left_from m base word next end ≡ ones_between m.bit at end
+left_same m base word next at end e q = left_empty m base word next end e ∙ ap (λ (k : ℕ). ones_between m.bit k end) q
+
+-- going on after a word without a bit leaves the same positions to be yielded
+pub left_moved : (m : Meaning) (base word next end : ℕ) (new old : List ℕ) → word ≡ 0 → new ≡ ones_between m.bit next end
+    → left_from m base word next end ≡ old → new ≡ old
+left_moved m base word next end new old z e f = e ∙ sym (left_empty m base word next end z) ∙ f
+
+-- ---- a word in place
+
+-- the first words in place from position `at` on have no wanted bit, and `word` has the wanted bits of the word after them
+pub record IsFirstWanted (m : Meaning) (wanted : Bool) (at end passed word : ℕ) (run : List (List ℕ)) : Type 0 where
+  pub within : passed ≤ length run
+  pub inside : at + 64 * length run ≤ end
+  pub shown : (i : ℕ) → i < 64 * length run → chunks_bit 8 run i ≡ m.bit (at + i)
+  pub none : (i : ℕ) → i < 64 * passed → is_wanted wanted (chunks_bit 8 run i) ≡ false
+  pub bits : passed < length run → (t : ℕ) → t < 64 → eqb (bit_at word t) 1 ≡ is_wanted wanted (chunks_bit 8 run (64 * passed + t))
+
+module _ (m : Meaning) (wanted : Bool) (at end passed word : ℕ) (run : List (List ℕ)) (f : IsFirstWanted m wanted at end passed word run) where
+  passed_none : ones_between (seen_as wanted m).bit at (at + 64 * passed) ≡ []
+  passed_none =
+      ones_between-false (seen_as wanted m).bit at (at + 64 * passed) (λ k a b.
+      let i : ℕ = k - at in
+      let w = f.within in
+      let e : at + i ≡ k = omega arith in
+      ap (is_wanted wanted) (sym (f.shown i (omega arith) ∙ ap m.bit e)) ∙ f.none i (omega arith))
+
+  -- the positions left do not change if the words without a wanted bit are passed
+  pub left_passed : ones_between (seen_as wanted m).bit (at + 64 * passed) end ≡ ones_between (seen_as wanted m).bit at end
+  left_passed =
+      let w = f.within in
+      let s = f.inside in
+      sym (ones_between-append (seen_as wanted m).bit at (at + 64 * passed) end (omega arith) (omega arith)
+      ∙ ap (λ (l : List ℕ). l ++ ones_between (seen_as wanted m).bit (at + 64 * passed) end) passed_none)
+
+  -- nor do they if the next word is taken
+  pub left_in_place : passed < length run
+      → left_from (seen_as wanted m) (at + 64 * passed) word (at + 64 * passed + 64) end ≡ ones_between (seen_as wanted m).bit at end
+  left_in_place h =
+      let s = f.inside in
+      let base : ℕ = at + 64 * passed in
+      ap (λ (l : List ℕ). l ++ ones_between (seen_as wanted m).bit (base + 64) end)
+      (ones_between-same (word_bit base word) (seen_as wanted m).bit base (base + 64) (λ k a b.
+      let t : ℕ = k - base in
+      let e : at + (64 * passed + t) ≡ k = omega arith in
+      f.bits h t (omega arith) ∙ ap (is_wanted wanted) (f.shown (64 * passed + t) (omega arith) ∙ ap m.bit e)))
+      ∙ sym (ones_between-append (seen_as wanted m).bit base (base + 64) end (omega arith) (omega arith))
+      ∙ left_passed
 
 -- ---- the first word of a range
 
@@ -157,7 +200,7 @@ module _ (old new place : ℕ) (t : IsLowestTaken old new place) where
       (λ k a b. sym (t.others (k - base) (omega arith) (omega arith)))
 
   -- the lowest bit of the word is the first of the positions to be yielded
-  pub left_taken : (n : ℕ) (m : Meaning) (base end : ℕ) (before left : List ℕ) → left_from n m base old end ≡ before
+  pub left_taken : (m : Meaning) (base next end : ℕ) (before left : List ℕ) → left_from m base old next end ≡ before
       → before ≡ left
-      → left ≡ (base + place) ∷ left_from n m base new end
-  left_taken n m base end before left e f = sym f ∙ sym e ∙ ap (λ (l : List ℕ). l ++ ones_between m.bit (next_word n base) end) (taken_first base)
+      → left ≡ (base + place) ∷ left_from m base new next end
+  left_taken m base next end before left e f = sym f ∙ sym e ∙ ap (λ (l : List ℕ). l ++ ones_between m.bit next end) (taken_first base)

@@ -23,6 +23,7 @@ ghost use Rattle.std.specs.Prelude.{◌≡◌, ℕ, ◌+◌, ◌-◌, ◌*◌, �
 
 mod blocks;
 mod dense;
+mod in_place;
 mod ones;
 mod prunable;
 mod search;
@@ -38,7 +39,7 @@ use std::ops::Range;
 /// A position is retained if it is not pruned and below the length.
 ///
 /// An implementor states which bitmap a value holds (`meaning`) and implements the five functions without a body.
-/// It may also implement `chunks_around`, if it has chunks in memory. Searches and counts then read these in place, many per step.
+/// It may also implement `chunks_around`, if it has chunks in memory. Searches, counts and iterators then read these in place.
 /// The contracts require that `N` is at least 1, and that `8N` and the length fit `u64`. At most the length is pruned.
 /// While the value is borrowed, the functions describe one and the same bitmap.
 /// The bits of a chunk at or past the length may have any value: no other function reads them.
@@ -176,6 +177,7 @@ pub trait Readable<const N: usize> {
     /// # Complexity
     ///
     /// Calls `len` and `pruned_chunks` once, here. The whole iteration calls `get_chunk` at most once per chunk that the range meets.
+    /// Calls `chunks_around` at most once per such chunk, and does not get the chunks that it reads in a slice.
     /// It is linear in the words of the range plus the positions returned.
     final fn ones_iter_range(&self, range: Range<u64>) -> OnesIter<'_, Self, N>
     where

@@ -1,15 +1,17 @@
 //! The iterator over the positions of a range whose bit is set, or is not set, by words of 64 bits.
+//!
+//! Whole chunks that a bitmap has in a slice are read in place. Any other chunk is copied once.
 
-ghost use Rattle.std.specs.Prelude.{◌≡◌, ◌≢◌, ℕ, ◌+◌, ◌*◌, ◌/◌, ◌%◌, ◌^◌, ◌<◌, ◌≤◌, ◌==◌, true, false, [], length, MatchBool};
+ghost use Rattle.std.specs.Prelude.{◌≡◌, ◌≢◌, ℕ, ◌+◌, ◌-◌, ◌*◌, ◌/◌, ◌%◌, ◌^◌, ◌<◌, ◌≤◌, ◌==◌, true, false, [], length, min};
 ghost use Rattle.std.specs.Int.{bit_at};
 ghost use Rattle.std.specs.Iterator.{item_count};
 ghost use Rattle.std.specs.Iterator.Runs.{YieldsInOrder};
 ghost use Rattle.bitmap_bytes.specs.Chunk.{chunk_bit, is_wanted, IsWidth};
 ghost use Rattle.bitmap_bytes.specs.Words.{starts_word, next_word, IsCut};
 ghost use Rattle.bitmap_core.specs.Meaning.{left_from, IsScan, ones, ones_between, seen_as, words, IsLawful, IsRetained, IsScanStep, ShowsChunk};
-ghost use Rattle.bitmap_core.specs.Searches.{first};
 
 use crate::bitmap::readable::Readable;
+use crate::bitmap::readable::in_place::{first_wanted, run_from};
 use crate::chunk::load::{following_word, high_bits, take_lowest, wanted_below, word_base};
 use crate::chunk::{chunk_index, chunk_width};
 use std::marker::Model;
@@ -29,6 +31,8 @@ pub struct OnesIter<'a, B: Readable<N>, const N: usize> {
     end: u64,
     // Whether the positions whose bit is set are wanted. If false, those whose bit is not set are.
     wanted: bool,
+    // Words in place, from position `next` of the cursor on.
+    run: &'a [[u8; 8]],
     cursor: Cursor<N>,
 }
 
@@ -40,7 +44,9 @@ struct Cursor<const N: usize> {
     base: u64,
     // The wanted bits of that word whose position has not been returned.
     word: u64,
-    // The chunk that contains the word.
+    // The position after the bits of that word, at most the end of the range.
+    next: u64,
+    // The chunk that was copied last.
     chunk: [u8; N],
     // For contracts only: the number of words loaded.
     loads: u64,
@@ -52,12 +58,12 @@ impl<'a, B: Readable<N>, const N: usize> Model for OnesIter<'a, B, N> {
     ghost Value = { Scan };
 
     ghost view = { λ s. record {
-      left = left_from N (seen_as s.wanted (B.meaning s.readable.now)) s.cursor.base s.cursor.word s.end;
+      left = left_from (seen_as s.wanted (B.meaning s.readable.now)) s.cursor.base s.cursor.word s.cursor.next s.end;
       loads = s.cursor.loads;
       words = words_between N s.cursor.first s.end;
     } };
 
-    ghost invariant = { λ s. IsIterating N (B.meaning s.readable.now) s.cursor.base s.cursor.word s.end s.cursor.chunk s.cursor.loads s.cursor.first };
+    ghost invariant = { λ s. IsIterating N (B.meaning s.readable.now) s.cursor.base s.cursor.word s.cursor.next s.end s.run.now s.cursor.chunk s.cursor.loads s.cursor.first };
 }
 
 // The wanted bits of the word at `base` of its chunk, with zeros past the end of the chunk and from `end` on. Counts one load.
@@ -81,32 +87,127 @@ fn load_word<const N: usize>(
     wanted_below(chunk, base, end, wanted)
 }
 
-// Moves to the next word with a bit whose position has not been returned. Returns whether there is one.
-fn advance<B: Readable<N>, const N: usize>(
+// The position at which the next word begins after the word at `base`, or `end` if that is less.
+fn next_below<const N: usize>(base: u64, end: u64) -> u64
+    requires width { IsWidth N }
+    ensures { result ≡ min (next_word N base) end }
+{
+    match following_word::<N>(base) {
+        Some(next) => next.min(end),
+        None => end,
+    }
+}
+
+// Moves to the next word with a bit whose position has not been returned, if there is one. Returns the words in place after it.
+fn advance<'a, B: Readable<N>, const N: usize>(
+    readable: &'a B,
+    end: u64,
+    wanted: bool,
+    run: &'a [[u8; 8]],
+    cursor: &mut Cursor<N>,
+) -> &'a [[u8; 8]]
+    requires scan { IsScan N (B.meaning readable.now) cursor.old.next end run.now cursor.old.chunk cursor.old.loads cursor.old.first }
+    requires cut { IsCut cursor.old.base cursor.old.word end }
+    ensures scan { IsScan N (B.meaning readable.now) cursor.new.next end result.now cursor.new.chunk cursor.new.loads cursor.new.first }
+    ensures cut { IsCut cursor.new.base cursor.new.word end }
+    ensures first { cursor.new.first ≡ cursor.old.first }
+    ensures counted { cursor.old.loads ≤ cursor.new.loads }
+    ensures left { left_from (seen_as wanted (B.meaning readable.now)) cursor.new.base cursor.new.word cursor.new.next end ≡ left_from (seen_as wanted (B.meaning readable.now)) cursor.old.base cursor.old.word cursor.old.next end }
+    ensures ended { cursor.new.word ≡ 0 → left_from (seen_as wanted (B.meaning readable.now)) cursor.new.base cursor.new.word cursor.new.next end ≡ [] }
+{
+    let mut rest = run;
+    while cursor.word == 0 {
+        if cursor.next >= end {
+            return rest;
+        }
+        rest = load_more(readable, end, wanted, rest, cursor);
+    }
+    rest
+}
+
+// Moves to the next word in place with a wanted bit, or past all of them. If there are none, calls `refill`.
+//
+// Returns the words in place that are left.
+fn load_more<'a, B: Readable<N>, const N: usize>(
+    readable: &'a B,
+    end: u64,
+    wanted: bool,
+    run: &'a [[u8; 8]],
+    cursor: &mut Cursor<N>,
+) -> &'a [[u8; 8]]
+    requires scan { IsScan N (B.meaning readable.now) cursor.old.next end run.now cursor.old.chunk cursor.old.loads cursor.old.first }
+    requires used { cursor.old.word ≡ 0 }
+    requires below { cursor.old.next < end }
+    ensures scan { IsScan N (B.meaning readable.now) cursor.new.next end result.now cursor.new.chunk cursor.new.loads cursor.new.first }
+    ensures cut { IsCut cursor.new.base cursor.new.word end }
+    ensures first { cursor.new.first ≡ cursor.old.first }
+    ensures counted { cursor.old.loads ≤ cursor.new.loads }
+    ensures left { left_from (seen_as wanted (B.meaning readable.now)) cursor.new.base cursor.new.word cursor.new.next end ≡ ones_between (seen_as wanted (B.meaning readable.now)).bit cursor.old.next end }
+    ensures moves { 2 * (end - cursor.new.next) + (1 - length result.now) < 2 * (end - cursor.old.next) + (1 - length run.now) }
+{
+    if run.is_empty() {
+        return refill(readable, end, wanted, cursor);
+    }
+    let (passed, word) = first_wanted(run, wanted);
+    cursor.base = cursor.next + 64 * passed as u64;
+    cursor.next = cursor.base;
+    if passed == run.len() {
+        return &[];
+    }
+    cursor.word = word;
+    cursor.next += 64;
+    cursor.loads += 1;
+    &run[passed + 1..]
+}
+
+// Returns the words in place from position `next` of the cursor on. If there are none, loads the word there from a copy of its chunk.
+#[inline(never)]
+fn refill<'a, B: Readable<N>, const N: usize>(
+    readable: &'a B,
+    end: u64,
+    wanted: bool,
+    cursor: &mut Cursor<N>,
+) -> &'a [[u8; 8]]
+    requires scan { IsScan N (B.meaning readable.now) cursor.old.next end [] cursor.old.chunk cursor.old.loads cursor.old.first }
+    requires used { cursor.old.word ≡ 0 }
+    requires below { cursor.old.next < end }
+    ensures scan { IsScan N (B.meaning readable.now) cursor.new.next end result.now cursor.new.chunk cursor.new.loads cursor.new.first }
+    ensures cut { IsCut cursor.new.base cursor.new.word end }
+    ensures first { cursor.new.first ≡ cursor.old.first }
+    ensures counted { cursor.old.loads ≤ cursor.new.loads }
+    ensures left { left_from (seen_as wanted (B.meaning readable.now)) cursor.new.base cursor.new.word cursor.new.next end ≡ ones_between (seen_as wanted (B.meaning readable.now)).bit cursor.old.next end }
+    ensures moves { 2 * (end - cursor.new.next) + (1 - length result.now) < 2 * (end - cursor.old.next) + 1 }
+{
+    let run = run_from(readable, cursor.next, end);
+    if !run.is_empty() {
+        return run;
+    }
+    load_copied(readable, end, wanted, cursor);
+    &[]
+}
+
+// Loads the word at position `next` of the cursor from a copy of its chunk.
+fn load_copied<B: Readable<N>, const N: usize>(
     readable: &B,
     end: u64,
     wanted: bool,
     cursor: &mut Cursor<N>,
-) -> bool
-    requires scan { IsScan N (B.meaning readable.now) cursor.old.base end cursor.old.chunk cursor.old.loads cursor.old.first }
-    requires cut { IsCut cursor.old.base cursor.old.word end }
-    ensures scan { IsScan N (B.meaning readable.now) cursor.new.base end cursor.new.chunk cursor.new.loads cursor.new.first }
+)
+    requires scan { IsScan N (B.meaning readable.now) cursor.old.next end [] cursor.old.chunk cursor.old.loads cursor.old.first }
+    requires below { cursor.old.next < end }
+    ensures scan { IsScan N (B.meaning readable.now) cursor.new.next end [] cursor.new.chunk cursor.new.loads cursor.new.first }
     ensures cut { IsCut cursor.new.base cursor.new.word end }
     ensures first { cursor.new.first ≡ cursor.old.first }
-    ensures counted { cursor.old.loads ≤ cursor.new.loads }
-    ensures left { left_from N (seen_as wanted (B.meaning readable.now)) cursor.new.base cursor.new.word end ≡ left_from N (seen_as wanted (B.meaning readable.now)) cursor.old.base cursor.old.word end }
-    ensures found { MatchBool result (0 < cursor.new.word) (left_from N (seen_as wanted (B.meaning readable.now)) cursor.new.base cursor.new.word end ≡ []) }
+    ensures counted { cursor.new.loads ≡ cursor.old.loads + 1 }
+    ensures left { left_from (seen_as wanted (B.meaning readable.now)) cursor.new.base cursor.new.word cursor.new.next end ≡ ones_between (seen_as wanted (B.meaning readable.now)).bit cursor.old.next end }
+    ensures moves { cursor.old.next < cursor.new.next }
+    ensures within { cursor.new.next ≤ end }
 {
-    while cursor.word == 0 {
-        let Some(next) = following_word::<N>(cursor.base) else {
-            return false;
-        };
-        if next >= end {
-            return false;
-        }
-        load_next(readable, end, wanted, next, cursor);
-    }
-    true
+    let base = cursor.next;
+    turn_chunk(readable, base, &mut cursor.chunk);
+    cursor.base = base;
+    cursor.word = load_word(&cursor.chunk, base, end, wanted, &mut cursor.loads);
+    cursor.next = next_below::<N>(base, end);
 }
 
 // Gets the chunk of `base` if a chunk begins there.
@@ -120,29 +221,6 @@ fn turn_chunk<B: Readable<N>, const N: usize>(readable: &B, base: u64, chunk: &m
     if base % chunk_width::<N>() == 0 {
         *chunk = readable.get_chunk(chunk_index::<N>(base));
     }
-}
-
-// Loads the word at `next`, which follows the word of the cursor.
-fn load_next<B: Readable<N>, const N: usize>(
-    readable: &B,
-    end: u64,
-    wanted: bool,
-    next: u64,
-    cursor: &mut Cursor<N>,
-)
-    requires scan { IsScan N (B.meaning readable.now) cursor.old.base end cursor.old.chunk cursor.old.loads cursor.old.first }
-    requires next { next ≡ next_word N cursor.old.base }
-    requires inside { next < end }
-    ensures scan { IsScan N (B.meaning readable.now) cursor.new.base end cursor.new.chunk cursor.new.loads cursor.new.first }
-    ensures cut { IsCut cursor.new.base cursor.new.word end }
-    ensures first { cursor.new.first ≡ cursor.old.first }
-    ensures base { cursor.new.base ≡ next }
-    ensures counted { cursor.new.loads ≡ cursor.old.loads + 1 }
-    ensures left { left_from N (seen_as wanted (B.meaning readable.now)) cursor.new.base cursor.new.word end ≡ ones_between (seen_as wanted (B.meaning readable.now)).bit next end }
-{
-    turn_chunk(readable, next, &mut cursor.chunk);
-    cursor.base = next;
-    cursor.word = load_word(&cursor.chunk, next, end, wanted, &mut cursor.loads);
 }
 
 impl<'a, B: Readable<N>, const N: usize> OnesIter<'a, B, N> {
@@ -163,10 +241,12 @@ impl<'a, B: Readable<N>, const N: usize> OnesIter<'a, B, N> {
                 readable,
                 end,
                 wanted,
+                run: &[],
                 cursor: Cursor {
                     first: position,
                     base: end,
                     word: 0,
+                    next: end,
                     chunk: [0; N],
                     loads: 0,
                 },
@@ -180,10 +260,12 @@ impl<'a, B: Readable<N>, const N: usize> OnesIter<'a, B, N> {
             readable,
             end,
             wanted,
+            run: &[],
             cursor: Cursor {
                 first: position,
                 base,
                 word: high_bits(word, position - base),
+                next: next_below::<N>(base, end),
                 chunk,
                 loads,
             },
@@ -206,7 +288,14 @@ impl<'a, B: Readable<N>, const N: usize> Iterator for OnesIter<'a, B, N> {
     ghost remaining = { item_count (λ s. s.left) };
 
     fn next(&mut self) -> Option<u64> {
-        if !advance(self.readable, self.end, self.wanted, &mut self.cursor) {
+        self.run = advance(
+            self.readable,
+            self.end,
+            self.wanted,
+            self.run,
+            &mut self.cursor,
+        );
+        if self.cursor.word == 0 {
             return None;
         }
         let place = take_lowest(&mut self.cursor.word);

@@ -19,7 +19,7 @@ use crate::chunk::whole::flip;
 //
 // None either if `read`, the number of bits that were read of the chunk before, is not that of a whole chunk.
 // A search that begins within a chunk so reads the next chunk first, which often has the position.
-fn slice_from<B: Readable<N>, const N: usize>(
+pub(crate) fn slice_from<B: Readable<N>, const N: usize>(
     readable: &B,
     read: u64,
     at: u64,
@@ -29,6 +29,7 @@ fn slice_from<B: Readable<N>, const N: usize>(
     requires retained { 8 * N * (B.meaning readable.now).pruned ≤ at }
     requires order { at ≤ end }
     requires within { end ≤ (B.meaning readable.now).len }
+    ensures aligned { 0 < length result.now → at % (8 * N) ≡ 0 }
     ensures within { at + 8 * N * length result.now ≤ end }
     ensures bits { (i : ℕ) → i < 8 * N * length result.now → chunks_bit N result.now i ≡ (B.meaning readable.now).bit (at + i) }
 {
