@@ -2,13 +2,15 @@
 -- PastStates: the past states after a commit, a drop and a rewind.
 -- KeptCommits: the invariant of kept commits after a drop and a rewind, and look-ups by number.
 -- KeptUnder: which states are kept after a drop and a rewind.
--- Ends: commits dropped one by one, from the first on or from the last on.
+-- Positions: kept commits by position: the first one past a number, and those between two positions.
+-- Ends: commits dropped one by one, from the first on.
 -- InPlace: a past state read in place.
 -- Rewound: a rewind in place.
 -- AddedCommit: the invariant, the history and the costs after a commit.
 pub mod PastStates
 pub mod KeptCommits
 pub mod KeptUnder
+pub mod Positions
 pub mod Ends
 pub mod InPlace
 pub mod Rewound

@@ -1,12 +1,10 @@
 -- The next chunk that differs, searched for among the chunks with entries in the records.
 use Rattle.std.proofs.Common.{◌≡◌, ℕ, zero, suc, ◌+◌, ◌^◌, ◌<◌, ◌≤◌, Bool, true, false, not, List, [], ◌∷◌, ◌++◌, length, get_or, refl, ap, arith, sym, subst, ◌∙◌, append_assoc}
 use mathlib.Core.Logic.{inl, inr, ◌≢◌}
-use Rattle.std.proofs.lemmas.Bool.{cases_eq, cases_order, cases_Bool, eq-eqb, ne_eqb, lt-ltb, le-ltb, le-leb, lt-leb, false≢true}
+use Rattle.std.proofs.lemmas.Bool.{cases_eq, cases_Bool, eq-eqb, ne_eqb, false≢true}
 use Rattle.std.proofs.lemmas.List.{append-nil}
 use Rattle.std.proofs.lemmas.List.Elements.{All-head, All-tail}
 use Rattle.std.proofs.lemmas.Map.Keys.{sorted_head, sorted_tail}
-use Rattle.std.specs.BTreeMap.Range.{entries_between}
-use Rattle.std.specs.declared.ops.Bound.TheVariants.{Excluded, Included}
 use Rattle.std.specs.Cmp.Lexicographic.{pointwise}
 use Rattle.std.specs.List.Sorted.{IsStrictlySortedBy}
 use Rattle.std.specs.Map.{keys_of}
@@ -18,7 +16,7 @@ use Rattle.bitmap_core.specs.Meaning.{ones_between}
 use Rattle.bitmap_core.proofs.Lists.SetPositions.{ones_between-append, ones_between-false, ones_between-hit, ones_between-length}
 use Rattle.bitmap_core.specs.PrunedBits.{PrunedBits}
 use Rattle.historical_bitmap.specs.Changes.{changed_from, differs, retained_bytes}
-use Rattle.historical_bitmap.specs.Compared.{between_numbers, named_chunks, IsNextChange}
+use Rattle.historical_bitmap.specs.Compared.{named_chunks, IsNextChange}
 use Rattle.historical_bitmap.specs.History.{EntriesRise}
 use Rattle.historical_bitmap.specs.Pending.{IsNextMember}
 use Rattle.historical_bitmap.specs.Record.{ReverseRecord}
@@ -70,19 +68,6 @@ pub next_right : (xs ys : List ℕ) (from i : ℕ) → IsNextMember ys from (Som
 next_right xs ys from i g none = (g.0, in_right xs ys i g.1, λ j h s. neither xs ys j (none j h s) (g.2 j h s))
 
 -- ---- the first of the records between two numbers
--- the range of a map past one number, up to another
-pub between_is : {X : Type 0} (from to : ℕ) (es : List (ℕ × X)) → entries_between nat_cmp (Excluded from) (Included to) es ≡ between_numbers from to es
-between_is from to [] = refl
-between_is from to (e ∷ es) = elim (cases_order from e.0) [
-  | inl same ↦ rw (le-ltb from e.0 (omega arith), eq-eqb from e.0 same) (between_is from to es)
-  | inr (inr l) ↦ rw (le-ltb from e.0 (omega arith), ne_eqb from e.0 (λ same. absurd (omega (arith, same, l)))) (between_is from to es)
-  | inr (inl l) ↦ elim (cases_order to e.0) [
-    | inl same ↦ rw (lt-ltb from e.0 l, le-ltb to e.0 (omega arith), eq-eqb to e.0 same, le-leb e.0 to (omega arith)) (ap (λ rest. e ∷ rest) (between_is from to es))
-    | inr (inr m) ↦ rw (lt-ltb from e.0 l, le-ltb to e.0 (omega arith), ne_eqb to e.0 (λ same. absurd (omega (arith, same, m))), le-leb e.0 to (omega arith)) (ap (λ rest. e ∷ rest) (between_is from to es))
-    | inr (inl m) ↦ rw (lt-ltb from e.0 l, lt-ltb to e.0 m, lt-leb e.0 to m) (between_is from to es)
-  ]
-]
-
 -- the loop invariant of the search: the records that are left, and the first chunk that the records before them have an entry for
 pub record SearchesOn (all left : List (ℕ × ReverseRecord)) (from : ℕ) (next : Option ℕ) : Type 0 where
   pub rise : EntriesRise left

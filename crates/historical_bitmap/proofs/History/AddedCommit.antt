@@ -6,10 +6,8 @@ use Rattle.std.proofs.lemmas.Bool.{cases_lt, cases_eq, eq-eqb, ne_eqb, le-leb}
 use Rattle.std.proofs.lemmas.List.{length-append}
 use Rattle.std.proofs.Math.Seq.{take-append_seam}
 use Rattle.std.proofs.lemmas.List.Elements.{All-append, All-cons, All-nil, All-weaker}
-use Rattle.std.specs.BTreeMap.{insert_entry}
 use Rattle.std.specs.List.{All}
 use Rattle.std.specs.Map.{keys_of}
-use Rattle.std.specs.Ordering.{nat_cmp}
 use Rattle.std.proofs.lemmas.Bool.{false≢true}
 use Rattle.std.specs.Prelude.{Option, Some, None, false, true, OnErr, OnOk}
 use Rattle.std.specs.Result.{is_err}
@@ -18,7 +16,7 @@ use Rattle.historical_bitmap.specs.History.{before_latest, costs, snapshots, Are
 use Rattle.historical_bitmap.specs.Record.{ReverseRecord, LeadsBack}
 use Rattle.historical_bitmap.specs.Undo.{CanUndo}
 use Rattle.historical_bitmap.specs.View.{commit_error}
-use Rattle.historical_bitmap.proofs.History.PastStates.{can_undo_push, costs_push, insert_last, snapshots_push}
+use Rattle.historical_bitmap.proofs.History.PastStates.{can_undo_push, costs_push, snapshots_push}
 use Rattle.historical_bitmap.proofs.Pending.Record.{keys_push, sorted_push}
 
 -- the fact about `Ok`, if the result is no error
@@ -54,26 +52,22 @@ all_below numbers (Some last) number small up free = All-weaker (λ k. k ≤ las
 
 -- ---- a commit under such a number
 module _ (n : ℕ) (cs ds : List (ℕ × ReverseRecord)) (last : Option ℕ) (number : ℕ) (r : ReverseRecord) (older newer : PrunedBits)
-    (pos : 0 < n) (small : number < 2 ^ 64) (free : commit_error last number ≡ None) (kept : AreKept n older cs last) (inserted : ds ≡ insert_entry nat_cmp cs number r) where
-  -- its record is the last one
-  pub found_last : ds ≡ cs ++ (number, r) ∷ []
-  found_last = inserted ∙ insert_last cs number r (all_below (keys_of cs) last number small kept.numbers free)
-
+    (pos : 0 < n) (small : number < 2 ^ 64) (free : commit_error last number ≡ None) (kept : AreKept n older cs last) (appended : ds ≡ cs ++ (number, r) ∷ []) where
   -- the other commits are unchanged
   pub earlier_same : before_latest ds ≡ cs
   earlier_same =
       let count : length (cs ++ (number, r) ∷ []) - 1 ≡ length cs = omega (arith, length-append cs ((number, r) ∷ [])) in
-      ap before_latest found_last ∙ (ap (λ k. take k (cs ++ (number, r) ∷ [])) count ∙ take-append_seam cs ((number, r) ∷ []))
+      ap before_latest appended ∙ (ap (λ k. take k (cs ++ (number, r) ∷ [])) count ∙ take-append_seam cs ((number, r) ∷ []))
 
   numbers_last : keys_of ds ≡ keys_of cs ++ number ∷ []
-  numbers_last = ap keys_of found_last ∙ keys_push cs number r
+  numbers_last = ap keys_of appended ∙ keys_push cs number r
 
   -- the commits that are then kept
   pub kept_more : LeadsBack n r older newer → CanUndo n r newer → AreKept n newer ds (Some number)
   kept_more back can =
       let below = all_below (keys_of cs) last number small kept.numbers free in
       record {
-        undo = rw found_last (can_undo_push n cs number r older newer pos back can kept.undo);
+        undo = rw appended (can_undo_push n cs number r older newer pos back can kept.undo);
         rise = rw numbers_last (sorted_push (keys_of cs) number kept.rise below);
         numbers = (
           not_reserved last number small free,
@@ -85,8 +79,8 @@ module _ (n : ℕ) (cs ds : List (ℕ × ReverseRecord)) (last : Option ℕ) (nu
 
   -- the bitmap that the commit leaves is appended to the history
   pub history_more : LeadsBack n r older newer → snapshots n ds newer ≡ snapshots n cs older ++ (number, newer) ∷ []
-  history_more back = rw found_last (snapshots_push n cs number r older newer pos back)
+  history_more back = rw appended (snapshots_push n cs number r older newer pos back)
 
   -- its cost is appended to the costs
   pub costs_more : costs ds ≡ costs cs ++ (number, length r.entries) ∷ []
-  costs_more = ap costs found_last ∙ costs_push cs number r
+  costs_more = ap costs appended ∙ costs_push cs number r

@@ -1,16 +1,13 @@
 -- The kept commits as the calls use them: their numbers, dropping, rewinding, and undoing records newest first.
 use Rattle.std.proofs.Common.{◌≡◌, ℕ, suc, ◌-◌, ◌^◌, ◌<◌, ◌≤◌, List, [], ◌∷◌, ◌++◌, length, refl, ap, arith, sym, ◌∙◌}
 use mathlib.Core.Logic.{inl, inr}
-use Rattle.std.proofs.lemmas.Bool.{ltb-true, lt-ltb, le-ltb, le-leb, lt-leb, cases_lt, cases_eq, cases_order, eq-eqb, ne_eqb}
+use Rattle.std.proofs.lemmas.Bool.{ltb-true, le-leb, lt-leb, cases_lt, cases_eq, eq-eqb, ne_eqb}
 use Rattle.std.proofs.lemmas.List.Elements.{All-head, All-tail, All-weaker, All-filter, All-nil, All-cons}
 use Rattle.std.proofs.lemmas.List.Kept.{IsStrictlySortedBy-filter}
 use Rattle.std.proofs.lemmas.Map.Entries.{length-keys_of}
 use Rattle.std.proofs.lemmas.Option.{slice_get-map}
-use Rattle.std.specs.BTreeMap.{is_at}
-use Rattle.std.specs.BTreeMap.Range.{entries_between}
-use Rattle.std.specs.declared.ops.Bound.TheVariants.{Excluded, Unbounded}
 use Rattle.std.specs.List.{All, filter}
-use Rattle.std.specs.Map.{lookup, keys_of}
+use Rattle.std.specs.Map.{keys_of}
 use Rattle.std.specs.Ordering.{nat_cmp}
 use Rattle.std.specs.Prelude.{true, Option, Some, None, is_some, IsSome, slice_get, nat_le}
 use Rattle.std.specs.Option.{option_map}
@@ -18,7 +15,8 @@ use Rattle.bitmap_core.specs.PrunedBits.{PrunedBits}
 use Rattle.historical_bitmap.specs.History.{undone, snapshots, costs, from_number, past_number, up_to_number, latest, RiseInNumber, AllCanUndo, AreUpTo, AreKept, is_above, kept_under}
 use Rattle.historical_bitmap.specs.Record.{ReverseRecord, before}
 use Rattle.historical_bitmap.specs.Undo.{CanUndo}
-use Rattle.historical_bitmap.proofs.History.PastStates.{same_lookup, snapshot_at, snapshot_none, snapshots_numbers, can_undo_from, can_undo_rewound, snapshots_rewound, undone_push}
+use Rattle.historical_bitmap.proofs.History.Positions.{sorted_none}
+use Rattle.historical_bitmap.proofs.History.PastStates.{snapshot_at, snapshot_none, snapshots_numbers, can_undo_from, can_undo_rewound, snapshots_rewound, undone_push}
 
 -- ---- the numbers of a history are those of the commits
 pub same_number : (n i : ℕ) (cs : List (ℕ × ReverseRecord)) (b : PrunedBits) → option_map (λ e. e.0) (slice_get (snapshots n cs b) i) ≡ option_map (λ e. e.0) (slice_get cs i)
@@ -101,16 +99,15 @@ costs_from m (c ∷ cs) = elim (cases_lt c.0 m) [
   | inr l ↦ rw (le-leb m c.0 l) (ap (λ rest. (c.0, length c.1.entries) ∷ rest) (costs_from m cs))
 ]
 
--- ---- the latest records undone, the newest first
--- the range of a map past a number
-pub past_is : {X : Type 0} (m : ℕ) (es : List (ℕ × X)) → entries_between nat_cmp (Excluded m) Unbounded es ≡ past_number m es
-past_is m [] = refl
-past_is m (e ∷ es) = elim (cases_order m e.0) [
-  | inl same ↦ rw (le-ltb m e.0 (omega arith), eq-eqb m e.0 same) (past_is m es)
-  | inr (inl l) ↦ rw (lt-ltb m e.0 l) (ap (λ rest. e ∷ rest) (past_is m es))
-  | inr (inr l) ↦ rw (le-ltb m e.0 (omega arith), ne_eqb m e.0 (λ same. absurd (omega arith))) (past_is m es)
-]
+-- all commits dropped
+numbers_none : (numbers : List ℕ) (last : Option ℕ) → AreUpTo numbers last → AreUpTo [] last
+numbers_none numbers None h = refl
+numbers_none numbers (Some last) h = (h.0, All-nil (λ k. k ≤ last))
 
+pub kept_none : (n : ℕ) (b : PrunedBits) (cs : List (ℕ × ReverseRecord)) (last : Option ℕ) → AreKept n b cs last → AreKept n b [] last
+kept_none n b cs last kept = record { undo = tt; rise = sorted_none; numbers = numbers_none (keys_of cs) last kept.numbers }
+
+-- ---- the latest records undone, the newest first
 pub can_undo_past : (n m : ℕ) (cs : List (ℕ × ReverseRecord)) (b : PrunedBits) → RiseInNumber cs → AllCanUndo n cs b → AllCanUndo n (past_number m cs) b
 can_undo_past n m cs b rise all = can_undo_from n (suc m) cs b rise all
 
@@ -137,9 +134,6 @@ last_undone n number left rest r b older aim e step leads =
     )
 
 -- ---- look-up
-pub kept_is : (n m : ℕ) (cs : List (ℕ × ReverseRecord)) (b : PrunedBits) → is_some (lookup (is_at (nat_cmp m)) cs) ≡ is_some (kept_under (snapshots n cs b) m)
-kept_is n m cs b = ap is_some (same_lookup m cs) ∙ sym (same_kept n m cs b)
-
 -- the bitmap under a kept number is the current one with the later records undone
 pub found_under : (n m : ℕ) (cs : List (ℕ × ReverseRecord)) (b : PrunedBits) → RiseInNumber cs → IsSome (kept_under (snapshots n cs b) m) → kept_under (snapshots n cs b) m ≡ Some (undone n (past_number m cs) b)
 found_under n m cs b rise there = by_record (kept_under cs m) refl

@@ -3,13 +3,12 @@ use Rattle.std.proofs.Common.{◌≡◌, ℕ, suc, ◌+◌, ◌<◌, ◌≤◌, 
 use Rattle.std.proofs.lemmas.Bool.{lt-ltb, le-ltb, le-leb, lt-leb, cases_lt, cases_eq, cases_order, eq-eqb, ne_eqb}
 use mathlib.Core.Logic.{inl, inr}
 use Rattle.std.specs.Prelude.{Some, None}
-use Rattle.std.specs.List.{All, AllByRecursion}
+use Rattle.std.specs.List.{AllByRecursion}
 use Rattle.std.specs.Ordering.{nat_cmp}
-use Rattle.std.specs.BTreeMap.{insert_entry, is_at}
+use Rattle.std.specs.BTreeMap.{is_at}
 use Rattle.std.specs.Cmp.{ranked}
 use Rattle.std.specs.declared.cmp.Ordering.TheVariants.{Less}
 use Rattle.std.proofs.lemmas.Map.Keys.{sorted_head, sorted_tail}
-use Rattle.std.proofs.lemmas.List.Elements.{All-head, All-tail}
 use Rattle.std.specs.Map.{lookup, keys_of}
 use Rattle.bitmap_core.specs.PrunedBits.{PrunedBits}
 use Rattle.historical_bitmap.specs.Record.{ReverseRecord, before, LeadsBack}
@@ -164,13 +163,6 @@ can_undo_rewound n m (c ∷ cs) b h all =
     ]
 
 -- ---- the operations of a map
--- an insert past every number goes to the end
-pub insert_last : {X : Type 0} (cs : List (ℕ × X)) (m : ℕ) (r : X) → All (λ k. k < m) (keys_of cs) → insert_entry nat_cmp cs m r ≡ cs ++ (m, r) ∷ []
-insert_last [] m r h = refl
-insert_last (c ∷ cs) m r h =
-    let l : c.0 < m = All-head (λ k. k < m) c.0 (keys_of cs) h in
-    rw (le-ltb m c.0 (omega arith), ne_eqb m c.0 (λ e. absurd (omega arith))) (ap (λ ds. c ∷ ds) (insert_last cs m r (All-tail (λ k. k < m) c.0 (keys_of cs) h)))
-
 -- the look-up of a map is that of the number
 pub same_lookup : {X : Type 0} (m : ℕ) (cs : List (ℕ × X)) → lookup (is_at (nat_cmp m)) cs ≡ kept_under cs m
 same_lookup m [] = refl

@@ -100,6 +100,9 @@ pub record RecordsLeft (left all : List (ℕ × ReverseRecord)) (first end : ℕ
   pub on : GathersOn (first_kept left) (first_kept all) first end [] now
   pub rise : EntriesRise left
 
+pub records_all : (left all : List (ℕ × ReverseRecord)) (first end : ℕ) (now : List (ℕ × List ℕ)) → left ≡ all → now ≡ [] → EntriesRise all → RecordsLeft left all first end now
+records_all left all first end now e none rise = rw (e, none) (record { on = λ i. refl; rise = rise })
+
 record_split : (rest : List (ℕ × ReverseRecord)) (c : ℕ × ReverseRecord) (i : ℕ) → first_kept (rest ++ c ∷ []) i ≡ option_or (first_kept rest i) (kept c.1 i)
 record_split [] c i = or_none (kept c.1 i)
 record_split (d ∷ rest) c i = ap (option_or (kept d.1 i)) (record_split rest c i) ∙ or_assoc (kept d.1 i) (first_kept rest i) (kept c.1 i)

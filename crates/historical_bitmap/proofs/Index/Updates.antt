@@ -1,15 +1,13 @@
 -- The places of a record, added to an index and removed from it.
 use Rattle.std.proofs.Common.{◌≡◌, ℕ, ◌+◌, ◌<◌, Bool, true, false, cond, not, List, [], ◌∷◌, ◌++◌, length, take, drop, get_or, refl, ap, arith, sym, ◌∙◌}
 use mathlib.Core.Logic.{inl, inr}
-use Rattle.std.proofs.lemmas.Bool.{cases_Bool, cases_eq, cases_lt, cases_order, eq-eqb, ne_eqb, le-leb, le-ltb, lt-leb, lt-ltb, or_parts}
+use Rattle.std.proofs.lemmas.Bool.{cases_Bool, cases_eq, cases_lt, eq-eqb, ne_eqb, le-leb, le-ltb, lt-leb, lt-ltb, or_parts}
 use Rattle.std.proofs.lemmas.List.{map-append, take-append-drop, take_more}
 use Rattle.std.proofs.lemmas.List.Elements.{All-head, All-tail}
 use Rattle.std.proofs.lemmas.List.Folds.{list_any-append}
 use Rattle.std.proofs.lemmas.List.Kept.{IsStrictlySortedBy-filter}
 use Rattle.std.proofs.lemmas.Map.Keys.{sorted_head, sorted_tail}
 use Rattle.std.specs.BTreeMap.{is_at}
-use Rattle.std.specs.BTreeMap.Range.{entries_between}
-use Rattle.std.specs.declared.ops.Bound.TheVariants.{Excluded, Unbounded}
 use Rattle.std.specs.List.{filter}
 use Rattle.std.specs.List.Sorted.{IsStrictlySortedBy}
 use Rattle.std.specs.Map.{keys_of, lookup}
@@ -291,15 +289,6 @@ removes_past number commits left places is rise index =
 -- those below a number are removed
 at_least : (number m : ℕ) → nat_le number m ≡ not (nat_lt m number)
 at_least number m = at_most m number
-
--- the range of a map below a number
-pub below_is : {X : Type 0} (m : ℕ) (es : List (ℕ × X)) → entries_between nat_cmp Unbounded (Excluded m) es ≡ filter (λ e. nat_lt e.0 m) es
-below_is m [] = refl
-below_is m (e ∷ es) = elim (cases_order m e.0) [
-  | inl same ↦ rw (le-ltb m e.0 (omega (arith, same)), eq-eqb m e.0 same, le-ltb e.0 m (omega (arith, same))) (below_is m es)
-  | inr (inl l) ↦ rw (lt-ltb m e.0 l, le-ltb e.0 m (omega (arith, l))) (below_is m es)
-  | inr (inr l) ↦ rw (le-ltb m e.0 (omega (arith, l)), ne_eqb m e.0 (λ same. absurd (omega (arith, same, l))), lt-ltb e.0 m l) (ap (λ rest. e ∷ rest) (below_is m es))
-]
 
 pub removes_below : (number : ℕ) (commits left : List (ℕ × ReverseRecord)) (places : List ((ℕ × ℕ) × List ℕ)) → left ≡ filter (λ c. nat_lt c.0 number) commits → RiseInNumber commits → IsIndexOf places commits → RemovesOn left (from_number number commits) places
 removes_below number commits left places is rise index =

@@ -41,6 +41,7 @@ mod at;
 mod batch;
 mod changes;
 mod clean;
+mod commit_list;
 mod commits;
 mod dirty;
 mod edit;
@@ -61,17 +62,16 @@ mod word;
 
 pub use crate::bitmap::historical::at::AtCommit;
 pub use crate::bitmap::historical::changes::ChangedChunks;
+use crate::bitmap::historical::commit_list::CommitList;
 pub use crate::bitmap::historical::commits::{CommitNumbers, Commits};
 pub use crate::bitmap::historical::edit::{Edit, Lent};
 pub use crate::bitmap::historical::error::{ApplyError, Error, RewindError};
 pub use crate::bitmap::historical::index::{AtIndexed, CommitIndex};
 pub use crate::bitmap::historical::pending::Dirty;
 pub use crate::bitmap::historical::pending_changes::PendingChanges;
-use crate::bitmap::historical::record::CommitDiff;
 pub use crate::bitmap::historical::state::{Clean, State};
 use bitmap_core::bitmap::Prunable;
 use std::alloc::AllocError;
-use std::collections::BTreeMap;
 use std::marker::Model;
 
 /// A prunable bitmap in chunks of `N` bytes, with a history of numbered commits. The head of this module has an example.
@@ -83,11 +83,12 @@ use std::marker::Model;
 /// the number last committed or rewound to, even if its commit is not kept. `u64::MAX` is reserved.
 ///
 /// # Memory
-/// The retained chunks of the current bitmap, the entries of the reverse records, and the edited and captured chunks of a batch.
+/// The retained chunks of the current bitmap, the reverse records with their entries, and the edited and captured chunks of a batch.
+/// The list of the records keeps its capacity if commits are dropped.
 #[derive(Debug, Drop)]
 pub struct BitMap<const N: usize, S: State = Clean> {
     current: Prunable<N>,
-    commits: BTreeMap<u64, CommitDiff<N>>,
+    commits: CommitList<N>,
     last: Option<u64>,
     state: S,
 }
@@ -143,9 +144,9 @@ impl<const N: usize, S: State> Model for BitMap<N, S> {
 
     ghost Value = { View S };
 
-    ghost view = { λ b. record { current = b.current; commits = b.commits.entries; last = b.last; state = b.state } };
+    ghost view = { λ b. record { current = b.current; commits = b.commits; last = b.last; state = b.state } };
 
-    ghost invariant = { λ b. S.fits N b.current b.state × AreKept N b.current b.commits.entries b.last };
+    ghost invariant = { λ b. S.fits N b.current b.state × AreKept N b.current b.commits b.last };
 }
 
 impl<const N: usize, S: State> Clone for BitMap<N, S> {

@@ -1,26 +1,26 @@
 //! Past states that are read in place, without a bitmap of their own.
 
-ghost use Rattle.std.specs.Prelude.{◌≡◌, ◌-◌, ◌^◌, None, option_copied, option_map, slice_get};
+ghost use Rattle.std.specs.Prelude.{◌≡◌, ◌-◌, ◌^◌, drop, None, option_copied, option_map, slice_get};
 ghost use Rattle.bitmap_bytes.specs.Chunk.{IsWidth};
 ghost use Rattle.bitmap_core.specs.Meaning.{pruned_meaning, ShowsChunk};
 ghost use Rattle.bitmap_core.specs.PrunedBits.{IsRetainedChunk};
 ghost use Rattle.historical_bitmap.specs.History.{EntriesRise, first_kept as first_kept_of, IsLeftBy, kept_under, left_by, past_number};
 ghost use Rattle.historical_bitmap.specs.View.{history_of};
 
+use crate::bitmap::historical::commit_list::CommitList;
 use crate::bitmap::historical::record::CommitDiff;
 use crate::bitmap::historical::{BitMap, Clean};
 use bitmap_core::bitmap::Readable;
 use bitmap_core::chunk::{chunk_index, chunk_width};
-use std::collections::BTreeMap;
 use std::marker::Model;
-use std::ops::Bound;
 
 /// The bitmap at a kept commit, read in place: a chunk is searched for in the reverse records of later commits, then in the current bitmap.
 ///
 /// It is a `Readable`, and its methods do not allocate. `CleanBitMap::at` returns it.
 ///
 /// # Complexity
-/// `len` and `pruned_chunks`: constant. A read of a chunk: one binary search per reverse record past the commit, until one keeps the chunk.
+/// `len` and `pruned_chunks`: constant.
+/// A read of a chunk: one binary search per reverse record past the commit, until one keeps the chunk.
 ///
 /// To read a few bits, this is cheaper than `get_at_commit`. To read many bits of a state with many commits after it, `get_at_commit`
 /// is cheaper: it costs a copy of the current bitmap and one pass over the later records, and then each read takes constant time.
@@ -28,46 +28,47 @@ use std::ops::Bound;
 pub struct AtCommit<'a, const N: usize> {
     of: &'a BitMap<N, Clean>,
     number: u64,
+    // The position of the first commit past the number.
+    past: usize,
     len: u64,
     pruned: usize,
 }
 
 impl<'a, const N: usize> Model for AtCommit<'a, N> {
+    ghost use Rattle.std.specs.Prelude.{◌≡◌, drop};
     ghost use Rattle.bitmap_core.specs.PrunedBits.{PrunedBits};
-    ghost use Rattle.historical_bitmap.specs.History.{IsLeftBy, left_by};
+    ghost use Rattle.historical_bitmap.specs.History.{IsLeftBy, left_by, past_number};
 
     ghost Value = { PrunedBits };
 
     ghost view = { λ a. left_by N a.number a.of.now.commits a.of.now.current };
 
-    ghost invariant = { λ a. IsLeftBy N a.number a.of.now.commits a.of.now.current a.len a.pruned };
+    ghost invariant = { λ a. IsLeftBy N a.number a.of.now.commits a.of.now.current a.len a.pruned × (drop a.past a.of.now.commits ≡ past_number a.number a.of.now.commits) };
 }
 
 // Returns the first reverse record past a number.
-fn first_past<const N: usize>(
-    commits: &BTreeMap<u64, CommitDiff<N>>,
-    number: u64,
-) -> Option<&CommitDiff<N>>
-    ensures { option_copied result ≡ option_map (λ commit. commit.1) (slice_get (past_number number commits.now.entries) 0) }
+fn first_past<const N: usize>(commits: &CommitList<N>, number: u64) -> Option<&CommitDiff<N>>
+    ensures { option_copied result ≡ option_map (λ commit. commit.1) (slice_get (past_number number commits.now) 0) }
 {
-    let later = (Bound::Excluded(number), Bound::Unbounded);
-    match commits.range(later).next() {
-        Some((_, record)) => Some(record),
-        None => None,
+    let position = commits.past(number);
+    if position == commits.len() {
+        return None;
     }
+    let (_, record) = commits.commit(position);
+    Some(record)
 }
 
-// Returns the old bytes of a chunk from the first record past a number that keeps any.
+// Returns the old bytes of a chunk from the first record from a position on that keeps any.
 fn first_kept<const N: usize>(
-    commits: &BTreeMap<u64, CommitDiff<N>>,
-    number: u64,
+    commits: &CommitList<N>,
+    first: usize,
     chunk: usize,
 ) -> Option<&[u8; N]>
-    requires { EntriesRise (past_number number commits.now.entries) }
-    ensures { option_copied result ≡ first_kept_of (past_number number commits.now.entries) chunk }
+    requires { EntriesRise (drop first commits.now) }
+    ensures { option_copied result ≡ first_kept_of (drop first commits.now) chunk }
 {
-    let later = (Bound::Excluded(number), Bound::Unbounded);
-    for (_, record) in commits.range(later) {
+    for position in first..commits.len() {
+        let (_, record) = commits.commit(position);
         if let Some(bytes) = record.kept(chunk) {
             return Some(bytes);
         }
@@ -122,6 +123,7 @@ impl<const N: usize> BitMap<N, Clean> {
         Some(AtCommit {
             of: self,
             number,
+            past: self.commits.past(number),
             len,
             pruned,
         })
@@ -137,13 +139,15 @@ impl<const N: usize> BitMap<N, Clean> {
         }
     }
 
-    // Returns a chunk that the last commit up to a number left. Bits past the length at that commit may have any value.
-    fn chunk_at(&self, number: u64, chunk: usize) -> [u8; N]
-        requires { IsRetainedChunk N (left_by N number self.now.commits self.now.current) chunk }
+    // Returns a chunk that the last commit up to a number left. The first commit past the number is at position `past`.
+    // Bits past the length at that commit may have any value.
+    fn chunk_at(&self, number: u64, past: usize, chunk: usize) -> [u8; N]
+        requires past { drop past self.now.commits ≡ past_number number self.now.commits }
+        requires retained { IsRetainedChunk N (left_by N number self.now.commits self.now.current) chunk }
         ensures { ShowsChunk N (pruned_meaning N (left_by N number self.now.commits self.now.current)) chunk result }
     {
         let _ = self.current.len();
-        let kept = first_kept(&self.commits, number, chunk);
+        let kept = first_kept(&self.commits, past, chunk);
         self.kept_or_current(number, chunk, kept)
     }
 
@@ -174,12 +178,14 @@ impl<'a, const N: usize> Readable<N> for AtCommit<'a, N> {
     }
 
     fn get_chunk(&self, chunk: usize) -> [u8; N] {
-        self.of.chunk_at(self.number, chunk)
+        self.of.chunk_at(self.number, self.past, chunk)
     }
 
     fn last_chunk(&self) -> ([u8; N], u64) {
         let last = self.len - 1;
-        let chunk = self.of.chunk_at(self.number, chunk_index::<N>(last));
+        let chunk = self
+            .of
+            .chunk_at(self.number, self.past, chunk_index::<N>(last));
         (chunk, last % chunk_width::<N>() + 1)
     }
 

@@ -9,14 +9,12 @@ ghost use Rattle.historical_bitmap.specs.Pending.{IsNextMember};
 ghost use Rattle.historical_bitmap.specs.View.{history_of};
 
 use crate::bitmap::historical::at::AtCommit;
+use crate::bitmap::historical::commit_list::CommitList;
 use crate::bitmap::historical::edited::cut;
-use crate::bitmap::historical::record::CommitDiff;
 use crate::bitmap::historical::{BitMap, Clean};
 use bitmap_core::bitmap::Readable;
 use bitmap_core::chunk::{chunk_count, chunk_width};
-use std::collections::BTreeMap;
 use std::marker::Model;
-use std::ops::Bound;
 
 /// An iterator over the indices of the chunks that differ between two kept states, ascending, each once.
 ///
@@ -25,11 +23,12 @@ use std::ops::Bound;
 /// Does not allocate.
 ///
 /// # Complexity
-/// For each chunk that `next` examines: one binary search per reverse record between the two states, and two reads through `AtCommit`.
+/// For each chunk that `next` examines: two searches among the kept commits, one binary search per reverse record between the two states,
+/// and two reads through `AtCommit`.
 /// It examines only chunks with an entry in such a record.
 #[derive(Drop)]
 pub struct ChangedChunks<'a, const N: usize> {
-    commits: &'a BTreeMap<u64, CommitDiff<N>>,
+    commits: &'a CommitList<N>,
     from: u64,
     to: u64,
     older: AtCommit<'a, N>,
@@ -49,7 +48,7 @@ impl<'a, const N: usize> Model for ChangedChunks<'a, N> {
 
     ghost view = { λ c. changed_from N c.older c.newer c.next c.end };
 
-    ghost invariant = { λ c. IsComparing N c.from c.to c.commits.now.entries c.older c.newer c.end };
+    ghost invariant = { λ c. IsComparing N c.from c.to c.commits.now c.older c.newer c.end };
 }
 
 // Returns the lesser of two numbers, or the only one.
@@ -66,18 +65,18 @@ fn least(left: Option<usize>, right: Option<usize>) -> Option<usize>
 
 // Returns the first chunk from `first` on with an entry in a record past `from` and up to `to`.
 fn next_named<const N: usize>(
-    commits: &BTreeMap<u64, CommitDiff<N>>,
+    commits: &CommitList<N>,
     from: u64,
     to: u64,
     first: usize,
 ) -> Option<usize>
     requires order { from ≤ to }
-    requires rise { EntriesRise (between_numbers from to commits.now.entries) }
-    ensures { IsNextMember (named_chunks (between_numbers from to commits.now.entries)) first result }
+    requires rise { EntriesRise (between_numbers from to commits.now) }
+    ensures { IsNextMember (named_chunks (between_numbers from to commits.now)) first result }
 {
     let mut next = None;
-    let between = (Bound::Excluded(from), Bound::Included(to));
-    for (_, record) in commits.range(between) {
+    for position in commits.past(from)..commits.past(to) {
+        let (_, record) = commits.commit(position);
         next = least(next, record.next_from(first));
     }
     next
@@ -107,7 +106,7 @@ impl<'a, const N: usize> AtCommit<'a, N> {
 
 // Returns the first chunk from `first` on, and before `end`, in which two states differ.
 fn next_changed<const N: usize>(
-    commits: &BTreeMap<u64, CommitDiff<N>>,
+    commits: &CommitList<N>,
     from: u64,
     to: u64,
     older: &AtCommit<'_, N>,
@@ -115,7 +114,7 @@ fn next_changed<const N: usize>(
     first: usize,
     end: usize,
 ) -> Option<usize>
-    requires { IsComparing N from to commits.now.entries older.now newer.now end }
+    requires { IsComparing N from to commits.now older.now newer.now end }
     ensures { IsNextChange N older.now newer.now first end result }
 {
     let mut at = first;

@@ -8,12 +8,12 @@ ghost use Rattle.historical_bitmap.specs.View.{marked_of, pending_of};
 ghost use Rattle.historical_bitmap.specs.declared.bitmap.historical.error.Error.TheVariants.{PrunedChunksOverflow};
 
 use crate::bitmap::historical::BitMap;
+use crate::bitmap::historical::commit_list::CommitList;
 use crate::bitmap::historical::error::Error;
 use crate::bitmap::historical::pending::Dirty;
 use crate::bitmap::historical::state::Clean;
 use bitmap_core::bitmap::Prunable;
 use std::alloc::Global;
-use std::collections::BTreeMap;
 
 impl<const N: usize> BitMap<N, Clean> {
     /// Returns an empty bitmap: no bits, no pruned chunks and no commits.
@@ -66,7 +66,7 @@ impl<const N: usize> BitMap<N, Clean> {
     {
         BitMap {
             current: bitmap,
-            commits: BTreeMap::new(alloc),
+            commits: CommitList::new(alloc),
             last: None,
             state: Clean::new(alloc),
         }

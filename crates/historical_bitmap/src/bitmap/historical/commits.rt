@@ -7,6 +7,7 @@ ghost use Rattle.historical_bitmap.specs.History.{AllCanUndo, earliest, from_num
 ghost use Rattle.historical_bitmap.specs.View.{costs_of, history_of};
 ghost use Rattle.historical_bitmap.specs.declared.bitmap.historical.error.RewindError.TheVariants.{Memory, NoSuchCommit};
 
+use crate::bitmap::historical::commit_list::CommitList;
 use crate::bitmap::historical::error::RewindError;
 use crate::bitmap::historical::record::CommitDiff;
 use crate::bitmap::historical::rewind::rewind;
@@ -15,25 +16,25 @@ use crate::bitmap::historical::undo::undo;
 use crate::bitmap::historical::{BitMap, CleanBitMap};
 use bitmap_core::bitmap::Prunable;
 use std::alloc::AllocError;
-use std::collections::BTreeMap;
-use std::collections::btree_map::Keys;
+use std::collections::vec_deque::Iter;
 use std::marker::Model;
-use std::ops::Bound;
 
-/// An iterator over the numbers that are keys of a map, ascending, each once.
+/// An iterator over the numbers of numbered values, in their order, each once.
 ///
 /// After the last number, `next` returns `None`, however often it is called.
 #[derive(Drop)]
 pub struct CommitNumbers<'a, V> {
-    keys: Keys<'a, u64, V>,
+    commits: Iter<'a, (u64, V)>,
 }
 
 impl<'a, V> Model for CommitNumbers<'a, V> {
     ghost use Rattle.std.specs.Prelude.{List, ℕ};
+    ghost use Rattle.std.specs.Map.{keys_of};
+    ghost use Rattle.std.specs.VecDeque.Iter.{deque_iter_rest};
 
     ghost Value = { List ℕ };
 
-    ghost view = { λ n. n.keys };
+    ghost view = { λ n. keys_of (deque_iter_rest n.commits) };
 }
 
 impl<'a, V> Iterator for CommitNumbers<'a, V> {
@@ -47,10 +48,10 @@ impl<'a, V> Iterator for CommitNumbers<'a, V> {
 
     /// Returns the next number, or `None` if none is left.
     ///
-    /// Does not allocate; amortized constant time.
+    /// Does not allocate; constant time.
     fn next(&mut self) -> Option<u64> {
-        match self.keys.next() {
-            Some(number) => Some(*number),
+        match self.commits.next() {
+            Some(commit) => Some(commit.0),
             None => None,
         }
     }
@@ -62,37 +63,20 @@ pub type Commits<'a, const N: usize> = CommitNumbers<'a, CommitDiff<N>>;
 // Undoes the reverse records past a number, the newest first.
 fn undo_past<const N: usize>(
     bitmap: &mut Prunable<N>,
-    commits: &BTreeMap<u64, CommitDiff<N>>,
+    commits: &CommitList<N>,
     number: u64,
 ) -> Result<(), AllocError>
-    requires { AllCanUndo N (past_number number commits.now.entries) bitmap.old }
-    ensures ok { OnOk result (bitmap.new ≡ undone N (past_number number commits.now.entries) bitmap.old) }
+    requires { AllCanUndo N (past_number number commits.now) bitmap.old }
+    ensures ok { OnOk result (bitmap.new ≡ undone N (past_number number commits.now) bitmap.old) }
 {
-    let later = (Bound::Excluded(number), Bound::Unbounded);
-    for (_, record) in commits.range(later).rev() {
+    let first = commits.past(number);
+    let mut position = commits.len();
+    while first < position {
+        position -= 1;
+        let (_, record) = commits.commit(position);
         undo(bitmap, record)?;
     }
     Ok(())
-}
-
-// Returns the least number of some commits, or `None` if there are none.
-fn first_number<const N: usize>(commits: &BTreeMap<u64, CommitDiff<N>>) -> Option<u64>
-    ensures { result ≡ earliest commits.now.entries }
-{
-    match commits.first_key_value() {
-        Some((number, _)) => Some(*number),
-        None => None,
-    }
-}
-
-// Returns the greatest number of some commits, or `None` if there are none.
-fn last_number<const N: usize>(commits: &BTreeMap<u64, CommitDiff<N>>) -> Option<u64>
-    ensures { result ≡ latest commits.now.entries }
-{
-    match commits.last_key_value() {
-        Some((number, _)) => Some(*number),
-        None => None,
-    }
 }
 
 // Returns whether a number is above the last number, or there is none: then no commit is kept under it.
@@ -107,37 +91,33 @@ fn is_past(last: Option<u64>, number: u64) -> bool
 }
 
 // Drops the commits whose numbers are below a number, from the first on. Looks at these and at one more. Does not allocate.
-fn drop_before<const N: usize>(commits: &mut BTreeMap<u64, CommitDiff<N>>, number: u64)
-    requires { RiseInNumber commits.old.entries }
-    ensures { commits.new.entries ≡ from_number number commits.old.entries }
+fn drop_before<const N: usize>(commits: &mut CommitList<N>, number: u64)
+    requires { RiseInNumber commits.old }
+    ensures { commits.new ≡ from_number number commits.old }
 {
-    while let Some(first) = first_number(commits) {
+    while let Some(first) = commits.first_number() {
         if first >= number {
             return;
         }
-        let _ = commits.pop_first();
+        commits.pop_first();
     }
 }
 
-// Drops the commits whose numbers are above a number, from the last on. Looks at these and at one more. Does not allocate.
-fn drop_past<const N: usize>(commits: &mut BTreeMap<u64, CommitDiff<N>>, number: u64)
-    requires { RiseInNumber commits.old.entries }
-    ensures { commits.new.entries ≡ up_to_number number commits.old.entries }
+// Drops the commits whose numbers are above a number, which are found by one search. Does not allocate.
+fn drop_past<const N: usize>(commits: &mut CommitList<N>, number: u64)
+    ensures { commits.new ≡ up_to_number number commits.old }
 {
-    while let Some(last) = last_number(commits) {
-        if last <= number {
-            return;
-        }
-        let _ = commits.pop_last();
-    }
+    let kept = commits.past(number);
+    commits.truncate(kept);
 }
 
 // Returns the total number of entries of some reverse records.
-fn count_entries<const N: usize>(commits: &BTreeMap<u64, CommitDiff<N>>) -> u128
-    ensures { result ≡ sum_by (λ commit. length commit.1.entries) commits.now.entries }
+fn count_entries<const N: usize>(commits: &CommitList<N>) -> u128
+    ensures { result ≡ sum_by (λ commit. length commit.1.entries) commits.now }
 {
     let mut total: u128 = 0;
-    for (_, record) in commits {
+    for position in 0..commits.len() {
+        let (_, record) = commits.commit(position);
         total += record.entries() as u128;
     }
     total
@@ -184,7 +164,7 @@ impl<const N: usize> BitMap<N, Clean> {
     /// Does not allocate.
     ///
     /// # Complexity
-    /// Logarithmic in the kept commits.
+    /// Constant for the latest commit and for a number above it; else logarithmic in the kept commits.
     pub fn commit_exists(&self, number: u64) -> bool
         ensures value { result ≡ is_some (kept_under (history_of N self.now) number) }
         ensures reserved { kept_under (history_of N self.now) (2 ^ 64 - 1) ≡ None }
@@ -192,25 +172,25 @@ impl<const N: usize> BitMap<N, Clean> {
         if is_past(self.last, number) {
             return false;
         }
-        self.commits.contains_key(&number)
+        self.commits.contains(number)
     }
 
     /// Returns the greatest number of a kept commit, or `None` if no commit is kept.
     ///
-    /// Does not allocate; logarithmic in the kept commits.
+    /// Does not allocate; constant time.
     pub fn latest_commit(&self) -> Option<u64>
         ensures { result ≡ latest (history_of N self.now) }
     {
-        last_number(&self.commits)
+        self.commits.last_number()
     }
 
     /// Returns the least number of a kept commit, or `None` if no commit is kept.
     ///
-    /// Does not allocate; logarithmic in the kept commits.
+    /// Does not allocate; constant time.
     pub fn earliest_commit(&self) -> Option<u64>
         ensures { result ≡ earliest (history_of N self.now) }
     {
-        first_number(&self.commits)
+        self.commits.first_number()
     }
 
     /// Returns an iterator over the numbers of the kept commits, ascending, each once.
@@ -218,13 +198,13 @@ impl<const N: usize> BitMap<N, Clean> {
     /// Does not allocate.
     ///
     /// # Complexity
-    /// Logarithmic in the kept commits; a whole pass is linear in them.
+    /// Constant; a whole pass is linear in the kept commits.
     pub fn commits(&self) -> Commits<'_, N>
         ensures items { result ≡ keys_of (history_of N self.now) }
         ensures ascending { RiseInNumber (history_of N self.now) }
     {
         CommitNumbers {
-            keys: self.commits.keys(),
+            commits: self.commits.iter(),
         }
     }
 
@@ -233,7 +213,7 @@ impl<const N: usize> BitMap<N, Clean> {
     /// The current bitmap, the other commits and the last number are unchanged. Does not allocate.
     ///
     /// # Complexity
-    /// Per dropped commit, logarithmic in the kept commits, and linear in the entries of its reverse record, which is freed.
+    /// Per dropped commit, constant, and linear in the entries of its reverse record, which is freed.
     pub fn prune_commits_before(&mut self, number: u64) -> usize
         ensures value { self.new ≡ record self.old { commits = from_number number self.old.commits } }
         ensures history { history_of N self.new ≡ from_number number (history_of N self.old) }
@@ -259,8 +239,8 @@ impl<const N: usize> BitMap<N, Clean> {
     /// which the bitmap grows, at either end, if there is no capacity for them. Does not allocate if the number is not kept.
     ///
     /// # Complexity
-    /// Per entry of the reverse records past the number, logarithmic in the restored chunks. Per dropped commit, logarithmic in the kept
-    /// commits. The length of the bitmap does not matter, except that the retained chunks may be moved in memory if the bitmap grows.
+    /// A search among the kept commits. Per entry of the reverse records past the number, logarithmic in the restored chunks. Per dropped
+    /// commit, constant. The length of the bitmap does not matter, except that the retained chunks may be moved in memory if the bitmap grows.
     ///
     /// # Examples
     /// ```

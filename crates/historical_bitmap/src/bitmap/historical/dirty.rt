@@ -1,8 +1,8 @@
 //! A bitmap with pending edits: reads, edits, commit and abort.
 
 ghost use Rattle.std.specs.Prelude.{◌≡◌, ℕ, ◌+◌, ◌*◌, ◌/◌, ◌%◌, ◌^◌, ◌<◌, ◌≤◌, ◌==◌, [], ◌∷◌, ◌++◌, length, None, Some, IfErr, IfOk, IsOk, OnErr, OnOk, unwrap_or, alloc_error};
-ghost use Rattle.std.specs.BTreeMap.{insert_entry};
-ghost use Rattle.std.specs.Ordering.{nat_cmp};
+ghost use Rattle.std.specs.List.{All};
+ghost use Rattle.std.specs.Map.{keys_of};
 ghost use Rattle.std.specs.Result.{result_err};
 ghost use Rattle.bitmap_bytes.specs.Chunk.{byte_bits, chunk_bits, IsWidth};
 ghost use Rattle.bitmap_core.specs.PrunedBits.{bit_at, bit_len, chunk, IsRetained, last_bit, pruned_bits};
@@ -14,13 +14,13 @@ ghost use Rattle.historical_bitmap.specs.History.{before_latest};
 ghost use Rattle.historical_bitmap.specs.View.{costs_of, history_of, KeepsEdited, IsEditedAt, IsEditOf, IsRunOf, marked_of, pending_of, commit_error};
 
 use crate::bitmap::historical::apply::{grow, overwrite, shrink_back};
+use crate::bitmap::historical::commit_list::CommitList;
 use crate::bitmap::historical::edit::{Edit, Lent};
 use crate::bitmap::historical::record::CommitDiff;
 use crate::bitmap::historical::{BitMap, Clean, CleanBitMap, Dirty, DirtyBitMap, Error, State};
 use bitmap_core::bitmap::Prunable;
 use bitmap_core::chunk::chunk_index;
 use std::alloc::{AllocError, Global};
-use std::collections::BTreeMap;
 use std::ops::Range;
 
 // Checks that a commit may have a number, given the last one.
@@ -42,15 +42,16 @@ fn check_number(last: Option<u64>, number: u64) -> Result<(), Error>
 // Keeps the current bitmap as commit `number`. Its record has no entries. If an allocation fails, the commits are unchanged.
 fn keep_current<const N: usize>(
     current: &Prunable<N>,
-    commits: &mut BTreeMap<u64, CommitDiff<N>>,
+    commits: &mut CommitList<N>,
     number: u64,
     alloc: Global,
 ) -> Result<(), AllocError>
-    ensures ok { OnOk result (commits.new.entries ≡ insert_entry nat_cmp commits.old.entries number (record { len = bit_len N current.now; pruned = current.now.pruned; entries = [] })) }
-    ensures err { OnErr result (commits.new.entries ≡ commits.old.entries) }
+    requires { All (λ kept. kept < number) (keys_of commits.old) }
+    ensures ok { OnOk result (commits.new ≡ commits.old ++ (number, record { len = bit_len N current.now; pruned = current.now.pruned; entries = [] }) ∷ []) }
+    ensures err { OnErr result (commits.new ≡ commits.old) }
 {
     let record = CommitDiff::with_capacity(alloc, current.len(), current.pruned_chunks(), 0)?;
-    commits.insert(number, record)?;
+    commits.append(number, record)?;
     Ok(())
 }
 
@@ -335,14 +336,14 @@ impl<const N: usize> BitMap<N, Dirty<N>> {
     ///
     /// # Memory
     ///
-    /// Allocates the reverse record, the chunks by which the current bitmap grows, and an entry in the map of commits.
+    /// Allocates the reverse record, and if there is no capacity for them, the chunks by which the current bitmap grows and a place in the list of commits.
     /// The record has at most one entry per marked chunk, and at most one more if the batch popped down to whole chunks.
     /// It is allocated once, with capacity for at most one more entry per edited chunk that is also pruned or cut off.
     ///
     /// # Complexity
     ///
-    /// Per entry of the record, and per edited chunk; and a search among the commits.
-    /// Amortized, since the current bitmap may have to reallocate to grow. Else independent of the bitmap's length.
+    /// Per entry of the record, and per edited chunk. Amortized, since the current bitmap and the list of commits may have to reallocate to grow.
+    /// Else independent of the bitmap's length and of the number of kept commits.
     #[inline(always)]
     pub fn commit(mut self, number: u64) -> Result<CleanBitMap<N>, (DirtyBitMap<N>, Error)>
         ensures accepted { OnOk result (commit_error self.entry.last number ≡ None) }
@@ -392,7 +393,7 @@ impl<const N: usize> BitMap<N, Dirty<N>> {
         let Ok(before) = grow(&mut self.current, len) else {
             return Err((self, Error::Memory(AllocError)));
         };
-        if self.commits.insert(number, record).is_err() {
+        if self.commits.append(number, record).is_err() {
             shrink_back(&mut self.current, before);
             return Err((self, Error::Memory(AllocError)));
         }

@@ -10,7 +10,8 @@ ghost use Rattle.historical_bitmap.specs.Index.{AddsPlaces, IsIndexOf, IsNextKep
 ghost use Rattle.historical_bitmap.specs.Stored.{entry_values};
 ghost use Rattle.historical_bitmap.specs.View.{history_of};
 
-use crate::bitmap::historical::record::{ChunkDiff, CommitDiff};
+use crate::bitmap::historical::commit_list::CommitList;
+use crate::bitmap::historical::record::ChunkDiff;
 use crate::bitmap::historical::{BitMap, Clean, CleanBitMap};
 use bitmap_core::bitmap::Readable;
 use bitmap_core::chunk::{chunk_index, chunk_width};
@@ -91,16 +92,17 @@ fn remove_entries<const N: usize>(
 // Returns the places of all records of some commits, with their bytes.
 fn places_of<const N: usize>(
     alloc: Global,
-    commits: &BTreeMap<u64, CommitDiff<N>>,
+    commits: &CommitList<N>,
 ) -> Result<BTreeMap<(usize, u64), [u8; N]>, AllocError>
     requires width { IsWidth N }
-    requires rise { RiseInNumber commits.now.entries }
-    requires entries { EntriesRise commits.now.entries }
-    ensures { IfOk result (λ places. IsIndexOf places.entries commits.now.entries) }
+    requires rise { RiseInNumber commits.now }
+    requires entries { EntriesRise commits.now }
+    ensures { IfOk result (λ places. IsIndexOf places.entries commits.now) }
 {
     let mut places = BTreeMap::new(alloc);
-    for (number, record) in commits {
-        add_entries(&mut places, *number, record.chunk_diffs())?;
+    for position in 0..commits.len() {
+        let (number, record) = commits.commit(position);
+        add_entries(&mut places, number, record.chunk_diffs())?;
     }
     Ok(places)
 }
@@ -108,34 +110,37 @@ fn places_of<const N: usize>(
 // Removes the places of the records past a number. Does not allocate.
 fn remove_past<const N: usize>(
     places: &mut BTreeMap<(usize, u64), [u8; N]>,
-    commits: &BTreeMap<u64, CommitDiff<N>>,
+    commits: &CommitList<N>,
     number: u64,
 )
     requires width { IsWidth N }
-    requires rise { RiseInNumber commits.now.entries }
-    requires index { IsIndexOf places.old.entries commits.now.entries }
-    ensures { IsIndexOf places.new.entries (up_to_number number commits.now.entries) }
+    requires rise { RiseInNumber commits.now }
+    requires index { IsIndexOf places.old.entries commits.now }
+    ensures { IsIndexOf places.new.entries (up_to_number number commits.now) }
 {
-    let later = (Bound::Excluded(number), Bound::Unbounded);
-    for (at, record) in commits.range(later) {
-        remove_entries(places, *at, record.chunk_diffs());
+    for position in commits.past(number)..commits.len() {
+        let (at, record) = commits.commit(position);
+        remove_entries(places, at, record.chunk_diffs());
     }
 }
 
 // Removes the places of the records below a number. Does not allocate.
 fn remove_below<const N: usize>(
     places: &mut BTreeMap<(usize, u64), [u8; N]>,
-    commits: &BTreeMap<u64, CommitDiff<N>>,
+    commits: &CommitList<N>,
     number: u64,
 )
     requires width { IsWidth N }
-    requires rise { RiseInNumber commits.now.entries }
-    requires index { IsIndexOf places.old.entries commits.now.entries }
-    ensures { IsIndexOf places.new.entries (from_number number commits.now.entries) }
+    requires rise { RiseInNumber commits.now }
+    requires index { IsIndexOf places.old.entries commits.now }
+    ensures { IsIndexOf places.new.entries (from_number number commits.now) }
 {
-    let earlier = (Bound::Unbounded, Bound::Excluded(number));
-    for (at, record) in commits.range(earlier) {
-        remove_entries(places, *at, record.chunk_diffs());
+    if number == 0 {
+        return;
+    }
+    for position in 0..commits.past(number - 1) {
+        let (at, record) = commits.commit(position);
+        remove_entries(places, at, record.chunk_diffs());
     }
 }
 
@@ -158,23 +163,25 @@ fn next_kept<const N: usize>(
 // Adds the places of the record of the last of some commits. If an allocation fails, the places are unchanged.
 fn add_last<const N: usize>(
     places: &mut BTreeMap<(usize, u64), [u8; N]>,
-    commits: &BTreeMap<u64, CommitDiff<N>>,
+    commits: &CommitList<N>,
 ) -> Result<(), AllocError>
     requires width { IsWidth N }
-    requires rise { RiseInNumber commits.now.entries }
-    requires entries { EntriesRise commits.now.entries }
-    requires index { IsIndexOf places.old.entries (before_latest commits.now.entries) }
-    ensures ok { OnOk result (IsIndexOf places.new.entries commits.now.entries) }
+    requires rise { RiseInNumber commits.now }
+    requires entries { EntriesRise commits.now }
+    requires index { IsIndexOf places.old.entries (before_latest commits.now) }
+    ensures ok { OnOk result (IsIndexOf places.new.entries commits.now) }
     ensures err { OnErr result (places.new.entries ≡ places.old.entries) }
 {
-    let Some((number, record)) = commits.last_key_value() else {
+    let count = commits.len();
+    if count == 0 {
         return Ok(());
-    };
+    }
+    let (number, record) = commits.commit(count - 1);
     // The prover learns the order of the places from this call.
     let _ = places.len();
     let entries = record.chunk_diffs();
-    let Ok(()) = add_entries(places, *number, entries) else {
-        remove_entries(places, *number, entries);
+    let Ok(()) = add_entries(places, number, entries) else {
+        remove_entries(places, number, entries);
         let _ = places.len();
         return Err(AllocError);
     };

@@ -12,13 +12,13 @@ ghost use Rattle.historical_bitmap.specs.Rewind.{Gathers, HasExtent, IsWrittenBa
 ghost use Rattle.historical_bitmap.specs.Stored.{diff_value, entry_values};
 
 use crate::bitmap::historical::apply::{grow, shrink_back};
+use crate::bitmap::historical::commit_list::CommitList;
 use crate::bitmap::historical::edited::cut;
-use crate::bitmap::historical::record::{ChunkDiff, CommitDiff};
+use crate::bitmap::historical::record::ChunkDiff;
 use bitmap_core::bitmap::Prunable;
 use bitmap_core::chunk::{chunk_count, chunk_width};
 use std::alloc::{AllocError, Global};
 use std::collections::BTreeMap;
-use std::ops::Bound;
 
 // Turns the current bitmap into the one that the last commit up to a number left, of the given length and pruned count.
 //
@@ -26,15 +26,15 @@ use std::ops::Bound;
 // grows, if there is no capacity for them. If an allocation fails, the bitmap is unchanged.
 pub(crate) fn rewind<const N: usize>(
     current: &mut Prunable<N>,
-    commits: &BTreeMap<u64, CommitDiff<N>>,
+    commits: &CommitList<N>,
     number: u64,
     len: u64,
     pruned: usize,
     alloc: Global,
 ) -> Result<(), AllocError>
-    requires undo { AllCanUndo N (past_number number commits.now.entries) current.old }
-    requires extent { IsLeftBy N number commits.now.entries current.old len pruned }
-    ensures ok { OnOk result (current.new ≡ left_by N number commits.now.entries current.old) }
+    requires undo { AllCanUndo N (past_number number commits.now) current.old }
+    requires extent { IsLeftBy N number commits.now current.old len pruned }
+    ensures ok { OnOk result (current.new ≡ left_by N number commits.now current.old) }
     ensures err { OnErr result (current.new ≡ current.old) }
 {
     let _ = current.len();
@@ -49,18 +49,21 @@ pub(crate) fn rewind<const N: usize>(
 // Visits the newest record first, so that older bytes replace newer ones.
 fn gather<const N: usize>(
     alloc: Global,
-    commits: &BTreeMap<u64, CommitDiff<N>>,
+    commits: &CommitList<N>,
     number: u64,
     first: usize,
     end: usize,
 ) -> Result<BTreeMap<usize, [u8; N]>, AllocError>
     requires width { IsWidth N }
-    requires rise { EntriesRise (past_number number commits.now.entries) }
-    ensures { IfOk result (λ chunks. Gathers (first_kept (past_number number commits.now.entries)) first end [] chunks.entries) }
+    requires rise { EntriesRise (past_number number commits.now) }
+    ensures { IfOk result (λ chunks. Gathers (first_kept (past_number number commits.now)) first end [] chunks.entries) }
 {
     let mut chunks = BTreeMap::new(alloc);
-    let later = (Bound::Excluded(number), Bound::Unbounded);
-    for (_, record) in commits.range(later).rev() {
+    let past = commits.past(number);
+    let mut position = commits.len();
+    while past < position {
+        position -= 1;
+        let (_, record) = commits.commit(position);
         gather_record(&mut chunks, record.chunk_diffs(), first, end)?;
     }
     Ok(chunks)

@@ -1,15 +1,18 @@
 use Rattle.std.proofs.Common.{arith, ◌∙◌, sym}
-use Rattle.historical_bitmap.proofs.History.Ends.{first_dropped, from_done, from_none}
+use Rattle.historical_bitmap.proofs.History.Ends.{fewer, first_dropped, from_done, from_none}
 use Rattle.historical_bitmap.proofs.bitmap.historical.commits.drop_before.Goals as goal
 
-pub loop-first-preserved-else-first-number : goal.loop-first-preserved-else-first-number
-loop-first-preserved-else-first-number g c =
-    first_dropped c.args.number c.in-Some.first _ c.loop-first.commits.entries c.pop_first.new.self.entries c.pop_first.result c.loop-first.invariant
-    c.pop_first.ensures.ordered (sym c.in-Some.is ∙ c.first_number.ensures) (omega arith) c.pop_first.ensures.removal c.pop_first.ensures.unchanged
+pub loop-first-preserved : goal.loop-first-preserved
+loop-first-preserved g c =
+    first_dropped c.args.number c.in-Some.first c.args.commits.now c.loop-first.commits c.pop_first.new.self c.loop-first.invariant
+    c.pop_first.ensures.rise c.pop_first.ensures.value (sym c.in-Some.is ∙ c.first_number.ensures) (omega arith)
+
+pub loop-first-smaller : goal.loop-first-smaller
+loop-first-smaller g c = fewer c.in-Some.first c.loop-first.commits c.pop_first.new.self (sym c.in-Some.is ∙ c.first_number.ensures) c.pop_first.ensures.value
 
 pub returns-then-first-number : goal.returns-then-first-number
 returns-then-first-number g c =
-    from_done c.args.number c.in-Some.first _ c.loop-first.commits.entries c.loop-first.invariant (sym c.in-Some.is ∙ c.first_number.ensures) (omega arith)
+    from_done c.args.number c.in-Some.first _ c.loop-first.commits c.loop-first.invariant (sym c.in-Some.is ∙ c.first_number.ensures) (omega arith)
 
 pub returns : goal.returns
-returns g c = from_none c.args.number _ c.loop-first.commits.entries c.loop-first.invariant (sym c.in_default.is ∙ c.first_number.ensures)
+returns g c = from_none c.args.number _ c.loop-first.commits c.loop-first.invariant (sym c.in_default.is ∙ c.first_number.ensures)

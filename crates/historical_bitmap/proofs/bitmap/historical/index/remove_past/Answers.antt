@@ -1,17 +1,20 @@
-use Rattle.std.proofs.Common.{ℕ, subst, ◌∙◌}
+use Rattle.std.proofs.Common.{ℕ, arith, subst}
+use Rattle.std.proofs.lemmas.List.{drop_all}
 use Rattle.historical_bitmap.specs.Index.{RemovesPlaces}
 use Rattle.historical_bitmap.specs.Record.{ReverseRecord}
-use Rattle.historical_bitmap.proofs.History.KeptCommits.{past_is}
-use Rattle.historical_bitmap.proofs.Index.Updates.{record_removed, removes_past}
+use Rattle.historical_bitmap.proofs.History.Positions.{first_from}
+use Rattle.historical_bitmap.proofs.Index.Updates.{all_removed, record_removed, removes_past}
 use Rattle.historical_bitmap.proofs.bitmap.historical.index.remove_past.Goals as goal
 
-pub loop-at-init : goal.loop-at-init
-loop-at-init g c =
-    let later = c.into_iter-at-iterator.ensures.into_iter_gives ∙ (c.range-at-items.ensures.between tt ∙ past_is c.args.number c.args.commits.now.entries) in
-    removes_past c.args.number c.args.commits.now.entries c.into_iter-at-iterator.result c.args.places.now.entries later c.requires.rise c.requires.index
+pub loop-position-init : goal.loop-position-init
+loop-position-init g c = removes_past c.args.number c.args.commits.now _ c.args.places.now.entries c.past-position.ensures.later c.requires.rise c.requires.index
 
-pub loop-at-preserved : goal.loop-at-preserved
-loop-at-preserved g c =
-    let first : ℕ × ReverseRecord = (c.in-Some.at.now, c.in-Some.record.now) in
-    record_removed c.loop-at.at-iterator c.next.new.self _ first c.loop-at.places.entries c.remove_entries.new.places.entries c.in-Some.ensures.steps
-    (subst (λ entries. RemovesPlaces c.in-Some.at.now entries c.loop-at.places.entries c.remove_entries.new.places.entries) c.chunk_diffs.ensures c.remove_entries.ensures) c.loop-at.invariant
+pub loop-position-preserved : goal.loop-position-preserved
+loop-position-preserved g c =
+    let first : ℕ × ReverseRecord = (c.commit-at.result.0, c.commit-at.result.1.now) in
+    let left = first_from c.loop-position.position c.args.commits.now first c.commit-at.ensures in
+    record_removed _ _ _ first c.loop-position.places.entries c.remove_entries.new.places.entries left
+    (subst (λ entries. RemovesPlaces c.commit-at.result.0 entries c.loop-position.places.entries c.remove_entries.new.places.entries) c.chunk_diffs.ensures c.remove_entries.ensures) c.loop-position.invariant
+
+pub returns : goal.returns
+returns g c = all_removed _ _ c.loop-position.places.entries (drop_all c.loop-position.position c.args.commits.now (omega arith)) c.loop-position.invariant

@@ -6,11 +6,11 @@ use Rattle.historical_bitmap.proofs.bitmap.historical.at.BitMap+N+Clean.extent_a
 
 pub returns-in-Some : goal.returns-in-Some
 returns-in-Some g c =
-    let all = can_undo_past g.row.N c.args.number c.self.inside.commits.entries c.self.inside.current c.self.invariant.1.rise c.self.invariant.1.undo in
+    let all = can_undo_past g.row.N c.args.number c.self.inside.commits c.self.inside.current c.self.invariant.1.rise c.self.invariant.1.undo in
     let first = sym c.first_past.ensures ∙ ap option_copied c.in-Some.is in
-    rw (sym c.self.view_is, c.len.ensures.value, c.pruned_chunks.ensures) (first_extent g.row.N c.args.number c.self.inside.commits.entries c.self.inside.current c.in-Some.record.now c.len.ensures.width all first)
+    rw (sym c.self.view_is, c.len.ensures.value, c.pruned_chunks.ensures) (first_extent g.row.N c.args.number c.self.inside.commits c.self.inside.current c.in-Some.record.now c.len.ensures.width all first)
 
 pub returns-in-None : goal.returns-in-None
 returns-in-None g c =
     let first = sym c.first_past.ensures ∙ ap option_copied c.in-None.is in
-    rw (sym c.self.view_is, c.len-in-None.ensures.value, c.pruned_chunks-in-None.ensures) (current_extent g.row.N c.args.number c.self.inside.commits.entries c.self.inside.current c.len-in-None.ensures.width first)
+    rw (sym c.self.view_is, c.len-in-None.ensures.value, c.pruned_chunks-in-None.ensures) (current_extent g.row.N c.args.number c.self.inside.commits c.self.inside.current c.len-in-None.ensures.width first)

@@ -6,20 +6,20 @@ use Rattle.historical_bitmap.proofs.bitmap.historical.at.BitMap+N+Clean.kept_or_
 
 pub get_chunk-requires : goal.get_chunk-requires
 get_chunk-requires g c =
-    let all = can_undo_past g.row.N c.args.number c.self.inside.commits.entries c.self.inside.current c.self.invariant.1.rise c.self.invariant.1.undo in
+    let all = can_undo_past g.row.N c.args.number c.self.inside.commits c.self.inside.current c.self.invariant.1.rise c.self.invariant.1.undo in
     let none = sym (rw (← c.self.view_is) at c.requires.kept) ∙ ap option_copied c.in-None.is in
-    (omega arith, (omega arith, current_has g.row.N c.args.number c.self.inside.commits.entries c.self.inside.current c.args.chunk c.len.ensures.width.positive all none (rw (← c.self.view_is) at c.requires.retained)))
+    (omega arith, (omega arith, current_has g.row.N c.args.number c.self.inside.commits c.self.inside.current c.args.chunk c.len.ensures.width.positive all none (rw (← c.self.view_is) at c.requires.retained)))
 
 pub returns-in-Some : goal.returns-in-Some
 returns-in-Some g c =
-    let all = can_undo_past g.row.N c.args.number c.self.inside.commits.entries c.self.inside.current c.self.invariant.1.rise c.self.invariant.1.undo in
+    let all = can_undo_past g.row.N c.args.number c.self.inside.commits c.self.inside.current c.self.invariant.1.rise c.self.invariant.1.undo in
     let found = sym (rw (← c.self.view_is) at c.requires.kept) ∙ ap option_copied c.in-Some.is in
     let has = rw (← c.self.view_is) at c.requires.retained in
-    rw (← c.self.view_is) (kept_shows g.row.N c.args.number c.self.inside.commits.entries c.self.inside.current c.args.chunk c.len.ensures.width.positive all c.in-Some.bytes.now found has.0)
+    rw (← c.self.view_is) (kept_shows g.row.N c.args.number c.self.inside.commits c.self.inside.current c.args.chunk c.len.ensures.width.positive all c.in-Some.bytes.now found has.0)
 
 pub returns-in-None : goal.returns-in-None
 returns-in-None g c =
-    let all = can_undo_past g.row.N c.args.number c.self.inside.commits.entries c.self.inside.current c.self.invariant.1.rise c.self.invariant.1.undo in
+    let all = can_undo_past g.row.N c.args.number c.self.inside.commits c.self.inside.current c.self.invariant.1.rise c.self.invariant.1.undo in
     let none = sym (rw (← c.self.view_is) at c.requires.kept) ∙ ap option_copied c.in-None.is in
     let has = rw (← c.self.view_is) at c.requires.retained in
-    rw (← c.self.view_is, c.get_chunk.ensures) (current_shows g.row.N c.args.number c.self.inside.commits.entries c.self.inside.current c.args.chunk c.len.ensures.width.positive all none has.0)
+    rw (← c.self.view_is, c.get_chunk.ensures) (current_shows g.row.N c.args.number c.self.inside.commits c.self.inside.current c.args.chunk c.len.ensures.width.positive all none has.0)

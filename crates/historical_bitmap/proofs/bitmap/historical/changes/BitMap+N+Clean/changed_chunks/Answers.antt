@@ -5,7 +5,7 @@ use Rattle.historical_bitmap.proofs.bitmap.historical.changes.BitMap+N+Clean.cha
 
 pub invariant_of-result : goal.invariant_of-result
 invariant_of-result g c =
-    comparing g.row.N c.args.from c.args.to c.self.inside.commits.entries c.self.inside.current c.self.inside.last c.in_ok-older.older c.in_ok-newer.newer c.max-end.result
+    comparing g.row.N c.args.from c.args.to c.self.inside.commits c.self.inside.current c.self.inside.last c.in_ok-older.older c.in_ok-newer.newer c.max-end.result
     c.len.ensures.lawful.width (omega (arith, c.if-to-from.false)) c.self.invariant.1
     (sym (rw (← c.self.view_is) at c.in_ok-older.ensures.value)) (sym (rw (← c.self.view_is) at c.in_ok-newer.ensures.value))
     c.len.ensures.lawful.len_fits c.len-2.ensures.lawful.len_fits

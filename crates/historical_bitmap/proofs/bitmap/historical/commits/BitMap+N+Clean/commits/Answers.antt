@@ -1,9 +1,10 @@
-use Rattle.std.proofs.Common.{sym, ◌∙◌}
+use Rattle.std.proofs.Common.{ap, sym, ◌∙◌}
+use Rattle.std.specs.Map.{keys_of}
 use Rattle.historical_bitmap.proofs.History.PastStates.{snapshots_numbers}
 use Rattle.historical_bitmap.proofs.bitmap.historical.commits.BitMap+N+Clean.commits.Goals as goal
 
 pub returns-clause-items : goal.returns-clause-items
-returns-clause-items g c = rw (← c.self.view_is) (c.keys.ensures.rest ∙ sym (snapshots_numbers g.row.N c.self.inside.commits.entries c.self.inside.current))
+returns-clause-items g c = rw (← c.self.view_is) (ap (λ es. keys_of es) c.iter.ensures ∙ sym (snapshots_numbers g.row.N c.self.inside.commits c.self.inside.current))
 
 pub returns-clause-ascending : goal.returns-clause-ascending
-returns-clause-ascending g c = rw (← c.self.view_is, snapshots_numbers g.row.N c.self.inside.commits.entries c.self.inside.current) c.self.invariant.1.rise
+returns-clause-ascending g c = rw (← c.self.view_is, snapshots_numbers g.row.N c.self.inside.commits c.self.inside.current) c.self.invariant.1.rise

@@ -14,25 +14,25 @@ pub drop_before-requires : goal.drop_before-requires
 drop_before-requires g c = (omega arith, c.self.invariant.1.rise)
 
 pub invariant_of-self : goal.invariant_of-self
-invariant_of-self g c = (tt, rw c.drop_before.ensures (kept_from g.row.N c.args.number c.self.inside.current c.self.inside.commits.entries c.self.inside.last c.self.invariant.1))
+invariant_of-self g c = (tt, rw c.drop_before.ensures (kept_from g.row.N c.args.number c.self.inside.current c.self.inside.commits c.self.inside.last c.self.invariant.1))
 
 pub returns-clause-value : goal.returns-clause-value
 returns-clause-value g c = rw (c.drop_before.ensures, ← c.self.view_is) refl
 
 pub returns-clause-history : goal.returns-clause-history
-returns-clause-history g c = rw (c.drop_before.ensures, ← c.self.view_is) (snapshots_from g.row.N c.args.number c.self.inside.commits.entries c.self.inside.current c.self.invariant.1.rise)
+returns-clause-history g c = rw (c.drop_before.ensures, ← c.self.view_is) (snapshots_from g.row.N c.args.number c.self.inside.commits c.self.inside.current c.self.invariant.1.rise)
 
 pub returns-clause-costs : goal.returns-clause-costs
-returns-clause-costs g c = rw (c.drop_before.ensures, ← c.self.view_is) (costs_from c.args.number c.self.inside.commits.entries)
+returns-clause-costs g c = rw (c.drop_before.ensures, ← c.self.view_is) (costs_from c.args.number c.self.inside.commits)
 
 pub overflow_sub-result : goal.overflow_sub-result
 overflow_sub-result g c =
-    omega (arith, fewer c.args.number c.self.inside.commits.entries, ap (λ es. length es) c.drop_before.ensures, c.len-before.ensures.len, c.len.ensures.len)
+    omega (arith, fewer c.args.number c.self.inside.commits, ap (λ es. length es) c.drop_before.ensures, c.len-before.ensures, c.len.ensures)
 
 pub returns-clause-count : goal.returns-clause-count
 returns-clause-count g c =
-    let before = same_length g.row.N c.self.inside.commits.entries c.self.inside.current in
-    let after = same_length g.row.N c.drop_before.new.commits.entries c.self.inside.current in
-    let kept = fewer c.args.number c.self.inside.commits.entries in
+    let before = same_length g.row.N c.self.inside.commits c.self.inside.current in
+    let after = same_length g.row.N c.drop_before.new.commits c.self.inside.current in
+    let kept = fewer c.args.number c.self.inside.commits in
     let left = ap (λ es. length es) c.drop_before.ensures in
-    rw (← c.self.view_is) (omega (arith, before, after, kept, left, c.len-before.ensures.len, c.len.ensures.len))
+    rw (← c.self.view_is) (omega (arith, before, after, kept, left, c.len-before.ensures, c.len.ensures))

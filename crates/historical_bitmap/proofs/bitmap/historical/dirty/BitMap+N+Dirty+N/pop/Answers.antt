@@ -17,7 +17,7 @@ invariant_of-self g c =
 pub returns-clause-edit : goal.returns-clause-edit
 returns-clause-edit g c =
     let some : 0 < length (pending_bits g.row.N c.self.inside.current c.self.inside.state).bits = rw (sym c.self.view_is) at c.requires in
-    rw (← c.self.view_is) (edit_of g.row.N c.self.inside.current c.self.inside.commits.entries c.self.inside.last c.self.inside.state c.pop.new.self c.len-last.ensures.width.positive c.self.invariant.0 Pop some c.pop.ensures.pops)
+    rw (← c.self.view_is) (edit_of g.row.N c.self.inside.current c.self.inside.commits c.self.inside.last c.self.inside.state c.pop.new.self c.len-last.ensures.width.positive c.self.invariant.0 Pop some c.pop.ensures.pops)
 
 pub returns-clause-value : goal.returns-clause-value
 returns-clause-value g c =

@@ -16,4 +16,4 @@ pub returns-clause-ok : goal.returns-clause-ok
 returns-clause-ok g c =
     let accepted : IsAccepted g.row.N (pending_bits g.row.N c.self.inside.current c.self.inside.state) (Prune c.args.bit) = rw (sym c.self.view_is) at c.requires in
     let pruned : OnOk c.prune.result (Prunes g.row.N c.self.inside.current c.self.inside.state (c.args.bit / (8 * g.row.N)) c.prune.new.self) = rw c.chunk_index.ensures at c.prune.ensures.ok in
-    rw (← c.self.view_is) (tried_edit g.row.N c.self.inside.current c.self.inside.commits.entries c.self.inside.last c.self.inside.state c.prune.new.self c.len.ensures.width.positive c.self.invariant.0 c.prune.result (Prune c.args.bit) accepted pruned)
+    rw (← c.self.view_is) (tried_edit g.row.N c.self.inside.current c.self.inside.commits c.self.inside.last c.self.inside.state c.prune.new.self c.len.ensures.width.positive c.self.invariant.0 c.prune.result (Prune c.args.bit) accepted pruned)

@@ -16,7 +16,7 @@ invariant_of-self g c =
 pub returns-clause-ok : goal.returns-clause-ok
 returns-clause-ok g c =
     let accepted : IsAccepted g.row.N (pending_bits g.row.N c.self.inside.current c.self.inside.state) (Push c.args.value) = rw (sym c.self.view_is) at c.requires in
-    rw (← c.self.view_is) (tried_edit g.row.N c.self.inside.current c.self.inside.commits.entries c.self.inside.last c.self.inside.state c.push.new.self c.len.ensures.width.positive c.self.invariant.0 c.push.result (Push c.args.value) accepted c.push.ensures.ok)
+    rw (← c.self.view_is) (tried_edit g.row.N c.self.inside.current c.self.inside.commits c.self.inside.last c.self.inside.state c.push.new.self c.len.ensures.width.positive c.self.invariant.0 c.push.result (Push c.args.value) accepted c.push.ensures.ok)
 
 pub push-requires : goal.push-requires
 push-requires g c =

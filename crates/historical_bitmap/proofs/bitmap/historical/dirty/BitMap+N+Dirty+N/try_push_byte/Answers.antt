@@ -16,7 +16,7 @@ invariant_of-self g c = (tried_run_fits g.row.N c.self.inside.current c.self.ins
 
 pub returns-clause-ok : goal.returns-clause-ok
 returns-clause-ok g c =
-    rw (← c.self.view_is) (tried_run g.row.N c.self.inside.current c.self.inside.commits.entries c.self.inside.last c.self.inside.state c.push_byte.new.self c.len.ensures.width.positive c.self.invariant.0 c.push_byte.result (byte_bits c.args.byte) (omega arith) c.push_byte.ensures.ok)
+    rw (← c.self.view_is) (tried_run g.row.N c.self.inside.current c.self.inside.commits c.self.inside.last c.self.inside.state c.push_byte.new.self c.len.ensures.width.positive c.self.invariant.0 c.push_byte.result (byte_bits c.args.byte) (omega arith) c.push_byte.ensures.ok)
 
 pub returns-clause-edited : goal.returns-clause-edited
 returns-clause-edited g c = rw (← c.self.view_is, pending_len g.row.N c.self.inside.current c.self.inside.state c.len.ensures.width.positive c.self.invariant.0) c.push_byte.ensures.edited

@@ -17,7 +17,7 @@ invariant_of-self g c = (tried_run_fits g.row.N c.self.inside.current c.self.ins
 
 pub returns-clause-ok : goal.returns-clause-ok
 returns-clause-ok g c =
-    rw (← c.self.view_is) (tried_run g.row.N c.self.inside.current c.self.inside.commits.entries c.self.inside.last c.self.inside.state c.push_chunk.new.self c.len.ensures.width.positive c.self.invariant.0 c.push_chunk.result (chunk_bits g.row.N c.args.chunk.now) (omega (arith, length-map-range_with_len (chunk_bit g.row.N c.args.chunk.now) 0 (8 * g.row.N), c.len.ensures.width.positive)) c.push_chunk.ensures.ok)
+    rw (← c.self.view_is) (tried_run g.row.N c.self.inside.current c.self.inside.commits c.self.inside.last c.self.inside.state c.push_chunk.new.self c.len.ensures.width.positive c.self.invariant.0 c.push_chunk.result (chunk_bits g.row.N c.args.chunk.now) (omega (arith, length-map-range_with_len (chunk_bit g.row.N c.args.chunk.now) 0 (8 * g.row.N), c.len.ensures.width.positive)) c.push_chunk.ensures.ok)
 
 pub returns-clause-holds : goal.returns-clause-holds
 returns-clause-holds g c =

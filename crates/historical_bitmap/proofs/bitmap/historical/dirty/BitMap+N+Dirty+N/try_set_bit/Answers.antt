@@ -13,7 +13,7 @@ invariant_of-self g c =
 pub returns-clause-ok : goal.returns-clause-ok
 returns-clause-ok g c =
     let accepted : IsAccepted g.row.N (pending_bits g.row.N c.self.inside.current c.self.inside.state) (Set c.args.bit c.args.value) = rw (sym c.self.view_is) at c.requires in
-    rw (← c.self.view_is) (tried_edit g.row.N c.self.inside.current c.self.inside.commits.entries c.self.inside.last c.self.inside.state c.write.new.self c.len.ensures.width.positive c.self.invariant.0 c.write.result (Set c.args.bit c.args.value) accepted c.write.ensures.ok)
+    rw (← c.self.view_is) (tried_edit g.row.N c.self.inside.current c.self.inside.commits c.self.inside.last c.self.inside.state c.write.new.self c.len.ensures.width.positive c.self.invariant.0 c.write.result (Set c.args.bit c.args.value) accepted c.write.ensures.ok)
 
 pub returns-clause-holds : goal.returns-clause-holds
 returns-clause-holds g c =

@@ -24,7 +24,7 @@ returns-clause-ok g c =
     let to : c.args.range.end ≤ bit_len g.row.N (pending_bits g.row.N c.self.inside.current c.self.inside.state) = rw (sym c.self.view_is) at c.requires.to in
     let pos = c.len.ensures.width.positive in
     let fits = c.self.invariant.0 in
-    rw (← c.self.view_is) (tried_range g.row.N c.self.inside.current c.self.inside.commits.entries c.self.inside.last c.self.inside.state c.set_range.new.self pos fits c.set_range.result c.args.range.start c.args.range.end c.args.value from (omega (arith, to, pending_len g.row.N c.self.inside.current c.self.inside.state pos fits)) c.set_range.ensures.ok)
+    rw (← c.self.view_is) (tried_range g.row.N c.self.inside.current c.self.inside.commits c.self.inside.last c.self.inside.state c.set_range.new.self pos fits c.set_range.result c.args.range.start c.args.range.end c.args.value from (omega (arith, to, pending_len g.row.N c.self.inside.current c.self.inside.state pos fits)) c.set_range.ensures.ok)
 
 pub returns-clause-holds : goal.returns-clause-holds
 returns-clause-holds g c =

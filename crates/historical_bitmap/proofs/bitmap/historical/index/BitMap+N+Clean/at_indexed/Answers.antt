@@ -5,4 +5,4 @@ use Rattle.historical_bitmap.proofs.bitmap.historical.index.BitMap+N+Clean.at_in
 pub returns-clause-value : goal.returns-clause-value
 returns-clause-value g c =
     let there = rw (← c.self.view_is) at (sym c.if-not-commit_exists.ensures.value) in
-    rw (← c.self.view_is) (sym (found_under g.row.N c.args.number c.self.inside.commits.entries c.self.inside.current c.self.invariant.1.rise there))
+    rw (← c.self.view_is) (sym (found_under g.row.N c.args.number c.self.inside.commits c.self.inside.current c.self.invariant.1.rise there))

@@ -10,7 +10,7 @@ kept_or_current-requires g c = (
     omega (arith, c.len.ensures.width.fits),
     (
       c.requires.retained,
-      rw (← c.self.view_is) (next_found c.index.inside.places.entries c.self.inside.commits.entries c.args.number c.args.chunk (option_copied c.next_kept-kept.result) c.self.invariant.1.rise (rw (← c.self.view_is, ← c.index.view_is) at c.requires.index) c.next_kept-kept.ensures),
+      rw (← c.self.view_is) (next_found c.index.inside.places.entries c.self.inside.commits c.args.number c.args.chunk (option_copied c.next_kept-kept.result) c.self.invariant.1.rise (rw (← c.self.view_is, ← c.index.view_is) at c.requires.index) c.next_kept-kept.ensures),
     ),
   ),
 )

@@ -11,7 +11,7 @@ add_last-requires g c = (
       c.len.ensures.width,
       (
         c.bitmap.invariant.1.rise,
-        (entries_rise g.row.N c.bitmap.inside.commits.entries c.bitmap.inside.current c.bitmap.invariant.1.undo, rw (← c.self.view_is, ← c.bitmap.view_is) at c.requires),
+        (entries_rise g.row.N c.bitmap.inside.commits c.bitmap.inside.current c.bitmap.invariant.1.undo, rw (← c.self.view_is, ← c.bitmap.view_is) at c.requires),
       ),
     ),
   ),

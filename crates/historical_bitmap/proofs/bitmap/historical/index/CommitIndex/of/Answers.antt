@@ -7,6 +7,6 @@ places_of-requires g c = (
   omega arith,
   (
     omega (arith, c.len.ensures.width.fits),
-    (c.len.ensures.width, (c.bitmap.invariant.1.rise, entries_rise g.row.N c.bitmap.inside.commits.entries c.bitmap.inside.current c.bitmap.invariant.1.undo)),
+    (c.len.ensures.width, (c.bitmap.invariant.1.rise, entries_rise g.row.N c.bitmap.inside.commits c.bitmap.inside.current c.bitmap.invariant.1.undo)),
   ),
 )

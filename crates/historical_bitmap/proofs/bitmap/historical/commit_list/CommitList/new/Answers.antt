@@ -1,0 +1,5 @@
+use Rattle.historical_bitmap.proofs.History.Positions.{sorted_none}
+use Rattle.historical_bitmap.proofs.bitmap.historical.commit_list.CommitList.new.Goals as goal
+
+pub invariant_of-result : goal.invariant_of-result
+invariant_of-result g c = rw c.new.ensures.items sorted_none
