@@ -229,8 +229,7 @@ mortarpink_status mortarpink_commits(mortarpink_bitmap *bitmap, uint64_t from, u
 /* *exists becomes 1 if a commit is kept under the number, and 0 otherwise. Logarithmic in the commits. */
 mortarpink_status mortarpink_exists(mortarpink_bitmap *bitmap, uint64_t number, uint8_t *exists);
 
-/* *number becomes the greatest (least) kept commit number. Returns MORTARPINK_NONE if there is none. Logarithmic in
- * the commits. */
+/* *number becomes the greatest (least) kept commit number. Returns MORTARPINK_NONE if there is none. Constant time. */
 mortarpink_status mortarpink_latest(mortarpink_bitmap *bitmap, uint64_t *number);
 mortarpink_status mortarpink_earliest(mortarpink_bitmap *bitmap, uint64_t *number);
 

@@ -45,8 +45,8 @@
 //! | [`Batch::set`], [`Batch::pop`], [`Batch::get`], [`Batch::chunk`] | logarithmic in the chunks edited in the batch |
 //! | [`Batch::prune`] | linear in the chunks pruned |
 //! | [`Batch::commit`], [`Batch::try_commit`], [`Batch::abort`] | linear in the chunks edited in the batch |
-//! | [`Bitmap::get`], [`Bitmap::chunk`], [`Bitmap::len`] | constant |
-//! | [`Bitmap::latest`], [`Bitmap::earliest`], [`Bitmap::commit_exists`], [`Bitmap::at`] | logarithmic in the commits |
+//! | [`Bitmap::get`], [`Bitmap::chunk`], [`Bitmap::len`], [`Bitmap::latest`], [`Bitmap::earliest`] | constant |
+//! | [`Bitmap::commit_exists`], [`Bitmap::at`] | logarithmic in the commits |
 //! | a chunk read through a [`Version`] | a search of each later commit |
 //!
 //! # Finding the library

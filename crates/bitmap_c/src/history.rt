@@ -94,7 +94,7 @@ fn latest(any: &mut AnySession, number: &mut u64) -> u32
 ///
 /// # Complexity
 ///
-/// Logarithmic in the commits.
+/// Constant.
 #[unsafe(no_mangle)]
 pub extern "C" fn mortarpink_latest(alloc: Global, bitmap: &mut Handle, number: &mut u64) -> u32
     ensures step { Calls bitmap.old.value (λ N. Command.Latest)
@@ -124,7 +124,7 @@ fn earliest(any: &mut AnySession, number: &mut u64) -> u32
 ///
 /// # Complexity
 ///
-/// Logarithmic in the commits.
+/// Constant.
 #[unsafe(no_mangle)]
 pub extern "C" fn mortarpink_earliest(alloc: Global, bitmap: &mut Handle, number: &mut u64) -> u32
     ensures step { Calls bitmap.old.value (λ N. Command.Earliest)
