@@ -1,0 +1,10 @@
+pub mod Added
+pub mod Branching
+pub mod Digits
+pub mod EntryLists
+pub mod Following
+pub mod Growth
+pub mod Marks
+pub mod Paths
+pub mod Relinked
+pub mod Removed

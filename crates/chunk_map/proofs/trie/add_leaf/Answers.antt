@@ -1,0 +1,7 @@
+use Rattle.std.proofs.Common.{arith}
+use Rattle.chunk_map.proofs.Added.{leaf_trie}
+use Rattle.chunk_map.proofs.trie.add_leaf.Goals as goal
+
+pub returns-clause-trie : goal.returns-clause-trie
+returns-clause-trie c =
+    rw (c.put_link.ensures.nodes, c.put_link.ensures.root, c.push_key.ensures.keys, c.push_key.ensures.owners, c.in_ok-reserve_key.ensures.keys, c.in_ok-reserve_key.ensures.owners) (leaf_trie _ _ _ _ _ _ c.len.result (omega arith) c.requires.trie c.requires.end.way)

@@ -1,0 +1,34 @@
+-- What a map of chunks contains.
+use Rattle.std.specs.Prelude.{◌≡◌, ℕ, ◌*◌, ◌^◌, ◌<◌, ◌≤◌, List, [], ◌∷◌, length, true, false, if◌then◌else◌, Option, MatchOption, nat_eq}
+use Rattle.std.specs.BTreeMap.{insert_entry}
+use Rattle.std.specs.Map.{lookup}
+use Rattle.std.specs.Ordering.{nat_cmp}
+use Rattle.std.specs.Set.{is_member}
+use Rattle.chunk_map.specs.Trie.{AreApart}
+
+-- the entries, ascending by index, and the index of the chunk at each place
+pub record ChunkEntries : Type 0 where
+  pub entries : List (ℕ × List ℕ)
+  pub indices : List ℕ
+
+-- the entries of some indices and their chunks, ascending by index
+abbrev pub entries_of : List ℕ → List (List ℕ) → List (ℕ × List ℕ)
+entries_of [] chunks = []
+entries_of (index ∷ indices) [] = []
+entries_of (index ∷ indices) (chunk ∷ chunks) = insert_entry nat_cmp (entries_of indices chunks) index chunk
+
+-- a chunk of n bytes for each index, and distinct indices
+pub record IsPaired (n : ℕ) (indices : List ℕ) (chunks : List (List ℕ)) : Type 0 where
+  pub fits : 8 * n < 2 ^ 64
+  pub sizes : length chunks ≡ length indices
+  pub apart : AreApart indices
+
+-- the new entries have o under i, and the old values under every other key
+abbrev pub Puts : {X : Type 0} → List (ℕ × X) → List (ℕ × X) → ℕ → Option X → Type 0
+Puts old new i o = (q : ℕ) → lookup (nat_eq q) new ≡ (if nat_eq q i then o else lookup (nat_eq q) old)
+
+-- the least number of xs that is at least `from`, if there is one
+abbrev pub IsNextMember : List ℕ → ℕ → Option ℕ → Type 0
+IsNextMember xs from next = MatchOption next
+    ((j : ℕ) → from ≤ j → is_member nat_eq xs j ≡ false)
+    (λ i. (from ≤ i) × (is_member nat_eq xs i ≡ true) × ((j : ℕ) → from ≤ j → j < i → is_member nat_eq xs j ≡ false))

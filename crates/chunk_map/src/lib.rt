@@ -1,0 +1,9 @@
+//! A map from chunk index to chunk, without hashing.
+//!
+//! [`map::ChunkMap`] holds the edited chunks of a batch. Its indices may come from a stranger: no choice of them makes a call slow.
+#![tactic(auto)]
+
+pub mod map;
+mod next;
+mod places;
+mod trie;
