@@ -42,7 +42,7 @@
 //! |---|---|
 //! | [`Batch::push`], [`Batch::push_byte`], [`Batch::push_chunk`] | amortized constant |
 //! | [`Batch::push_bytes`] | linear in the bytes |
-//! | [`Batch::set`], [`Batch::pop`], [`Batch::get`], [`Batch::chunk`] | logarithmic in the chunks edited in the batch |
+//! | [`Batch::set`], [`Batch::pop`], [`Batch::get`], [`Batch::chunk`] | at most 16 steps, amortized |
 //! | [`Batch::prune`] | linear in the chunks pruned |
 //! | [`Batch::commit`], [`Batch::try_commit`], [`Batch::abort`] | linear in the chunks edited in the batch |
 //! | [`Bitmap::get`], [`Bitmap::chunk`], [`Bitmap::len`], [`Bitmap::latest`], [`Bitmap::earliest`] | constant |

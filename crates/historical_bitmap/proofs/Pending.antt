@@ -6,6 +6,7 @@
 -- Chunks: a chunk that is read with the pending edits.
 -- Record: the record that a commit makes.
 -- Applied: the pending edits, applied in steps, give the pending bitmap.
+-- AppliedInAnyOrder: chunks written in any order of their indices.
 -- AppliedRun: so they do if the appended run is applied after the other chunks.
 -- Appends: several bits appended at once.
 -- Ranges: the bits of a range set at once.
@@ -19,6 +20,7 @@ pub mod MarkedChunks
 pub mod Chunks
 pub mod Record
 pub mod Applied
+pub mod AppliedInAnyOrder
 pub mod AppliedRun
 pub mod Appends
 pub mod Ranges

@@ -9,6 +9,7 @@ use Rattle.std.specs.Set.{is_member}
 use Rattle.bitmap_bytes.specs.Chunk.{bytes_bit, chunk_bit, IsBitWritten, IsByteJoined}
 use Rattle.bitmap_core.specs.PrunedBits.{PrunedBits, bit_len, from_bits, chunk, truncated, pruned_to}
 use Rattle.bitmap_core.specs.Ranges.{is_between}
+use Rattle.chunk_map.specs.Entries.{Puts}
 use Rattle.historical_bitmap.specs.Edits.{Edit, from_to}
 use Rattle.historical_bitmap.specs.Edits.Edit.{Push, Pop, Set, Prune}
 use Rattle.historical_bitmap.specs.Record.{ChunkDiff, ReverseRecord, bit_or_else}
@@ -79,10 +80,6 @@ IsClearFrom n i k bytes = (j : ℕ) → j / (8 * n) ≡ i → k ≤ j → chunk_
 pub record IsWritten (n : ℕ) (old : List ℕ) (k : ℕ) (value : Bool) (new : List ℕ) : Type 0 where
   pub size : length new ≡ n
   pub bits : IsBitWritten n old new k value
-
--- the new entries have o under i, and the old values under every other key
-abbrev pub Puts : {X : Type 0} → List (ℕ × X) → List (ℕ × X) → ℕ → Option X → Type 0
-Puts old new i o = (q : ℕ) → lookup (nat_eq q) new ≡ (if nat_eq q i then o else lookup (nat_eq q) old)
 
 -- the new entries have the chunk under i with bit k set to `value`, and the old values under every other key
 pub record IsSetIn (n : ℕ) (old new : List (ℕ × List ℕ)) (i : ℕ) (chunk : List ℕ) (k : ℕ) (value : Bool) : Type 0 where
@@ -231,12 +228,6 @@ pub record IsRecordOf (n : ℕ) (b : PrunedBits) (l : PendingEdits) (r : Reverse
   pub pruned : r.pruned ≡ b.pruned
   pub sorted : IsStrictlySortedBy nat_cmp (keys_of r.entries)
   pub entries : (i : ℕ) → lookup (nat_eq i) r.entries ≡ (if is_member nat_eq (marked_chunks n b l) i then Some (diff_of n b l i) else None)
-
--- the least number of xs that is at least `from`, if there is one
-abbrev pub IsNextMember : List ℕ → ℕ → Option ℕ → Type 0
-IsNextMember xs from next = MatchOption next
-    ((j : ℕ) → from ≤ j → is_member nat_eq xs j ≡ false)
-    (λ i. (from ≤ i) × (is_member nat_eq xs i ≡ true) × ((j : ℕ) → from ≤ j → j < i → is_member nat_eq xs j ≡ false))
 
 -- edited chunks as entries of a record that keep their bytes
 abbrev pub edits_of : List (ℕ × List ℕ) → List (ℕ × ChunkDiff)

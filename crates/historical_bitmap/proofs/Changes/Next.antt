@@ -15,10 +15,10 @@ use Rattle.std.specs.Set.{is_member}
 use Rattle.bitmap_core.specs.Meaning.{ones_between}
 use Rattle.bitmap_core.proofs.Lists.SetPositions.{ones_between-append, ones_between-false, ones_between-hit, ones_between-length}
 use Rattle.bitmap_core.specs.PrunedBits.{PrunedBits}
+use Rattle.chunk_map.specs.Entries.{IsNextMember}
 use Rattle.historical_bitmap.specs.Changes.{changed_from, differs, retained_bytes}
 use Rattle.historical_bitmap.specs.Compared.{named_chunks, IsNextChange}
 use Rattle.historical_bitmap.specs.History.{EntriesRise}
-use Rattle.historical_bitmap.specs.Pending.{IsNextMember}
 use Rattle.historical_bitmap.specs.Record.{ReverseRecord}
 use Rattle.historical_bitmap.proofs.Lists.Between.{none_up_to}
 use Rattle.historical_bitmap.proofs.Lists.Members.{in_either, in_left, in_right}

@@ -13,8 +13,9 @@ use Rattle.std.specs.Ordering.{nat_cmp}
 use Rattle.std.specs.Set.{is_member}
 use Rattle.std.specs.declared.cmp.Ordering.TheVariants.{Less}
 use Rattle.bitmap_core.proofs.Lists.SetPositions.{ones_between-append, ones_between-same}
+use Rattle.chunk_map.specs.Entries.{IsNextMember, Puts}
 use Rattle.historical_bitmap.specs.Edits.{from_to}
-use Rattle.historical_bitmap.specs.Pending.{IsByteSetIn, IsNextMember, IsPartSet, IsPartSetIn, IsSetIn, IsWritten, members_between, Puts, PutsEach, PutsTwo, SetsIn}
+use Rattle.historical_bitmap.specs.Pending.{IsByteSetIn, IsPartSet, IsPartSetIn, IsSetIn, IsWritten, members_between, PutsEach, PutsTwo, SetsIn}
 use Rattle.historical_bitmap.specs.Run.{IsRun, run_entries, with_run}
 use Rattle.historical_bitmap.proofs.Lists.Between.{all_between}
 use Rattle.historical_bitmap.proofs.Lists.Maps.{not_some}

@@ -1,5 +1,5 @@
 -- Reads and writes of entries of chunks with a write cache.
-use Rattle.std.proofs.Common.{◌≡◌, ℕ, ◌+◌, Bool, true, false, cond, List, [], ◌∷◌, Some, None, refl, sym, ap, ◌∙◌, subst, arith}
+use Rattle.std.proofs.Common.{◌≡◌, ℕ, ◌+◌, Bool, true, false, cond, List, [], ◌∷◌, length, Some, None, refl, sym, ap, ◌∙◌, subst, arith}
 use mathlib.Core.Logic.{inl, inr, ◌≢◌}
 use Rattle.std.proofs.lemmas.Bool.{cases_Bool, cases_eq, eq-eqb, ne_eqb, eqb-true, eqb-false}
 use Rattle.std.proofs.lemmas.Cmp.{nat_eq_equiv}
@@ -10,9 +10,10 @@ use Rattle.std.specs.BTreeMap.{is_at}
 use Rattle.std.specs.List.Sorted.{IsStrictlySortedBy}
 use Rattle.std.specs.Map.{keys_of, lookup, set_value}
 use Rattle.std.specs.Ordering.{nat_cmp}
+use Rattle.chunk_map.specs.Entries.{Puts}
 use Rattle.historical_bitmap.specs.WriteCache.{IsCached, is_cached_at, with_cached}
-use Rattle.historical_bitmap.specs.Pending.{IsPartSet, IsPartSetIn, IsSetIn, IsWritten, Puts, PutsTwo, SetsIn}
-use Rattle.historical_bitmap.proofs.Lists.Maps.{is_at_is, not_some}
+use Rattle.historical_bitmap.specs.Pending.{IsPartSet, IsPartSetIn, IsSetIn, IsWritten, PutsTwo, SetsIn}
+use Rattle.historical_bitmap.proofs.Lists.Maps.{is_at_is, not_some, same_entries}
 use Rattle.historical_bitmap.proofs.History.PastStates.{same_lookup}
 
 pub cached_keys : (es : List (ℕ × List ℕ)) (cached : Option ℕ) (chunk : List ℕ) → keys_of (with_cached es cached chunk) ≡ keys_of es
@@ -21,6 +22,12 @@ cached_keys es (Some h) chunk = keys-set_value (is_at (nat_cmp h)) es chunk
 
 pub cached_sorted : (n : ℕ) (es : List (ℕ × List ℕ)) (cached : Option ℕ) (chunk : List ℕ) → IsCached n es cached → IsStrictlySortedBy nat_cmp (keys_of (with_cached es cached chunk))
 cached_sorted n es cached chunk ok = rw (cached_keys es cached chunk) ok.sorted
+
+-- without entries there is no chunk
+pub cached_none : (es : List (ℕ × List ℕ)) (cached : Option ℕ) (chunk : List ℕ) → length es ≡ 0 → with_cached es cached chunk ≡ []
+cached_none [] None chunk e = refl
+cached_none [] (Some h) chunk e = refl
+cached_none (entry ∷ es) cached chunk e = absurd (omega (arith, e))
 
 -- a look-up after a value is replaced
 lookup_set : (es : List (ℕ × List ℕ)) (h q : ℕ) (w : List ℕ) → IsSome (lookup (nat_eq h) es) → lookup (nat_eq q) (set_value (is_at (nat_cmp h)) es w) ≡ cond (nat_eq q h) (Some w) (lookup (nat_eq q) es)
@@ -75,6 +82,10 @@ puts_beside n es fs (Some h) chunk i o ok e sorted put =
       | inl f ↦ rw (eq-eqb q h f, ne_eqb q i (λ g. eqb-false h i e (sym f ∙ g))) (sym (lookup_set es h q chunk ok.found ∙ rw (eq-eqb q h f) refl))
       | inr ne ↦ rw (ne_eqb q h ne) (put q ∙ ap (λ y. cond (nat_eq q i) o y) (sym (lookup_set es h q chunk ok.found ∙ rw (ne_eqb q h ne) refl)))
     ]
+
+-- ascending entries with another chunk under an index that has one
+pub put_there : (es fs : List (ℕ × List ℕ)) (i : ℕ) (chunk : List ℕ) → IsStrictlySortedBy nat_cmp (keys_of es) → IsStrictlySortedBy nat_cmp (keys_of fs) → IsSome (lookup (nat_eq i) es) → Puts es fs i (Some chunk) → fs ≡ with_cached es (Some i) chunk
+put_there es fs i chunk up_old up_new some put = same_entries fs (with_cached es (Some i) chunk) up_new (rw (cached_keys es (Some i) chunk) up_old) (λ q. put q ∙ sym (lookup_set es i q chunk some))
 
 -- a range of the bits of another chunk is set
 module _ (n : ℕ) (es fs : List (ℕ × List ℕ)) (cached : Option ℕ) (chunk bytes : List ℕ) (i from to : ℕ) (value : Bool) (ok : IsCached n es cached) (out : is_cached_at cached i ≡ false) (some : IsSome (lookup (nat_eq i) es)) (is : fs ≡ with_cached es (Some i) bytes) where

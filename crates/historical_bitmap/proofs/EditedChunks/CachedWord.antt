@@ -23,7 +23,8 @@ use Rattle.bitmap_bytes.proofs.Bytes.Made.{bytes_are, byte_same, chunk_bit_of_by
 use Rattle.bitmap_bytes.proofs.Chunks.Bits.{chunk_bit-mod}
 use Rattle.bitmap_bytes.proofs.Words.Starts.{end_near, next_cases, start_chunk, start_of}
 use Rattle.bitmap_core.proofs.Pruned.Positions.{place as place_of}
-use Rattle.historical_bitmap.specs.Pending.{IsByteSetIn, IsClearFrom, IsSetIn, IsWritten, Puts, SetsIn}
+use Rattle.chunk_map.specs.Entries.{Puts}
+use Rattle.historical_bitmap.specs.Pending.{IsByteSetIn, IsClearFrom, IsSetIn, IsWritten, SetsIn}
 use Rattle.historical_bitmap.specs.Tail.{bit_with_word, chunk_with_word, IsTail, IsWordOf, IsWordPut, with_word}
 use Rattle.historical_bitmap.specs.WriteCache.{IsCached, is_cached_at, with_cached}
 use Rattle.historical_bitmap.proofs.EditedChunks.CachedChunks.{cache_same, cached_keys, cached_some, cached_sorted, holds, lookup_beside, lookup_here, lookup_put, puts_here}

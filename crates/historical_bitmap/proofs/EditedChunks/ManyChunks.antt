@@ -11,7 +11,8 @@ use Rattle.std.specs.Ordering.{nat_cmp}
 use Rattle.std.specs.Set.{is_member}
 use Rattle.bitmap_core.proofs.Lists.Ranges.{between_in, between_below, between_above}
 use Rattle.bitmap_core.proofs.Pruned.Positions.{place}
-use Rattle.historical_bitmap.specs.Pending.{AreMissing, IsPartSet, IsRangeSet, Puts, PutsEach, SetsChunks}
+use Rattle.chunk_map.specs.Entries.{Puts}
+use Rattle.historical_bitmap.specs.Pending.{AreMissing, IsPartSet, IsRangeSet, PutsEach, SetsChunks}
 use Rattle.historical_bitmap.proofs.Lists.Maps.{not_some, same_entries}
 use Rattle.historical_bitmap.proofs.Lists.Members.{in_left, in_right}
 

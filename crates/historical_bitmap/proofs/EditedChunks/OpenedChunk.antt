@@ -9,7 +9,8 @@ use Rattle.std.specs.Map.{lookup}
 use Rattle.bitmap_bytes.specs.Chunk.{IsChunk}
 use Rattle.bitmap_core.specs.PrunedBits.{PrunedBits, bit_len, chunk, truncated}
 use Rattle.bitmap_core.proofs.Pruned.Positions.{place}
-use Rattle.historical_bitmap.specs.Pending.{IsWritten, Puts, SetsIn}
+use Rattle.chunk_map.specs.Entries.{Puts}
+use Rattle.historical_bitmap.specs.Pending.{IsWritten, SetsIn}
 use Rattle.historical_bitmap.proofs.Pending.Chunks.{chunk_with_bits}
 use Rattle.historical_bitmap.proofs.Pending.Writes.{zeros_past}
 

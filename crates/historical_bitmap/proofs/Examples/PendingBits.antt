@@ -7,12 +7,13 @@ use Rattle.bitmap_bytes.specs.Chunk.{chunk_bit}
 use Rattle.bitmap_core.specs.PrunedBits.{PrunedBits}
 use Rattle.bitmap_core.proofs.Examples.Chunks.{byte_joined}
 use Rattle.bitmap_core.proofs.Examples.EachPlace.{same_places, is_other}
+use Rattle.chunk_map.specs.Entries.{IsNextMember, Puts}
 use Rattle.historical_bitmap.specs.Edits.{after_all, pushes}
 use Rattle.historical_bitmap.specs.Edits.Edit.{Push, Pop, Set, Prune}
 use Rattle.historical_bitmap.specs.Record.{ReverseRecord, before}
 use Rattle.historical_bitmap.specs.Record.ChunkDiff.{Modified, Removed, Added, Pruned}
 use Rattle.historical_bitmap.specs.Undo.{undone_in_steps}
-use Rattle.historical_bitmap.specs.Pending.{PendingEdits, unedited, edited_chunk, pending_bit, pending_bits, pending_chunk, old_chunk, marked_chunks, diff_of, edits_of, Follows, Puts, run_bits, IsNextMember, IsEdited, PendingFits, IsWritten, IsSetIn, SetsIn, PutsTwo, IsByteSetIn, HasAppended, Appends, applied_in_steps}
+use Rattle.historical_bitmap.specs.Pending.{PendingEdits, unedited, edited_chunk, pending_bit, pending_bits, pending_chunk, old_chunk, marked_chunks, diff_of, edits_of, Follows, run_bits, IsEdited, PendingFits, IsWritten, IsSetIn, SetsIn, PutsTwo, IsByteSetIn, HasAppended, Appends, applied_in_steps}
 
 -- twenty true bits: the bytes FF, FF and 0F
 abbrev pub base : PrunedBits

@@ -17,8 +17,8 @@ use Rattle.bitmap_bytes.specs.Chunk.{chunk_bit}
 use Rattle.bitmap_core.specs.PrunedBits.{PrunedBits, bit_at, bit_len, extended, IsRetained, IsRetainedChunk, truncated, unpruned, with_chunk}
 use Rattle.bitmap_core.proofs.Pruned.Edits.{bit_extended, bit_truncated, len_appended, len_truncated, len_unpruned}
 use Rattle.bitmap_core.proofs.Pruned.Positions.{bit_from_bits, ceil_above_index, index_below_ceil, place, same_bitmap}
+use Rattle.chunk_map.specs.Entries.{Puts}
 use Rattle.historical_bitmap.specs.History.{AllCanUndo, EntriesRise, first_kept, IsLeftBy, left_by, past_number, undone}
-use Rattle.historical_bitmap.specs.Pending.{Puts}
 use Rattle.historical_bitmap.specs.Record.{ChunkDiff, ReverseRecord, bit_or_else, bytes_of, kept, kept_bytes}
 use Rattle.historical_bitmap.specs.Rewind.{gathered, Gathers, HasExtent, IsWrittenBack}
 use Rattle.historical_bitmap.proofs.History.InPlace.{found_in_place, IsFoundIn}

@@ -1,83 +1,33 @@
 -- The numbers between two bounds that are in a list, ascending.
-use Rattle.std.proofs.Common.{◌≡◌, ℕ, zero, suc, ◌+◌, ◌-◌, ◌<◌, ◌≤◌, Bool, true, false, cond, List, [], ◌∷◌, ◌++◌, refl, ap, arith, sym, ◌∙◌}
-use mathlib.Core.Logic.{inl, inr, ◌≢◌}
-use Rattle.std.proofs.lemmas.Bool.{cases_eq, cases_lt, eq-eqb, eqb-true, ne_eqb, lt-ltb, le-ltb}
-use Rattle.std.proofs.lemmas.Cmp.{nat_eq_equiv}
-use Rattle.std.proofs.lemmas.Map.Keys.{sorted_head, sorted_tail}
-use Rattle.std.proofs.lemmas.Map.Made.{is_member-filter}
-use Rattle.std.specs.BTreeMap.Range.{entries_between, range_contains}
+use Rattle.std.proofs.Common.{◌≡◌, ℕ, zero, suc, ◌+◌, ◌-◌, ◌<◌, ◌≤◌, true, false, List, [], ◌∷◌, ◌++◌, refl, ap, arith, ◌∙◌}
+use Rattle.std.proofs.lemmas.Bool.{ne_eqb}
+use Rattle.std.proofs.lemmas.List.{append-nil}
 use Rattle.std.specs.declared.cmp.Ordering.TheVariants.{Less}
-use Rattle.std.specs.declared.ops.Bound.TheVariants.{Excluded, Included}
 use Rattle.std.specs.List.{AllByRecursion, filter, range_with_len}
-use Rattle.std.specs.List.Sorted.{IsStrictlySortedBy}
-use Rattle.std.specs.Map.{keys_of}
 use Rattle.std.specs.Ordering.{nat_cmp}
-use Rattle.std.specs.Prelude.{nat_eq, ◌&&◌}
+use Rattle.std.specs.Prelude.{nat_eq}
 use Rattle.std.specs.Set.{is_member}
-use Rattle.bitmap_core.proofs.Lists.SetPositions.{ones_between-false, ones_between-first, ones_between-same}
+use Rattle.bitmap_core.proofs.Lists.SetPositions.{ones_between-append, ones_between-false, ones_between-hit, ones_between-none, ones_between-same}
 use Rattle.historical_bitmap.specs.Edits.{from_to}
 use Rattle.historical_bitmap.specs.Pending.{members_between}
 use Rattle.historical_bitmap.proofs.History.PastStates.{below}
-use Rattle.historical_bitmap.proofs.Lists.Members.{member_from_to}
 
 -- no number up to x is in a list of greater numbers
 pub none_up_to : (x j : ℕ) (xs : List ℕ) → AllByRecursion (λ k. nat_cmp x k ≡ Less) xs → j ≤ x → is_member nat_eq xs j ≡ false
 none_up_to x j [] h l = refl
 none_up_to x j (y ∷ ys) h l = rw (ne_eqb j y (λ e. absurd (omega (arith, e, l, below x y h.0)))) (none_up_to x j ys h.1 l)
 
-not_first : (j x : ℕ) (xs : List ℕ) → j ≢ x → is_member nat_eq (x ∷ xs) j ≡ is_member nat_eq xs j
-not_first j x xs ne = rw (ne_eqb j x ne) refl
+-- ---- the list grows with its upper bound
+pub between_nothing : (xs : List ℕ) (from : ℕ) → members_between xs from from ≡ []
+between_nothing xs from = ones_between-none (is_member nat_eq xs) from from (omega arith)
 
--- ---- the range of a map
-in_range : (from to q : ℕ) → from ≤ q → q < to → range_contains nat_cmp (Included from) (Excluded to) q ≡ true
-in_range from to q l h = elim (cases_eq from q) [
-  | inl e ↦ rw (le-ltb from q (omega (arith, e)), eq-eqb from q e, le-ltb to q (omega (arith, h)), ne_eqb to q (λ f. absurd (omega (arith, f, h)))) refl
-  | inr ne ↦ rw (lt-ltb from q (omega (arith, l, ne)), le-ltb to q (omega (arith, h)), ne_eqb to q (λ f. absurd (omega (arith, f, h)))) refl
-]
+pub between_none : (xs : List ℕ) (from at to : ℕ) → from ≤ at → at ≤ to → ((j : ℕ) → at ≤ j → j < to → is_member nat_eq xs j ≡ false) → members_between xs from to ≡ members_between xs from at
+between_none xs from at to low high none = ones_between-append (is_member nat_eq xs) from at to low high ∙ (ap (λ ks. members_between xs from at ++ ks) (ones_between-false (is_member nat_eq xs) at to none) ∙ append-nil (members_between xs from at))
 
-before_range : (from to q : ℕ) → q < from → range_contains nat_cmp (Included from) (Excluded to) q ≡ false
-before_range from to q h = rw (le-ltb from q (omega (arith, h)), ne_eqb from q (λ f. absurd (omega (arith, f, h)))) refl
-
-past_range : (from to q : ℕ) → from ≤ q → to ≤ q → range_contains nat_cmp (Included from) (Excluded to) q ≡ false
-past_range from to q l h = elim (cases_eq from q) [
-  | inl e ↦ elim (cases_eq to q) [
-    | inl f ↦ rw (le-ltb from q (omega (arith, e)), eq-eqb from q e, le-ltb to q (omega (arith, f)), eq-eqb to q f) refl
-    | inr ne ↦ rw (le-ltb from q (omega (arith, e)), eq-eqb from q e, lt-ltb to q (omega (arith, h, ne))) refl
-  ]
-  | inr other ↦ elim (cases_eq to q) [
-    | inl f ↦ rw (lt-ltb from q (omega (arith, l, other)), le-ltb to q (omega (arith, f)), eq-eqb to q f) refl
-    | inr ne ↦ rw (lt-ltb from q (omega (arith, l, other)), lt-ltb to q (omega (arith, h, ne))) refl
-  ]
-]
-
--- the keys of the range of a map from one number up to another
-pub range_keys : {X : Type 0} (es : List (ℕ × X)) (from to : ℕ) → IsStrictlySortedBy nat_cmp (keys_of es) → keys_of (entries_between nat_cmp (Included from) (Excluded to) es) ≡ members_between (keys_of es) from to
-range_keys [] from to up = sym (ones_between-false (is_member nat_eq []) from to (λ k f s. refl))
-range_keys (e ∷ es) from to up =
-    let rest = range_keys es from to (sorted_tail nat_cmp e.0 (keys_of es) up) in
-    let later = sorted_head nat_cmp e.0 (keys_of es) up in
-    let all = λ (b : Bool). keys_of (cond b (e ∷ entries_between nat_cmp (Included from) (Excluded to) es) (entries_between nat_cmp (Included from) (Excluded to) es)) in
-    elim (cases_lt e.0 from) [
-      | inl l ↦ ap all (before_range from to e.0 l) ∙ (rest ∙ ones_between-same (is_member nat_eq (keys_of es)) (is_member nat_eq (keys_of (e ∷ es))) from to (λ k f s. sym (not_first k e.0 (keys_of es) (λ g. absurd (omega (arith, g, f, l))))))
-      | inr l ↦ elim (cases_lt e.0 to) [
-        | inr h ↦ ap all (past_range from to e.0 l h) ∙ (rest ∙ ones_between-same (is_member nat_eq (keys_of es)) (is_member nat_eq (keys_of (e ∷ es))) from to (λ k f s. sym (not_first k e.0 (keys_of es) (λ g. absurd (omega (arith, g, s, h))))))
-        | inl h ↦ ap all (in_range from to e.0 l h) ∙ (ap (λ ks. e.0 ∷ ks) rest ∙ sym (ones_between-first (is_member nat_eq (keys_of (e ∷ es))) (is_member nat_eq (keys_of es)) from e.0 to l h
-            (rw (eq-eqb e.0 e.0 refl) refl)
-            (λ k f s. not_first k e.0 (keys_of es) (λ g. absurd (omega (arith, g, s))) ∙ none_up_to e.0 k (keys_of es) later (omega (arith, s)))
-            (λ k f s. none_up_to e.0 k (keys_of es) later s)
-            (λ k s f. not_first k e.0 (keys_of es) (λ g. absurd (omega (arith, g, s))))))
-      ]
-    ]
-
--- a listed number is between the bounds
-pub between_bounds : (xs : List ℕ) (from to q : ℕ) → is_member nat_eq (members_between xs from to) q ≡ true → (from ≤ q) × (q < to)
-between_bounds xs from to q h =
-    let both = sym (is_member-filter nat_eq_equiv (is_member nat_eq xs) q (λ x e. ap (is_member nat_eq xs) (eqb-true q x e)) (from_to from to)) ∙ h in
-    member_from_to from to q (and_left (is_member nat_eq (from_to from to) q) (is_member nat_eq xs q) both)
-  where
-    and_left : (a b : Bool) → (a && b) ≡ true → a ≡ true
-    and_left true b e = refl
-    and_left false b e = e
+pub between_next : (xs : List ℕ) (from at i : ℕ) → from ≤ at → at ≤ i → is_member nat_eq xs i ≡ true → ((j : ℕ) → at ≤ j → j < i → is_member nat_eq xs j ≡ false) → members_between xs from (i + 1) ≡ members_between xs from at ++ i ∷ []
+between_next xs from at i low high here none =
+    let one : members_between xs i (i + 1) ≡ i ∷ [] = ones_between-hit (is_member nat_eq xs) i (i + 1) (omega arith) here ∙ ap (λ ks. i ∷ ks) (between_nothing xs (i + 1)) in
+    ones_between-append (is_member nat_eq xs) from i (i + 1) (omega (arith, low, high)) (omega arith) ∙ (ap (λ ks. members_between xs from i ++ ks) one ∙ ap (λ ks. ks ++ i ∷ []) (between_none xs from at i low high none))
 
 -- ---- each number between the bounds is in the list
 all_true : (xs : List ℕ) → filter (λ _. true) xs ≡ xs

@@ -1,19 +1,16 @@
 -- The contracts of a map, restated as look-ups by number.
-use Rattle.std.proofs.Common.{◌≡◌, ℕ, ◌<◌, ◌≤◌, true, false, cond, List, [], ◌∷◌, Some, None, Result, Ok, Err, refl, sym, ap, ◌∙◌, subst, arith}
+use Rattle.std.proofs.Common.{◌≡◌, ℕ, ◌<◌, ◌≤◌, true, false, cond, List, [], ◌∷◌, Some, None, Result, Ok, Err, refl, sym, ap, ◌∙◌, arith}
 use mathlib.Core.Logic.{inl, inr, ◌≢◌}
 use Rattle.std.proofs.lemmas.Option.{same_Some}
 use Rattle.std.specs.List.{AllByRecursion}
 use Rattle.std.specs.declared.cmp.Ordering.TheVariants.{Less}
 use Rattle.std.specs.List.Sorted.{IsStrictlySortedBy}
-use Rattle.std.proofs.lemmas.Bool.{cases_order, cases_eq, cases_Bool, eq-eqb, ne_eqb, lt-ltb, le-ltb}
-use Rattle.std.proofs.lemmas.Map.Keys.{le_from_not_gt}
-use Rattle.std.proofs.lemmas.Map.Made.{is_some-lookup}
-use Rattle.std.specs.Prelude.{nat_eq, Option, is_some, is_err, OnErr, OnOk}
+use Rattle.std.proofs.lemmas.Bool.{cases_order, cases_eq, eq-eqb, ne_eqb, lt-ltb, le-ltb}
+use Rattle.std.specs.Prelude.{nat_eq, Option, is_err, OnErr, OnOk}
 use Rattle.std.specs.BTreeMap.{is_at}
 use Rattle.std.specs.Map.{keys_of, lookup}
-use Rattle.std.specs.Ordering.{nat_cmp, is_gt}
-use Rattle.std.specs.Set.{is_member}
-use Rattle.historical_bitmap.specs.Pending.{Puts, IsNextMember}
+use Rattle.std.specs.Ordering.{nat_cmp}
+use Rattle.chunk_map.specs.Entries.{Puts}
 use Rattle.historical_bitmap.proofs.History.PastStates.{same_lookup}
 
 -- the test of a map at a number is equality of numbers
@@ -27,10 +24,6 @@ is_at_is k q = elim (cases_order q k) [
 -- the contract of an update, as `Puts`
 pub puts_from : {X : Type 0} (es fs : List (ℕ × X)) (k : ℕ) (o : Option X) → ((q : ℕ) → lookup (is_at (nat_cmp q)) fs ≡ cond (is_at (nat_cmp k) q) o (lookup (is_at (nat_cmp q)) es)) → Puts es fs k o
 puts_from es fs k o h = λ q. sym (same_lookup q fs) ∙ (h q ∙ (ap (λ t. cond t o (lookup (is_at (nat_cmp q)) es)) (is_at_is k q) ∙ ap (λ y. cond (nat_eq q k) o y) (same_lookup q es)))
-
--- the same for a list equal to the updated one
-pub puts_as : {X : Type 0} (es fs gs : List (ℕ × X)) (k : ℕ) (o : Option X) → fs ≡ gs → Puts es gs k o → Puts es fs k o
-puts_as es fs gs k o e = subst (λ xs. Puts es xs k o) (sym e)
 
 -- ---- ascending entries
 below : (a b : ℕ) → nat_cmp a b ≡ Less → a < b
@@ -87,27 +80,3 @@ on_err (Err x) P e h = h
 pub on_ok : {A E : Type 0} (r : Result A E) (P : Type 0) → is_err r ≡ false → OnOk r P → P
 on_ok (Ok x) P e h = h
 on_ok (Err x) P e h = cc
-
--- ---- the contract of a range
-not_gt : (a b : ℕ) → a ≤ b → is_gt (nat_cmp a b) ≡ false
-not_gt a b h = elim (cases_order a b) [
-  | inl e ↦ rw (le-ltb a b (omega (arith, e)), eq-eqb a b e) refl
-  | inr (inl l) ↦ rw (lt-ltb a b l) refl
-  | inr (inr l) ↦ absurd (omega (arith, h, l))
-]
-
-has : {X : Type 0} (es : List (ℕ × X)) (q : ℕ) → is_member nat_eq (keys_of es) q ≡ is_some (lookup (is_at (nat_cmp q)) es)
-has es q = sym (is_some-lookup (nat_eq q) es) ∙ ap is_some (sym (same_lookup q es))
-
-pub range_some : {X : Type 0} (es : List (ℕ × X)) (from i : ℕ) (v : X) → is_gt (nat_cmp from i) ≡ false → lookup (is_at (nat_cmp i)) es ≡ Some v → ((q : ℕ) → is_gt (nat_cmp from q) ≡ false → is_some (lookup (is_at (nat_cmp q)) es) ≡ true → is_gt (nat_cmp i q) ≡ false) → IsNextMember (keys_of es) from (Some i)
-range_some es from i v low found first = (
-  le_from_not_gt from i low,
-  has es i ∙ ap is_some found,
-  λ j f s. elim (cases_Bool (is_member nat_eq (keys_of es) j)) [
-    | inl e ↦ absurd (omega (arith, s, le_from_not_gt i j (first j (not_gt from j f) (sym (has es j) ∙ e))))
-    | inr e ↦ e
-  ],
-)
-
-pub range_none : {X : Type 0} (es : List (ℕ × X)) (from : ℕ) → ((q : ℕ) → is_gt (nat_cmp from q) ≡ false → lookup (is_at (nat_cmp q)) es ≡ None) → IsNextMember (keys_of es) from None
-range_none es from none = λ j f. has es j ∙ ap is_some (none j (not_gt from j f))

@@ -19,7 +19,7 @@ use Rattle.historical_bitmap.proofs.EditedChunks.AppendedRun.{first_of, look, lo
 use Rattle.historical_bitmap.proofs.Records.UndoneInSteps.{put_len, put_pruned}
 
 -- bitmaps with the same pruned count, length and bits are equal
-same_bits : (n : ℕ) (c d : PrunedBits) → c.pruned ≡ d.pruned → bit_len n c ≡ bit_len n d → ((k : ℕ) → IsRetained n d k → bit_at n c k ≡ bit_at n d k) → c ≡ d
+pub same_bits : (n : ℕ) (c d : PrunedBits) → c.pruned ≡ d.pruned → bit_len n c ≡ bit_len n d → ((k : ℕ) → IsRetained n d k → bit_at n c k ≡ bit_at n d k) → c ≡ d
 same_bits n c d p l h = sym (same_from_bits n c (bit_at n c) (λ k m. refl)) ∙ (ap (λ (q : ℕ). from_bits n q (bit_len n c) (bit_at n c)) p ∙ (ap (λ (m : ℕ). from_bits n d.pruned m (bit_at n c)) l ∙ same_from_bits n d (bit_at n c) h))
 
 module _ (n : ℕ) (b : PrunedBits) (from : ℕ) (xs : List (List ℕ)) (es : List (ℕ × List ℕ)) where

@@ -9,7 +9,8 @@ use Rattle.std.specs.Map.{keys_of}
 use Rattle.std.specs.Set.{is_member}
 use Rattle.bitmap_core.specs.PrunedBits.{PrunedBits, bit_len}
 use Rattle.bitmap_core.proofs.Pruned.Positions.{place}
-use Rattle.historical_bitmap.specs.Pending.{PendingEdits, marked_chunks, IsNextMember}
+use Rattle.chunk_map.specs.Entries.{IsNextMember}
+use Rattle.historical_bitmap.specs.Pending.{PendingEdits, marked_chunks}
 use Rattle.historical_bitmap.proofs.Pending.MarkedChunks.{IsMarked, mark, how_marked}
 
 div-mono : (w j k : ℕ) → 0 < w → j ≤ k → j / w ≤ k / w

@@ -12,9 +12,7 @@ use Rattle.std.specs.Int.{div_ceil}
 use Rattle.std.specs.List.{All, AllByRecursion}
 use Rattle.std.specs.List.Sorted.{IsStrictlySortedBy}
 use Rattle.std.specs.Ordering.{nat_cmp}
-use Rattle.std.specs.BTreeMap.Range.{entries_between}
 use Rattle.std.specs.declared.cmp.Ordering.TheVariants.{Less}
-use Rattle.std.specs.declared.ops.Bound.TheVariants.{Excluded, Included}
 use Rattle.std.specs.Map.{lookup, keys_of}
 use Rattle.std.specs.Set.{is_member, distinct_count}
 use Rattle.bitmap_bytes.specs.Chunk.{chunk_bit}
@@ -26,9 +24,8 @@ use Rattle.historical_bitmap.specs.Record.{ChunkDiff, ReverseRecord, bit_or_else
 use Rattle.historical_bitmap.specs.Undo.{CanUndo, IsOldChunk}
 use Rattle.historical_bitmap.specs.Edits.{from_to}
 use Rattle.historical_bitmap.specs.Pending.{AddsEntries, PendingEdits, edited_chunk, entries_for, first_cut_of, members_between, pending_bits, marked_chunks, diff_of, unedited, PendingFits, IsRecordOf}
-use Rattle.historical_bitmap.proofs.Lists.Between.{all_between, range_keys}
+use Rattle.historical_bitmap.proofs.Lists.Between.{all_between}
 use Rattle.historical_bitmap.proofs.Lists.Counting.{count_marked}
-use Rattle.historical_bitmap.proofs.Lists.Members.{in_right}
 use Rattle.historical_bitmap.proofs.Records.Restores.{bit_in_chunk, has_chunk}
 use Rattle.historical_bitmap.proofs.Pending.Edits.{pending_len, pending_at, unedited_fits, unedited_pending}
 use Rattle.historical_bitmap.proofs.Pending.MarkedChunks.{IsMarked, mark, marked_below, none_before, unedited_marks}
@@ -154,7 +151,7 @@ unfolding IsStrictlySortedBy
 sorted_push [] i h below = (tt, tt)
 sorted_push (k ∷ ks) i h below = (all_push (λ y. nat_cmp k y ≡ Less) ks i h.0 (less k i (All-head (λ k. k < i) k ks below)), sorted_push ks i h.1 (All-tail (λ k. k < i) k ks below))
 
-sorted_none : IsStrictlySortedBy nat_cmp []
+pub sorted_none : IsStrictlySortedBy nat_cmp []
 unfolding IsStrictlySortedBy
 sorted_none = tt
 
@@ -275,29 +272,6 @@ adds_none n b l ks r e = rw e (ap (λ es. let v : ReverseRecord = record { len =
 
 pub adds_more : (n : ℕ) (b : PrunedBits) (l : PendingEdits) (ks : List ℕ) (i : ℕ) (d : ChunkDiff) (r s t : ReverseRecord) → AddsEntries n b l ks r s → t ≡ record { len = s.len; pruned = s.pruned; entries = s.entries ++ (i, d) ∷ [] } → d ≡ diff_of n b l i → AddsEntries n b l (ks ++ i ∷ []) r t
 adds_more n b l ks i d r s t e f g = adds_twice n b l ks (i ∷ []) r s t e (f ∙ ap (λ (x : ChunkDiff). let v : ReverseRecord = record { len = s.len; pruned = s.pruned; entries = s.entries ++ (i, x) ∷ [] } in v) g)
-
--- ---- the loop invariant of the pass over the range of a map: the keys so far, whose entries are appended, and those that are left
-pub record Walks {X : Type 0} (n : ℕ) (b : PrunedBits) (l : PendingEdits) (all : List ℕ) (left : List (ℕ × X)) (old new : ReverseRecord) : Type 0 where
-  pub walked : List ℕ
-  pub split : all ≡ walked ++ keys_of left
-  pub adds : AddsEntries n b l walked old new
-
-pub walk_begins : {X : Type 0} (n : ℕ) (b : PrunedBits) (l : PendingEdits) (es left : List (ℕ × X)) (from to : ℕ) (r : ReverseRecord) → left ≡ entries_between nat_cmp (Included from) (Excluded to) es → IsStrictlySortedBy nat_cmp (keys_of es) → Walks n b l (members_between (keys_of es) from to) left r r
-walk_begins n b l es left from to r e up = record { walked = []; split = sym (range_keys es from to up) ∙ ap keys_of (sym e); adds = adds_none n b l [] r refl }
-
-pub walk_one : {X : Type 0} (n : ℕ) (b : PrunedBits) (l : PendingEdits) (all : List ℕ) (left rest : List (ℕ × X)) (i : ℕ) (x : X) (d : ChunkDiff) (r s t : ReverseRecord) → left ≡ (i, x) ∷ rest → Walks n b l all left r s → t ≡ record { len = s.len; pruned = s.pruned; entries = s.entries ++ (i, d) ∷ [] } → d ≡ diff_of n b l i → Walks n b l all rest r t
-walk_one n b l all left rest i x d r s t e w f g = record {
-  walked = w.walked ++ i ∷ [];
-  split = w.split ∙ (ap (λ es. w.walked ++ keys_of es) e ∙ sym (append_assoc w.walked (i ∷ []) (keys_of rest)));
-  adds = adds_more n b l w.walked i d r s t w.adds f g;
-}
-
-pub walk_ends : {X : Type 0} (n : ℕ) (b : PrunedBits) (l : PendingEdits) (all : List ℕ) (left : List (ℕ × X)) (r s : ReverseRecord) → left ≡ [] → Walks n b l all left r s → AddsEntries n b l all r s
-walk_ends n b l all left r s e w = subst (λ ks. AddsEntries n b l ks r s) (sym (w.split ∙ (ap (λ es. w.walked ++ keys_of es) e ∙ append-nil w.walked))) w.adds
-
--- a key that is left is among all
-pub walk_here : {X : Type 0} (n : ℕ) (b : PrunedBits) (l : PendingEdits) (all : List ℕ) (left rest : List (ℕ × X)) (i : ℕ) (x : X) (r s : ReverseRecord) → left ≡ (i, x) ∷ rest → Walks n b l all left r s → is_member nat_eq all i ≡ true
-walk_here n b l all left rest i x r s e w = rw (w.split ∙ ap (λ es. w.walked ++ keys_of es) e) (in_right w.walked (i ∷ keys_of rest) i (rw (eq-eqb i i refl) refl))
 
 -- ---- the three passes of the record: the pruned chunks, the edited ones up to the first one that is cut, and the rest of the current bitmap
 pub record IsBounds (n : ℕ) (b : PrunedBits) (l : PendingEdits) (cut end : ℕ) : Type 0 where

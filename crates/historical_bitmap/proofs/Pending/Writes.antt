@@ -18,9 +18,10 @@ use Rattle.bitmap_core.specs.PrunedBits.{PrunedBits, pruned_bits, bit_len, bit_a
 use Rattle.bitmap_bytes.proofs.Bytes.Made.{map_range_same}
 use Rattle.bitmap_core.proofs.Pruned.Positions.{place, bit_past}
 use Rattle.bitmap_core.proofs.Pruned.Edits.{bit_truncated}
+use Rattle.chunk_map.specs.Entries.{Puts}
 use Rattle.historical_bitmap.specs.Edits.{from_to}
 use Rattle.historical_bitmap.specs.Record.{bit_or_else}
-use Rattle.historical_bitmap.specs.Pending.{PendingEdits, PendingFits, IsEdited, IsSetIn, IsByteSetIn, Puts, PutsTwo, Writes, Pops, HasAppended, Appends, SetsIn, edited_chunk, pending_bits, pending_chunk, run_bits}
+use Rattle.historical_bitmap.specs.Pending.{PendingEdits, PendingFits, IsEdited, IsSetIn, IsByteSetIn, PutsTwo, Writes, Pops, HasAppended, Appends, SetsIn, edited_chunk, pending_bits, pending_chunk, run_bits}
 use Rattle.historical_bitmap.proofs.Pending.Chunks.{chunk_with_bits}
 use Rattle.historical_bitmap.proofs.Pending.Edits.{pending_at, pending_len}
 

@@ -74,11 +74,11 @@ pub put_one_pruned : (n : ℕ) (b : PrunedBits) (i : ℕ) (o : Option (List ℕ)
 put_one_pruned n b i None = refl
 put_one_pruned n b i (Some bytes) = refl
 
-put_one_same : (n : ℕ) (b : PrunedBits) (i : ℕ) (o : Option (List ℕ)) (k : ℕ) → IsRetained n b k → k / (8 * n) ≡ i → bit_at n (put_back_one n b i o) k ≡ bit_or_else n o b k
+pub put_one_same : (n : ℕ) (b : PrunedBits) (i : ℕ) (o : Option (List ℕ)) (k : ℕ) → IsRetained n b k → k / (8 * n) ≡ i → bit_at n (put_back_one n b i o) k ≡ bit_or_else n o b k
 put_one_same n b i None k h e = refl
 put_one_same n b i (Some bytes) k h e = bit_with_chunk n b i bytes k h ∙ rw (eq-eqb (k / (8 * n)) i e) refl
 
-put_one_other : (n : ℕ) (b : PrunedBits) (i : ℕ) (o : Option (List ℕ)) (k : ℕ) → IsRetained n b k → k / (8 * n) ≢ i → bit_at n (put_back_one n b i o) k ≡ bit_at n b k
+pub put_one_other : (n : ℕ) (b : PrunedBits) (i : ℕ) (o : Option (List ℕ)) (k : ℕ) → IsRetained n b k → k / (8 * n) ≢ i → bit_at n (put_back_one n b i o) k ≡ bit_at n b k
 put_one_other n b i None k h ne = refl
 put_one_other n b i (Some bytes) k h ne = bit_with_chunk n b i bytes k h ∙ rw (ne_eqb (k / (8 * n)) i ne) refl
 

@@ -13,8 +13,8 @@ ghost use Rattle.historical_bitmap.specs.Undo.{IsOldChunk, put_back};
 use crate::bitmap::historical::grown::GrownChunks;
 use bitmap_core::bitmap::Prunable;
 use bitmap_core::chunk::chunk_width;
+use chunk_map::map::ChunkMap;
 use std::alloc::AllocError;
-use std::collections::BTreeMap;
 
 // Extends the bitmap with zeros to a length, if that is longer, and returns the length before.
 //
@@ -83,15 +83,17 @@ fn write_run<const N: usize>(current: &mut Prunable<N>, from: usize, run: &Vec<[
     }
 }
 
-// Replaces the bits of chunks. Does not allocate.
-fn write_chunks<const N: usize>(current: &mut Prunable<N>, edited: &BTreeMap<usize, [u8; N]>)
+// Replaces the bits of chunks, in any order. Does not allocate.
+fn write_chunks<const N: usize>(current: &mut Prunable<N>, edited: &ChunkMap<N>)
     requires width { IsWidth N }
     requires retained { (i : ℕ) → MatchOption (lookup (nat_eq i) edited.now.entries) (Unit {0}) (λ bytes. current.old.pruned ≤ i) }
     requires fits { (i : ℕ) → MatchOption (lookup (nat_eq i) edited.now.entries) (Unit {0}) (IsOldChunk N (bit_len N current.old) i) }
     ensures value { current.new ≡ put_back N current.old (edits_of edited.now.entries) }
     ensures sorted { IsStrictlySortedBy nat_cmp (keys_of edited.now.entries) }
 {
-    for (chunk, bytes) in edited {
-        current.set_chunk_by_index(*chunk, bytes);
+    edited.order();
+    let _ = current.len();
+    for place in 0..edited.len() {
+        current.set_chunk_by_index(edited.index_at(place), edited.chunk_at(place));
     }
 }

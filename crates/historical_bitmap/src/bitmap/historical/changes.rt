@@ -2,10 +2,10 @@
 
 ghost use Rattle.std.specs.Prelude.{◌≡◌, ℕ, ◌+◌, ◌*◌, ◌++◌, ◌^◌, ◌<◌, ◌≤◌, List, length, IfSome};
 ghost use Rattle.std.specs.Iterator.{YieldsFirst, item_count};
+ghost use Rattle.chunk_map.specs.Entries.{IsNextMember};
 ghost use Rattle.historical_bitmap.specs.Changes.{changed_between, retained_bytes as retained_bytes_of};
 ghost use Rattle.historical_bitmap.specs.Compared.{between_numbers, IsComparing, IsNextChange, named_chunks};
 ghost use Rattle.historical_bitmap.specs.History.{EntriesRise};
-ghost use Rattle.historical_bitmap.specs.Pending.{IsNextMember};
 ghost use Rattle.historical_bitmap.specs.View.{history_of};
 
 use crate::bitmap::historical::at::AtCommit;

@@ -8,17 +8,17 @@ ghost use Rattle.std.specs.Ordering.{nat_cmp};
 ghost use Rattle.std.specs.Set.{is_member};
 ghost use Rattle.bitmap_bytes.specs.Chunk.{chunk_bit, IsChunk, IsWidth};
 ghost use Rattle.bitmap_core.specs.PrunedBits.{chunk, truncated};
+ghost use Rattle.chunk_map.specs.Entries.{IsNextMember, Puts};
 ghost use Rattle.historical_bitmap.specs.WriteCache.{is_cached_at, with_cached};
-ghost use Rattle.historical_bitmap.specs.Pending.{IsByteSetIn, IsNextMember, IsPartSet, IsPartSetIn, IsSetIn, IsWritten, Puts, PutsEach, PutsTwo, SetsIn};
+ghost use Rattle.historical_bitmap.specs.Pending.{IsByteSetIn, IsPartSet, IsPartSetIn, IsSetIn, IsWritten, PutsEach, PutsTwo, SetsIn};
 
 use bitmap_core::bitmap::prunable::Prunable;
 use bitmap_core::chunk::facts::known;
 use bitmap_core::chunk::join::join_byte;
 use bitmap_core::chunk::range::set_in;
 use bitmap_core::chunk::{self, bit_mask, byte_index, chunk_width, clear_from};
+use chunk_map::map::ChunkMap;
 use std::alloc::{AllocError, Global};
-use std::collections::BTreeMap;
-use std::collections::btree_map::Entry;
 use std::marker::Model;
 
 // Chunks by index. The write cache keeps one of them outside the map: the last one that was pushed to, popped from, or set twice in a row.
@@ -26,7 +26,7 @@ use std::marker::Model;
 // A write to another chunk searches it once, and twice more if that chunk replaces the cached one.
 #[derive(Debug, Drop)]
 pub(crate) struct EditedChunks<const N: usize> {
-    chunks: BTreeMap<usize, [u8; N]>,
+    chunks: ChunkMap<N>,
     cached: Option<usize>,
     chunk: [u8; N],
     recent: usize,
@@ -118,7 +118,7 @@ pub(crate) fn is_cached(cached: Option<usize>, index: usize) -> bool
 // Searches once. Does not allocate, and succeeds, if the map has that chunk.
 #[inline(never)]
 fn write_in<const N: usize>(
-    chunks: &mut BTreeMap<usize, [u8; N]>,
+    chunks: &mut ChunkMap<N>,
     current: &Prunable<N>,
     len: u64,
     index: usize,
@@ -133,48 +133,46 @@ fn write_in<const N: usize>(
     ensures absent { OnErr result (lookup (nat_eq index) chunks.old.entries ≡ None) }
     ensures sorted { OnOk result (IsStrictlySortedBy nat_cmp (keys_of chunks.new.entries)) }
 {
-    match chunks.entry(index) {
-        Ok(Entry::Occupied(entry)) => {
-            let place = entry.into_mut();
-            let _ = replace_bit(place, bit, value);
+    match chunks.find(index) {
+        Some(place) => {
+            let mut bytes = *chunks.chunk_at(place);
+            let _ = replace_bit(&mut bytes, bit, value);
+            chunks.set_at(place, bytes);
             Ok(())
         }
-        Ok(Entry::Vacant(entry)) => {
+        None => {
             let mut bytes = first_chunk(current, len, index);
             let _ = replace_bit(&mut bytes, bit, value);
-            entry.insert(bytes);
+            chunks.add(index, bytes)?;
             Ok(())
         }
-        Err(_) => Err(AllocError),
     }
 }
 
 // Replaces the chunk at an index, if there is one.
-fn put_in<const N: usize>(chunks: &mut BTreeMap<usize, [u8; N]>, index: usize, chunk: [u8; N])
+fn put_in<const N: usize>(chunks: &mut ChunkMap<N>, index: usize, chunk: [u8; N])
     ensures entries { chunks.new.entries ≡ with_cached chunks.old.entries (Some index) chunk.entry }
     ensures sorted { IsStrictlySortedBy nat_cmp (keys_of chunks.new.entries) }
 {
-    if let Some(place) = chunks.get_mut(&index) {
-        *place = chunk;
+    chunks.order();
+    if let Some(place) = chunks.find(index) {
+        chunks.set_at(place, chunk);
     }
 }
 
 // Sets the bits of a chunk of a map at or above bit `from` and below bit `to`, counted from its start.
-fn set_part<const N: usize>(
-    chunks: &mut BTreeMap<usize, [u8; N]>,
-    index: usize,
-    from: u64,
-    to: u64,
-    value: bool,
-)
+fn set_part<const N: usize>(chunks: &mut ChunkMap<N>, index: usize, from: u64, to: u64, value: bool)
     requires width { IsWidth N }
     requires within { to ≤ 8 * N }
     requires edited { IsSome (lookup (nat_eq index) chunks.old.entries) }
     ensures { (bytes : List ℕ) × IsPartSet N (unwrap_or (lookup (nat_eq index) chunks.old.entries) []) bytes from to value × (chunks.new.entries ≡ with_cached chunks.old.entries (Some index) bytes) }
 {
-    if let Some(place) = chunks.get_mut(&index) {
-        set_in(place, from, to, value);
-        known(place);
+    chunks.order();
+    if let Some(place) = chunks.find(index) {
+        let mut bytes = *chunks.chunk_at(place);
+        set_in(&mut bytes, from, to, value);
+        known(&bytes);
+        chunks.set_at(place, bytes);
     }
 }
 
@@ -185,7 +183,7 @@ impl<const N: usize> EditedChunks<N> {
         ensures { result ≡ [] }
     {
         EditedChunks {
-            chunks: BTreeMap::new(alloc),
+            chunks: ChunkMap::new(alloc),
             cached: None,
             chunk: [0; N],
             recent: 0,
@@ -200,7 +198,7 @@ impl<const N: usize> EditedChunks<N> {
         if is_cached(self.cached, index) {
             return Some(&self.chunk);
         }
-        self.chunks.get(&index)
+        self.chunks.get(index)
     }
 
     // Caches a chunk in place of the one at an index. Writes the previously cached chunk back to the map. Does not allocate.
@@ -270,7 +268,7 @@ impl<const N: usize> EditedChunks<N> {
         if is_cached(self.cached, index) {
             return Some(replace_bit(&mut self.chunk, bit, value));
         }
-        let mut chunk = *self.chunks.get(&index)?;
+        let mut chunk = *self.chunks.get(index)?;
         let old = replace_bit(&mut chunk, bit, value);
         self.cache(index, chunk);
         Some(old)
@@ -364,7 +362,7 @@ impl<const N: usize> EditedChunks<N> {
         ensures removed { Puts self.old self.new index None }
         ensures sorted { IsStrictlySortedBy nat_cmp (keys_of self.new) }
     {
-        let removed = self.chunks.remove(&index);
+        let removed = self.chunks.remove(index);
         if is_cached(self.cached, index) {
             self.cached = None;
             return Some(self.chunk);
@@ -373,7 +371,7 @@ impl<const N: usize> EditedChunks<N> {
     }
 
     // Returns the map of the chunks. It may have outdated bytes under the cached index.
-    pub(crate) fn map(&self) -> &BTreeMap<usize, [u8; N]>
+    pub(crate) fn map(&self) -> &ChunkMap<N>
         ensures { keys_of result.now.entries ≡ keys_of self.now }
     {
         &self.chunks
@@ -383,17 +381,14 @@ impl<const N: usize> EditedChunks<N> {
     pub(crate) fn is_empty(&self) -> bool
         ensures { result ≡ true → self.now ≡ [] }
     {
-        self.chunks.len() == 0
+        self.chunks.is_empty()
     }
 
     // Returns the first index from `from` on that has a chunk.
     pub(crate) fn next_from(&self, from: usize) -> Option<usize>
         ensures { IsNextMember (keys_of self.now) from result }
     {
-        match self.chunks.range(from..).next() {
-            Some((index, _)) => Some(*index),
-            None => None,
-        }
+        self.chunks.next_from(from)
     }
 
     // States that the indices ascend.
@@ -408,7 +403,7 @@ impl<const N: usize> EditedChunks<N> {
         ensures { IfOk result (λ copy. copy ≡ self.now) }
     {
         Ok(EditedChunks {
-            chunks: self.chunks.clone()?,
+            chunks: self.chunks.duplicate()?,
             cached: self.cached,
             chunk: self.chunk,
             recent: self.recent,
@@ -416,7 +411,7 @@ impl<const N: usize> EditedChunks<N> {
     }
 
     // Returns the chunks as a map. Does not allocate.
-    pub(crate) fn into_map(self) -> BTreeMap<usize, [u8; N]>
+    pub(crate) fn into_map(self) -> ChunkMap<N>
         ensures { result.entries ≡ self.entry }
     {
         let mut chunks = self.chunks;

@@ -8,8 +8,9 @@ ghost use Rattle.std.specs.Ordering.{nat_cmp};
 ghost use Rattle.std.specs.Set.{is_member};
 ghost use Rattle.bitmap_bytes.specs.Chunk.{chunk_bit, IsWidth};
 ghost use Rattle.bitmap_core.specs.PrunedBits.{chunk, truncated};
+ghost use Rattle.chunk_map.specs.Entries.{IsNextMember, Puts};
 ghost use Rattle.historical_bitmap.specs.Edits.{from_to};
-ghost use Rattle.historical_bitmap.specs.Pending.{IsByteSetIn, IsNextMember, IsPartSetIn, IsSetIn, IsWritten, Puts, PutsEach, PutsTwo, SetsIn, members_between};
+ghost use Rattle.historical_bitmap.specs.Pending.{IsByteSetIn, IsPartSetIn, IsSetIn, IsWritten, PutsEach, PutsTwo, SetsIn, members_between};
 ghost use Rattle.historical_bitmap.specs.Run.{with_run};
 ghost use Rattle.historical_bitmap.specs.Tail.{IsTail, with_word};
 
@@ -22,8 +23,8 @@ use bitmap_core::chunk::chunk_width;
 use bitmap_core::chunk::facts::known;
 use bitmap_core::chunk::join::join_byte;
 use bitmap_core::chunk::range::set_in;
+use chunk_map::map::ChunkMap;
 use std::alloc::{AllocError, Global};
-use std::collections::BTreeMap;
 use std::marker::Model;
 
 // Chunks by index. Those of the appended run, whose indices are consecutive, are found without a search. The others are in a map.
@@ -353,11 +354,7 @@ impl<const N: usize> GrownChunks<N> {
     }
 
     // Returns the map of the other chunks, and the part of the run from index `from` up to `to`: its first index, and the one past its last.
-    pub(crate) fn parts_between(
-        &self,
-        from: usize,
-        to: usize,
-    ) -> (&BTreeMap<usize, [u8; N]>, usize, usize)
+    pub(crate) fn parts_between(&self, from: usize, to: usize) -> (&ChunkMap<N>, usize, usize)
         requires order { from ≤ to }
         ensures from { from ≤ result.1 }
         ensures rises { result.1 ≤ result.2 }
@@ -403,7 +400,7 @@ impl<const N: usize> GrownChunks<N> {
     }
 
     // Returns the map of the other chunks, the first index of the run, and the run's chunks. Does not allocate.
-    pub(crate) fn into_parts(self) -> (BTreeMap<usize, [u8; N]>, usize, Vec<[u8; N]>)
+    pub(crate) fn into_parts(self) -> (ChunkMap<N>, usize, Vec<[u8; N]>)
         ensures entries { with_run result.1 result.2.items result.0.entries ≡ self.entry }
         ensures apart { (q : ℕ) → result.1 ≤ q → q < result.1 + length result.2.items → lookup (nat_eq q) result.0.entries ≡ None }
         ensures sorted { IsStrictlySortedBy nat_cmp (keys_of self.entry) }

@@ -9,8 +9,9 @@ ghost use Rattle.std.specs.Ordering.{nat_cmp};
 ghost use Rattle.std.specs.Set.{distinct_count};
 ghost use Rattle.bitmap_bytes.specs.Chunk.{bytes_bit, byte_bits, chunk_bit, chunk_bits, IsChunk, IsWidth};
 ghost use Rattle.bitmap_core.specs.PrunedBits.{PrunedBits, bit_at, bit_len, chunk, IsRetained, pruned_bits, truncated};
+ghost use Rattle.chunk_map.specs.Entries.{IsNextMember};
 ghost use Rattle.historical_bitmap.specs.Edits.{from_to};
-ghost use Rattle.historical_bitmap.specs.Pending.{AddsEntries, Appends, diff_of, edited_chunk, first_cut_of, IsClearFrom, IsNextMember, marked_chunks, members_between, PendingFits, old_chunk, pending_bits, pending_chunk, Pops, Prunes, IsRecordOf, run_bits, SetsRange, unedited, Writes};
+ghost use Rattle.historical_bitmap.specs.Pending.{AddsEntries, Appends, diff_of, edited_chunk, first_cut_of, IsClearFrom, marked_chunks, members_between, PendingFits, old_chunk, pending_bits, pending_chunk, Pops, Prunes, IsRecordOf, run_bits, SetsRange, unedited, Writes};
 ghost use Rattle.historical_bitmap.specs.Record.{LeadsBack};
 ghost use Rattle.historical_bitmap.specs.Stored.{diff_value};
 ghost use Rattle.historical_bitmap.specs.Undo.{CanUndo};
@@ -23,8 +24,8 @@ use bitmap_core::bitmap::prunable::Prunable;
 use bitmap_core::chunk::facts::known;
 use bitmap_core::chunk::join::{chunk_from, join};
 use bitmap_core::chunk::{chunk_count, chunk_index, chunk_width, clear_from, get_bit};
+use chunk_map::map::ChunkMap;
 use std::alloc::{AllocError, Global};
-use std::collections::BTreeMap;
 use std::marker::Model;
 
 /// The state of a bitmap with pending edits.
@@ -134,7 +135,7 @@ fn record_map<const N: usize>(
     record: &mut CommitDiff<N>,
     edits: &Dirty<N>,
     current: &Prunable<N>,
-    chunks: &BTreeMap<usize, [u8; N]>,
+    chunks: &ChunkMap<N>,
     from: usize,
     to: usize,
 ) -> Result<(), AllocError>
@@ -145,8 +146,14 @@ fn record_map<const N: usize>(
     ensures { OnOk result (AddsEntries N current.now edits.now (members_between (keys_of chunks.now.entries) from to) record.old record.new) }
 {
     let _ = current.len();
-    for (index, _) in chunks.range(from..to) {
-        record.push(*index, edits.diff(current, *index))?;
+    let mut at = from;
+    while let Some(index) = chunks.next_from(at) {
+        if index >= to {
+            return Ok(());
+        }
+        let diff = edits.diff(current, index);
+        record.push(index, diff)?;
+        at = index + 1;
     }
     Ok(())
 }
@@ -487,7 +494,7 @@ impl<const N: usize> Dirty<N> {
     }
 
     // Returns the map of the edited chunks beside the appended run, and the part of the run from index `from` up to `to`.
-    fn edited_between(&self, from: usize, to: usize) -> (&BTreeMap<usize, [u8; N]>, usize, usize)
+    fn edited_between(&self, from: usize, to: usize) -> (&ChunkMap<N>, usize, usize)
         requires order { from ≤ to }
         ensures from { from ≤ result.1 }
         ensures rises { result.1 ≤ result.2 }

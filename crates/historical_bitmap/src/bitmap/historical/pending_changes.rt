@@ -20,7 +20,7 @@ use std::marker::Model;
 /// Does not allocate.
 ///
 /// # Complexity
-/// For each chunk that `next` examines: logarithmic in the edited chunks. It examines only marked chunks: those that the pending edits
+/// For each chunk that `next` examines: a few searches among the edited chunks. It examines only marked chunks: those that the pending edits
 /// have edited, cut off or pruned.
 #[derive(Drop)]
 pub struct PendingChanges<'a, const N: usize> {

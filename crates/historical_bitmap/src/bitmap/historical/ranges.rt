@@ -4,7 +4,8 @@ ghost use Rattle.std.specs.Prelude.{◌≡◌, ℕ, ◌+◌, ◌-◌, ◌*◌, �
 ghost use Rattle.std.specs.Map.{lookup};
 ghost use Rattle.bitmap_bytes.specs.Chunk.{IsWidth};
 ghost use Rattle.bitmap_core.specs.PrunedBits.{chunk, truncated};
-ghost use Rattle.historical_bitmap.specs.Pending.{AreMissing, IsRangeSet, Puts, SetsChunks};
+ghost use Rattle.chunk_map.specs.Entries.{Puts};
+ghost use Rattle.historical_bitmap.specs.Pending.{AreMissing, IsRangeSet, SetsChunks};
 
 use crate::bitmap::historical::grown::GrownChunks;
 use bitmap_core::bitmap::prunable::Prunable;

@@ -5,7 +5,7 @@ ghost use Rattle.std.specs.List.Sorted.{IsStrictlySortedBy};
 ghost use Rattle.std.specs.Map.{keys_of, lookup};
 ghost use Rattle.std.specs.Ordering.{nat_cmp};
 ghost use Rattle.bitmap_bytes.specs.Chunk.{IsWidth};
-ghost use Rattle.historical_bitmap.specs.Pending.{IsNextMember};
+ghost use Rattle.chunk_map.specs.Entries.{IsNextMember};
 ghost use Rattle.historical_bitmap.specs.Record.{bytes_of, kept, kept_bytes};
 ghost use Rattle.historical_bitmap.specs.Stored.{diff_value, entry_values};
 ghost use Rattle.historical_bitmap.specs.Undo.{kept_between, pruned_chunk_bytes};

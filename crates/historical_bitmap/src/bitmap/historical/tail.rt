@@ -8,8 +8,9 @@ ghost use Rattle.std.specs.Ordering.{nat_cmp};
 ghost use Rattle.bitmap_bytes.specs.Chunk.{chunk_bit, IsChunk, IsWidth};
 ghost use Rattle.bitmap_bytes.specs.Words.{next_word};
 ghost use Rattle.bitmap_core.specs.PrunedBits.{chunk, truncated};
+ghost use Rattle.chunk_map.specs.Entries.{IsNextMember, Puts};
 ghost use Rattle.historical_bitmap.specs.Edits.{from_to};
-ghost use Rattle.historical_bitmap.specs.Pending.{IsByteSetIn, IsClearFrom, IsNextMember, IsSetIn, Puts, PutsTwo, SetsChunks, SetsIn, members_between};
+ghost use Rattle.historical_bitmap.specs.Pending.{IsByteSetIn, IsClearFrom, IsSetIn, PutsTwo, SetsChunks, SetsIn, members_between};
 ghost use Rattle.historical_bitmap.specs.Tail.{IsTail, with_word};
 
 use crate::bitmap::historical::edited::is_cached;
@@ -20,8 +21,8 @@ use bitmap_core::bitmap::prunable::Prunable;
 use bitmap_core::chunk::facts::known;
 use bitmap_core::chunk::load::{following_word, word_base, word_below};
 use bitmap_core::chunk::{chunk_index, chunk_width, get_bit};
+use chunk_map::map::ChunkMap;
 use std::alloc::{AllocError, Global};
-use std::collections::BTreeMap;
 use std::marker::Model;
 
 // The greatest width, in bytes, of chunks of which a word is cached.
@@ -434,11 +435,7 @@ impl<const N: usize> TailChunks<N> {
     }
 
     // Returns the map of the chunks beside the appended run, and the part of the run from index `from` up to `to`: its first index, and the one past its last.
-    pub(crate) fn parts_between(
-        &self,
-        from: usize,
-        to: usize,
-    ) -> (&BTreeMap<usize, [u8; N]>, usize, usize)
+    pub(crate) fn parts_between(&self, from: usize, to: usize) -> (&ChunkMap<N>, usize, usize)
         requires order { from ≤ to }
         ensures from { from ≤ result.1 }
         ensures rises { result.1 ≤ result.2 }

@@ -1,7 +1,8 @@
 use Rattle.std.proofs.Common.{◌≡◌, Some, None, get_or, take, subst, sym, arith}
 use Rattle.std.proofs.lemmas.List.{take_more}
 use Rattle.bitmap_core.specs.PrunedBits.{chunk, truncated}
-use Rattle.historical_bitmap.specs.Pending.{Puts, PutsEach}
+use Rattle.chunk_map.specs.Entries.{Puts}
+use Rattle.historical_bitmap.specs.Pending.{PutsEach}
 use Rattle.historical_bitmap.proofs.Lists.Maps.{on_err, on_ok}
 use Rattle.historical_bitmap.proofs.EditedChunks.ManyChunks.{each_taken_again, member_at, member_take, puts_more}
 use Rattle.historical_bitmap.proofs.bitmap.historical.edited.insert_each.Goals as goal

@@ -1,28 +1,44 @@
-use Rattle.std.proofs.Common.{◌∙◌, arith}
+use Rattle.std.proofs.Common.{arith, sym, subst}
 use Rattle.std.specs.Map.{keys_of}
-use Rattle.historical_bitmap.specs.Pending.{members_between}
-use Rattle.historical_bitmap.proofs.Lists.Between.{between_bounds}
-use Rattle.historical_bitmap.proofs.Pending.Record.{walk_begins, walk_ends, walk_here, walk_one}
+use Rattle.historical_bitmap.specs.Pending.{AddsEntries, members_between}
+use Rattle.historical_bitmap.proofs.Lists.Between.{between_next, between_none, between_nothing}
+use Rattle.historical_bitmap.proofs.Pending.Record.{adds_more, adds_none}
 use Rattle.historical_bitmap.proofs.bitmap.historical.pending.record_map.Goals as goal
 
 pub loop-index-init : goal.loop-index-init
-loop-index-init g c =
-    walk_begins g.row.N c.args.current.now c.args.edits.now c.args.chunks.now.entries c.into_iter-index-iterator.result c.args.from c.args.to c.args.record.now
-    (c.into_iter-index-iterator.ensures.into_iter_gives ∙ c.range-index-items.ensures.between tt) c.range-index-items.ensures.ordered
+loop-index-init g c = record {
+  low = omega arith;
+  high = c.requires.order;
+  adds = adds_none g.row.N c.args.current.now c.args.edits.now _ c.args.record.now (between_nothing (keys_of c.args.chunks.now.entries) c.args.from);
+}
 
-pub diff-requires : goal.diff-requires
-diff-requires g c =
-    let all = members_between (keys_of c.args.chunks.now.entries) c.args.from c.args.to in
-    let here = walk_here g.row.N c.args.current.now c.args.edits.now all c.loop-index.index-iterator c.next.new.self c.in-Some.index.now c.in-Some.field-0-1.now c.args.record.now c.loop-index.record c.in-Some.ensures.steps c.loop-index.invariant in
-    let bounds = between_bounds (keys_of c.args.chunks.now.entries) c.args.from c.args.to c.in-Some.index.now here in
-    (omega arith, (omega arith, (omega (arith, c.len.ensures.width.fits), (omega (arith, c.requires.low, bounds.0), (c.requires.count, c.requires.fits c.in-Some.index.now bounds.1)))))
+pub returns-then-index-to : goal.returns-then-index-to
+returns-then-index-to g c =
+    let known = c.loop-index.invariant in
+    subst (λ ks. AddsEntries g.row.N c.args.current.now c.args.edits.now ks c.args.record.now c.loop-index.record)
+    (sym (between_none (keys_of c.args.chunks.now.entries) c.args.from c.loop-index.at c.args.to known.low known.high (λ j f s. c.in-Some.ensures.2 j f (omega (arith, s, c.if-index-to.true)))))
+    known.adds
+
+pub diff-diff-requires : goal.diff-diff-requires
+diff-diff-requires g c =
+    let known = c.loop-index.invariant in
+    (omega arith, (omega arith, (omega (arith, c.len.ensures.width.fits), (omega (arith, c.requires.low, known.low, c.in-Some.ensures.0), (c.requires.count, c.requires.fits c.in-Some.index (omega (arith, c.if-index-to.false)))))))
 
 pub loop-index-preserved : goal.loop-index-preserved
 loop-index-preserved g c =
-    let all = members_between (keys_of c.args.chunks.now.entries) c.args.from c.args.to in
-    walk_one g.row.N c.args.current.now c.args.edits.now all c.loop-index.index-iterator c.next.new.self c.in-Some.index.now c.in-Some.field-0-1.now _ c.args.record.now c.loop-index.record c.push.new.self c.in-Some.ensures.steps c.loop-index.invariant c.in_ok-push.ensures.ok c.diff.ensures
+    let known = c.loop-index.invariant in
+    let all = keys_of c.args.chunks.now.entries in
+    record {
+      low = omega (arith, known.low, c.in-Some.ensures.0);
+      high = omega (arith, c.if-index-to.false);
+      adds = subst (λ ks. AddsEntries g.row.N c.args.current.now c.args.edits.now ks c.args.record.now c.push.new.self)
+          (sym (between_next all c.args.from c.loop-index.at c.in-Some.index known.low c.in-Some.ensures.0 c.in-Some.ensures.1 c.in-Some.ensures.2))
+          (adds_more g.row.N c.args.current.now c.args.edits.now (members_between all c.args.from c.loop-index.at) c.in-Some.index _ c.args.record.now c.loop-index.record c.push.new.self known.adds c.in_ok-push.ensures.ok c.diff-diff.ensures);
+    }
 
 pub returns : goal.returns
 returns g c =
-    let all = members_between (keys_of c.args.chunks.now.entries) c.args.from c.args.to in
-    walk_ends g.row.N c.args.current.now c.args.edits.now all c.loop-index.index-iterator c.args.record.now c.loop-index.record c.in-None.ensures.steps.0 c.loop-index.invariant
+    let known = c.loop-index.invariant in
+    subst (λ ks. AddsEntries g.row.N c.args.current.now c.args.edits.now ks c.args.record.now c.loop-index.record)
+    (sym (between_none (keys_of c.args.chunks.now.entries) c.args.from c.loop-index.at c.args.to known.low known.high (λ j f s. c.in_default.ensures j f)))
+    known.adds

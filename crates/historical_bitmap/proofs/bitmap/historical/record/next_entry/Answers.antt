@@ -1,7 +1,7 @@
 use Rattle.std.proofs.Common.{◌+◌, ◌-◌, ◌/◌, ◌<◌, ◌≤◌, length, get_or, arith, subst}
 use Rattle.std.specs.Map.{keys_of}
 use Rattle.std.specs.Prelude.{Some}
-use Rattle.historical_bitmap.specs.Pending.{IsNextMember}
+use Rattle.chunk_map.specs.Entries.{IsNextMember}
 use Rattle.historical_bitmap.specs.Stored.{entry_values}
 use Rattle.historical_bitmap.proofs.Records.EntryPasses.{key_after, key_at, key_before, keys_len}
 use Rattle.historical_bitmap.proofs.Changes.Next.{next_at, next_none}

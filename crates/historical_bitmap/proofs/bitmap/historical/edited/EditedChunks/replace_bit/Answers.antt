@@ -3,7 +3,6 @@ use Rattle.std.specs.Prelude.{nat_eq}
 use Rattle.std.specs.Map.{lookup}
 use Rattle.historical_bitmap.proofs.Lists.Maps.{not_some}
 use Rattle.historical_bitmap.proofs.EditedChunks.CachedChunks.{cached_keys, cached_sorted, cached_some, holds, lookup_here, lookup_beside}
-use Rattle.historical_bitmap.proofs.History.PastStates.{same_lookup}
 use Rattle.historical_bitmap.proofs.bitmap.historical.edited.EditedChunks.replace_bit.Goals as goal
 
 pub returns-then-is_cached-clause-bit : goal.returns-then-is_cached-clause-bit
@@ -24,12 +23,12 @@ returns-then-is_cached-clause-sorted g c = cached_sorted g.row.N c.self.inside.c
 
 pub returns-in_err-chunk-clause-bit : goal.returns-in_err-chunk-clause-bit
 returns-in_err-chunk-clause-bit g c =
-    let none : lookup (nat_eq c.args.index) c.args.self.now ≡ None = rw (sym c.self.view_is) (lookup_beside g.row.N c.self.inside.chunks.entries c.self.inside.cached c.self.inside.chunk c.args.index c.self.invariant (sym c.is_cached.ensures ∙ c.if-is_cached.false) ∙ sym (c.in_err-chunk.ensures.value ∙ same_lookup c.args.index c.self.inside.chunks.entries)) in
+    let none : lookup (nat_eq c.args.index) c.args.self.now ≡ None = rw (sym c.self.view_is) (lookup_beside g.row.N c.self.inside.chunks.entries c.self.inside.cached c.self.inside.chunk c.args.index c.self.invariant (sym c.is_cached.ensures ∙ c.if-is_cached.false) ∙ sym c.in_err-chunk.ensures.value) in
     rw none c.from_residual.ensures
 
 pub returns-in_err-chunk-clause-some : goal.returns-in_err-chunk-clause-some
 returns-in_err-chunk-clause-some g c =
-    let none : lookup (nat_eq c.args.index) c.args.self.now ≡ None = rw (sym c.self.view_is) (lookup_beside g.row.N c.self.inside.chunks.entries c.self.inside.cached c.self.inside.chunk c.args.index c.self.invariant (sym c.is_cached.ensures ∙ c.if-is_cached.false) ∙ sym (c.in_err-chunk.ensures.value ∙ same_lookup c.args.index c.self.inside.chunks.entries)) in
+    let none : lookup (nat_eq c.args.index) c.args.self.now ≡ None = rw (sym c.self.view_is) (lookup_beside g.row.N c.self.inside.chunks.entries c.self.inside.cached c.self.inside.chunk c.args.index c.self.invariant (sym c.is_cached.ensures ∙ c.if-is_cached.false) ∙ sym c.in_err-chunk.ensures.value) in
     rw none tt
 
 pub returns-in_err-chunk-clause-sorted : goal.returns-in_err-chunk-clause-sorted
@@ -37,22 +36,22 @@ returns-in_err-chunk-clause-sorted g c = rw (sym c.self.view_is) (cached_sorted 
 
 pub cache-requires : goal.cache-requires
 cache-requires g c =
-    let found : lookup (nat_eq c.args.index) c.args.self.now ≡ Some c.in_ok-chunk.field-0.now = rw (sym c.self.view_is) (lookup_beside g.row.N c.self.inside.chunks.entries c.self.inside.cached c.self.inside.chunk c.args.index c.self.invariant (sym c.is_cached.ensures ∙ c.if-is_cached.false) ∙ sym (c.in_ok-chunk.ensures.value ∙ same_lookup c.args.index c.self.inside.chunks.entries)) in
+    let found : lookup (nat_eq c.args.index) c.args.self.now ≡ Some c.in_ok-chunk.field-0.now = rw (sym c.self.view_is) (lookup_beside g.row.N c.self.inside.chunks.entries c.self.inside.cached c.self.inside.chunk c.args.index c.self.invariant (sym c.is_cached.ensures ∙ c.if-is_cached.false) ∙ sym c.in_ok-chunk.ensures.value) in
     (omega (arith, c.requires.width.fits), (omega (arith, c.requires.width.fits), rw found refl))
 
 pub returns-clause-bit : goal.returns-clause-bit
 returns-clause-bit g c =
-    let found : lookup (nat_eq c.args.index) c.args.self.now ≡ Some c.in_ok-chunk.field-0.now = rw (sym c.self.view_is) (lookup_beside g.row.N c.self.inside.chunks.entries c.self.inside.cached c.self.inside.chunk c.args.index c.self.invariant (sym c.is_cached.ensures ∙ c.if-is_cached.false) ∙ sym (c.in_ok-chunk.ensures.value ∙ same_lookup c.args.index c.self.inside.chunks.entries)) in
+    let found : lookup (nat_eq c.args.index) c.args.self.now ≡ Some c.in_ok-chunk.field-0.now = rw (sym c.self.view_is) (lookup_beside g.row.N c.self.inside.chunks.entries c.self.inside.cached c.self.inside.chunk c.args.index c.self.invariant (sym c.is_cached.ensures ∙ c.if-is_cached.false) ∙ sym c.in_ok-chunk.ensures.value) in
     rw found (ap Some c.replace_bit-old.ensures.old)
 
 pub returns-clause-none : goal.returns-clause-none
 returns-clause-none g c =
-    let found : lookup (nat_eq c.args.index) c.args.self.now ≡ Some c.in_ok-chunk.field-0.now = rw (sym c.self.view_is) (lookup_beside g.row.N c.self.inside.chunks.entries c.self.inside.cached c.self.inside.chunk c.args.index c.self.invariant (sym c.is_cached.ensures ∙ c.if-is_cached.false) ∙ sym (c.in_ok-chunk.ensures.value ∙ same_lookup c.args.index c.self.inside.chunks.entries)) in
+    let found : lookup (nat_eq c.args.index) c.args.self.now ≡ Some c.in_ok-chunk.field-0.now = rw (sym c.self.view_is) (lookup_beside g.row.N c.self.inside.chunks.entries c.self.inside.cached c.self.inside.chunk c.args.index c.self.invariant (sym c.is_cached.ensures ∙ c.if-is_cached.false) ∙ sym c.in_ok-chunk.ensures.value) in
     λ none. absurd (not_some c.in_ok-chunk.field-0.now (sym found ∙ none))
 
 pub returns-clause-some : goal.returns-clause-some
 returns-clause-some g c =
-    let found : lookup (nat_eq c.args.index) c.args.self.now ≡ Some c.in_ok-chunk.field-0.now = rw (sym c.self.view_is) (lookup_beside g.row.N c.self.inside.chunks.entries c.self.inside.cached c.self.inside.chunk c.args.index c.self.invariant (sym c.is_cached.ensures ∙ c.if-is_cached.false) ∙ sym (c.in_ok-chunk.ensures.value ∙ same_lookup c.args.index c.self.inside.chunks.entries)) in
+    let found : lookup (nat_eq c.args.index) c.args.self.now ≡ Some c.in_ok-chunk.field-0.now = rw (sym c.self.view_is) (lookup_beside g.row.N c.self.inside.chunks.entries c.self.inside.cached c.self.inside.chunk c.args.index c.self.invariant (sym c.is_cached.ensures ∙ c.if-is_cached.false) ∙ sym c.in_ok-chunk.ensures.value) in
     rw (found, c.cache.ensures) (record {
       bytes = c.replace_bit-old.new.chunk;
       written = c.replace_bit-old.ensures.new;

@@ -1,5 +1,5 @@
 use Rattle.std.proofs.Common.{◌≡◌, ◌+◌, Some, None, sym, subst}
-use Rattle.historical_bitmap.specs.Pending.{Puts}
+use Rattle.chunk_map.specs.Entries.{Puts}
 use Rattle.historical_bitmap.proofs.Lists.Maps.{on_err, on_ok, taken_again}
 use Rattle.historical_bitmap.proofs.EditedChunks.CachedChunks.{puts_two}
 use Rattle.historical_bitmap.proofs.bitmap.historical.edited.EditedChunks.write_two.Goals as goal

@@ -3,8 +3,8 @@ use Rattle.std.proofs.Math.Nat.{le-max_left, le-max_right, max-eq_left, max-eq_r
 use Rattle.std.proofs.lemmas.Bool.{cases_lt}
 use mathlib.Core.Logic.{inl, inr}
 use Rattle.std.specs.Prelude.{max}
-use Rattle.historical_bitmap.specs.Pending.{IsNextMember}
 use Rattle.std.specs.Map.{keys_of}
+use Rattle.chunk_map.specs.Entries.{IsNextMember}
 use Rattle.historical_bitmap.proofs.EditedChunks.AppendedRun.{next_before, next_other, next_run}
 use Rattle.historical_bitmap.proofs.bitmap.historical.grown.GrownChunks.next_from.Goals as goal
 

@@ -2,7 +2,7 @@ use Rattle.std.proofs.Common.{Some, sym, subst, arith}
 use Rattle.std.specs.List.Sorted.{IsStrictlySortedBy}
 use Rattle.std.specs.Map.{keys_of}
 use Rattle.std.specs.Ordering.{nat_cmp}
-use Rattle.historical_bitmap.specs.Pending.{Puts}
+use Rattle.chunk_map.specs.Entries.{Puts}
 use Rattle.historical_bitmap.specs.Run.{IsRun, with_run}
 use Rattle.historical_bitmap.proofs.EditedChunks.AppendedRun.{absent_other, absent_out, begun_run, longer_run, ok_map, put_keeps, puts_other, run_order}
 use Rattle.historical_bitmap.proofs.bitmap.historical.grown.GrownChunks.open.Goals as goal

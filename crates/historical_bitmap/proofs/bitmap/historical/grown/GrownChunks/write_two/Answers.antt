@@ -1,5 +1,5 @@
 use Rattle.std.proofs.Common.{◌≡◌, ◌+◌, Some, None, sym, subst, arith}
-use Rattle.historical_bitmap.specs.Pending.{Puts}
+use Rattle.chunk_map.specs.Entries.{Puts}
 use Rattle.historical_bitmap.proofs.Lists.Maps.{on_err, taken_again}
 use Rattle.historical_bitmap.proofs.bitmap.historical.grown.GrownChunks.write_two.Goals as goal
 

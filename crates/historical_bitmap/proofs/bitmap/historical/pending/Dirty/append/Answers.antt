@@ -3,8 +3,9 @@ use Rattle.std.proofs.Math.Nat.{mul-div-le}
 use Rattle.std.proofs.lemmas.Nat.{mul-le}
 use Rattle.std.specs.Prelude.{nat_eq}
 use Rattle.std.specs.Map.{lookup}
+use Rattle.chunk_map.specs.Entries.{Puts}
 use Rattle.historical_bitmap.proofs.Pending.Ends.{none_past_len, past_index}
-use Rattle.historical_bitmap.specs.Pending.{Puts, PutsTwo, run_bits}
+use Rattle.historical_bitmap.specs.Pending.{PutsTwo, run_bits}
 use Rattle.historical_bitmap.proofs.Pending.Writes.{begun_has, rest_has, appends_one, appends_two, run_len}
 use Rattle.historical_bitmap.proofs.bitmap.historical.pending.Dirty.append.Goals as goal
 

@@ -1,5 +1,5 @@
 use Rattle.std.proofs.Common.{sym, subst}
-use Rattle.historical_bitmap.specs.Pending.{IsNextMember}
+use Rattle.chunk_map.specs.Entries.{IsNextMember}
 use Rattle.historical_bitmap.proofs.EditedChunks.CachedWord.{word_keys}
 use Rattle.historical_bitmap.proofs.bitmap.historical.tail.TailChunks.next_from.Goals as goal
 
