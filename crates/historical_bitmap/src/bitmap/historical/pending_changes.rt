@@ -21,7 +21,7 @@ use std::marker::Model;
 ///
 /// # Complexity
 /// For each chunk that `next` examines: a few searches among the edited chunks. It examines only marked chunks: those that the pending edits
-/// have edited, cut off or pruned.
+/// have edited, cut off or pruned. A whole pass takes at most one search more per chunk that the batch edited and then popped.
 #[derive(Drop)]
 pub struct PendingChanges<'a, const N: usize> {
     current: &'a Prunable<N>,
