@@ -40,7 +40,7 @@ SERIES = {
     "at_indexed": ("indexed", "M0,-6l6,6l-6,6l-6,-6z"),
     "the original": ("other", "M-4.5,-4.5h9v9h-9z"),
 }
-TIMES = ["0.1 µs", "1 µs", "10 µs", "100 µs", "1 ms", "10 ms", "100 ms", "1 s", "10 s"]
+TIMES = ["10 ns", "0.1 µs", "1 µs", "10 µs", "100 µs", "1 ms", "10 ms", "100 ms", "1 s", "10 s"]
 
 
 def figures(name):
@@ -139,9 +139,9 @@ def commits():
         parts += bars
     parts += axis(columns["microseconds"], range(0, 301, 100), y - 10, "time of one commit, microseconds")
     parts += axis(columns["megabytes"], range(0, 401, 100), y - 10, "peak memory of 1000 commits, megabytes")
-    parts += texts(y + 62, [" ".join(["Width 8, 2^20 bits, other work beside: take the ratios.", *measured(rows, "batch")])])
-    title = "This project commits close sets fastest of four, and random sets slowest"
-    subtitle = "The others are what a user would take instead. Random sets take a fifth of their memory."
+    parts += texts(y + 62, [" ".join(["Width 8, 2^20 bits, nothing beside.", *measured(rows, "batch")])])
+    title = "This project commits close sets and pushes fastest of four"
+    subtitle = "The others are what a user would take instead. Random sets: second, in less than a fifth of their memory."
     return picture(y + 76, title, subtitle, rows, parts)
 
 
@@ -172,7 +172,7 @@ def panels(calls, top):
     powers = range(floor(log10(min(values))), ceil(log10(max(values))) + 1)
     up = logarithmic(powers[0], powers[-1], top + 174, top + 6)
     parts = [f'<text transform="translate(20,{top + 90}) rotate(-90)" class="middle">time per call</text>']
-    parts += [text(84, up(10.0**power) + 4, TIMES[power + 1], "end") for power in powers]
+    parts += [text(84, up(10.0**power) + 4, TIMES[power + 2], "end") for power in powers]
     for number, rows in enumerate(calls):
         parts += panel(rows, 92 + 222 * number, top, up, powers)
     return parts
@@ -186,7 +186,7 @@ def growth():
         parts += [mark(98 + 140 * number, 73, program), text(110 + 140 * number, 78, program)]
     parts += [*panels(calls[:3], 118), *panels(calls[3:], 380)]
     notes = [
-        "Width 8, 2^20 bits, one set per commit. Both axes are logarithmic; times are the least of several runs.",
+        "Width 8, 2^20 bits, one set per commit. Both axes are logarithmic; times are of several runs.",
         "One bit and set positions: this project by at, or by at_indexed with an index made once.",
         "The original has no at and no rewind_to: it calls get_at_commit, here once per 100 single bits.",
         *measured(rows, "program"),
