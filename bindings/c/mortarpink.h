@@ -127,10 +127,10 @@ mortarpink_status mortarpink_push_bytes(mortarpink_bitmap *bitmap, const uint8_t
 /* Appends the bits of one chunk: `len` is the width, else MORTARPINK_WRONG_SIZE. May allocate. */
 mortarpink_status mortarpink_push_chunk(mortarpink_bitmap *bitmap, const uint8_t *bytes, size_t len);
 
-/* Removes the last bit; *bit becomes it. At most 16 steps. */
+/* Removes the last bit; *bit becomes it. Constant time. */
 mortarpink_status mortarpink_pop(mortarpink_bitmap *bitmap, uint8_t *bit);
 
-/* Replaces the bit at a position. At most 16 steps, amortized; may allocate. */
+/* Replaces the bit at a position. Amortized constant time; may allocate. */
 mortarpink_status mortarpink_set(mortarpink_bitmap *bitmap, uint64_t position, uint8_t bit);
 
 /* Prunes the chunks before the chunk of the position. Linear in the chunks pruned; may allocate. */
@@ -154,11 +154,11 @@ mortarpink_status mortarpink_len(mortarpink_bitmap *bitmap, uint64_t *len);
 /* *chunks becomes the number of pruned chunks. */
 mortarpink_status mortarpink_pruned_chunks(mortarpink_bitmap *bitmap, uint64_t *chunks);
 
-/* *bit becomes the bit at a position. In a batch, at most 16 steps. */
+/* *bit becomes the bit at a position. Constant time. */
 mortarpink_status mortarpink_get(mortarpink_bitmap *bitmap, uint64_t position, uint8_t *bit);
 
 /* Fills `out` with the chunk of a position; its bits past the length are 0. `len` is the width, else
- * MORTARPINK_WRONG_SIZE. In a batch, at most 16 steps. */
+ * MORTARPINK_WRONG_SIZE. Linear in the width. */
 mortarpink_status mortarpink_chunk(mortarpink_bitmap *bitmap, uint64_t position, uint8_t *out, size_t len);
 
 

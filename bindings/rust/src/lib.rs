@@ -40,9 +40,9 @@
 //!
 //! | Call | Time |
 //! |---|---|
-//! | [`Batch::push`], [`Batch::push_byte`], [`Batch::push_chunk`] | amortized constant |
+//! | [`Batch::push`], [`Batch::push_byte`], [`Batch::push_chunk`], [`Batch::set`] | amortized constant |
 //! | [`Batch::push_bytes`] | linear in the bytes |
-//! | [`Batch::set`], [`Batch::pop`], [`Batch::get`], [`Batch::chunk`] | at most 16 steps, amortized |
+//! | [`Batch::pop`], [`Batch::get`], [`Batch::chunk`] | constant |
 //! | [`Batch::prune`] | linear in the chunks pruned |
 //! | [`Batch::commit`], [`Batch::try_commit`], [`Batch::abort`] | linear in the chunks edited in the batch |
 //! | [`Bitmap::get`], [`Bitmap::chunk`], [`Bitmap::len`], [`Bitmap::latest`], [`Bitmap::earliest`] | constant |

@@ -145,7 +145,7 @@ fn pop(any: &mut AnySession, bit: &mut u8) -> u32
 ///
 /// # Complexity
 ///
-/// At most 16 steps.
+/// Constant.
 #[unsafe(no_mangle)]
 pub extern "C" fn mortarpink_pop(alloc: Global, bitmap: &mut Handle, bit: &mut u8) -> u32
     ensures step { Calls bitmap.old.value (λ N. Command.Pop) (ReportsBit result bit.old bit.new)
@@ -174,7 +174,7 @@ fn set(any: &mut AnySession, position: u64, bit: bool) -> u32
 ///
 /// # Complexity
 ///
-/// At most 16 steps.
+/// Amortized constant.
 #[unsafe(no_mangle)]
 pub extern "C" fn mortarpink_set(alloc: Global, bitmap: &mut Handle, position: u64, bit: u8) -> u32
     ensures step { Calls bitmap.old.value (λ N. Command.Set position (not (bit == 0)))

@@ -73,7 +73,7 @@ fn get(any: &AnySession, position: u64, bit: &mut u8) -> u32
 ///
 /// # Complexity
 ///
-/// Constant; in a batch, at most 16 steps.
+/// Constant.
 #[unsafe(no_mangle)]
 pub extern "C" fn mortarpink_get(
     alloc: Global,
@@ -114,7 +114,7 @@ fn chunk(any: &mut AnySession, position: u64, out: &mut [u8]) -> u32
 ///
 /// # Complexity
 ///
-/// Linear in the width; in a batch, also at most 16 steps.
+/// Linear in the width.
 #[unsafe(no_mangle)]
 pub extern "C" fn mortarpink_chunk(
     alloc: Global,

@@ -104,7 +104,7 @@ pub type CleanBitMap<const N: usize> = BitMap<N, Clean>;
 ///
 /// # Memory
 /// The functions of the trait do not allocate.
-/// Outside the chunks that it appends, a batch has at most 2^31 - 1 edited chunks. One more is an edit for which an allocation fails.
+/// A batch can edit at most 2^31 - 1 chunks besides those that it appends. An edit of one more returns `AllocError`.
 ///
 /// # Complexity
 /// `len`, `pruned_chunks` and `complete_chunks` take constant time. A chunk takes a copy of its bytes, and at most one search among the edited chunks.

@@ -19,7 +19,7 @@ use std::alloc::AllocError;
 use std::collections::vec_deque::Iter;
 use std::marker::Model;
 
-/// An iterator over the numbers of numbered values, in their order, each once.
+/// An iterator over the commit numbers in a list of numbered values, in the order of the list, each once.
 ///
 /// After the last number, `next` returns `None`, however often it is called.
 #[derive(Drop)]
