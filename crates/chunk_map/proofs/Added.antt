@@ -4,7 +4,7 @@ use mathlib.Core.Logic.{inl, inr, ◌⊎◌}
 use Rattle.std.proofs.lemmas.Bool.{cases_eq, cases_lt}
 use Rattle.std.proofs.lemmas.List.{get_or-set_same, get_or-set_other, get_or_append_left, get_or_push, get_or-replicate, length-set, length_push}
 use Rattle.chunk_map.specs.declared.trie.Node.{Node}
-use Rattle.chunk_map.specs.Trie.{AreSlots, Branches, Finds, Grows, Holds, IsAt, IsLower, IsSlot, IsTrie, IsWay, KeepsKeys, Leads, Parts, Relinks, base_of, branch_of, digit_in, link_for, marked, moved, new_root, node_at, relinked, top_of}
+use Rattle.chunk_map.specs.Trie.{AreSlots, Branches, Finds, Grows, Holds, IsAt, IsLower, IsNode, IsSlot, IsTrie, IsWay, KeepsKeys, Leads, Meets, Parts, Reaches, Relinks, base_of, branch_of, digit_in, link_for, marked, new_root, node_at, relinked, top_of}
 use Rattle.chunk_map.proofs.Digits.{same_above, shift_below, div_digit}
 use Rattle.chunk_map.proofs.Growth.{grown}
 use Rattle.chunk_map.proofs.Marks.{marks_none, marks_set}
@@ -25,23 +25,21 @@ added_push keys key place h = elim (cases_lt place (length keys)) [
 ]
 
 -- ---- below a link that is 0
-leaf_grows : (nodes : List Node) (keys owners : List ℕ) (root owner key : ℕ) → IsTrie nodes keys owners root → IsWay nodes root key owner 0 → Grows nodes (relinked nodes owner key (2 * length keys + 2)) keys (keys ++ key ∷ []) owners (owners ++ owner ∷ []) owner key 0 (2 * length keys + 2)
-leaf_grows nodes keys owners root owner key t w =
+leaf_grows : (nodes : List Node) (keys : List ℕ) (root owner key : ℕ) → IsTrie nodes keys root → IsWay nodes root key owner 0 → Grows nodes (relinked nodes owner key (2 * length keys + 2)) keys (keys ++ key ∷ []) owner key 0 (2 * length keys + 2)
+leaf_grows nodes keys root owner key t w =
     let n = length keys in
     let leaf = 2 * n + 2 in
     let new = relinked nodes owner key leaf in
     let size : length new ≡ length nodes = length_relinked nodes owner key leaf in
     let half : leaf / 2 - 1 ≡ n = omega arith in
-    let last : slice_index (owners ++ owner ∷ []) (leaf / 2 - 1) ≡ owner = get_or_push owners owner 0 (leaf / 2 - 1) (t.sizes ∙ sym half) in
     let at : slice_index (keys ++ key ∷ []) (leaf / 2 - 1) ≡ key = get_or_push keys key 0 (leaf / 2 - 1) (sym half) in
     record {
       relinks = relinks nodes nodes owner key leaf t.forest (omega arith) (λ c h. refl) (λ h. (way_odd nodes root key owner 0 w h).0);
       kept = keeps_push keys key;
       added = added_push keys key;
-      owned = λ place h ne. get_or_append_left owners (owner ∷ []) 0 place (let s = t.sizes in omega (arith, s, h));
-      sizes = length_push owners owner ∙ ap (λ x. x + 1) t.sizes ∙ sym (length_push keys key);
       lower = λ c l h. absurd (omega (arith, l, h, size));
       slots = λ c l h. absurd (omega (arith, l, h, size));
+      reached = λ c l h. absurd (omega (arith, l, h, size));
       node = λ odd. absurd (omega (arith, odd));
       place = λ even. rw (length_push keys key) (omega arith);
       below = λ c h e odd. absurd (omega (arith, odd));
@@ -49,10 +47,9 @@ leaf_grows nodes keys owners root owner key t w =
         place = λ even. rw (length_push keys key) (omega arith);
         below_node = λ odd. absurd (omega (arith, odd));
         below_key = λ even some. rw at (omega (arith, holds));
-        owned = λ even some. last;
       };
-      first = λ e even some. last ∙ e;
       turns = λ other place steps f found. none nodes keys other place steps f;
+      passes = λ c steps h f met. no_node nodes (node_at nodes c).base c steps f;
       finds = (0, (record { within = rw (length_push keys key) (omega arith); is = get_or_push keys key 0 n refl }, refl));
     }
   where
@@ -60,15 +57,19 @@ leaf_grows nodes keys owners root owner key t w =
     none nodes keys other place zero f = let e = f.1 in absurd (omega (arith, e))
     none nodes keys other place (suc steps) f = let e = f.0.odd in absurd (omega (arith, e))
 
-leaf_trie_at : (nodes : List Node) (keys owners : List ℕ) (root owner key : ℕ) → IsTrie nodes keys owners root → IsWay nodes root key owner 0 → IsTrie (relinked nodes owner key (2 * length keys + 2)) (keys ++ key ∷ []) (owners ++ owner ∷ []) (new_root root owner (2 * length keys + 2))
-leaf_trie_at nodes keys owners root owner key t w =
-    grown nodes (relinked nodes owner key (2 * length keys + 2)) keys (keys ++ key ∷ []) owners (owners ++ owner ∷ []) root owner key 0 (2 * length keys + 2) t w (leaf_grows nodes keys owners root owner key t w)
+    no_node : (nodes : List Node) (k c steps : ℕ) → {A : Type 0} → Reaches nodes k (2 * c + 1) steps 0 → A
+    no_node nodes k c zero f = absurd (omega (arith, f))
+    no_node nodes k c (suc steps) f = let e = f.0.odd in absurd (omega (arith, e))
+
+leaf_trie_at : (nodes : List Node) (keys : List ℕ) (root owner key : ℕ) → IsTrie nodes keys root → IsWay nodes root key owner 0 → IsTrie (relinked nodes owner key (2 * length keys + 2)) (keys ++ key ∷ []) (new_root root owner (2 * length keys + 2))
+leaf_trie_at nodes keys root owner key t w =
+    grown nodes (relinked nodes owner key (2 * length keys + 2)) keys (keys ++ key ∷ []) root owner key 0 (2 * length keys + 2) t w (leaf_grows nodes keys root owner key t w)
 
 -- a key added below a link that is 0
-pub leaf_trie : (nodes : List Node) (keys owners : List ℕ) (root owner key n : ℕ) → n ≡ length keys → IsTrie nodes keys owners root → IsWay nodes root key owner 0 → IsTrie (relinked nodes owner key (2 * n + 2)) (keys ++ key ∷ []) (owners ++ owner ∷ []) (new_root root owner (2 * n + 2))
-leaf_trie nodes keys owners root owner key n e t w =
-    let P : ℕ → Type 0 = λ x. IsTrie (relinked nodes owner key (2 * x + 2)) (keys ++ key ∷ []) (owners ++ owner ∷ []) (new_root root owner (2 * x + 2)) in
-    subst P (sym e) (leaf_trie_at nodes keys owners root owner key t w)
+pub leaf_trie : (nodes : List Node) (keys : List ℕ) (root owner key n : ℕ) → n ≡ length keys → IsTrie nodes keys root → IsWay nodes root key owner 0 → IsTrie (relinked nodes owner key (2 * n + 2)) (keys ++ key ∷ []) (new_root root owner (2 * n + 2))
+leaf_trie nodes keys root owner key n e t w =
+    let P : ℕ → Type 0 = λ x. IsTrie (relinked nodes owner key (2 * x + 2)) (keys ++ key ∷ []) (new_root root owner (2 * x + 2)) in
+    subst P (sym e) (leaf_trie_at nodes keys root owner key t w)
 
 -- ---- by a new node
 -- the digits of keys that part there differ
@@ -118,27 +119,14 @@ below_base nodes keys link (suc odd) other place (suc steps) is f =
     div_digit other n.shift ∙ f.1 ∙ sym (div_digit n.base n.shift)
 
 -- the base of a link is below the slot of the link
-base_in_slot : (nodes : List Node) (keys owners : List ℕ) (owner : ℕ) (node : Node) (digit link odd : ℕ) → IsSlot nodes keys owners owner node digit link → 0 < link → link % 2 ≡ odd → base_of nodes keys link odd / 2 ^ node.shift ≡ node.base / 2 ^ node.shift / 16 * 16 + digit
-base_in_slot nodes keys owners owner node digit link zero s some is = s.below_key is some
-base_in_slot nodes keys owners owner node digit link (suc odd) s some is = s.below_node (omega (arith, is))
+base_in_slot : (nodes : List Node) (keys : List ℕ) (node : Node) (digit link odd : ℕ) → IsSlot nodes keys node digit link → 0 < link → link % 2 ≡ odd → base_of nodes keys link odd / 2 ^ node.shift ≡ node.base / 2 ^ node.shift / 16 * 16 + digit
+base_in_slot nodes keys node digit link zero s some is = s.below_key is some
+base_in_slot nodes keys node digit link (suc odd) s some is = s.below_node (omega (arith, is))
 
 -- the shift of the node of a link is below the shift of its keys
 top_above : (nodes : List Node) (link odd : ℕ) → link % 2 ≡ 1 → link % 2 ≡ odd → (node_at nodes (link / 2)).shift < top_of nodes link odd
 top_above nodes link zero one is = absurd (omega (arith, one, is))
 top_above nodes link (suc odd) one is = omega arith
-
--- owners of other places stay
-moved_other : (owners : List ℕ) (link odd new place : ℕ) → link % 2 ≡ odd → 0 < link → 2 * place + 2 ≢ link → slice_index (moved owners link odd new) place ≡ slice_index owners place
-moved_other owners link zero new place even some ne = get_or-set_other owners (link / 2 - 1) place new 0 (λ e. ne (omega (arith, e, even, some)))
-moved_other owners link (suc odd) new place is some ne = refl
-
-moved_this : (owners : List ℕ) (link odd new : ℕ) → link % 2 ≡ odd → link % 2 ≡ 0 → link / 2 - 1 < length owners → slice_index (moved owners link odd new) (link / 2 - 1) ≡ new
-moved_this owners link zero new is even h = get_or-set_same owners (link / 2 - 1) new 0 h
-moved_this owners link (suc odd) new is even h = absurd (omega (arith, is, even))
-
-length_moved : (owners : List ℕ) (link odd new : ℕ) → length (moved owners link odd new) ≡ length owners
-length_moved owners link zero new = length-set owners (link / 2 - 1) new
-length_moved owners link (suc odd) new = refl
 
 -- the node and its slots
 branch_lower : (nodes new : List Node) (base link key leaf s : ℕ) → length nodes ≤ length new → leaf % 2 ≡ 0 → Parts base key s → (link % 2 ≡ 1 → link / 2 < length nodes) → (link % 2 ≡ 1 → (node_at new (link / 2)).shift < s) → IsLower new (branch_of base link key leaf s)
@@ -158,8 +146,8 @@ branch_lower nodes new base link key leaf s longer even p within lower = record 
   ];
 }
 
-branch_slots : (nodes new : List Node) (keys owners : List ℕ) (base link key s owner : ℕ) → Parts base key s → base ≡ base_of nodes keys link (link % 2) → (link % 2 ≡ 1 → (node_at new (link / 2)).base ≡ (node_at nodes (link / 2)).base) → (link % 2 ≡ 0 → link / 2 ≤ length keys) → (link % 2 ≡ 0 → 0 < link → slice_index owners (link / 2 - 1) ≡ owner) → slice_index owners (length keys) ≡ owner → AreSlots new (keys ++ key ∷ []) owners owner (branch_of base link key (2 * length keys + 2) s)
-branch_slots nodes new keys owners base link key s owner p is same within owned last digit d =
+branch_slots : (nodes new : List Node) (keys : List ℕ) (base link key s : ℕ) → Parts base key s → base ≡ base_of nodes keys link (link % 2) → (link % 2 ≡ 1 → (node_at new (link / 2)).base ≡ (node_at nodes (link / 2)).base) → (link % 2 ≡ 0 → link / 2 ≤ length keys) → AreSlots new (keys ++ key ∷ []) (branch_of base link key (2 * length keys + 2) s)
+branch_slots nodes new keys base link key s p is same within digit d =
     let leaf = 2 * length keys + 2 in
     let node = branch_of base link key leaf s in
     let l = slice_index node.links digit in
@@ -171,7 +159,6 @@ branch_slots nodes new keys owners base link key s owner p is same within owned 
         place = λ even. omega (arith, more);
         below_node = λ odd. absurd (omega (arith, odd));
         below_key = λ even some. rw (half, get_or_push keys key 0 (length keys) refl) (let e = a.0 in omega (arith, e));
-        owned = λ even some. rw half last;
       })
       | inr (inl b) ↦ rw b.1 (record {
         place = λ even. let w = within even in omega (arith, w, more);
@@ -182,13 +169,11 @@ branch_slots nodes new keys owners base link key s owner p is same within owned 
             let w = within even in
             let key_is : slice_index (keys ++ key ∷ []) (link / 2 - 1) ≡ base = get_or_append_left keys (key ∷ []) 0 (link / 2 - 1) (omega (arith, w, even, some)) ∙ of_key nodes keys link (link % 2) refl even ∙ sym is in
             rw key_is (let e = b.0 in omega (arith, e, joined));
-        owned = owned;
       })
       | inr (inr z) ↦ rw z (record {
         place = λ even. omega arith;
         below_node = λ odd. absurd (omega (arith, odd));
         below_key = λ even some. absurd (omega (arith, some));
-        owned = λ even some. absurd (omega (arith, some));
       })
     ]
   where
@@ -201,41 +186,67 @@ branch_slots nodes new keys owners base link key s owner p is same within owned 
     of_key nodes keys link (suc odd) is even = absurd (omega (arith, is, even))
 
 -- the link where a walk ends is one of a node or of a place
-end_place : (nodes : List Node) (keys owners : List ℕ) (root owner key link : ℕ) → IsTrie nodes keys owners root → IsWay nodes root key owner link → link % 2 ≡ 0 → link / 2 ≤ length keys
-end_place nodes keys owners root zero key link t w even = rw w (t.first.place (rw w at even))
-end_place nodes keys owners root (suc owner) key link t w even =
+end_place : (nodes : List Node) (keys : List ℕ) (root owner key link : ℕ) → IsTrie nodes keys root → IsWay nodes root key owner link → link % 2 ≡ 0 → link / 2 ≤ length keys
+end_place nodes keys root zero key link t w even = rw w (t.first.place (rw w at even))
+end_place nodes keys root (suc owner) key link t w even =
     let n = suc owner / 2 in
     let s = t.slots n w.0.within (digit_in (node_at nodes n) key) (omega arith) in
     subst (λ l. l / 2 ≤ length keys) (sym w.2) (s.place (subst (λ l. l % 2 ≡ 0) w.2 even))
 
 -- the slot of the owner of the link
-owner_slot : (nodes : List Node) (keys owners : List ℕ) (root owner key link : ℕ) → IsTrie nodes keys owners root → IsWay nodes root key owner link → (c : ℕ) → c < length nodes → 2 * c + 1 ≡ owner → IsSlot nodes keys owners owner (node_at nodes c) (digit_in (node_at nodes c) key) link
-owner_slot nodes keys owners root zero key link t w c h e = absurd (omega (arith, e))
-owner_slot nodes keys owners root (suc owner) key link t w c h e =
+owner_slot : (nodes : List Node) (keys : List ℕ) (root owner key link : ℕ) → IsTrie nodes keys root → IsWay nodes root key owner link → (c : ℕ) → c < length nodes → 2 * c + 1 ≡ owner → IsSlot nodes keys (node_at nodes c) (digit_in (node_at nodes c) key) link
+owner_slot nodes keys root zero key link t w c h e = absurd (omega (arith, e))
+owner_slot nodes keys root (suc owner) key link t w c h e =
     let same : suc owner / 2 ≡ c = omega (arith, e) in
     let P : ℕ → Type 0 = λ x. link ≡ link_for (node_at nodes x) key in
     let to : link ≡ link_for (node_at nodes c) key = subst P same w.2 in
     let s = t.slots c h (digit_in (node_at nodes c) key) (omega arith) in
-    let Q : ℕ → ℕ → Type 0 = λ x l. IsSlot nodes keys owners x (node_at nodes c) (digit_in (node_at nodes c) key) l in
+    let Q : ℕ → ℕ → Type 0 = λ x l. IsSlot nodes keys (node_at nodes c) (digit_in (node_at nodes c) key) l in
     subst (λ x. Q x link) e (subst (λ l. Q (2 * c + 1) l) (sym to) s)
 
 -- a new node above a link is below the node of its owner
-branch_below : (nodes : List Node) (keys owners : List ℕ) (root owner key link s : ℕ) → IsTrie nodes keys owners root → IsWay nodes root key owner link → 0 < link → Parts (base_of nodes keys link (link % 2)) key s → (c : ℕ) → c < length nodes → 2 * c + 1 ≡ owner → s < (node_at nodes c).shift
-branch_below nodes keys owners root owner key link s t w some p c h e =
+branch_below : (nodes : List Node) (keys : List ℕ) (root owner key link s : ℕ) → IsTrie nodes keys root → IsWay nodes root key owner link → 0 < link → Parts (base_of nodes keys link (link % 2)) key s → (c : ℕ) → c < length nodes → 2 * c + 1 ≡ owner → s < (node_at nodes c).shift
+branch_below nodes keys root owner key link s t w some p c h e =
     let node = node_at nodes c in
-    let slot = owner_slot nodes keys owners root owner key link t w c h e in
-    let its = base_in_slot nodes keys owners owner node (digit_in node key) link (link % 2) slot some refl in
+    let slot = owner_slot nodes keys root owner key link t w c h e in
+    let its = base_in_slot nodes keys node (digit_in node key) link (link % 2) slot some refl in
     let holds = way_holds nodes root key owner link w c e in
     shift_below (base_of nodes keys link (link % 2)) key s node.shift p.apart (omega (arith, its, holds))
+
+-- from the new node to the link, for what agrees with the base
+branch_step : (new : List Node) (base link key leaf s m other : ℕ) → Parts base key s → m < length new → node_at new m ≡ branch_of base link key leaf s → other / 2 ^ s ≡ base / 2 ^ s → IsNode new (2 * m + 1) × Holds (node_at new ((2 * m + 1) / 2)) other × (link_for (node_at new ((2 * m + 1) / 2)) other ≡ link)
+branch_step new base link key leaf s m other p within node agree =
+    let half : (2 * m + 1) / 2 ≡ m = omega arith in (
+      record { odd = omega arith; within = rw half within },
+      rw (half, node) (ap (λ x. x / 16) agree ∙ p.joined),
+      rw (half, node) (rw agree (branch_old base link key leaf s p)),
+    )
 
 -- what was below a link is below the new node
 branch_turns : (nodes new : List Node) (keys new_keys : List ℕ) (base link key leaf s m other place steps : ℕ) → Parts base key s → top_of nodes link (link % 2) ≤ s → base ≡ base_of nodes keys link (link % 2) → m < length new → node_at new m ≡ branch_of base link key leaf s → Leads nodes keys other place steps link → Finds new new_keys other place link → Finds new new_keys other place (2 * m + 1)
 branch_turns nodes new keys new_keys base link key leaf s m other place steps p from is within node f found =
-    let half : (2 * m + 1) / 2 ≡ m = omega arith in
     let agree : other / 2 ^ s ≡ base / 2 ^ s = same_above other base (top_of nodes link (link % 2)) s from (below_base nodes keys link (link % 2) other place steps refl f ∙ ap (λ x. x / 2 ^ top_of nodes link (link % 2)) (sym is)) in
-    let holds : Holds (node_at new ((2 * m + 1) / 2)) other = rw (half, node) (ap (λ x. x / 16) agree ∙ p.joined) in
-    let to : link_for (node_at new ((2 * m + 1) / 2)) other ≡ link = rw (half, node) (rw agree (branch_old base link key leaf s p)) in
-    (suc found.0, (record { odd = omega arith; within = rw half within }, holds, subst (λ l. Leads new new_keys other place found.0 l) (sym to) found.1))
+    let step = branch_step new base link key leaf s m other p within node agree in
+    (suc found.0, (step.0, step.1, subst (λ l. Leads new new_keys other place found.0 l) (sym step.2) found.1))
+
+-- the base of a node below a link agrees with the base of the link, from its shift on
+node_below : (nodes : List Node) (keys : List ℕ) (link odd c steps : ℕ) → link % 2 ≡ odd → Reaches nodes (node_at nodes c).base (2 * c + 1) steps link → (node_at nodes c).base / 2 ^ top_of nodes link odd ≡ base_of nodes keys link odd / 2 ^ top_of nodes link odd
+node_below nodes keys link zero c zero even f = absurd (omega (arith, even, f))
+node_below nodes keys link zero c (suc steps) even f = let o = f.0.odd in absurd (omega (arith, even, o))
+node_below nodes keys link (suc odd) c zero is f =
+    let at : c ≡ link / 2 = omega (arith, f) in
+    ap (λ x. (node_at nodes x).base / 2 ^ ((node_at nodes (link / 2)).shift + 4)) at
+node_below nodes keys link (suc odd) c (suc steps) is f =
+    let n = node_at nodes (link / 2) in
+    div_digit (node_at nodes c).base n.shift ∙ f.1 ∙ sym (div_digit n.base n.shift)
+
+-- the nodes that were below a link are below the new node
+branch_passes : (nodes new : List Node) (keys : List ℕ) (base link key leaf s m c steps : ℕ) → Parts base key s → top_of nodes link (link % 2) ≤ s → base ≡ base_of nodes keys link (link % 2) → m < length new → node_at new m ≡ branch_of base link key leaf s → Reaches nodes (node_at nodes c).base (2 * c + 1) steps link → Meets new (node_at nodes c).base (2 * c + 1) link → Meets new (node_at nodes c).base (2 * c + 1) (2 * m + 1)
+branch_passes nodes new keys base link key leaf s m c steps p from is within node f met =
+    let other = (node_at nodes c).base in
+    let agree : other / 2 ^ s ≡ base / 2 ^ s = same_above other base (top_of nodes link (link % 2)) s from (node_below nodes keys link (link % 2) c steps refl f ∙ ap (λ x. x / 2 ^ top_of nodes link (link % 2)) (sym is)) in
+    let step = branch_step new base link key leaf s m other p within node agree in
+    (suc met.0, (step.0, step.1, subst (λ l. Reaches new other (2 * c + 1) met.0 l) (sym step.2) met.1))
 
 branch_finds : (new : List Node) (keys : List ℕ) (base link key s m : ℕ) → m < length new → node_at new m ≡ branch_of base link key (2 * length keys + 2) s → Finds new (keys ++ key ∷ []) key (length keys) (2 * m + 1)
 branch_finds new keys base link key s m within node =
@@ -246,8 +257,8 @@ branch_finds new keys base link key s m within node =
     let there : IsAt (keys ++ key ∷ []) key (length keys) = record { within = rw (length_push keys key) (omega arith); is = get_or_push keys key 0 (length keys) refl } in
     (1, (record { odd = omega arith; within = rw half within }, holds, (there, to)))
 
-branch_grows : (nodes more : List Node) (keys owners : List ℕ) (root owner key link : ℕ) → IsTrie nodes keys owners root → IsWay nodes root key owner link → (link % 2 ≡ 1 → link / 2 < length nodes) → 0 < link → Branches nodes more keys link key (2 * length keys + 2) → Grows nodes (relinked more owner key (2 * length nodes + 1)) keys (keys ++ key ∷ []) owners (moved owners link (link % 2) (2 * length nodes + 1) ++ (2 * length nodes + 1) ∷ []) owner key link (2 * length nodes + 1)
-branch_grows nodes more keys owners root owner key link t w within some b =
+branch_grows : (nodes more : List Node) (keys : List ℕ) (root owner key link : ℕ) → IsTrie nodes keys root → IsWay nodes root key owner link → (link % 2 ≡ 1 → link / 2 < length nodes) → 0 < link → Branches nodes more keys link key (2 * length keys + 2) → Grows nodes (relinked more owner key (2 * length nodes + 1)) keys (keys ++ key ∷ []) owner key link (2 * length nodes + 1)
+branch_grows nodes more keys root owner key link t w within some b =
     let m = length nodes in
     let n = length keys in
     let leaf = 2 * n + 2 in
@@ -255,8 +266,6 @@ branch_grows nodes more keys owners root owner key link t w within some b =
     let base = base_of nodes keys link (link % 2) in
     let node = branch_of base link key leaf b.shift in
     let new = relinked more owner key fresh in
-    let shifted = moved owners link (link % 2) fresh in
-    let new_owners = shifted ++ fresh ∷ [] in
     let half : fresh / 2 ≡ m = omega arith in
     let longer : length more ≡ m + 1 = ap length b.pushed ∙ length_push nodes node in
     let size : length new ≡ m + 1 = length_relinked more owner key fresh ∙ longer in
@@ -265,49 +274,41 @@ branch_grows nodes more keys owners root owner key link t w within some b =
     let apart : 2 * m + 1 ≢ owner = λ e. let h = (way_odd nodes root key owner link w (omega (arith, e))).1 in absurd (omega (arith, e, h)) in
     let last : node_at new m ≡ node = other_node more owner key fresh m odd apart ∙ ap (λ xs. node_at xs m) b.pushed ∙ node_last nodes node in
     let r : Relinks nodes new owner key fresh = relinks nodes more owner key fresh t.forest (omega (arith, longer)) first odd in
-    let moved_length : length shifted ≡ n = length_moved owners link (link % 2) fresh ∙ t.sizes in
-    let place = end_place nodes keys owners root owner key link t w in
-    let owned_old : link % 2 ≡ 0 → 0 < link → slice_index new_owners (link / 2 - 1) ≡ fresh = λ even more_than.
-    let h = place even in
-    let lt : link / 2 - 1 < length owners = let sizes = t.sizes in omega (arith, h, even, more_than, sizes) in
-    get_or_append_left shifted (fresh ∷ []) 0 (link / 2 - 1) (omega (arith, lt, moved_length, t.sizes)) ∙ moved_this owners link (link % 2) fresh refl even lt in
-    let owned_new : slice_index new_owners n ≡ fresh = get_or_push shifted fresh 0 n moved_length in
+    let place = end_place nodes keys root owner key link t w in
     let end_base : link % 2 ≡ 1 → (node_at new (link / 2)).base ≡ (node_at nodes (link / 2)).base = λ one. r.base (link / 2) (within one) in
-    let slots : AreSlots new (keys ++ key ∷ []) new_owners (2 * m + 1) node = branch_slots nodes new keys new_owners base link key b.shift fresh b.parts refl end_base place owned_old owned_new in
+    let slots : AreSlots new (keys ++ key ∷ []) node = branch_slots nodes new keys base link key b.shift b.parts refl end_base place in
     let lower : IsLower new node = branch_lower nodes new base link key leaf b.shift (omega (arith, size)) (omega arith) b.parts within (λ one. let s = r.shift (link / 2) (within one) in let top = top_above nodes link (link % 2) one refl in let from = b.from in omega (arith, s, top, from)) in
     let P : Node → Type 0 = λ x. IsLower new x in
     let Q : ℕ → Type 0 = λ c. P (node_at new c) in
-    let S : Node → Type 0 = λ x. AreSlots new (keys ++ key ∷ []) new_owners (2 * m + 1) x in
-    let R : ℕ → Type 0 = λ c. AreSlots new (keys ++ key ∷ []) new_owners (2 * c + 1) (node_at new c) in
+    let S : Node → Type 0 = λ x. AreSlots new (keys ++ key ∷ []) x in
+    let R : ℕ → Type 0 = λ c. AreSlots new (keys ++ key ∷ []) (node_at new c) in
     record {
       relinks = r;
       kept = keeps_push keys key;
       added = added_push keys key;
-      owned = λ place h ne. get_or_append_left shifted (fresh ∷ []) 0 place (omega (arith, h, moved_length)) ∙ moved_other owners link (link % 2) fresh place refl some ne;
-      sizes = length_push shifted fresh ∙ ap (λ x. x + 1) moved_length ∙ sym (length_push keys key);
       lower = λ c l h. let at : m ≡ c = omega (arith, l, h, size) in subst Q at (subst P (sym last) lower);
       slots = λ c l h. let at : m ≡ c = omega (arith, l, h, size) in subst R at (subst S (sym last) slots);
+      reached = λ c l h. let at : m ≡ c = omega (arith, l, h, size) in (subst (λ x. (node_at new x).base ≡ key) at (ap (λ (x : Node). x.base) last), omega (arith, at));
       node = λ one. omega (arith, size);
       place = λ even. absurd (omega (arith, even));
-      below = λ c h e one. rw (half, last) (branch_below nodes keys owners root owner key link b.shift t w some b.parts c h e);
+      below = λ c h e one. rw (half, last) (branch_below nodes keys root owner key link b.shift t w some b.parts c h e);
       slot = λ c h e. let holds = way_holds nodes root key owner link w c e in record {
         place = λ even. absurd (omega (arith, even));
         below_node = λ one. rw (half, last) (omega (arith, holds));
         below_key = λ even more_than. absurd (omega (arith, even));
-        owned = λ even more_than. absurd (omega (arith, even));
       };
-      first = λ e even more_than. absurd (omega (arith, even));
       turns = λ other at steps f found. branch_turns nodes new keys (keys ++ key ∷ []) base link key leaf b.shift m other at steps b.parts b.from refl (omega (arith, size)) last f found;
+      passes = λ c steps h f met. branch_passes nodes new keys base link key leaf b.shift m c steps b.parts b.from refl (omega (arith, size)) last f met;
       finds = branch_finds new keys base link key b.shift m (omega (arith, size)) last;
     }
 
-branch_trie_at : (nodes more : List Node) (keys owners : List ℕ) (root owner key link : ℕ) → IsTrie nodes keys owners root → IsWay nodes root key owner link → (link % 2 ≡ 1 → link / 2 < length nodes) → 0 < link → Branches nodes more keys link key (2 * length keys + 2) → IsTrie (relinked more owner key (2 * length nodes + 1)) (keys ++ key ∷ []) (moved owners link (link % 2) (2 * length nodes + 1) ++ (2 * length nodes + 1) ∷ []) (new_root root owner (2 * length nodes + 1))
-branch_trie_at nodes more keys owners root owner key link t w within some b =
-    grown nodes (relinked more owner key (2 * length nodes + 1)) keys (keys ++ key ∷ []) owners (moved owners link (link % 2) (2 * length nodes + 1) ++ (2 * length nodes + 1) ∷ []) root owner key link (2 * length nodes + 1) t w (branch_grows nodes more keys owners root owner key link t w within some b)
+branch_trie_at : (nodes more : List Node) (keys : List ℕ) (root owner key link : ℕ) → IsTrie nodes keys root → IsWay nodes root key owner link → (link % 2 ≡ 1 → link / 2 < length nodes) → 0 < link → Branches nodes more keys link key (2 * length keys + 2) → IsTrie (relinked more owner key (2 * length nodes + 1)) (keys ++ key ∷ []) (new_root root owner (2 * length nodes + 1))
+branch_trie_at nodes more keys root owner key link t w within some b =
+    grown nodes (relinked more owner key (2 * length nodes + 1)) keys (keys ++ key ∷ []) root owner key link (2 * length nodes + 1) t w (branch_grows nodes more keys root owner key link t w within some b)
 
 -- a key added by a new node
-pub branch_trie : (nodes more : List Node) (keys owners : List ℕ) (root owner key link n new : ℕ) → n ≡ length keys → new ≡ 2 * length nodes + 1 → IsTrie nodes keys owners root → IsWay nodes root key owner link → (link % 2 ≡ 1 → link / 2 < length nodes) → 0 < link → Branches nodes more keys link key (2 * n + 2) → IsTrie (relinked more owner key new) (keys ++ key ∷ []) (moved owners link (link % 2) new ++ new ∷ []) (new_root root owner new)
-branch_trie nodes more keys owners root owner key link n new e f t w within some b =
+pub branch_trie : (nodes more : List Node) (keys : List ℕ) (root owner key link n new : ℕ) → n ≡ length keys → new ≡ 2 * length nodes + 1 → IsTrie nodes keys root → IsWay nodes root key owner link → (link % 2 ≡ 1 → link / 2 < length nodes) → 0 < link → Branches nodes more keys link key (2 * n + 2) → IsTrie (relinked more owner key new) (keys ++ key ∷ []) (new_root root owner new)
+branch_trie nodes more keys root owner key link n new e f t w within some b =
     let P : ℕ → Type 0 = λ x. Branches nodes more keys link key (2 * x + 2) in
-    let Q : ℕ → Type 0 = λ x. IsTrie (relinked more owner key x) (keys ++ key ∷ []) (moved owners link (link % 2) x ++ x ∷ []) (new_root root owner x) in
-    subst Q (sym f) (branch_trie_at nodes more keys owners root owner key link t w within some (subst P e b))
+    let Q : ℕ → Type 0 = λ x. IsTrie (relinked more owner key x) (keys ++ key ∷ []) (new_root root owner x) in
+    subst Q (sym f) (branch_trie_at nodes more keys root owner key link t w within some (subst P e b))

@@ -111,8 +111,8 @@ one_above node at first span (inr s) shift lt fa ff holds inside =
     rw s (zero_f ∙ sym zero_a)
 
 -- one node further
-pub walk_next : (nodes : List Node) (keys owners : List ℕ) (root from at span link first : ℕ) → IsTrie nodes keys owners root → IsWalk nodes keys from at span link → link % 2 ≡ 1 → IsFirstIn (node_at nodes (link / 2)) at first → IsWalk nodes keys from first (node_at nodes (link / 2)).shift (link_for (node_at nodes (link / 2)) first)
-walk_next nodes keys owners root from at span link first t w odd f =
+pub walk_next : (nodes : List Node) (keys : List ℕ) (root from at span link first : ℕ) → IsTrie nodes keys root → IsWalk nodes keys from at span link → link % 2 ≡ 1 → IsFirstIn (node_at nodes (link / 2)) at first → IsWalk nodes keys from first (node_at nodes (link / 2)).shift (link_for (node_at nodes (link / 2)) first)
+walk_next nodes keys root from at span link first t w odd f =
     let c = link / 2 in
     let node = node_at nodes c in
     let within = w.node odd in
@@ -218,9 +218,9 @@ walk_at nodes keys from at span link first w fits same = record {
 }
 
 -- one node further, with the same number
-pub walk_on : (nodes : List Node) (keys owners : List ℕ) (root at span link : ℕ) → IsTrie nodes keys owners root → IsWalk nodes keys at at span link → link % 2 ≡ 1 → Holds (node_at nodes (link / 2)) at → IsWalk nodes keys at at (node_at nodes (link / 2)).shift (link_for (node_at nodes (link / 2)) at)
-walk_on nodes keys owners root at span link t w odd holds =
-    walk_next nodes keys owners root at at span link at t w odd (record { fits = w.at_fits; from_on = omega arith; holds = holds; least = λ key h g some. h })
+pub walk_on : (nodes : List Node) (keys : List ℕ) (root at span link : ℕ) → IsTrie nodes keys root → IsWalk nodes keys at at span link → link % 2 ≡ 1 → Holds (node_at nodes (link / 2)) at → IsWalk nodes keys at at (node_at nodes (link / 2)).shift (link_for (node_at nodes (link / 2)) at)
+walk_on nodes keys root at span link t w odd holds =
+    walk_next nodes keys root at at span link at t w odd (record { fits = w.at_fits; from_on = omega arith; holds = holds; least = λ key h g some. h })
 
 -- the keys at or above a number that are not in its slot are at or above another, where a slot starts
 pub record IsRest (nodes : List Node) (keys : List ℕ) (from span at its_span link : ℕ) : Type 0 where
@@ -258,8 +258,8 @@ rest_kept nodes keys from span link digit w odd holds last least place h up e =
     ]
 
 -- a later digit
-pub rest_new : (nodes : List Node) (keys owners : List ℕ) (root from span link digit at to : ℕ) → IsTrie nodes keys owners root → IsWalk nodes keys from from span link → link % 2 ≡ 1 → Holds (node_at nodes (link / 2)) from → digit < 16 → digit_in (node_at nodes (link / 2)) from + 1 ≤ digit → ((d : ℕ) → digit_in (node_at nodes (link / 2)) from + 1 ≤ d → d < digit → slice_index (node_at nodes (link / 2)).links d ≡ 0) → at ≡ (from / 2 ^ (node_at nodes (link / 2)).shift / 16 * 16 + digit) * 2 ^ (node_at nodes (link / 2)).shift % 2 ^ 64 → to ≡ slice_index (node_at nodes (link / 2)).links digit → IsRest nodes keys from (node_at nodes (link / 2)).shift at (node_at nodes (link / 2)).shift to
-rest_new nodes keys owners root from span link digit at to t w odd holds d after least at_is to_is =
+pub rest_new : (nodes : List Node) (keys : List ℕ) (root from span link digit at to : ℕ) → IsTrie nodes keys root → IsWalk nodes keys from from span link → link % 2 ≡ 1 → Holds (node_at nodes (link / 2)) from → digit < 16 → digit_in (node_at nodes (link / 2)) from + 1 ≤ digit → ((d : ℕ) → digit_in (node_at nodes (link / 2)) from + 1 ≤ d → d < digit → slice_index (node_at nodes (link / 2)).links d ≡ 0) → at ≡ (from / 2 ^ (node_at nodes (link / 2)).shift / 16 * 16 + digit) * 2 ^ (node_at nodes (link / 2)).shift % 2 ^ 64 → to ≡ slice_index (node_at nodes (link / 2)).links digit → IsRest nodes keys from (node_at nodes (link / 2)).shift at (node_at nodes (link / 2)).shift to
+rest_new nodes keys root from span link digit at to t w odd holds d after least at_is to_is =
     let node = node_at nodes (link / 2) in
     let s = node.shift in
     let shape = t.forest (link / 2) (w.node odd) in
@@ -272,7 +272,7 @@ rest_new nodes keys owners root from span link digit at to t w odd holds d after
     let its : digit_in node at ≡ digit = omega (arith, digits, d) in
     let same : at / 2 ^ span ≡ from / 2 ^ span = one_above node from at span w.span_fits shape.shift (w.lower odd) w.at_fits fits in_node (w.node_in odd) in
     let on = below_by_digits from at s (omega (arith, digits, after)) in
-    let go = walk_on nodes keys owners root at span link t (walk_at nodes keys from from span link at w fits same) odd in_node in
+    let go = walk_on nodes keys root at span link t (walk_at nodes keys from from span link at w fits same) odd in_node in
     let there : link_for node at ≡ to = ap (slice_index node.links) its ∙ sym to_is in
     record {
       from_on = omega (arith, on);

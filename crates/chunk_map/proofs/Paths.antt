@@ -21,8 +21,8 @@ same_place nodes keys key p q (suc steps) zero link f g = let e = g.1 in let o =
 same_place nodes keys key p q (suc steps) (suc others) link f g = same_place nodes keys key p q steps others (link_for (node_at nodes (link / 2)) key) f.2 g.2
 
 -- the keys of a trie are distinct
-pub trie_apart : (nodes : List Node) (keys owners : List ℕ) (root : ℕ) → IsTrie nodes keys owners root → AreApart keys
-trie_apart nodes keys owners root t p q hp hq e =
+pub trie_apart : (nodes : List Node) (keys : List ℕ) (root : ℕ) → IsTrie nodes keys root → AreApart keys
+trie_apart nodes keys root t p q hp hq e =
     let f = t.found p hp in
     let g = subst (λ key. Finds nodes keys key q root) (sym e) (t.found q hq) in
     same_place nodes keys (slice_index keys p) p q f.0 g.0 root f.1 g.1

@@ -52,10 +52,14 @@ abbrev pub Reaches : List Node → ℕ → ℕ → ℕ → ℕ → Type 0
 Reaches nodes key target zero link = link ≡ target
 Reaches nodes key target (suc steps) link = IsNode nodes link × Holds (node_at nodes (link / 2)) key × Reaches nodes key target steps (link_for (node_at nodes (link / 2)) key)
 
+-- some number of nodes leads from a link to another link, for a key
+abbrev pub Meets : List Node → ℕ → ℕ → ℕ → Type 0
+Meets nodes key target link = (steps : ℕ) × Reaches nodes key target steps link
+
 -- the walk for a key from the root is at a link, which is in the node of the link `owner`, or is the root if that is 0
 abbrev pub IsWay : List Node → ℕ → ℕ → ℕ → ℕ → Type 0
 IsWay nodes root key zero link = link ≡ root
-IsWay nodes root key (suc owner) link = IsNode nodes (suc owner) × Holds (node_at nodes (suc owner / 2)) key × (link ≡ link_for (node_at nodes (suc owner / 2)) key) × ((steps : ℕ) × Reaches nodes key (suc owner) steps root)
+IsWay nodes root key (suc owner) link = IsNode nodes (suc owner) × Holds (node_at nodes (suc owner / 2)) key × (link ≡ link_for (node_at nodes (suc owner / 2)) key) × Meets nodes key (suc owner) root
 
 -- the walk for a key from the root ends at a link, which no node that holds the key has
 pub record IsEnd (nodes : List Node) (root key owner link : ℕ) : Type 0 where
@@ -99,45 +103,38 @@ pub record IsLower (nodes : List Node) (node : Node) : Type 0 where
 abbrev pub IsForest : List Node → Type 0
 IsForest nodes = (c : ℕ) → c < length nodes → IsLower nodes (node_at nodes c)
 
--- a link of the node of the link `owner` for a digit leads to keys with that digit, and a place that it leads to has that owner
-pub record IsSlot (nodes : List Node) (keys owners : List ℕ) (owner : ℕ) (node : Node) (digit link : ℕ) : Type 0 where
+-- a link of a node for a digit leads to keys with that digit
+pub record IsSlot (nodes : List Node) (keys : List ℕ) (node : Node) (digit link : ℕ) : Type 0 where
   pub place : link % 2 ≡ 0 → link / 2 ≤ length keys
   pub below_node : link % 2 ≡ 1 → (node_at nodes (link / 2)).base / 2 ^ node.shift ≡ node.base / 2 ^ node.shift / 16 * 16 + digit
   pub below_key : link % 2 ≡ 0 → 0 < link → slice_index keys (link / 2 - 1) / 2 ^ node.shift ≡ node.base / 2 ^ node.shift / 16 * 16 + digit
-  pub owned : link % 2 ≡ 0 → 0 < link → slice_index owners (link / 2 - 1) ≡ owner
 
 -- the links of a node are right
-abbrev pub AreSlots : List Node → List ℕ → List ℕ → ℕ → Node → Type 0
-AreSlots nodes keys owners owner node = (digit : ℕ) → digit < 16 → IsSlot nodes keys owners owner node digit (slice_index node.links digit)
+abbrev pub AreSlots : List Node → List ℕ → Node → Type 0
+AreSlots nodes keys node = (digit : ℕ) → digit < 16 → IsSlot nodes keys node digit (slice_index node.links digit)
 
 -- the root is right
-pub record IsRoot (nodes : List Node) (keys owners : List ℕ) (root : ℕ) : Type 0 where
+pub record IsRoot (nodes : List Node) (keys : List ℕ) (root : ℕ) : Type 0 where
   pub node : root % 2 ≡ 1 → root / 2 < length nodes
   pub place : root % 2 ≡ 0 → root / 2 ≤ length keys
-  pub owned : root % 2 ≡ 0 → 0 < root → slice_index owners (root / 2 - 1) ≡ 0
 
--- the links are right, and lead to each key
-pub record IsTrie (nodes : List Node) (keys owners : List ℕ) (root : ℕ) : Type 0 where
-  pub sizes : length owners ≡ length keys
+-- the links are right, and lead to each key and each node
+pub record IsTrie (nodes : List Node) (keys : List ℕ) (root : ℕ) : Type 0 where
   pub forest : IsForest nodes
-  pub first : IsRoot nodes keys owners root
-  pub slots : (c : ℕ) → c < length nodes → AreSlots nodes keys owners (2 * c + 1) (node_at nodes c)
+  pub first : IsRoot nodes keys root
+  pub slots : (c : ℕ) → c < length nodes → AreSlots nodes keys (node_at nodes c)
+  pub reached : (c : ℕ) → c < length nodes → Meets nodes (node_at nodes c).base (2 * c + 1) root
   pub found : (place : ℕ) → place < length keys → Finds nodes keys (slice_index keys place) place root
 
--- the links are right, and lead to each key but that at one place, to which none leads
-pub record IsPartial (nodes : List Node) (keys owners : List ℕ) (root gone : ℕ) : Type 0 where
-  pub sizes : length owners ≡ length keys
+-- the links are right, and lead to each node and each key but that at one place, to which none leads
+pub record IsPartial (nodes : List Node) (keys : List ℕ) (root gone : ℕ) : Type 0 where
   pub forest : IsForest nodes
-  pub first : IsRoot nodes keys owners root
-  pub slots : (c : ℕ) → c < length nodes → AreSlots nodes keys owners (2 * c + 1) (node_at nodes c)
+  pub first : IsRoot nodes keys root
+  pub slots : (c : ℕ) → c < length nodes → AreSlots nodes keys (node_at nodes c)
+  pub reached : (c : ℕ) → c < length nodes → Meets nodes (node_at nodes c).base (2 * c + 1) root
   pub found : (place : ℕ) → place < length keys → place ≢ gone → Finds nodes keys (slice_index keys place) place root
   pub free : (c digit : ℕ) → c < length nodes → digit < 16 → slice_index (node_at nodes c).links digit ≢ 2 * gone + 2
   pub free_root : root ≢ 2 * gone + 2
-
--- the link for a key in the node of the link `owner`, or the root if that is 0
-abbrev pub link_in : List Node → ℕ → ℕ → ℕ → ℕ
-link_in nodes root zero key = root
-link_in nodes root (suc owner) key = link_for (node_at nodes (suc owner / 2)) key
 
 -- a list without the element at a place, to which the last one is moved
 abbrev pub without_place : {X : Type 0} → List X → ℕ → X → List X
@@ -184,11 +181,6 @@ pub record Branches (old new : List Node) (keys : List ℕ) (link key leaf : ℕ
   pub parts : Parts (base_of old keys link (link % 2)) key shift
   pub pushed : new ≡ old ++ branch_of (base_of old keys link (link % 2)) link key leaf shift ∷ []
 
--- the owners of the places, after the place of a link got a new node as its owner, if it is the link of a place
-abbrev pub moved : List ℕ → ℕ → ℕ → ℕ → List ℕ
-moved owners link zero new = slice_set owners (link / 2 - 1) new
-moved owners link (suc odd) new = owners
-
 -- a link for a digit in a node, after the link for a key in the node of the link `owner` was replaced
 abbrev pub LinkAfter : List Node → List Node → ℕ → ℕ → ℕ → ℕ → ℕ → Type 0
 LinkAfter old new owner key link c digit =
@@ -208,19 +200,18 @@ pub record Relinks (old new : List Node) (owner key link : ℕ) : Type 0 where
 abbrev pub KeepsKeys : List ℕ → List ℕ → Type 0
 KeepsKeys old new = (place : ℕ) → place < length old → IsAt new (slice_index old place) place
 
--- a new key, and the nodes, keys and owners before and after: `new_link` replaces `link`, which is in the node of the link `owner`, or is the root if that is 0
-pub record Grows (old new : List Node) (keys new_keys owners new_owners : List ℕ) (owner key link new_link : ℕ) : Type 0 where
+-- a new key, and the nodes and keys before and after: `new_link` replaces `link`, which is in the node of the link `owner`, or is the root if that is 0
+pub record Grows (old new : List Node) (keys new_keys : List ℕ) (owner key link new_link : ℕ) : Type 0 where
   pub relinks : Relinks old new owner key new_link
   pub kept : KeepsKeys keys new_keys
   pub added : (place : ℕ) → place < length new_keys → (place < length keys) ⊎ ((place ≡ length keys) × (slice_index new_keys place ≡ key))
-  pub owned : (place : ℕ) → place < length keys → 2 * place + 2 ≢ link → slice_index new_owners place ≡ slice_index owners place
-  pub sizes : length new_owners ≡ length new_keys
   pub lower : (c : ℕ) → length old ≤ c → c < length new → IsLower new (node_at new c)
-  pub slots : (c : ℕ) → length old ≤ c → c < length new → AreSlots new new_keys new_owners (2 * c + 1) (node_at new c)
+  pub slots : (c : ℕ) → length old ≤ c → c < length new → AreSlots new new_keys (node_at new c)
+  pub reached : (c : ℕ) → length old ≤ c → c < length new → ((node_at new c).base ≡ key) × (2 * c + 1 ≡ new_link)
   pub node : new_link % 2 ≡ 1 → new_link / 2 < length new
   pub place : new_link % 2 ≡ 0 → new_link / 2 ≤ length new_keys
   pub below : (c : ℕ) → c < length old → 2 * c + 1 ≡ owner → new_link % 2 ≡ 1 → (node_at new (new_link / 2)).shift < (node_at old c).shift
-  pub slot : (c : ℕ) → c < length old → 2 * c + 1 ≡ owner → IsSlot new new_keys new_owners owner (node_at old c) (digit_in (node_at old c) key) new_link
-  pub first : owner ≡ 0 → new_link % 2 ≡ 0 → 0 < new_link → slice_index new_owners (new_link / 2 - 1) ≡ 0
+  pub slot : (c : ℕ) → c < length old → 2 * c + 1 ≡ owner → IsSlot new new_keys (node_at old c) (digit_in (node_at old c) key) new_link
   pub turns : (other place steps : ℕ) → Leads old keys other place steps link → Finds new new_keys other place link → Finds new new_keys other place new_link
+  pub passes : (c steps : ℕ) → c < length old → Reaches old (node_at old c).base (2 * c + 1) steps link → Meets new (node_at old c).base (2 * c + 1) link → Meets new (node_at old c).base (2 * c + 1) new_link
   pub finds : Finds new new_keys key (length keys) new_link

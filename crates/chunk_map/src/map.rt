@@ -14,7 +14,6 @@ ghost use Rattle.std.specs.Map.{keys_of, lookup};
 ghost use Rattle.std.specs.Option.{option_copied};
 ghost use Rattle.std.specs.Ordering.{nat_cmp};
 ghost use Rattle.chunk_map.specs.Entries.{IsNextMember, Puts};
-ghost use Rattle.chunk_map.specs.Next.{AreBelow, IsNextPlace};
 ghost use Rattle.chunk_map.specs.Trie.{IsAt};
 
 use crate::places::Places;
@@ -259,7 +258,7 @@ impl<const N: usize> ChunkMap<N> {
     ///
     /// # Complexity
     ///
-    /// Visits at most 16 nodes.
+    /// At most three walks of at most 16 nodes.
     pub fn remove(&mut self, index: usize) -> Option<[u8; N]>
         ensures value { result ≡ lookup (nat_eq index) self.old.entries }
         ensures removed { Puts self.old.entries self.new.entries index None }
@@ -275,21 +274,6 @@ impl<const N: usize> ChunkMap<N> {
         }
     }
 
-    /// Returns the place of the chunk with the least index at or above `from`, if there is one.
-    ///
-    /// # Memory
-    ///
-    /// Does not allocate.
-    ///
-    /// # Complexity
-    ///
-    /// At most 16 walks of at most 16 nodes, and more for nodes that removals left without chunks.
-    pub fn next_place(&self, from: usize) -> Option<usize>
-        ensures { MatchOption result (AreBelow self.now.indices from) (IsNextPlace self.now.indices from) }
-    {
-        self.places.next_from(from)
-    }
-
     /// Returns the least index at or above `from` that has a chunk, if there is one.
     ///
     /// # Memory
@@ -298,7 +282,7 @@ impl<const N: usize> ChunkMap<N> {
     ///
     /// # Complexity
     ///
-    /// As [`ChunkMap::next_place`].
+    /// At most 16 walks of at most 16 nodes, and more for nodes that removals left without chunks.
     pub fn next_from(&self, from: usize) -> Option<usize>
         ensures { IsNextMember (keys_of self.now.entries) from result }
     {

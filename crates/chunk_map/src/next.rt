@@ -89,8 +89,8 @@ fn past(at: usize, span: u32) -> Step
 
 // Returns the first slot that can have a key at or above a number, if there is one.
 // Walks to the slot of the number, and keeps the first slot with a link after those on the way.
-fn start(nodes: &[Node], keys: &[usize], owners: &[u32], root: u32, from: usize) -> Option<Slot>
-    requires { IsTrie nodes.now keys.now owners.now root }
+fn start(nodes: &[Node], keys: &[usize], root: u32, from: usize) -> Option<Slot>
+    requires { IsTrie nodes.now keys.now root }
     ensures { MatchOption result (AreBelow keys.now from) (λ slot. IsStart nodes.now keys.now from slot.at slot.span slot.link) }
 {
     let mut next = None;
@@ -128,8 +128,8 @@ fn start(nodes: &[Node], keys: &[usize], owners: &[u32], root: u32, from: usize)
 }
 
 // Walks once from a slot towards the least key at or above the number of the slot.
-fn walk(nodes: &[Node], keys: &[usize], owners: &[u32], slot: Slot) -> Step
-    requires trie { (root : ℕ) × IsTrie nodes.now keys.now owners.now root }
+fn walk(nodes: &[Node], keys: &[usize], slot: Slot) -> Step
+    requires trie { (root : ℕ) × IsTrie nodes.now keys.now root }
     requires slot { IsWalk nodes.now keys.now slot.at slot.at slot.span slot.link }
     ensures { StepReports keys.now slot.at result }
 {
@@ -154,20 +154,14 @@ fn walk(nodes: &[Node], keys: &[usize], owners: &[u32], slot: Slot) -> Step
 }
 
 // Returns the place of the least key at or above a number, if there is one.
-pub(crate) fn next_from(
-    nodes: &[Node],
-    keys: &[usize],
-    owners: &[u32],
-    root: u32,
-    from: usize,
-) -> Option<usize>
-    requires { IsTrie nodes.now keys.now owners.now root }
+pub(crate) fn next_from(nodes: &[Node], keys: &[usize], root: u32, from: usize) -> Option<usize>
+    requires { IsTrie nodes.now keys.now root }
     ensures { MatchOption result (AreBelow keys.now from) (IsNextPlace keys.now from) }
 {
     let mut at = from;
     loop {
-        let slot = start(nodes, keys, owners, root, at)?;
-        match walk(nodes, keys, owners, slot) {
+        let slot = start(nodes, keys, root, at)?;
+        match walk(nodes, keys, slot) {
             Step::Found(place) => return Some(place),
             Step::Skip(past) => at = past,
             Step::End => return None,

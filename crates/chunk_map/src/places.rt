@@ -14,7 +14,6 @@ use std::marker::Model;
 pub(crate) struct Places {
     nodes: Vec<Node>,
     keys: Vec<usize>,
-    owners: Vec<u32>,
     root: u32,
 }
 
@@ -26,7 +25,7 @@ impl Model for Places {
 
     ghost view = { λ p. p.keys.items };
 
-    ghost invariant = { λ p. IsTrie p.nodes.items p.keys.items p.owners.items p.root };
+    ghost invariant = { λ p. IsTrie p.nodes.items p.keys.items p.root };
 }
 
 impl Places {
@@ -37,7 +36,6 @@ impl Places {
         Places {
             nodes: Vec::new(alloc),
             keys: Vec::new(alloc),
-            owners: Vec::new(alloc),
             root: 0,
         }
     }
@@ -55,7 +53,7 @@ impl Places {
     pub(crate) fn find(&self, key: usize) -> Option<usize>
         ensures { MatchOption result (IsAbsent self.now key) (IsAt self.now key) }
     {
-        trie::find(&self.nodes, &self.keys, &self.owners, self.root, key)
+        trie::find(&self.nodes, &self.keys, self.root, key)
     }
 
     // Returns the key at a place.
@@ -72,13 +70,7 @@ impl Places {
         ensures ok { OnOk result (self.new ≡ self.old ++ key ∷ []) }
         ensures err { OnErr result (self.new ≡ self.old) }
     {
-        trie::insert(
-            &mut self.nodes,
-            &mut self.keys,
-            &mut self.owners,
-            &mut self.root,
-            key,
-        )
+        trie::insert(&mut self.nodes, &mut self.keys, &mut self.root, key)
     }
 
     // Removes the key at a place. The last key takes its place. Does not allocate.
@@ -86,20 +78,14 @@ impl Places {
         requires { place < length self.old }
         ensures { self.new ≡ without_place self.old place 0 }
     {
-        trie::remove(
-            &mut self.nodes,
-            &mut self.keys,
-            &mut self.owners,
-            &mut self.root,
-            place,
-        );
+        trie::remove(&mut self.nodes, &mut self.keys, &mut self.root, place);
     }
 
     // Returns the place of the least key at or above a number, if there is one.
     pub(crate) fn next_from(&self, from: usize) -> Option<usize>
         ensures { MatchOption result (AreBelow self.now from) (IsNextPlace self.now from) }
     {
-        next::next_from(&self.nodes, &self.keys, &self.owners, self.root, from)
+        next::next_from(&self.nodes, &self.keys, self.root, from)
     }
 
     // States that the keys are distinct.
@@ -116,7 +102,6 @@ impl Places {
         Ok(Places {
             nodes: self.nodes.clone()?,
             keys: self.keys.clone()?,
-            owners: self.owners.clone()?,
             root: self.root,
         })
     }

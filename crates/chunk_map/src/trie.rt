@@ -1,11 +1,11 @@
 //! A trie that finds the place of a key by the digits of the key, in base 16.
 //!
 //! A node sorts the keys below it by one digit, and keys below it are equal in all higher digits. A new node has two links.
-//! Nodes are in one list, and keys in another. `owners` has, for each place, the link of the node that has the link of the place, or 0.
+//! Nodes are in one list, and keys in another. A walk from the root for a key ends at the link of the place of the key.
 
 ghost use Rattle.std.specs.Prelude.{◌≡◌, ℕ, ◌+◌, ◌-◌, ◌*◌, ◌/◌, ◌%◌, ◌^◌, ◌<◌, ◌≤◌, ◌≢◌, ◌++◌, [], ◌∷◌, length, MatchOption, slice_index, IfOk, OnOk, OnErr, vec_len, slice_set, take};
 ghost use Rattle.std.specs.Vec.{vec_capacity};
-ghost use Rattle.chunk_map.specs.Trie.{IsTrie, IsAbsent, IsAt, IsForest, IsLower, IsEnd, IsShift, IsNode, Parts, Holds, Branches, base_of, top_of, node_at, relinked, new_root, marked, moved, IsPartial, link_in, without_place};
+ghost use Rattle.chunk_map.specs.Trie.{IsTrie, IsAbsent, IsAt, IsForest, IsLower, IsEnd, IsShift, IsNode, Parts, Holds, Branches, base_of, top_of, node_at, relinked, new_root, marked, IsPartial, without_place};
 
 use std::alloc::AllocError;
 
@@ -31,14 +31,8 @@ const LIMIT: usize = 0x7fff_ffff;
 
 // Returns the place of a key, if there is one.
 #[inline]
-pub(crate) fn find(
-    nodes: &[Node],
-    keys: &[usize],
-    owners: &[u32],
-    root: u32,
-    key: usize,
-) -> Option<usize>
-    requires { IsTrie nodes.now keys.now owners.now root }
+pub(crate) fn find(nodes: &[Node], keys: &[usize], root: u32, key: usize) -> Option<usize>
+    requires { IsTrie nodes.now keys.now root }
     ensures { MatchOption result (IsAbsent keys.now key) (IsAt keys.now key) }
 {
     let mut link = root as usize;
@@ -178,73 +172,31 @@ fn put_link(nodes: &mut Vec<Node>, root: &mut u32, owner: u32, key: usize, link:
     }
 }
 
-// Returns the link for a key in the node of the link `owner`, or the root if that is 0.
-fn link_of(nodes: &[Node], root: u32, owner: u32, key: usize) -> u32
-    requires within { 0 < owner → owner / 2 < length nodes.now }
-    requires size { 0 < owner → length (node_at nodes.now (owner / 2)).links ≡ 16 }
-    requires shift { 0 < owner → IsShift (node_at nodes.now (owner / 2)).shift }
-    ensures { result ≡ link_in nodes.now root owner key }
-{
-    if owner == 0 {
-        return root;
-    }
-    let node = &nodes[owner as usize / 2];
-    node.links[(key >> node.shift) % 16]
-}
-
-// Gives the place of a link another owner, if the link is that of a place.
-fn move_place(owners: &mut Vec<u32>, link: u32, owner: u32)
-    requires { link % 2 ≡ 0 → (0 < link) × (link / 2 ≤ length owners.old.items) }
-    ensures items { owners.new.items ≡ moved owners.old.items link (link % 2) owner }
-    ensures capacity { vec_capacity owners.new ≡ vec_capacity owners.old }
-{
-    if link % 2 == 0 {
-        owners[link as usize / 2 - 1] = owner;
-    }
-}
-
-// Reserves space for one key.
-fn reserve_key(keys: &mut Vec<usize>, owners: &mut Vec<u32>) -> Result<(), AllocError>
-    ensures keys { keys.new.items ≡ keys.old.items }
-    ensures owners { owners.new.items ≡ owners.old.items }
-    ensures keys_fit { OnOk result (vec_len keys.new < vec_capacity keys.new) }
-    ensures owners_fit { OnOk result (vec_len owners.new < vec_capacity owners.new) }
-{
-    keys.reserve(1)?;
-    owners.reserve(1)?;
-    Ok(())
-}
-
-// Appends a key and its owner, for which space is reserved.
-fn push_key(keys: &mut Vec<usize>, owners: &mut Vec<u32>, key: usize, owner: u32)
-    requires keys_fit { vec_len keys.old < vec_capacity keys.old }
-    requires owners_fit { vec_len owners.old < vec_capacity owners.old }
-    ensures keys { keys.new.items ≡ keys.old.items ++ key ∷ [] }
-    ensures owners { owners.new.items ≡ owners.old.items ++ owner ∷ [] }
+// Appends a key, for which space is reserved.
+fn push_key(keys: &mut Vec<usize>, key: usize)
+    requires { vec_len keys.old < vec_capacity keys.old }
+    ensures { keys.new.items ≡ keys.old.items ++ key ∷ [] }
 {
     let _ = keys.push(key);
-    let _ = owners.push(owner);
 }
 
 // Adds a key below a link that is 0.
 fn add_leaf(
     nodes: &mut Vec<Node>,
     keys: &mut Vec<usize>,
-    owners: &mut Vec<u32>,
     root: &mut u32,
     key: usize,
     owner: u32,
 ) -> Result<(), AllocError>
-    requires trie { IsTrie nodes.old.items keys.old.items owners.old.items root.old }
+    requires trie { IsTrie nodes.old.items keys.old.items root.old }
     requires end { IsEnd nodes.old.items root.old key owner 0 }
     requires few { length keys.old.items < 2147483647 }
-    ensures trie { IsTrie nodes.new.items keys.new.items owners.new.items root.new }
+    ensures trie { IsTrie nodes.new.items keys.new.items root.new }
     ensures ok { OnOk result (keys.new.items ≡ keys.old.items ++ key ∷ []) }
     ensures err { OnErr result (keys.new.items ≡ keys.old.items) }
 {
     let leaf = 2 * keys.len() as u32 + 2;
-    reserve_key(keys, owners)?;
-    push_key(keys, owners, key, owner);
+    keys.push(key)?;
     put_link(nodes, root, owner, key, leaf);
     Ok(())
 }
@@ -253,26 +205,24 @@ fn add_leaf(
 fn add_branch(
     nodes: &mut Vec<Node>,
     keys: &mut Vec<usize>,
-    owners: &mut Vec<u32>,
     root: &mut u32,
     key: usize,
     end: End,
 ) -> Result<(), AllocError>
-    requires trie { IsTrie nodes.old.items keys.old.items owners.old.items root.old }
+    requires trie { IsTrie nodes.old.items keys.old.items root.old }
     requires end { IsEnd nodes.old.items root.old key end.owner end.link }
     requires some { 0 < end.link }
     requires absent { IsAbsent keys.old.items key }
     requires few { length keys.old.items < 2147483647 }
     requires few_nodes { length nodes.old.items < 2147483647 }
-    ensures trie { IsTrie nodes.new.items keys.new.items owners.new.items root.new }
+    ensures trie { IsTrie nodes.new.items keys.new.items root.new }
     ensures ok { OnOk result (keys.new.items ≡ keys.old.items ++ key ∷ []) }
     ensures err { OnErr result (keys.new.items ≡ keys.old.items) }
 {
     let leaf = 2 * keys.len() as u32 + 2;
-    reserve_key(keys, owners)?;
+    keys.reserve(1)?;
     let new = branch(nodes, keys, end.link, key, leaf)?;
-    move_place(owners, end.link, new);
-    push_key(keys, owners, key, new);
+    push_key(keys, key);
     put_link(nodes, root, end.owner, key, new);
     Ok(())
 }
@@ -281,13 +231,12 @@ fn add_branch(
 pub(crate) fn insert(
     nodes: &mut Vec<Node>,
     keys: &mut Vec<usize>,
-    owners: &mut Vec<u32>,
     root: &mut u32,
     key: usize,
 ) -> Result<(), AllocError>
-    requires trie { IsTrie nodes.old.items keys.old.items owners.old.items root.old }
+    requires trie { IsTrie nodes.old.items keys.old.items root.old }
     requires absent { IsAbsent keys.old.items key }
-    ensures trie { IsTrie nodes.new.items keys.new.items owners.new.items root.new }
+    ensures trie { IsTrie nodes.new.items keys.new.items root.new }
     ensures ok { OnOk result (keys.new.items ≡ keys.old.items ++ key ∷ []) }
     ensures err { OnErr result (keys.new.items ≡ keys.old.items) }
 {
@@ -296,79 +245,57 @@ pub(crate) fn insert(
     }
     let end = seek(nodes, *root, key);
     if end.link == 0 {
-        return add_leaf(nodes, keys, owners, root, key, end.owner);
+        return add_leaf(nodes, keys, root, key, end.owner);
     }
-    add_branch(nodes, keys, owners, root, key, end)
+    add_branch(nodes, keys, root, key, end)
 }
 
 // Replaces the link of a place by 0. Returns the link.
-fn take_link(
-    nodes: &mut Vec<Node>,
-    keys: &[usize],
-    owners: &[u32],
-    root: &mut u32,
-    place: usize,
-) -> u32
-    requires trie { IsTrie nodes.old.items keys.now owners.now root.old }
+fn take_link(nodes: &mut Vec<Node>, keys: &[usize], root: &mut u32, place: usize) -> u32
+    requires trie { IsTrie nodes.old.items keys.now root.old }
     requires within { place < length keys.now }
-    ensures partial { IsPartial nodes.new.items keys.now owners.now root.new place }
+    ensures partial { IsPartial nodes.new.items keys.now root.new place }
     ensures link { result ≡ 2 * place + 2 }
 {
-    let link = link_of(nodes, *root, owners[place], keys[place]);
-    put_link(nodes, root, owners[place], keys[place], 0);
-    link
+    let end = seek(nodes, *root, keys[place]);
+    put_link(nodes, root, end.owner, keys[place], 0);
+    end.link
 }
 
 // Moves the last key to a place whose link was replaced by 0.
-fn move_last(
-    nodes: &mut Vec<Node>,
-    keys: &mut Vec<usize>,
-    owners: &mut Vec<u32>,
-    root: &mut u32,
-    place: usize,
-    link: u32,
-)
-    requires partial { IsPartial nodes.old.items keys.old.items owners.old.items root.old place }
+fn move_last(nodes: &mut Vec<Node>, keys: &mut Vec<usize>, root: &mut u32, place: usize, link: u32)
+    requires partial { IsPartial nodes.old.items keys.old.items root.old place }
     requires within { place + 1 < length keys.old.items }
     requires link { link ≡ 2 * place + 2 }
-    ensures partial { IsPartial nodes.new.items keys.new.items owners.new.items root.new (length keys.old.items - 1) }
+    ensures partial { IsPartial nodes.new.items keys.new.items root.new (length keys.old.items - 1) }
     ensures keys { keys.new.items ≡ slice_set keys.old.items place (slice_index keys.old.items (length keys.old.items - 1)) }
 {
     let last = keys.len() - 1;
-    let owner = owners[last];
     let key = keys[last];
-    put_link(nodes, root, owner, key, link);
+    let end = seek(nodes, *root, key);
+    put_link(nodes, root, end.owner, key, link);
     keys[place] = key;
-    owners[place] = owner;
 }
 
-// Drops the last key and its owner.
-fn drop_last(keys: &mut Vec<usize>, owners: &mut Vec<u32>)
-    ensures keys { keys.new.items ≡ take (length keys.old.items - 1) keys.old.items }
-    ensures owners { owners.new.items ≡ take (length owners.old.items - 1) owners.old.items }
+// Drops the last key.
+fn drop_last(keys: &mut Vec<usize>)
+    ensures { keys.new.items ≡ take (length keys.old.items - 1) keys.old.items }
 {
     let _ = keys.pop();
-    let _ = owners.pop();
 }
 
 // Removes the key at a place. The last key takes its place. Does not allocate.
-pub(crate) fn remove(
-    nodes: &mut Vec<Node>,
-    keys: &mut Vec<usize>,
-    owners: &mut Vec<u32>,
-    root: &mut u32,
-    place: usize,
-)
-    requires trie { IsTrie nodes.old.items keys.old.items owners.old.items root.old }
+pub(crate) fn remove(nodes: &mut Vec<Node>, keys: &mut Vec<usize>, root: &mut u32, place: usize)
+    requires trie { IsTrie nodes.old.items keys.old.items root.old }
     requires within { place < length keys.old.items }
-    ensures trie { IsTrie nodes.new.items keys.new.items owners.new.items root.new }
+    ensures trie { IsTrie nodes.new.items keys.new.items root.new }
     ensures keys { keys.new.items ≡ without_place keys.old.items place 0 }
 {
-    let link = take_link(nodes, keys, owners, root, place);
+    let link = take_link(nodes, keys, root, place);
     if place == keys.len() - 1 {
-        drop_last(keys, owners);
+        drop_last(keys);
         return;
     }
-    move_last(nodes, keys, owners, root, place, link);
-    drop_last(keys, owners);
+    move_last(nodes, keys, root, place, link);
+    drop_last(keys);
 }

@@ -5,7 +5,7 @@ use Rattle.chunk_map.proofs.next.walk.Goals.{else-link-gt0-via-then-link-gt0+els
 
 pub loop-link-preserved : goal.loop-link-preserved
 loop-link-preserved c =
-    walk_next _ _ _ _ _ _ _ _ _ c.requires.trie.1 c.loop-link.invariant c.loop-link-test.true c.in-Some.ensures
+    walk_next _ _ _ _ _ _ _ _ c.requires.trie.1 c.loop-link.invariant c.loop-link-test.true c.in-Some.ensures
 
 pub returns-in-None : goal.returns-in-None
 returns-in-None c =

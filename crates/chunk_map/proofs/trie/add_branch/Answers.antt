@@ -4,5 +4,5 @@ use Rattle.chunk_map.proofs.trie.add_branch.Goals as goal
 
 pub returns-clause-trie : goal.returns-clause-trie
 returns-clause-trie c =
-    rw (c.put_link.ensures.nodes, c.put_link.ensures.root, c.push_key.ensures.keys, c.push_key.ensures.owners, c.move_place.ensures.items, c.in_ok-reserve_key.ensures.keys, c.in_ok-reserve_key.ensures.owners)
-    (branch_trie _ _ _ _ _ _ _ _ c.len.result _ (omega arith) c.in_ok-new.ensures.link c.requires.trie c.requires.end.way c.requires.end.within c.requires.some (rw (c.deref.ensures.value, c.in_ok-reserve_key.ensures.keys) at c.in_ok-new.ensures.branches))
+    rw (c.put_link.ensures.nodes, c.put_link.ensures.root, c.push_key.ensures, c.in_ok-reserve.ensures.items)
+    (branch_trie _ _ _ _ _ _ _ c.len.result _ (omega arith) c.in_ok-new.ensures.link c.requires.trie c.requires.end.way c.requires.end.within c.requires.some (rw (c.deref.ensures.value, c.in_ok-reserve.ensures.items) at c.in_ok-new.ensures.branches))

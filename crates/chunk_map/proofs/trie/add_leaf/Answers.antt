@@ -4,4 +4,4 @@ use Rattle.chunk_map.proofs.trie.add_leaf.Goals as goal
 
 pub returns-clause-trie : goal.returns-clause-trie
 returns-clause-trie c =
-    rw (c.put_link.ensures.nodes, c.put_link.ensures.root, c.push_key.ensures.keys, c.push_key.ensures.owners, c.in_ok-reserve_key.ensures.keys, c.in_ok-reserve_key.ensures.owners) (leaf_trie _ _ _ _ _ _ c.len.result (omega arith) c.requires.trie c.requires.end.way)
+    rw (c.put_link.ensures.nodes, c.put_link.ensures.root, c.in_ok-push.ensures.items) (leaf_trie _ _ _ _ _ c.len.result (omega arith) c.requires.trie c.requires.end.way)
