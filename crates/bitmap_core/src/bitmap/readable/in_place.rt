@@ -14,7 +14,9 @@ use crate::chunk::load::wanted_below;
 // The number of the first chunks, of `count` chunks, that are whole words together: all, or at most seven fewer.
 fn whole_count<const N: usize>(count: usize) -> usize
     ensures within { result ≤ count }
+    ensures most { count ≤ result + 7 }
     ensures whole { (N % 8 ≡ 0) ⊎ (result % 8 ≡ 0) }
+    ensures all { N % 8 ≡ 0 → result ≡ count }
 {
     if N % 8 == 0 { count } else { count - count % 8 }
 }
