@@ -1,3 +1,4 @@
+pub mod Examples
 pub mod Added
 pub mod Branching
 pub mod Digits

@@ -61,7 +61,7 @@ abbrev pub IsWay : List Node → ℕ → ℕ → ℕ → ℕ → Type 0
 IsWay nodes root key zero link = link ≡ root
 IsWay nodes root key (suc owner) link = IsNode nodes (suc owner) × Holds (node_at nodes (suc owner / 2)) key × (link ≡ link_for (node_at nodes (suc owner / 2)) key) × Meets nodes key (suc owner) root
 
--- the walk for a key from the root ends at a link, which no node that holds the key has
+-- the walk for a key from the root ends at a link, which is not that of a node that holds the key
 pub record IsEnd (nodes : List Node) (root key owner link : ℕ) : Type 0 where
   pub within : link % 2 ≡ 1 → link / 2 < length nodes
   pub stops : link % 2 ≡ 1 → Holds (node_at nodes (link / 2)) key → ⊥
