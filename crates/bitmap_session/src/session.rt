@@ -172,7 +172,7 @@ impl<const N: usize> Session<N> {
     ///
     /// # Complexity
     ///
-    /// As the call that the command makes, and constant time besides.
+    /// As the call that the command makes, and constant time besides. `Start` also frees the bitmap and the commits that it replaces.
     pub fn serve(&mut self, command: &Command<N>) -> Reply<N>
         ensures { StepTo N Agrees self.old command.now (value_of result) self.new }
     {

@@ -6,6 +6,7 @@
 //! # Complexity
 //!
 //! A search visits at most 16 nodes, one per digit in base 16 by which the index differs from another. An insertion adds at most one node.
+//! A removal keeps the nodes.
 
 ghost use Rattle.std.specs.Prelude.{◌≡◌, ℕ, ◌+◌, ◌*◌, ◌^◌, ◌<◌, ◌++◌, ◌↔◌, [], ◌∷◌, List, length, MatchOption, Option, Some, None, IsTrue, slice_index, IfOk, IfNone, IsOk, IsSome, OnOk, OnErr, nat_eq, is_some, vec_len};
 ghost use Rattle.std.specs.Vec.{vec_capacity};
@@ -202,11 +203,11 @@ impl<const N: usize> ChunkMap<N> {
     ///
     /// # Memory
     ///
-    /// Allocates space for one chunk, and at most one node, if there is no chunk at `index`. Otherwise does not allocate.
+    /// Allocates space for one chunk with its index, and at most one node, if there is no chunk at `index`. Otherwise does not allocate.
     ///
     /// # Complexity
     ///
-    /// Visits at most 16 nodes. Amortized, if it allocates.
+    /// Visits at most 16 nodes, and as many again if there is no chunk at `index`. Amortized, if it allocates.
     pub fn insert(&mut self, index: usize, chunk: [u8; N]) -> Result<(), AllocError>
         ensures ok { OnOk result (Puts self.old.entries self.new.entries index (Some chunk.entry)) }
         ensures err { OnErr result (self.new ≡ self.old) }
@@ -231,7 +232,7 @@ impl<const N: usize> ChunkMap<N> {
     ///
     /// # Memory
     ///
-    /// Allocates space for one chunk, and at most one node.
+    /// Allocates space for one chunk with its index, and at most one node.
     ///
     /// # Complexity
     ///
@@ -254,7 +255,7 @@ impl<const N: usize> ChunkMap<N> {
     ///
     /// # Memory
     ///
-    /// Does not allocate. Frees nothing: space and nodes are kept for later insertions.
+    /// Does not allocate, and frees nothing. Later insertions use the space again, but a node only for indices that share its digits.
     ///
     /// # Complexity
     ///
@@ -316,7 +317,7 @@ impl<const N: usize> ChunkMap<N> {
     ///
     /// # Memory
     ///
-    /// Allocates space for the chunks and nodes.
+    /// Allocates space for the chunks, indices and nodes.
     ///
     /// # Complexity
     ///

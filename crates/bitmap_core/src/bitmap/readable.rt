@@ -43,7 +43,8 @@ use std::ops::Range;
 /// The contracts require that `N` is at least 1, and that `8N` and the length fit `u64`. At most the length is pruned.
 /// While the value is borrowed, the functions describe one and the same bitmap.
 /// The bits of a chunk at or past the length may have any value: no other function reads them.
-/// The final functions do not allocate themselves. For `BitMap` and `Prunable`, no function of the trait allocates.
+/// The final functions do not allocate themselves. For `BitMap` and `Prunable`, no function of the trait allocates,
+/// and the functions that an implementor writes take constant time.
 ///
 /// Complexities count words: 64 bits of one chunk each, or fewer at the end of a chunk.
 ///

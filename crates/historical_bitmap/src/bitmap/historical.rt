@@ -104,9 +104,14 @@ pub type CleanBitMap<const N: usize> = BitMap<N, Clean>;
 ///
 /// # Memory
 /// The functions of the trait do not allocate.
+/// An edited chunk is kept with its index and at most one node of a trie, by which it is found. Appended chunks need neither.
 /// A batch can edit at most 2^31 - 1 chunks besides those that it appends. An edit of one more returns `AllocError`.
 ///
 /// # Complexity
+/// The appended run has the chunks that the batch appended. The write cache has the chunk that was most recently pushed to, popped from, or
+/// set twice in a row. Both are found in constant time. A search among the other edited chunks visits at most 16 nodes of the trie,
+/// whatever their indices.
+///
 /// `len`, `pruned_chunks` and `complete_chunks` take constant time. A chunk takes a copy of its bytes, and at most one search among the edited chunks.
 ///
 /// # Examples

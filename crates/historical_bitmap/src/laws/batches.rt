@@ -29,7 +29,7 @@ pub fn edited_is_a_batch()
 /// Does not allocate.
 ///
 /// # Complexity
-/// Linear in the edited and captured chunks, which are freed.
+/// That of `abort`.
 pub fn aborted_is_the_bitmap<const N: usize>(batch: DirtyBitMap<N>) -> CleanBitMap<N>
     ensures { (begun : View ⊤) → IsBatchOn begun batch.entry → result ≡ begun }
 {

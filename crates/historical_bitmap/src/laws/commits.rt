@@ -32,7 +32,7 @@ pub fn numbers_collected<const N: usize>(
 
 /// Calls `next` twice. If the first call returns `None`, no number was left, and the second call returns `None` too.
 ///
-/// Does not allocate; at most logarithmic in the kept commits.
+/// Does not allocate; constant time.
 pub fn numbers_stay_ended<const N: usize>(
     numbers: &mut Commits<'_, N>,
 ) -> (Option<u64>, Option<u64>)
@@ -50,7 +50,7 @@ pub fn numbers_stay_ended<const N: usize>(
 /// Does not allocate.
 ///
 /// # Complexity
-/// Visits every kept commit, and frees the records of the dropped ones.
+/// That of `prune_commits_before`.
 pub fn drop_leaves_the_later<const N: usize>(bitmap: &mut CleanBitMap<N>, number: u64) -> usize
     ensures states { (k : ℕ) → kept_under (history_of N bitmap.new) k ≡ (if nat_le number k then kept_under (history_of N bitmap.old) k else None) }
     ensures current { bitmap.new.current ≡ bitmap.old.current }

@@ -61,7 +61,7 @@ pub fn rewinding_leaves_the_earlier<const N: usize>(
 /// Allocates what `rewind_to` allocates, and what `commit` allocates for a batch with no edits.
 ///
 /// # Complexity
-/// That of `rewind_to`, plus that of a `commit` with no edits: logarithmic in the kept commits.
+/// That of `rewind_to`, plus that of a `commit` with no edits: amortized constant.
 pub fn next_number_is_above<const N: usize>(
     bitmap: CleanBitMap<N>,
     number: u64,

@@ -213,7 +213,7 @@ impl<const N: usize> BitMap<N, Clean> {
     /// The current bitmap, the other commits and the last number are unchanged. Does not allocate.
     ///
     /// # Complexity
-    /// Per dropped commit, constant, and linear in the entries of its reverse record, which is freed.
+    /// At most linear in the dropped commits and the entries of their reverse records, which are freed. The other commits are not visited.
     pub fn prune_commits_before(&mut self, number: u64) -> usize
         ensures value { self.new ≡ record self.old { commits = from_number number self.old.commits } }
         ensures history { history_of N self.new ≡ from_number number (history_of N self.old) }
@@ -295,7 +295,7 @@ impl<const N: usize> BitMap<N, Clean> {
     /// The current bitmap and the last number are unchanged. Does not allocate.
     ///
     /// # Complexity
-    /// Linear in the kept commits, whose reverse records are freed.
+    /// At most linear in the kept commits and the entries of their reverse records, which are freed.
     pub fn clear_history(&mut self)
         ensures value { self.new ≡ record self.old { commits = [] } }
         ensures history { history_of N self.new ≡ [] }

@@ -288,7 +288,7 @@ impl<const N: usize> BitMap<N, Dirty<N>> {
     ///
     /// # Complexity
     ///
-    /// Constant in the appended run, and in the write cache unless its chunk becomes empty; else a search among the edited chunks.
+    /// Constant in the appended run, and in the write cache unless its chunk becomes empty; else a few searches among the edited chunks.
     #[inline]
     pub fn pop(&mut self) -> bool
         requires { 0 < length (pending_of N self.old).bits }
@@ -311,7 +311,7 @@ impl<const N: usize> BitMap<N, Dirty<N>> {
     ///
     /// # Complexity
     ///
-    /// Per edited chunk, which is dropped.
+    /// At most linear in the edited and captured chunks, which are freed. Captured chunks are the copies that pruning makes.
     pub fn abort(self) -> CleanBitMap<N>
         ensures { result ≡ record { current = self.entry.current; commits = self.entry.commits; last = self.entry.last; state = tt } }
     {
@@ -343,6 +343,7 @@ impl<const N: usize> BitMap<N, Dirty<N>> {
     /// # Complexity
     ///
     /// Per entry of the record, and per edited chunk. Amortized, since the current bitmap and the list of commits may have to reallocate to grow.
+    /// A `set_range` that ran out of memory leaves the nodes of the chunks that it had inserted, which are visited too.
     /// Else independent of the bitmap's length and of the number of kept commits.
     #[inline(always)]
     pub fn commit(mut self, number: u64) -> Result<CleanBitMap<N>, (DirtyBitMap<N>, Error)>
@@ -425,7 +426,8 @@ impl<const N: usize> BitMap<N, Dirty<N>> {
     ///
     /// # Complexity
     ///
-    /// Constant in the appended run and in the write cache; else a search among the edited chunks.
+    /// Constant in the appended run and in the write cache; else a few searches among the edited chunks, and a copy of the chunk.
+    /// Amortized, if it allocates.
     pub fn set_bit(&mut self, bit: u64, value: bool) -> Result<Edit<'_, N>, AllocError>
         requires { IsRetained N (pending_of N self.old) bit }
         ensures* refused { sem 𝓛 (rests_if_refused N.row self.entry result) }
@@ -453,8 +455,8 @@ impl<const N: usize> BitMap<N, Dirty<N>> {
     ///
     /// # Complexity
     ///
-    /// Linear in the bytes of the range. Per chunk of it outside the appended run, at most three searches among the edited chunks;
-    /// per chunk that is not yet edited, a copy of it.
+    /// Linear in the bytes of the range. Per chunk of it outside the appended run, a few searches among the edited chunks;
+    /// per chunk that is not yet edited, a copy of it. Amortized, if it allocates.
     pub fn set_range(&mut self, range: Range<u64>, value: bool) -> Result<Edit<'_, N>, AllocError>
         requires from { pruned_bits N (pending_of N self.old) ≤ range.start }
         requires to { range.end ≤ bit_len N (pending_of N self.old) }
@@ -481,7 +483,7 @@ impl<const N: usize> BitMap<N, Dirty<N>> {
     /// # Complexity
     ///
     /// Amortized constant in the appended run.
-    /// Else a copy of the chunk, with a search among the edited chunks unless the chunk is in the write cache.
+    /// Else a copy of the chunk, with a few searches among the edited chunks unless the chunk is in the write cache.
     #[inline]
     pub fn push(&mut self, value: bool) -> Result<Edit<'_, N>, AllocError>
         requires { bit_len N (pending_of N self.old) + 1 < 2 ^ 64 }
@@ -508,7 +510,7 @@ impl<const N: usize> BitMap<N, Dirty<N>> {
     /// # Complexity
     ///
     /// Amortized constant within one chunk of the appended run or the write cache.
-    /// Else at most two chunks are copied, with a search among the edited chunks for each.
+    /// Else at most two chunks are copied, with a few searches among the edited chunks for each.
     pub fn push_byte(&mut self, byte: u8) -> Result<Edit<'_, N>, AllocError>
         requires { bit_len N (pending_of N self.old) + 8 < 2 ^ 64 }
         ensures* refused { sem 𝓛 (rests_if_refused N.row self.entry result) }
@@ -533,7 +535,7 @@ impl<const N: usize> BitMap<N, Dirty<N>> {
     ///
     /// # Complexity
     ///
-    /// At most two chunks are written: amortized constant per byte in the appended run, else with a search among the edited chunks for each.
+    /// At most two chunks are written: amortized constant per byte in the appended run, else with a few searches among the edited chunks for each.
     pub fn push_chunk(&mut self, chunk: &[u8; N]) -> Result<Edit<'_, N>, AllocError>
         requires { bit_len N (pending_of N self.old) + 8 * N < 2 ^ 64 }
         ensures* refused { sem 𝓛 (rests_if_refused N.row self.entry result) }
@@ -559,7 +561,7 @@ impl<const N: usize> BitMap<N, Dirty<N>> {
     ///
     /// # Complexity
     ///
-    /// Per pruned chunk: a copy of its bytes, with a search among the edited chunks if the batch appended it.
+    /// Amortized, per pruned chunk: a copy of its bytes, with at most one search among the edited chunks if the batch appended it.
     pub fn prune_to_bit(&mut self, bit: u64) -> Result<Edit<'_, N>, AllocError>
         requires { bit ≤ bit_len N (pending_of N self.old) }
         ensures* refused { sem 𝓛 (rests_if_refused N.row self.entry result) }

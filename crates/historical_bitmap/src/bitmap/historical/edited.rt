@@ -23,7 +23,7 @@ use std::marker::Model;
 
 // Chunks by index. The write cache keeps one of them outside the map: the last one that was pushed to, popped from, or set twice in a row.
 // The map may have outdated bytes under the cached index. A write to the cached chunk does not search the map.
-// A write to another chunk searches it once, and twice more if that chunk replaces the cached one.
+// A write to another chunk searches it once, once more to insert a chunk, and twice more if that chunk replaces the cached one.
 #[derive(Debug, Drop)]
 pub(crate) struct EditedChunks<const N: usize> {
     chunks: ChunkMap<N>,
@@ -115,7 +115,7 @@ pub(crate) fn is_cached(cached: Option<usize>, index: usize) -> bool
 }
 
 // Writes a bit of the chunk at an index. Starts from the current bitmap's chunk if none is edited there.
-// Searches once. Does not allocate, and succeeds, if the map has that chunk.
+// Searches once, and once more to insert a chunk. Does not allocate, and succeeds, if the map has that chunk.
 #[inline(never)]
 fn write_in<const N: usize>(
     chunks: &mut ChunkMap<N>,

@@ -249,7 +249,7 @@ impl<const N: usize> CommitIndex<N> {
     ///
     /// # Complexity
     ///
-    /// Per entry of the reverse records past `number`, logarithmic in the entries of the index.
+    /// A search among the kept commits; per commit past `number`, constant; per entry of their reverse records, logarithmic in the entries of the index.
     pub fn remove_after(&mut self, bitmap: &CleanBitMap<N>, number: u64)
         requires { IsIndexOf self.old bitmap.now.commits }
         ensures { IsIndexOf self.new (up_to_number number bitmap.now.commits) }
@@ -264,7 +264,7 @@ impl<const N: usize> CommitIndex<N> {
     ///
     /// # Complexity
     ///
-    /// Per entry of the reverse records below `number`, logarithmic in the entries of the index.
+    /// A search among the kept commits; per commit below `number`, constant; per entry of their reverse records, logarithmic in the entries of the index.
     pub fn remove_before(&mut self, bitmap: &CleanBitMap<N>, number: u64)
         requires { IsIndexOf self.old bitmap.now.commits }
         ensures { IsIndexOf self.new (from_number number bitmap.now.commits) }
