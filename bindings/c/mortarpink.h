@@ -120,11 +120,12 @@ mortarpink_status mortarpink_push(mortarpink_bitmap *bitmap, uint8_t bit);
 mortarpink_status mortarpink_push_byte(mortarpink_bitmap *bitmap, uint8_t byte);
 
 /* Appends the bits of the bytes in order, up to the first byte that is refused. *count becomes the number of bytes
- * appended, with every status but MORTARPINK_EMPTY_HANDLE. If `len` is 0, the status is MORTARPINK_DONE, also outside a
- * batch. Linear; may allocate. */
+ * appended, with every status but MORTARPINK_EMPTY_HANDLE. These stay in the batch, so go on with the rest. If `len` is
+ * 0, the status is MORTARPINK_DONE, also outside a batch. Linear in the bytes; may allocate. */
 mortarpink_status mortarpink_push_bytes(mortarpink_bitmap *bitmap, const uint8_t *bytes, size_t len, size_t *count);
 
-/* Appends the bits of one chunk: `len` is the width, else MORTARPINK_WRONG_SIZE. May allocate. */
+/* Appends the bits of one chunk: `len` is the width, else MORTARPINK_WRONG_SIZE. Amortized linear in the width; may
+ * allocate. */
 mortarpink_status mortarpink_push_chunk(mortarpink_bitmap *bitmap, const uint8_t *bytes, size_t len);
 
 /* Removes the last bit; *bit becomes it. Constant time. */
@@ -133,16 +134,16 @@ mortarpink_status mortarpink_pop(mortarpink_bitmap *bitmap, uint8_t *bit);
 /* Replaces the bit at a position. Amortized constant time; may allocate. */
 mortarpink_status mortarpink_set(mortarpink_bitmap *bitmap, uint64_t position, uint8_t bit);
 
-/* Prunes the chunks before the chunk of the position. Linear in the chunks pruned; may allocate. */
+/* Prunes the chunks before the chunk of the position. Amortized linear in the chunks pruned; may allocate. */
 mortarpink_status mortarpink_prune(mortarpink_bitmap *bitmap, uint64_t position);
 
 /* Ends the batch: the pending bitmap becomes the current one, and is kept under the number. The number is above the
  * last one that was committed or rewound to, even if that commit was dropped since. With
  * MORTARPINK_NON_MONOTONIC_COMMIT, *previous becomes that last number. After any status but MORTARPINK_DONE the batch
- * goes on. Linear in the chunks edited in the batch; allocates. */
+ * goes on. Amortized linear in the chunks that the batch edited, pruned or removed; allocates. */
 mortarpink_status mortarpink_commit(mortarpink_bitmap *bitmap, uint64_t number, uint64_t *previous);
 
-/* Ends the batch and drops its edits. Linear in the chunks edited in the batch. */
+/* Ends the batch and drops its edits. Linear in the chunks that the batch edited or pruned. */
 mortarpink_status mortarpink_abort(mortarpink_bitmap *bitmap);
 
 
@@ -183,7 +184,7 @@ mortarpink_status mortarpink_prev_zero(mortarpink_bitmap *bitmap, uint64_t end, 
 mortarpink_status mortarpink_count_ones(mortarpink_bitmap *bitmap, uint64_t from, uint64_t to, uint64_t *count);
 
 /* *position becomes the set retained position number `k`, counted from 0. Returns MORTARPINK_NONE if there is none.
- * Linear in the chunks. */
+ * Linear in the retained chunks up to that of the position. */
 mortarpink_status mortarpink_select_one(mortarpink_bitmap *bitmap, uint64_t k, uint64_t *position);
 
 /* Fills `out` with the encoding. *size becomes its size in bytes, also with MORTARPINK_WRONG_SIZE, which means that
@@ -194,8 +195,9 @@ mortarpink_status mortarpink_encode(mortarpink_bitmap *bitmap, uint8_t *out, siz
 /* ---- Reading a past bitmap in place; not in a batch ----
  *
  * As the calls without `_at`, on the bitmap committed under `number`. They return MORTARPINK_NO_SUCH_COMMIT if that
- * commit is not kept, and mortarpink_encode_at returns MORTARPINK_NONE. Only mortarpink_encode_at allocates. Each
- * chunk that is read costs a search of each commit after `number`. */
+ * commit is not kept, and mortarpink_encode_at returns MORTARPINK_NONE. Each call searches the commits for `number`.
+ * Then each chunk that is read costs a search of each commit after `number`. Only mortarpink_encode_at allocates. It is
+ * linear in the current bitmap, plus the commits after `number` and the chunks that they changed. */
 mortarpink_status mortarpink_len_at(mortarpink_bitmap *bitmap, uint64_t number, uint64_t *len);
 mortarpink_status mortarpink_pruned_chunks_at(mortarpink_bitmap *bitmap, uint64_t number, uint64_t *chunks);
 mortarpink_status mortarpink_get_at(mortarpink_bitmap *bitmap, uint64_t number, uint64_t position, uint8_t *bit);
@@ -217,8 +219,8 @@ mortarpink_status mortarpink_encode_at(mortarpink_bitmap *bitmap, uint64_t numbe
 
 /* ---- Commits; not in a batch ---- */
 
-/* Makes the bitmap committed under the number current again, and drops the commits after it. Linear in the chunks
- * that these changed; allocates. */
+/* Makes the bitmap committed under the number current again, and drops the commits after it. Per chunk that these
+ * changed, logarithmic in their number. If the bitmap grows, it may also move in memory. Allocates. */
 mortarpink_status mortarpink_rewind(mortarpink_bitmap *bitmap, uint64_t number);
 
 /* Writes the kept commit numbers from `from` on to `out`, ascending, up to `len` of them; *count becomes how many.
@@ -247,7 +249,7 @@ mortarpink_status mortarpink_drop_before(mortarpink_bitmap *bitmap, uint64_t num
 mortarpink_status mortarpink_clear(mortarpink_bitmap *bitmap);
 
 /* *entries becomes the number of chunks in the reverse records of all kept commits: the memory that the history
- * takes. If it passes 2^64 - 1, *entries becomes 2^64 - 1. */
+ * takes. If it passes 2^64 - 1, *entries becomes 2^64 - 1. Linear in the kept commits. */
 mortarpink_status mortarpink_entries(mortarpink_bitmap *bitmap, uint64_t *entries);
 
 #ifdef __cplusplus

@@ -359,7 +359,10 @@ class Bitmap(_Reads):
         return Version(self._session, number)
 
     def commits(self) -> Iterator[int]:
-        """Returns an iterator over the numbers of the kept commits, ascending. It reads in pages, as `ones`."""
+        """Returns an iterator over the numbers of the kept commits, ascending. It reads in pages, as `ones`.
+
+        A page takes time linear in the commits up to its last one.
+        """
         return ascending(lambda least: self._page("commits", least), 0)
 
     def commit_exists(self, number: int) -> bool:
@@ -384,8 +387,10 @@ class Bitmap(_Reads):
     def changed_chunks(self, older: int, newer: int) -> Iterator[int]:
         """Returns an iterator over the indices of the chunks that differ between two commits, ascending.
 
-        A chunk that only one of the versions retains differs. The iterator reads in pages, as `ones`. Raises
-        NoSuchCommitError unless both commits are kept and `older` is at most `newer`.
+        A chunk that only one of the versions retains differs. The iterator reads in pages, as `ones`. A page takes
+        time linear in the changed chunks up to its last one, with a search of each commit after `older` per chunk.
+
+        Raises NoSuchCommitError unless both commits are kept and `older` is at most `newer`.
         """
         commits = u64(older), u64(newer)
         return ascending(lambda least: self._page("changed_chunks", *commits, least), 0)

@@ -348,7 +348,7 @@ impl Bitmap {
     ///
     /// # Complexity
     ///
-    /// Linear in the chunks.
+    /// Linear in the retained chunks up to that of the position.
     pub fn select_one(&self, k: u64) -> Option<u64> {
         self.settled().select_one(None, k)
     }
@@ -475,7 +475,8 @@ impl Bitmap {
     ///
     /// # Complexity
     ///
-    /// Linear in the chunks that the dropped commits changed.
+    /// Per chunk that the dropped commits changed, logarithmic in their number. If the bitmap grows,
+    /// it may also move in memory.
     ///
     /// # Examples
     ///
@@ -499,6 +500,10 @@ impl Bitmap {
 
     /// Drops the commits below a number. Returns how many.
     ///
+    /// # Complexity
+    ///
+    /// Linear in what is dropped.
+    ///
     /// # Examples
     ///
     /// ```
@@ -517,6 +522,10 @@ impl Bitmap {
     }
 
     /// Drops all commits. The current bitmap stays.
+    ///
+    /// # Complexity
+    ///
+    /// Linear in what is dropped.
     pub fn clear(&mut self) {
         self.settled_mut().clear();
     }
@@ -524,6 +533,10 @@ impl Bitmap {
     /// Returns the number of chunks that the kept commits hold: the memory that they take.
     ///
     /// If it passes `u64::MAX`, returns `u64::MAX`.
+    ///
+    /// # Complexity
+    ///
+    /// Linear in the kept commits.
     pub fn entries(&self) -> u64 {
         self.settled().entries()
     }

@@ -43,10 +43,15 @@
 //! | [`Batch::push`], [`Batch::push_byte`], [`Batch::push_chunk`], [`Batch::set`] | amortized constant |
 //! | [`Batch::push_bytes`] | linear in the bytes |
 //! | [`Batch::pop`], [`Batch::get`], [`Batch::chunk`] | constant |
-//! | [`Batch::prune`] | linear in the chunks pruned |
-//! | [`Batch::commit`], [`Batch::try_commit`], [`Batch::abort`] | linear in the chunks edited in the batch |
+//! | [`Batch::prune`] | amortized linear in the chunks pruned |
+//! | [`Batch::commit`], [`Batch::try_commit`] | amortized linear in the chunks that the batch edited, pruned or removed |
+//! | [`Batch::abort`] | linear in the chunks that the batch edited or pruned |
 //! | [`Bitmap::get`], [`Bitmap::chunk`], [`Bitmap::len`], [`Bitmap::latest`], [`Bitmap::earliest`] | constant |
+//! | searches and counts of a [`Bitmap`] | linear in the chunks that are read |
 //! | [`Bitmap::commit_exists`], [`Bitmap::at`] | logarithmic in the commits |
+//! | [`Bitmap::rewind_to`] | per chunk that the dropped commits changed, logarithmic in their number |
+//! | [`Bitmap::drop_before`], [`Bitmap::clear`] | linear in what is dropped |
+//! | [`Bitmap::entries`] | linear in the commits |
 //! | a chunk read through a [`Version`] | a search of each later commit |
 //!
 //! # Finding the library

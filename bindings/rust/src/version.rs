@@ -134,6 +134,10 @@ impl<'a> Version<'a> {
     /// # Errors
     ///
     /// [`Error::NoMemory`] if an allocation fails.
+    ///
+    /// # Complexity
+    ///
+    /// Linear in the current bitmap, plus the later commits and the chunks that they changed.
     pub fn to_bytes(&self) -> Result<Vec<u8>, Error> {
         self.session.encode(self.at())
     }

@@ -237,11 +237,11 @@ fn commit(any: &mut AnySession, number: u64, previous: &mut u64) -> u32
 ///
 /// # Memory
 ///
-/// Allocates the reverse record of the commit.
+/// Allocates the reverse record of the commit, and space by which the bitmap and the list of commits grow.
 ///
 /// # Complexity
 ///
-/// Linear in the chunks edited in the batch.
+/// Amortized linear in the chunks that the batch edited, pruned or removed.
 #[unsafe(no_mangle)]
 pub extern "C" fn mortarpink_commit(
     alloc: Global,

@@ -26,11 +26,11 @@ fn rewind(any: &mut AnySession, number: u64) -> u32
 ///
 /// # Memory
 ///
-/// Allocates.
+/// Allocates the old bytes of the chunks that change, temporarily, and space by which the bitmap grows.
 ///
 /// # Complexity
 ///
-/// Linear in the chunks that the dropped commits changed.
+/// Per chunk that the dropped commits changed, logarithmic in their number. If the bitmap grows, it may also move in memory.
 #[unsafe(no_mangle)]
 pub extern "C" fn mortarpink_rewind(alloc: Global, bitmap: &mut Handle, number: u64) -> u32
     ensures step { Calls bitmap.old.value (λ N. Command.Rewind number) (Reports result)

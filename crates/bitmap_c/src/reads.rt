@@ -187,7 +187,7 @@ fn encode_at(any: &mut AnySession, number: u64, out: &mut [u8], size: &mut usize
 ///
 /// # Complexity
 ///
-/// Linear in the encoding, with a search of each commit after `number` per chunk.
+/// Linear in the current bitmap, plus the commits after `number` and the chunks that they changed.
 #[unsafe(no_mangle)]
 pub extern "C" fn mortarpink_encode_at(
     alloc: Global,
