@@ -435,7 +435,7 @@ impl<const N: usize> Session<N> {
         }
     }
 
-    /// Returns an iterator over the indices of the chunks that differ between the bitmaps at two commits, ascending, each once.
+    /// Returns an iterator over the absolute indices of the chunks that differ between the bitmaps at two commits, ascending, each once.
     ///
     /// Returns `None` unless both commits are kept and `from` is at most `to`, and in a batch.
     ///

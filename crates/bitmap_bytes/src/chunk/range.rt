@@ -1,4 +1,4 @@
-//! Counts and searches in a range of the bits of one chunk, by words of 64 bits.
+//! Counts and searches in a range of the bits of one chunk, by words of 64 bits, and writes to such a range.
 //!
 //! `N` is at least 1, and `8N` fits `u64`. Indices of bits count from the start of the chunk.
 //!

@@ -16,7 +16,7 @@ use bitmap_core::bitmap::Readable;
 use bitmap_core::chunk::{chunk_count, chunk_width};
 use std::marker::Model;
 
-/// An iterator over the indices of the chunks that differ between two kept states, ascending, each once.
+/// An iterator over the absolute indices of the chunks that differ between two kept states, ascending, each once.
 ///
 /// `CleanBitMap::changed_chunks` returns it. After the last index, `next` returns `None`, however often it is called.
 ///
@@ -131,7 +131,7 @@ fn next_changed<const N: usize>(
 }
 
 impl<const N: usize> BitMap<N, Clean> {
-    /// Returns an iterator over the indices of the chunks that differ between the states under two numbers, ascending, each once.
+    /// Returns an iterator over the absolute indices of the chunks that differ between the states under two numbers, ascending, each once.
     ///
     /// A chunk differs if it is retained in only one of the states, or if its bytes differ. Bits past the length count as zero.
     /// Returns `None` unless both numbers are kept and `from` is at most `to`. Does not allocate.

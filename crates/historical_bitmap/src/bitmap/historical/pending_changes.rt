@@ -13,7 +13,7 @@ use bitmap_core::bitmap::Prunable;
 use bitmap_core::chunk::{chunk_count, chunk_width};
 use std::marker::Model;
 
-/// An iterator over the indices of the chunks that differ between the current and the pending bitmap of a batch, ascending, each once.
+/// An iterator over the absolute indices of the chunks that differ between the current and the pending bitmap of a batch, ascending, each once.
 ///
 /// `DirtyBitMap::changed_chunks` returns it. After the last index, `next` returns `None`, however often it is called.
 ///
@@ -102,7 +102,7 @@ fn next_pending<const N: usize>(
 }
 
 impl<const N: usize> BitMap<N, Dirty<N>> {
-    /// Returns an iterator over the indices of the chunks that differ between the current and the pending bitmap, ascending, each once.
+    /// Returns an iterator over the absolute indices of the chunks that differ between the current and the pending bitmap, ascending, each once.
     ///
     /// A chunk differs if it is retained in only one of the bitmaps, or if its bytes differ. Bits past the length count as zero.
     ///
