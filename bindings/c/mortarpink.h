@@ -235,8 +235,8 @@ mortarpink_status mortarpink_exists(mortarpink_bitmap *bitmap, uint64_t number, 
 mortarpink_status mortarpink_latest(mortarpink_bitmap *bitmap, uint64_t *number);
 mortarpink_status mortarpink_earliest(mortarpink_bitmap *bitmap, uint64_t *number);
 
-/* Writes the indices of the chunks that differ between the bitmaps at two commits, from index `first` on, to `out`,
- * ascending, up to `len` of them; *count becomes how many. A chunk that only one of them retains differs. Pages as
+/* Writes the indices of the chunks that differ between the bitmaps at two commits to `out`, ascending: those from
+ * `first` on, up to `len` of them; *count becomes how many. A chunk that only one of them retains differs. Pages as
  * mortarpink_ones. Returns MORTARPINK_NO_SUCH_COMMIT unless both commits are kept and `from` is at most `to`. Per chunk
  * examined, it costs searches of the later commits. */
 mortarpink_status mortarpink_changed_chunks(mortarpink_bitmap *bitmap, uint64_t from, uint64_t to, uint64_t first,

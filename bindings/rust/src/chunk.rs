@@ -3,7 +3,7 @@ use std::ops::Deref;
 
 /// The number of bytes per chunk of a bitmap.
 ///
-/// An edit copies the chunk that it edits, and a commit keeps that copy.
+/// An edit copies the chunk that it edits, and a commit keeps the old bytes of the chunk.
 /// Narrow chunks suit edits that are far apart, and wide chunks suit long runs of edits.
 #[derive(Clone, Copy, Debug, PartialEq, Eq, Hash)]
 pub enum Width {

@@ -205,8 +205,11 @@ impl<const N: usize> Session<N> {
     ///
     /// # Errors
     ///
-    /// Replies `Refused` and leaves the session unchanged, with `WrongMode` outside a batch,
-    /// `TooLong` if the length would not fit `u64`, and `NoMemory` if an allocation fails.
+    /// Replies `Refused` with the first reason that applies, and leaves the session unchanged:
+    ///
+    /// - `WrongMode` outside a batch;
+    /// - `TooLong` if the length would not fit `u64`;
+    /// - `NoMemory` if an allocation fails.
     ///
     /// # Memory
     ///
@@ -228,8 +231,11 @@ impl<const N: usize> Session<N> {
     ///
     /// # Errors
     ///
-    /// Replies `Refused` and leaves the session unchanged, with `WrongMode` outside a batch,
-    /// `TooLong` if the length would not fit `u64`, and `NoMemory` if an allocation fails.
+    /// Replies `Refused` with the first reason that applies, and leaves the session unchanged:
+    ///
+    /// - `WrongMode` outside a batch;
+    /// - `TooLong` if the length would not fit `u64`;
+    /// - `NoMemory` if an allocation fails.
     ///
     /// # Memory
     ///
@@ -251,8 +257,11 @@ impl<const N: usize> Session<N> {
     ///
     /// # Errors
     ///
-    /// Replies `Refused` and leaves the session unchanged, with `WrongMode` outside a batch,
-    /// `TooLong` if the length would not fit `u64`, and `NoMemory` if an allocation fails.
+    /// Replies `Refused` with the first reason that applies, and leaves the session unchanged:
+    ///
+    /// - `WrongMode` outside a batch;
+    /// - `TooLong` if the length would not fit `u64`;
+    /// - `NoMemory` if an allocation fails.
     ///
     /// # Memory
     ///
@@ -297,8 +306,12 @@ impl<const N: usize> Session<N> {
     ///
     /// # Errors
     ///
-    /// Replies `Refused` and leaves the session unchanged, with `WrongMode` outside a batch,
-    /// `OutOfBounds` if the position is not below the length, `Pruned` if it is pruned, and `NoMemory` if an allocation fails.
+    /// Replies `Refused` with the first reason that applies, and leaves the session unchanged:
+    ///
+    /// - `WrongMode` outside a batch;
+    /// - `OutOfBounds` if the position is not below the length;
+    /// - `Pruned` if the position is pruned;
+    /// - `NoMemory` if an allocation fails.
     ///
     /// # Memory
     ///
@@ -320,8 +333,11 @@ impl<const N: usize> Session<N> {
     ///
     /// # Errors
     ///
-    /// Replies `Refused` and leaves the session unchanged, with `WrongMode` outside a batch,
-    /// `OutOfBounds` if the position is above the length, and `NoMemory` if an allocation fails.
+    /// Replies `Refused` with the first reason that applies, and leaves the session unchanged:
+    ///
+    /// - `WrongMode` outside a batch;
+    /// - `OutOfBounds` if the position is above the length;
+    /// - `NoMemory` if an allocation fails.
     ///
     /// # Memory
     ///

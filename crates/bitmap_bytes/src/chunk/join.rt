@@ -128,7 +128,7 @@ fn chunk_within<const N: usize>(bytes: &[u8], skip: u64) -> [u8; N]
 ///
 /// # Complexity
 ///
-/// Linear in `N`. Whole words of 64 bits are written at once if the `N + 1` bytes from that of bit `bit` on are all in `front` or all in `back`.
+/// Linear in `N`. Whole words of 64 bits are written at once if `front` or `back` alone has the `N + 1` bytes from bit `bit` on.
 pub fn chunk_from<const N: usize>(front: &[u8], back: &[u8], bit: u64) -> [u8; N]
     requires width { IsWidth N }
     ensures { (i : ℕ) → chunk_bit N result i ≡ bytes_bit (front.now ++ back.now) (bit + i % (8 * N)) }

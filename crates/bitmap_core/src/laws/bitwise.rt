@@ -93,7 +93,7 @@ pub fn bitxor_at_each_position<const N: usize>(
     a ^ b
 }
 
-/// `-` returns a bitmap of the same length whose bit is set if it is set in the left bitmap and not in the right one.
+/// `-` returns a bitmap of the same length whose bit is set if it is set in the left bitmap and not in the right.
 ///
 /// # Errors
 ///

@@ -62,8 +62,8 @@ pub fn equal_where_encoded_alike<const N: usize>(a: &BitMap<N>, b: &BitMap<N>) -
 
 /// If an input begins with the encoding of a bitmap, a successful read returns that bitmap.
 ///
-/// It leaves the bytes after the encoding. By the definitions that the contract of `read_cfg` names, such an input encodes that bitmap,
-/// and has no decode error if the range admits the length.
+/// It leaves the bytes after the encoding. By the definitions that the contract of `read_cfg` names, such an input encodes that bitmap.
+/// It has no decode error if the range admits the length.
 ///
 /// # Errors
 ///
@@ -86,8 +86,8 @@ pub fn bits_are_read_again<const N: usize>(
 
 /// If an input begins with the encoding of a bitmap with a pruned prefix, a successful read returns that bitmap.
 ///
-/// It leaves the bytes after the encoding. By the definitions that the contract of `read_cfg` names, such an input encodes that bitmap,
-/// and has no decode error if the range admits the number of retained bits.
+/// It leaves the bytes after the encoding. By the definitions that the contract of `read_cfg` names, such an input encodes that bitmap.
+/// It has no decode error if the range admits the number of retained bits.
 ///
 /// # Errors
 ///

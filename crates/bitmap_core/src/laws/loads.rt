@@ -5,7 +5,7 @@ ghost use Rattle.std.specs.Iterator.{YieldsFirst};
 
 use crate::bitmap::readable::{OnesIter, Readable};
 
-/// A call of `next` never decreases the number of words loaded, does not change the number of words of the range, and leaves at most that many loaded.
+/// A call of `next` never decreases the number of words loaded, which is at most the number of words of the range. That number does not change.
 pub fn step_counted<B: Readable<N>, const N: usize>(
     positions: &mut OnesIter<'_, B, N>,
 ) -> Option<u64>

@@ -92,7 +92,7 @@ fn chunk_seen_as<B: Readable<N>, const N: usize>(
     chunk
 }
 
-// The first retained position at or above `from` that is set or, if `wanted` is false, that is not set, of a bitmap of length `len`.
+// The first retained position at or above `from` that is set or, if `wanted` is false, that is not set. `len` is the length.
 //
 // Gets a chunk at most once, up to that of the position.
 pub(crate) fn first_from<B: Readable<N>, const N: usize>(

@@ -336,7 +336,7 @@ impl<const N: usize> BitMap<N, Dirty<N>> {
     ///
     /// # Memory
     ///
-    /// Allocates the reverse record, and if there is no capacity for them, the chunks by which the current bitmap grows and a place in the list of commits.
+    /// Allocates the reverse record. If there is no capacity for them, also the chunks by which the current bitmap grows, and a place in the list of commits.
     /// The record has at most one entry per marked chunk, and at most one more if the batch popped down to whole chunks.
     /// It is allocated once, with capacity for at most one more entry per edited chunk that is also pruned or cut off.
     ///

@@ -504,8 +504,8 @@ impl<const N: usize> Dirty<N> {
         self.edited.parts_between(from, to)
     }
 
-    // Returns the number of marked chunks from `first` up to `cut`, or more: edited chunks of the map that are pruned, and the one at `cut`,
-    // may count twice, but no more chunks count as edited than are between the pruned ones and `cut`.
+    // Returns the number of marked chunks from `first` up to `cut`, or more. Edited chunks of the map that are pruned, and the one at `cut`,
+    // may count twice. But no more chunks count as edited than are between the pruned ones and `cut`.
     fn most_marked(&self, first: usize, cut: usize) -> usize
         requires order { self.now.pruned ≤ cut }
     {

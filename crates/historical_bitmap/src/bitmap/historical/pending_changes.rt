@@ -21,8 +21,8 @@ use std::marker::Model;
 ///
 /// # Complexity
 /// For each chunk that `next` examines: a few searches among the edited chunks. It examines only marked chunks: those that the pending edits
-/// have edited, cut off or pruned. A whole pass takes at most one search more per chunk that the batch edited and then popped, or that a
-/// `set_range` had inserted when it ran out of memory.
+/// have edited, cut off or pruned. A whole pass takes at most one search more per chunk that the batch edited and then popped.
+/// The same holds of a chunk that a `set_range` had inserted when it ran out of memory.
 #[derive(Drop)]
 pub struct PendingChanges<'a, const N: usize> {
     current: &'a Prunable<N>,

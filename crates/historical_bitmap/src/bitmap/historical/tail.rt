@@ -101,7 +101,7 @@ fn settle<const N: usize>(chunks: &mut GrownChunks<N>, tail: &mut Tail)
     }
 }
 
-// Returns the word of a position of the chunk at an index, or none if chunks are too wide to be copied when the word is written back.
+// Returns the word of a position of the chunk at an index. There is none if chunks are too wide to be copied when the word is written back.
 fn load<const N: usize>(chunks: &GrownChunks<N>, index: usize, bit: u64) -> Tail
     requires width { IsWidth N }
     requires index { index ≡ bit / (8 * N) }
