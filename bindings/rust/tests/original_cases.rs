@@ -31,7 +31,7 @@
 //! | `chunk_calculations`, `get_bit_from_chunk` | there are no functions of positions alone |
 //! | `encode_size`, `max_encode_size` | sizes are not computed apart from the encoding |
 //! | the bytes that a failed read consumes | a failed read takes none |
-//! | conformance of the encoding, behind a feature | its values come from a generator of the original |
+//! | conformance of the encoding, with a feature | its values come from a generator of the original |
 
 mod common;
 
