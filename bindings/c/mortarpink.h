@@ -103,8 +103,8 @@ mortarpink_status mortarpink_free(mortarpink_bitmap *bitmap);
 /* Copies the bitmap, its commits and its batch into the empty handle `copy`. Linear in what is copied; allocates. */
 mortarpink_status mortarpink_clone(mortarpink_bitmap *bitmap, mortarpink_bitmap *copy);
 
-/* Replaces the bitmap by one with so many pruned chunks, no bits and no commits. Not in a batch. Linear in what is
- * freed. */
+/* Replaces the bitmap by one with so many pruned chunks, no bits, no commits and no last commit number. Not in a batch.
+ * Linear in what is freed. */
 mortarpink_status mortarpink_start(mortarpink_bitmap *bitmap, size_t pruned_chunks);
 
 

@@ -294,7 +294,7 @@ fn start(any: &mut AnySession, pruned_chunks: usize) -> u32
     at_width!(any, session => run(session, Command::Start(pruned_chunks)))
 }
 
-/// Replaces the bitmap by one with `pruned_chunks` pruned chunks, no bits and no commits.
+/// Replaces the bitmap by one with `pruned_chunks` pruned chunks, no bits, no commits and no last number.
 ///
 /// # Errors
 ///

@@ -18,7 +18,7 @@ use bitmap_core::bitmap::codec::RangeCfg;
 /// "The visible bitmap" below is the pending bitmap in a batch, and the current bitmap outside.
 #[derive(Drop, Debug)]
 pub enum Command<const N: usize> {
-    /// Replaces everything by a bitmap with this many pruned chunks, no retained bits and no commits; replies `Done`.
+    /// Replaces everything by a bitmap with this many pruned chunks, no retained bits, no commits and no last number; replies `Done`.
     Start(usize),
     /// Begins a batch of edits on the current bitmap; replies `Done`.
     Begin,
