@@ -47,5 +47,8 @@ cleared = refl
 shift_of_a_digit : IsShift 60
 shift_of_a_digit = record { most = omega arith; digit = refl }
 
-not_within_a_digit : IsShift 62 → ⊥
-not_within_a_digit s = omega (arith, s.most)
+past_the_highest_digit : IsShift 64 → ⊥
+past_the_highest_digit s = omega (arith, s.most)
+
+within_a_digit : IsShift 58 → ⊥
+within_a_digit s = omega (arith, s.digit)
