@@ -1,3 +1,4 @@
+pub mod Examples
 pub mod Handles
 pub mod Kept
 pub mod Lists

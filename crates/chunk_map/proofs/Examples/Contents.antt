@@ -1,7 +1,7 @@
 -- What a map of chunks contains, and the next index. Each chunk has one byte.
 use Rattle.std.specs.Prelude.{◌≡◌, ℕ, ◌<◌, ◌≤◌, List, [], ◌∷◌, Some, None, nat_eq, false, is_some}
 use Rattle.std.specs.Set.{is_member}
-use Rattle.std.proofs.Common.{zero, suc, refl, arith, ap, sym}
+use Rattle.std.proofs.Common.{zero, suc, refl, arith, ap}
 use mathlib.Core.Logic.{inl, inr}
 use Rattle.std.proofs.lemmas.Bool.{cases_eq, false≢true, ne_eqb}
 use Rattle.chunk_map.specs.Entries.{entries_of, IsNextMember, IsPaired, Puts}

@@ -1,0 +1,3 @@
+-- Definitions computed on small values whose results were worked out by hand.
+pub mod ListPages
+pub mod Outputs
