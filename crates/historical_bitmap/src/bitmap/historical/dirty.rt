@@ -137,6 +137,7 @@ impl<const N: usize> BitMap<N, Dirty<N>> {
     /// # Complexity
     ///
     /// As `set_bit`.
+    #[inline]
     pub fn try_set_bit(&mut self, bit: u64, value: bool) -> Result<(), AllocError>
         requires { IsRetained N (pending_of N self.old) bit }
         ensures ok { OnOk result (IsEditOf N self.old (Set bit value) self.new) }
@@ -428,6 +429,7 @@ impl<const N: usize> BitMap<N, Dirty<N>> {
     ///
     /// Constant in the appended run and in the write cache; else a few searches among the edited chunks, and a copy of the chunk.
     /// Amortized, if it allocates.
+    #[inline]
     pub fn set_bit(&mut self, bit: u64, value: bool) -> Result<Edit<'_, N>, AllocError>
         requires { IsRetained N (pending_of N self.old) bit }
         ensures* refused { sem 𝓛 (rests_if_refused N.row self.entry result) }

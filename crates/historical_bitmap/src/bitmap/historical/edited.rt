@@ -116,7 +116,6 @@ pub(crate) fn is_cached(cached: Option<usize>, index: usize) -> bool
 
 // Writes a bit of the chunk at an index. Starts from the current bitmap's chunk if none is edited there.
 // Searches once, and once more to insert a chunk. Does not allocate, and succeeds, if the map has that chunk.
-#[inline(never)]
 fn write_in<const N: usize>(
     chunks: &mut ChunkMap<N>,
     current: &Prunable<N>,
@@ -229,6 +228,30 @@ impl<const N: usize> EditedChunks<N> {
     // Does not allocate, and succeeds, if that chunk is edited.
     #[inline]
     pub(crate) fn write_bit(
+        &mut self,
+        current: &Prunable<N>,
+        len: u64,
+        index: usize,
+        bit: u64,
+        value: bool,
+    ) -> Result<(), AllocError>
+        requires width { IsWidth N }
+        requires from { current.now.pruned ≤ index }
+        requires fits { 8 * N * index < 2 ^ 64 }
+        ensures ok { OnOk result ((bytes : List ℕ) × SetsIn N (chunk N (truncated N current.now len) index) self.old self.new index bit value bytes) }
+        ensures err { OnErr result (self.new ≡ self.old) }
+        ensures edited { IsSome (lookup (nat_eq index) self.old) → IsOk result }
+    {
+        if is_cached(self.cached, index) {
+            let _ = replace_bit(&mut self.chunk, bit, value);
+            return Ok(());
+        }
+        self.write_other(current, len, index, bit, value)
+    }
+
+    // As `write_bit`, mostly for a chunk that is not cached. It is kept out of `write_bit`, which then is short for the cached chunk.
+    #[inline(never)]
+    fn write_other(
         &mut self,
         current: &Prunable<N>,
         len: u64,

@@ -249,6 +249,7 @@ impl<const N: usize> Dirty<N> {
     }
 
     // Writes a bit. Does not allocate, and succeeds, if its chunk is edited.
+    #[inline]
     pub(crate) fn write(
         &mut self,
         current: &Prunable<N>,

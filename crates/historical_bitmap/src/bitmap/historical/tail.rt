@@ -212,6 +212,32 @@ impl<const N: usize> TailChunks<N> {
         ensures err { OnErr result (self.new ≡ self.old) }
         ensures edited { IsSome (lookup (nat_eq index) self.old) → IsOk result }
     {
+        if self.tail.cached.is_some() {
+            return self.write_settled(current, len, index, bit, value);
+        }
+        // No word is cached here. The call only shows this to the prover.
+        settle(&mut self.chunks, &mut self.tail);
+        self.chunks.write_bit(current, len, index, bit, value)
+    }
+
+    // As `write_bit`, mostly for a collection with a cached word. As a cold call it is kept out of the way of the others.
+    #[cold]
+    #[inline(never)]
+    fn write_settled(
+        &mut self,
+        current: &Prunable<N>,
+        len: u64,
+        index: usize,
+        bit: u64,
+        value: bool,
+    ) -> Result<(), AllocError>
+        requires width { IsWidth N }
+        requires from { current.now.pruned ≤ index }
+        requires fits { 8 * N * index < 2 ^ 64 }
+        ensures ok { OnOk result ((bytes : List ℕ) × SetsIn N (chunk N (truncated N current.now len) index) self.old self.new index bit value bytes) }
+        ensures err { OnErr result (self.new ≡ self.old) }
+        ensures edited { IsSome (lookup (nat_eq index) self.old) → IsOk result }
+    {
         settle(&mut self.chunks, &mut self.tail);
         self.chunks.write_bit(current, len, index, bit, value)
     }
