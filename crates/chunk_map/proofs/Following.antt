@@ -71,6 +71,26 @@ enter_first node at from digit first fa fits shift d lo same below most least e 
           omega (arith, is, on, h);
     }
 
+pub enter_linked : (node : Node) (at from digit first : ℕ) → at < 2 ^ 64 → node.base < 2 ^ 64 → node.shift ≤ 60 → digit < 16 → from ≤ digit → (at / 2 ^ node.shift / 16 ≡ node.base / 2 ^ node.shift / 16 → from ≡ at / 2 ^ node.shift % 16) → (at / 2 ^ node.shift / 16 < node.base / 2 ^ node.shift / 16 → from ≡ 0) → at / 2 ^ node.shift / 16 ≤ node.base / 2 ^ node.shift / 16 → ((d : ℕ) → from ≤ d → d < digit → slice_index node.links d ≡ 0) → slice_index node.links digit ≢ 0 → first ≡ max at ((node.base / 2 ^ node.shift / 16 * 16 + digit) * 2 ^ node.shift % 2 ^ 64) → link_for node first ≢ 0
+enter_linked node at from digit first fa fits shift d lo same below most least some e =
+    let s = node.shift in
+    let x = node.base / 2 ^ s / 16 * 16 + digit in
+    let start = x * 2 ^ s in
+    let small = start_fits node.base digit s fits shift d in
+    let exact : start % 2 ^ 64 ≡ start = omega (arith, small) in
+    let is : first ≡ max at start = e ∙ ap (λ y. max at y) exact in
+    let digits : start / 2 ^ s ≡ x = mul-div_left x (pow_pos s) in
+    let own : digit_in node first ≡ digit = elim (cases_lt at start) [
+      | inl l ↦ let f : first ≡ start = omega (arith, is, l) in rw (f, digits) (omega (arith, d))
+      | inr l ↦
+          let f : first ≡ at = omega (arith, is, l) in
+          let up = div_mono start at s l in
+          let joined : at / 2 ^ s / 16 ≡ node.base / 2 ^ s / 16 = omega (arith, up, digits, most) in
+          let on = same joined in
+          rw f (omega (arith, up, digits, joined, on, lo))
+    ] in
+    rw own some
+
 -- ---- a walk
 -- a link that leads to a key is not 0
 pub finds_some : (nodes : List Node) (keys : List ℕ) (key place link : ℕ) → Finds nodes keys key place link → link ≢ 0

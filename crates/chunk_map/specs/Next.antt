@@ -39,7 +39,7 @@ IsPast at span End = 2 ^ 64 ≤ (at / 2 ^ span + 1) * 2 ^ span
 abbrev pub IsNoneIn : Node → ℕ → Type 0
 IsNoneIn node at = (key : ℕ) → at ≤ key → Holds node key → link_for node key ≡ 0
 
--- a number is the first at or above another which a node has a link for
+-- a number that a node can hold is at or above another, and the node has no link for the numbers between them
 pub record IsFirstIn (node : Node) (at first : ℕ) : Type 0 where
   pub fits : first < 2 ^ 64
   pub from_on : at ≤ first

@@ -8,14 +8,14 @@
 //! A search visits at most 16 nodes, one per digit in base 16 by which the index differs from another. An insertion adds at most one node.
 //! A removal keeps the nodes.
 
-ghost use Rattle.std.specs.Prelude.{◌≡◌, ℕ, ◌+◌, ◌*◌, ◌^◌, ◌<◌, ◌++◌, ◌↔◌, [], ◌∷◌, List, length, MatchOption, Option, Some, None, IsTrue, slice_index, IfOk, IfNone, IsOk, IsSome, OnOk, OnErr, nat_eq, is_some, vec_len};
+ghost use Rattle.std.specs.Prelude.{◌≡◌, ℕ, ◌+◌, ◌*◌, ◌^◌, ◌<◌, ◌++◌, ◌↔◌, [], ◌∷◌, List, length, MatchOption, Option, Some, None, IsTrue, slice_index, IfOk, IfNone, IfSome, IsOk, IsSome, OnOk, OnErr, nat_eq, is_some, vec_len};
 ghost use Rattle.std.specs.Vec.{vec_capacity};
 ghost use Rattle.std.specs.List.Sorted.{IsStrictlySortedBy};
 ghost use Rattle.std.specs.Map.{keys_of, lookup};
 ghost use Rattle.std.specs.Option.{option_copied};
 ghost use Rattle.std.specs.Ordering.{nat_cmp};
 ghost use Rattle.chunk_map.specs.Entries.{IsNextMember, Puts};
-ghost use Rattle.chunk_map.specs.Trie.{IsAt};
+ghost use Rattle.chunk_map.specs.Trie.{IsAt, without_place};
 
 use crate::places::Places;
 use std::alloc::{AllocError, Global};
@@ -264,6 +264,7 @@ impl<const N: usize> ChunkMap<N> {
         ensures value { result ≡ lookup (nat_eq index) self.old.entries }
         ensures removed { Puts self.old.entries self.new.entries index None }
         ensures none { IfNone result (self.new ≡ self.old) }
+        ensures indices { IfSome result (λ chunk. (place : ℕ) × IsAt self.old.indices index place × (self.new.indices ≡ without_place self.old.indices place 0)) }
         ensures sorted { IsStrictlySortedBy nat_cmp (keys_of self.new.entries) }
     {
         match self.find(index) {

@@ -1,7 +1,7 @@
 //! The least key at or above a number.
 
-ghost use Rattle.std.specs.Prelude.{◌≡◌, ◌≢◌, ℕ, ◌+◌, ◌-◌, ◌*◌, ◌/◌, ◌%◌, ◌^◌, ◌<◌, ◌≤◌, length, MatchOption, slice_index, true};
-ghost use Rattle.chunk_map.specs.Trie.{AreMarked, Holds, IsTrie};
+ghost use Rattle.std.specs.Prelude.{◌≡◌, ◌≢◌, ℕ, ◌+◌, ◌-◌, ◌*◌, ◌/◌, ◌%◌, ◌^◌, ◌<◌, ◌≤◌, length, IfSome, MatchOption, slice_index, true};
+ghost use Rattle.chunk_map.specs.Trie.{AreMarked, Holds, IsTrie, link_for};
 ghost use Rattle.chunk_map.specs.Next.{AreBelow, IsFirstIn, IsNextPlace, IsNoneIn, IsPast, IsSpan, IsStart, IsWalk, StepReports};
 
 use crate::trie::Node;
@@ -62,7 +62,8 @@ fn first_digit(prefix: usize, base: usize) -> usize
 fn enter(node: &Node, at: usize) -> Option<usize>
     requires shift { node.now.shift ≤ 60 }
     requires used { AreMarked node.now.links node.now.used }
-    ensures { MatchOption result (IsNoneIn node.now at) (IsFirstIn node.now at) }
+    ensures first { MatchOption result (IsNoneIn node.now at) (IsFirstIn node.now at) }
+    ensures linked { IfSome result (λ first. link_for node.now first ≢ 0) }
 {
     let prefix = at >> node.shift;
     let base = (node.base >> node.shift) / 16;
