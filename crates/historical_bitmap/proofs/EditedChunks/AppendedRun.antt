@@ -81,6 +81,15 @@ run_push from (x ∷ xs) v q = elim (cases_eq q from) [
 ]
 
 -- ---- the run with the other chunks
+-- with a chunk there is one
+pub run_filled : (from : ℕ) (xs : List (List ℕ)) (es : List (ℕ × List ℕ)) → 0 < length xs + length es → 0 < length (with_run from xs es)
+run_filled from [] [] h = absurd (omega (arith, h))
+run_filled from (x ∷ xs) [] h = omega arith
+run_filled from xs (e ∷ es) h = elim (cases_lt e.0 from) [
+  | inl l ↦ rw (lt-ltb e.0 from l) (omega arith)
+  | inr l ↦ rw (le-ltb e.0 from l, length-append (run_entries from xs) (e ∷ es)) (omega arith)
+]
+
 pub look : (from : ℕ) (xs : List (List ℕ)) (es : List (ℕ × List ℕ)) (q : ℕ) → lookup (nat_eq q) (with_run from xs es) ≡ first_of (lookup (nat_eq q) (run_entries from xs)) (lookup (nat_eq q) es)
 look from xs [] q = first_none (lookup (nat_eq q) (run_entries from xs))
 look from xs (e ∷ es) q = elim (cases_lt e.0 from) [

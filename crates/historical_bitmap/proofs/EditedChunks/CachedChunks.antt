@@ -1,9 +1,10 @@
 -- Reads and writes of entries of chunks with a write cache.
-use Rattle.std.proofs.Common.{◌≡◌, ℕ, ◌+◌, Bool, true, false, cond, List, [], ◌∷◌, length, Some, None, refl, sym, ap, ◌∙◌, subst, arith}
+use Rattle.std.proofs.Common.{◌≡◌, ℕ, ◌+◌, ◌<◌, Bool, true, false, cond, List, [], ◌∷◌, length, Some, None, refl, sym, ap, ◌∙◌, subst, arith}
 use mathlib.Core.Logic.{inl, inr, ◌≢◌}
 use Rattle.std.proofs.lemmas.Bool.{cases_Bool, cases_eq, eq-eqb, ne_eqb, eqb-true, eqb-false}
 use Rattle.std.proofs.lemmas.Cmp.{nat_eq_equiv}
 use Rattle.std.proofs.lemmas.Map.{keys-set_value, lookup-set_value}
+use Rattle.std.proofs.lemmas.Map.Entries.{length-keys_of}
 use Rattle.std.proofs.lemmas.Map.Steps.{set_value_same}
 use Rattle.std.specs.Prelude.{nat_eq, Option, IsSome, IfSome, unwrap_or}
 use Rattle.std.specs.BTreeMap.{is_at}
@@ -28,6 +29,10 @@ pub cached_none : (es : List (ℕ × List ℕ)) (cached : Option ℕ) (chunk : L
 cached_none [] None chunk e = refl
 cached_none [] (Some h) chunk e = refl
 cached_none (entry ∷ es) cached chunk e = absurd (omega (arith, e))
+
+-- with a chunk there is one
+pub cached_filled : (es : List (ℕ × List ℕ)) (cached : Option ℕ) (chunk : List ℕ) → 0 < length es → 0 < length (with_cached es cached chunk)
+cached_filled es cached chunk h = rw (sym (length-keys_of (with_cached es cached chunk)), cached_keys es cached chunk, length-keys_of es) h
 
 -- a look-up after a value is replaced
 lookup_set : (es : List (ℕ × List ℕ)) (h q : ℕ) (w : List ℕ) → IsSome (lookup (nat_eq h) es) → lookup (nat_eq q) (set_value (is_at (nat_cmp h)) es w) ≡ cond (nat_eq q h) (Some w) (lookup (nat_eq q) es)

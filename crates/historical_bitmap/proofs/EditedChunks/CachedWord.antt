@@ -27,7 +27,7 @@ use Rattle.chunk_map.specs.Entries.{Puts}
 use Rattle.historical_bitmap.specs.Pending.{IsByteSetIn, IsClearFrom, IsSetIn, IsWritten, SetsIn}
 use Rattle.historical_bitmap.specs.Tail.{bit_with_word, chunk_with_word, IsTail, IsWordOf, IsWordPut, with_word}
 use Rattle.historical_bitmap.specs.WriteCache.{IsCached, is_cached_at, with_cached}
-use Rattle.historical_bitmap.proofs.EditedChunks.CachedChunks.{cache_same, cached_keys, cached_some, cached_sorted, holds, lookup_beside, lookup_here, lookup_put, puts_here}
+use Rattle.historical_bitmap.proofs.EditedChunks.CachedChunks.{cache_same, cached_filled, cached_keys, cached_some, cached_sorted, holds, lookup_beside, lookup_here, lookup_put, puts_here}
 use Rattle.historical_bitmap.proofs.Lists.Maps.{not_some, same_entries}
 
 -- ---- places in a chunk
@@ -218,6 +218,11 @@ module _ (n : ℕ) (es : List (ℕ × List ℕ)) (base count word k : ℕ) (widt
   pub some_in : (cached : Option ℕ) → MatchOption cached (count ≡ 0) (IsWordOf n es base count) → lookup (nat_eq (k / (8 * n))) (with_word n es cached base count word) ≡ None → ⊥
   some_in None none e = absurd (omega (arith, none, low, high))
   some_in (Some i) ok e = not_some (chunk_with_word n (stored i) base count word i) (sym (found i ok) ∙ (ap (λ (j : ℕ). lookup (nat_eq j) (with_word n es (Some i) base count word)) (sym (place i ok)) ∙ e))
+
+-- with a chunk there is one
+pub word_filled : (n : ℕ) (es : List (ℕ × List ℕ)) (cached : Option ℕ) (base count word : ℕ) → 0 < length es → 0 < length (with_word n es cached base count word)
+word_filled n es None base count word h = h
+word_filled n es (Some i) base count word h = cached_filled es (Some i) (chunk_with_word n (unwrap_or (lookup (nat_eq i) es) []) base count word i) h
 
 -- a position outside the cached word is read from the entries
 pub read_out : (n : ℕ) (es : List (ℕ × List ℕ)) (cached : Option ℕ) (base count word k : ℕ) → IsTail n es cached base count → (k < base) ⊎ (base + count ≤ k) → option_map (λ chunk. chunk_bit n chunk k) (lookup (nat_eq (k / (8 * n))) (with_word n es cached base count word)) ≡ option_map (λ chunk. chunk_bit n chunk k) (lookup (nat_eq (k / (8 * n))) es)

@@ -402,7 +402,8 @@ impl<const N: usize> EditedChunks<N> {
 
     // Returns whether there is no chunk.
     pub(crate) fn is_empty(&self) -> bool
-        ensures { result ≡ true → self.now ≡ [] }
+        ensures none { result ≡ true → self.now ≡ [] }
+        ensures some { result ≡ false → 0 < length self.now }
     {
         self.chunks.is_empty()
     }

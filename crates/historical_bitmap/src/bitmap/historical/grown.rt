@@ -56,7 +56,9 @@ fn is_in(from: usize, count: usize, index: usize) -> bool
 
 // Returns whether an index may extend a run of `count` indices, or begin one.
 fn is_next(from: usize, count: usize, index: usize) -> bool
-    ensures { result ≡ true → 0 < count → index ≡ from + count }
+    ensures next { result ≡ true → 0 < count → index ≡ from + count }
+    ensures begins { count ≡ 0 → result ≡ true }
+    ensures extends { index ≡ from + count → result ≡ true }
 {
     count == 0 || from <= index && index - from == count
 }
@@ -368,7 +370,8 @@ impl<const N: usize> GrownChunks<N> {
 
     // Returns whether there is no chunk.
     pub(crate) fn is_empty(&self) -> bool
-        ensures { result ≡ true → self.now ≡ [] }
+        ensures none { result ≡ true → self.now ≡ [] }
+        ensures some { result ≡ false → 0 < length self.now }
     {
         self.run.len() == 0 && self.others.is_empty()
     }

@@ -21,7 +21,7 @@ invariant_of-self-then-count-eq0 g c =
 pub invariant_of-self-else-count-eq0 : goal.invariant_of-self-else-count-eq0
 invariant_of-self-else-count-eq0 g c =
     let none = absent_other c.self.inside.from c.self.inside.run.items c.self.inside.others c.args.index (rw (sym c.self.view_is) at c.requires.absent) in
-    let at = c.is_next.ensures c.if-not-is_next.false (omega (arith, c.if-count-eq0.false)) in
+    let at = c.is_next.ensures.next c.if-not-is_next.false (omega (arith, c.if-count-eq0.false)) in
     let longer = longer_run g.row.N c.self.inside.from c.self.inside.run.items c.self.inside.others c.args.index c.args.chunk (omega (arith, at, c.len-count.ensures, c.self.inside.run.ok.0)) c.self.invariant none in
     subst (λ ys. IsRun g.row.N c.self.inside.others c.self.inside.from ys) (sym c.in_ok-push.ensures.items) longer.0
 
@@ -53,13 +53,13 @@ returns-then-count-eq0-clause-sorted g c =
 pub returns-else-count-eq0-clause-ok : goal.returns-else-count-eq0-clause-ok
 returns-else-count-eq0-clause-ok g c =
     let none = absent_other c.self.inside.from c.self.inside.run.items c.self.inside.others c.args.index (rw (sym c.self.view_is) at c.requires.absent) in
-    let at = c.is_next.ensures c.if-not-is_next.false (omega (arith, c.if-count-eq0.false)) in
+    let at = c.is_next.ensures.next c.if-not-is_next.false (omega (arith, c.if-count-eq0.false)) in
     let longer = longer_run g.row.N c.self.inside.from c.self.inside.run.items c.self.inside.others c.args.index c.args.chunk (omega (arith, at, c.len-count.ensures, c.self.inside.run.ok.0)) c.self.invariant none in
     rw (sym c.self.view_is) (subst (λ ys. Puts (with_run c.self.inside.from c.self.inside.run.items c.self.inside.others) (with_run c.self.inside.from ys c.self.inside.others) c.args.index (Some c.args.chunk)) (sym c.in_ok-push.ensures.items) longer.1)
 
 pub returns-else-count-eq0-clause-sorted : goal.returns-else-count-eq0-clause-sorted
 returns-else-count-eq0-clause-sorted g c =
     let none = absent_other c.self.inside.from c.self.inside.run.items c.self.inside.others c.args.index (rw (sym c.self.view_is) at c.requires.absent) in
-    let at = c.is_next.ensures c.if-not-is_next.false (omega (arith, c.if-count-eq0.false)) in
+    let at = c.is_next.ensures.next c.if-not-is_next.false (omega (arith, c.if-count-eq0.false)) in
     let longer = longer_run g.row.N c.self.inside.from c.self.inside.run.items c.self.inside.others c.args.index c.args.chunk (omega (arith, at, c.len-count.ensures, c.self.inside.run.ok.0)) c.self.invariant none in
     subst (λ ys. IsStrictlySortedBy nat_cmp (keys_of (with_run c.self.inside.from ys c.self.inside.others))) (sym c.in_ok-push.ensures.items) (run_order g.row.N c.self.inside.from _ c.self.inside.others longer.0 c.order.ensures)
