@@ -156,6 +156,14 @@ module _ (n count : ℕ) (chunks part words : List (List ℕ)) (bytes : List ℕ
   pub words_within : count ≤ length chunks → 64 * length words ≤ 8 * n * length chunks
   words_within h = omega (arith, words_size, mul-le-mul_left (8 * n) h)
 
+  pub words_most : length chunks ≤ count + 7 → 8 * n * length chunks ≤ 64 * length words + 56 * n
+  words_most h =
+      let e : 8 * n * (count + 7) ≡ 8 * n * count + 56 * n = grind arith in
+      omega (arith, words_size, e, mul-le-mul_left (8 * n) h)
+
+  pub words_all : count ≡ length chunks → 64 * length words ≡ 8 * n * length chunks
+  words_all h = words_size ∙ ap (λ k. 8 * n * k) h
+
   -- their bits are those of the chunks
   pub words_bit : (i : ℕ) → i < 64 * length words → chunks_bit 8 words i ≡ chunks_bit n chunks i
   words_bit i h =

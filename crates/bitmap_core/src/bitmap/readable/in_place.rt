@@ -25,6 +25,8 @@ fn whole_count<const N: usize>(count: usize) -> usize
 fn words_of<const N: usize>(chunks: &[[u8; N]]) -> &[[u8; 8]]
     requires width { IsWidth N }
     ensures within { 64 * length result.now ≤ 8 * N * length chunks.now }
+    ensures most { 8 * N * length chunks.now ≤ 64 * length result.now + 56 * N }
+    ensures all { N % 8 ≡ 0 → 64 * length result.now ≡ 8 * N * length chunks.now }
     ensures whole { 64 * length result.now % (8 * N) ≡ 0 }
     ensures bits { (i : ℕ) → i < 64 * length result.now → chunks_bit 8 result.now i ≡ chunks_bit N chunks.now i }
 {
