@@ -4,6 +4,7 @@ pub mod Chunks
 pub mod ManyChunks
 pub mod Pruned
 pub mod Readers
+pub mod Ranges
 pub mod Searches
 pub mod Encodings
 pub mod DecodeErrors

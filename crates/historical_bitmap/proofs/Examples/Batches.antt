@@ -5,7 +5,7 @@ use Rattle.std.proofs.Common.{refl, arith}
 use Rattle.std.proofs.lemmas.Bool.{cases_eq, false≢true, ne_eqb}
 use mathlib.Core.Logic.{inl, inr}
 use Rattle.bitmap_core.specs.PrunedBits.{PrunedBits}
-use Rattle.historical_bitmap.specs.Edits.{Edit, pushes, after, after_all, IsAccepted, AllAccepted, from_to, touches, touched, IsWithin}
+use Rattle.historical_bitmap.specs.Edits.{Edit, pushes, sets, after, after_all, IsAccepted, AllAccepted, from_to, touches, touched, IsWithin}
 use Rattle.historical_bitmap.specs.Edits.Edit.{Push, Pop, Set, Prune}
 
 -- eight true bits, then four, then four false ones
@@ -142,6 +142,13 @@ not_within is_within = false≢true (is_within 2 refl)
 -- a list of pushes appends its bits in order
 pushes_leave : after_all 1 beyond_one (pushes (true ∷ false ∷ [])) ≡ record { pruned = 1; bits = true ∷ false ∷ true ∷ true ∷ false ∷ [] }
 pushes_leave = refl
+
+-- a range is set by one edit per position, its end excluded
+three_sets : sets 3 6 true ≡ Set 3 true ∷ Set 4 true ∷ Set 5 true ∷ []
+three_sets = refl
+
+no_sets : sets 6 3 true ≡ []
+no_sets = refl
 
 -- with chunks of four bytes, twenty pops and ten pushes on forty true bits touch the second chunk and the first
 abbrev pops_and_pushes : List Edit
