@@ -145,7 +145,7 @@ class InterfaceScript(RandomScript):
         self.encode("encode_at", [int(number)], reply)
 
     def run_at(self, number, reply):
-        """Reads a past bitmap whole, in place."""
+        """Reads a past state whole, in place."""
         reply = self.reply_of_read(number, reply)
         if not reply.startswith("bitmap"):
             return self.direct("len_at", [int(number)], reply)
@@ -240,7 +240,7 @@ class InterfaceScript(RandomScript):
         self.expect(f"count_ones{ending}", status, *given, start, end, **counted)
 
     def read_past(self):
-        """Reads the lengths of a past bitmap, a bit and a chunk."""
+        """Reads the lengths of a past state, a bit and a chunk."""
         number, position, width = self.any_number(), self.position(), self.model.width
         status, bitmap = self.view(number)
         if bitmap is None:

@@ -1,4 +1,4 @@
-/* mortarpink: a bitmap with numbered commits. Each past version can be read in place.
+/* mortarpink: a bitmap with numbered commits. Each past state can be read in place.
  *
  * A mortarpink_bitmap is a handle. It is empty, or it owns a bitmap with its commits. The bits are in chunks of 1,
  * 8, 32 or 64 bytes, which is the bitmap's width.
@@ -192,7 +192,7 @@ mortarpink_status mortarpink_select_one(mortarpink_bitmap *bitmap, uint64_t k, u
 mortarpink_status mortarpink_encode(mortarpink_bitmap *bitmap, uint8_t *out, size_t len, size_t *size);
 
 
-/* ---- Reading a past bitmap in place; not in a batch ----
+/* ---- Reading a past state in place; not in a batch ----
  *
  * As the calls without `_at`, on the bitmap committed under `number`. They return MORTARPINK_NO_SUCH_COMMIT if that
  * commit is not kept, and mortarpink_encode_at returns MORTARPINK_NONE. Each call searches the commits for `number`.

@@ -64,7 +64,7 @@ static uint64_t current_gets(mortarpink_bitmap *bitmap) {
     return BITS;
 }
 
-/* Reads a past bitmap, after which there are ten commits. */
+/* Reads a past state, after which there are ten commits. */
 static uint64_t past_gets(mortarpink_bitmap *bitmap) {
     uint64_t latest;
     uint8_t bit;

@@ -23,7 +23,7 @@ METADATA = """\
 Metadata-Version: 2.1
 Name: mortarpink
 Version: {version}
-Summary: Bitmaps with numbered commits, past versions of which are read in place
+Summary: Bitmaps with numbered commits, past states of which are read in place
 License: Apache-2.0
 Classifier: Operating System :: POSIX :: Linux
 Classifier: Programming Language :: Python :: 3

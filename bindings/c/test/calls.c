@@ -62,7 +62,7 @@ static struct view at_commit(mortarpink_bitmap *bitmap, uint64_t number) {
     return view;
 }
 
-/* Calls the function of a name, or for a past bitmap that with `_at`. */
+/* Calls the function of a name, or for a past state that with `_at`. */
 #define read_of(view, name, ...)                                                             \
     ((view).is_past ? mortarpink_##name##_at((view).bitmap, (view).number, __VA_ARGS__)     \
                     : mortarpink_##name((view).bitmap, __VA_ARGS__))
@@ -556,7 +556,7 @@ static void check_sample(struct view view, uint32_t width) {
     check_sample_encoding(view, width);
 }
 
-/* The sample is the same as a copy, in its bytes, and as a past bitmap after all of it has changed. */
+/* The sample is the same as a copy, in its bytes, and as a past state after all of it has changed. */
 static void test_reads(uint32_t width) {
     const uint64_t B = 8 * (uint64_t)width;
     mortarpink_bitmap bitmap = MORTARPINK_EMPTY, copy = MORTARPINK_EMPTY;

@@ -1,4 +1,4 @@
-"""Bitmaps with numbered commits, past versions of which are read in place."""
+"""Bitmaps with numbered commits, past states of which are read in place."""
 
 from ._bitmap import Batch, Bitmap, Version
 from ._errors import (

@@ -1,4 +1,4 @@
-"""Bitmaps, their past versions, and batches."""
+"""Bitmaps, their past states, and batches."""
 
 from __future__ import annotations
 
@@ -76,7 +76,7 @@ class _Bits(Caller):
 
 
 class _Reads(_Bits):
-    """The reads that the current bitmap and its past versions have, but no batch. They raise WrongModeError in a batch."""
+    """The reads that the current bitmap and its past states have, but no batch. They raise WrongModeError in a batch."""
 
     def ones(self, start: int = 0, stop: int = MAX) -> Iterator[int]:
         """Returns an iterator over the set retained positions from `start` to `stop` (excluded), ascending.
@@ -250,7 +250,7 @@ class Batch(_Bits):
 
 
 class Bitmap(_Reads):
-    """A bitmap with numbered commits, past versions of which are read in place.
+    """A bitmap with numbered commits, past states of which are read in place.
 
     Chunks have 1, 8, 32 or 64 bytes: the width. The bitmap is freed by `close`, at the end of a `with` block, or with
     its last reference. Positions and lengths are in bits. They are absolute: they count from 0, and pruned bits count.

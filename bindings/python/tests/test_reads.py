@@ -1,4 +1,4 @@
-"""Reads of the current bitmap and of past versions."""
+"""Reads of the current bitmap and of past states."""
 
 import unittest
 

@@ -1,4 +1,4 @@
-//! Bitmaps with numbered commits, past versions of which are read in place.
+//! Bitmaps with numbered commits, past states of which are read in place.
 //!
 //! The crate is a safe interface to the C library `mortarpink`. That library is written in Rattle,
 //! and each of its calls is proved to do what its contract says.

@@ -1,4 +1,4 @@
-//! Reads of past bitmaps, in place: no bitmap is built.
+//! Reads of past states, in place: no bitmap is built.
 
 ghost use Rattle.std.specs.Prelude.{◌≡◌, Ok, length};
 ghost use Rattle.bitmap_core.specs.Searches.{next_one, next_zero, ones_count, prev_one, prev_zero, select_one};

@@ -85,7 +85,7 @@ impl<const N: usize> BitMap<N, Clean> {
     /// A search among the kept commits: logarithmic in them. `AtCommit` says what a read costs.
     ///
     /// # Examples
-    /// The number of bits of a past version that are set in a range:
+    /// The number of bits of a past state that are set in a range:
     ///
     /// ```
     /// ghost use Rattle.std.specs.Prelude.{◌≡◌, length};
