@@ -33,3 +33,5 @@ mod ranges;
 mod records;
 #[cfg(test)]
 mod rewound;
+#[cfg(test)]
+mod starts;

@@ -38,6 +38,10 @@ up_to_number number history = filter (λ e. nat_le e.0 number) history
 abbrev pub past_number : {X : Type 0} → ℕ → List (ℕ × X) → List (ℕ × X)
 past_number number history = filter (λ e. nat_lt number e.0) history
 
+-- the numbers of a list that are at least this one
+abbrev pub at_least : ℕ → List ℕ → List ℕ
+at_least least numbers = filter (nat_le least) numbers
+
 -- the entries before the latest one
 abbrev pub before_latest : {X : Type 0} → List X → List X
 before_latest history = take (length history - 1) history

@@ -1,11 +1,12 @@
 -- The next chunk that differs, searched for among the chunks with entries in the records.
-use Rattle.std.proofs.Common.{◌≡◌, ℕ, zero, suc, ◌+◌, ◌^◌, ◌<◌, ◌≤◌, Bool, true, false, not, List, [], ◌∷◌, ◌++◌, length, get_or, refl, ap, arith, sym, subst, ◌∙◌, append_assoc}
+use Rattle.std.proofs.Common.{◌≡◌, ℕ, zero, suc, ◌+◌, ◌-◌, ◌^◌, ◌<◌, ◌≤◌, Bool, true, false, not, List, [], ◌∷◌, ◌++◌, length, get_or, refl, ap, arith, sym, subst, ◌∙◌, append_assoc}
 use mathlib.Core.Logic.{inl, inr, ◌≢◌}
-use Rattle.std.proofs.lemmas.Bool.{cases_eq, cases_Bool, eq-eqb, ne_eqb, false≢true}
+use Rattle.std.proofs.lemmas.Bool.{cases_eq, cases_lt, cases_Bool, eq-eqb, le-leb, lt-leb, ne_eqb, false≢true}
 use Rattle.std.proofs.lemmas.List.{append-nil}
 use Rattle.std.proofs.lemmas.List.Elements.{All-head, All-tail}
 use Rattle.std.proofs.lemmas.Map.Keys.{sorted_head, sorted_tail}
 use Rattle.std.specs.Cmp.Lexicographic.{pointwise}
+use Rattle.std.specs.List.{filter, range_with_len}
 use Rattle.std.specs.List.Sorted.{IsStrictlySortedBy}
 use Rattle.std.specs.Map.{keys_of}
 use Rattle.std.specs.Option.{option_eq}
@@ -18,7 +19,7 @@ use Rattle.bitmap_core.specs.PrunedBits.{PrunedBits}
 use Rattle.chunk_map.specs.Entries.{IsNextMember}
 use Rattle.historical_bitmap.specs.Changes.{changed_from, differs, retained_bytes}
 use Rattle.historical_bitmap.specs.Compared.{named_chunks, IsNextChange}
-use Rattle.historical_bitmap.specs.History.{EntriesRise}
+use Rattle.historical_bitmap.specs.History.{at_least, EntriesRise}
 use Rattle.historical_bitmap.specs.Record.{ReverseRecord}
 use Rattle.historical_bitmap.proofs.Lists.Between.{none_up_to}
 use Rattle.historical_bitmap.proofs.Lists.Members.{in_either, in_left, in_right}
@@ -135,3 +136,42 @@ module _ (n : ℕ) (old new : PrunedBits) (first at end : ℕ) (names : List ℕ
 -- there are fewer than 2 ^ 64 chunks that differ
 pub changed_fits : (n : ℕ) (old new : PrunedBits) (first end : ℕ) → end < 2 ^ 64 → length (changed_from n old new first end) < 2 ^ 64
 changed_fits n old new first end h = omega (arith, h, ones_between-length (differs n old new) first end)
+
+-- ---- the chunks that differ, without those below one
+-- from a later position on, nothing is below
+none_below : (d : ℕ → Bool) (least lo count : ℕ) → least ≤ lo → at_least least (filter d (range_with_len lo count)) ≡ filter d (range_with_len lo count)
+none_below d least lo zero h = refl
+none_below d least lo (suc count) h = elim (cases_Bool (d lo)) [
+  | inl e ↦ rw (e, le-leb least lo h) (ap (λ rest. lo ∷ rest) (none_below d least (lo + 1) count (omega (arith, h))))
+  | inr e ↦ rw e (none_below d least (lo + 1) count (omega (arith, h)))
+]
+
+-- from an earlier position on, what is left begins at the least
+below_removed : (d : ℕ → Bool) (least lo count : ℕ) → lo ≤ least → filter d (range_with_len least (lo + count - least)) ≡ at_least least (filter d (range_with_len lo count))
+below_removed d least lo zero h = rw (zero_left) refl
+  where
+    zero_left : lo + 0 - least ≡ 0
+    zero_left = omega (arith, h)
+below_removed d least lo (suc count) h = elim (cases_lt lo least) [
+  | inr l ↦
+      let same : lo ≡ least = omega (arith, h, l) in
+      let all : lo + suc count - lo ≡ suc count = omega arith in
+      subst (λ first. filter d (range_with_len first (lo + suc count - first)) ≡ at_least first (filter d (range_with_len lo (suc count)))) same
+      (ap (λ k. filter d (range_with_len lo k)) all ∙ sym (none_below d lo lo (suc count) (omega arith)))
+  | inl l ↦
+      let less : lo + suc count - least ≡ (lo + 1) + count - least = omega arith in
+      let rest = ap (λ k. filter d (range_with_len least k)) less ∙ below_removed d least (lo + 1) count (omega (arith, l)) in
+      elim (cases_Bool (d lo)) [
+        | inl e ↦ rw (e, lt-leb least lo l) rest
+        | inr e ↦ rw e rest
+      ]
+]
+
+module _ (n : ℕ) (old new : PrunedBits) (next end chunk : ℕ) where
+  pub skipped_to : next < chunk → changed_from n old new chunk end ≡ at_least chunk (changed_from n old new next end)
+  skipped_to h =
+      let left : next + (end - next) - chunk ≡ end - chunk = omega (arith, h) in
+      ap (λ k. filter (differs n old new) (range_with_len chunk k)) (sym left) ∙ below_removed (differs n old new) chunk next (end - next) (omega (arith, h))
+
+  pub none_skipped : chunk ≤ next → changed_from n old new next end ≡ at_least chunk (changed_from n old new next end)
+  none_skipped h = sym (none_below (differs n old new) chunk next (end - next) h)

@@ -1,20 +1,20 @@
 -- Kept commits by position: the first one past a number, and those between two positions.
-use Rattle.std.proofs.Common.{◌≡◌, ℕ, zero, suc, ◌+◌, ◌<◌, ◌≤◌, List, [], ◌∷◌, ◌++◌, length, take, drop, get_or, refl, ap, arith, sym, ◌∙◌}
+use Rattle.std.proofs.Common.{◌≡◌, ℕ, zero, suc, ◌+◌, ◌-◌, ◌<◌, ◌≤◌, List, [], ◌∷◌, ◌++◌, length, take, drop, get_or, refl, ap, arith, sym, ◌∙◌}
 use mathlib.Core.Logic.{inl, inr, ◌≢◌}
 use Rattle.std.proofs.lemmas.Bool.{cases_eq, cases_lt, eq-eqb, ne_eqb, le-leb, le-ltb, lt-leb, lt-ltb}
-use Rattle.std.proofs.lemmas.List.{drop-append-le, drop_all, drop_at, drop_more, get_or-take, length-append, length-take-le, take-append-drop, take-map, take_all, take_more}
+use Rattle.std.proofs.lemmas.List.{drop-append-le, drop_all, drop_at, drop_more, get_or-take, length-append, length-drop, length-take-le, take-append-drop, take-map, take_all, take_more}
 use Rattle.std.proofs.lemmas.List.Elements.{filter-append}
 use Rattle.std.proofs.lemmas.Map.Entries.{length-keys_of}
 use Rattle.std.proofs.lemmas.Map.Keys.{below_from_sorted, sorted_tail}
 use Rattle.std.proofs.lemmas.Option.{get_or_from_slice_get, slice_get_within}
 use Rattle.std.specs.declared.cmp.Ordering.TheVariants.{Less}
-use Rattle.std.specs.List.{All, AllByRecursion, filter}
+use Rattle.std.specs.List.{All, AllByRecursion, filter, slice_range}
 use Rattle.std.specs.List.Sorted.{IsStrictlySortedBy}
 use Rattle.std.specs.Map.{keys_of}
 use Rattle.std.specs.Ordering.{nat_cmp}
 use Rattle.std.specs.Prelude.{Some, true, false, is_some, nat_eq, nat_le, nat_lt, slice_get}
 use Rattle.historical_bitmap.specs.Compared.{between_numbers}
-use Rattle.historical_bitmap.specs.History.{from_number, kept_under, past_number, RiseInNumber, up_to_number}
+use Rattle.historical_bitmap.specs.History.{at_least, from_number, kept_under, past_number, RiseInNumber, up_to_number}
 use Rattle.historical_bitmap.proofs.Pending.Record.{keys_push, sorted_push}
 
 -- ---- numbers by position
@@ -198,6 +198,26 @@ below_next m last [] next = refl
 below_next m last (e ∷ es) next = elim (cases_lt last e.0) [
   | inl h ↦ rw (lt-leb e.0 last h, le-ltb e.0 m (omega (arith, h, next))) (below_next m last es next)
   | inr h ↦ rw (le-leb e.0 last h, lt-ltb e.0 m (omega (arith, h, next))) (ap (λ rest. e ∷ rest) (below_next m last es next))
+]
+
+-- the commits past the number before one are those from it on
+pub past_previous : {X : Type 0} (m previous : ℕ) (es : List (ℕ × X)) → previous + 1 ≡ m → past_number previous es ≡ from_number m es
+past_previous m previous [] next = refl
+past_previous m previous (e ∷ es) next = elim (cases_lt previous e.0) [
+  | inl h ↦ rw (lt-ltb previous e.0 h, le-leb m e.0 (omega (arith, h, next))) (ap (λ rest. e ∷ rest) (past_previous m previous es next))
+  | inr h ↦ rw (le-ltb previous e.0 h, lt-leb m e.0 (omega (arith, h, next))) (past_previous m previous es next)
+]
+
+-- a range up to the end of a list is the rest of it
+pub range_to_end : {X : Type 0} (i len : ℕ) (es : List X) → len ≡ length es → slice_range es i len ≡ drop i es
+range_to_end i len es e = take_all (len - i) (drop i es) (omega (arith, e, length-drop i es))
+
+-- the numbers of the commits from a number on are the numbers from it on
+pub numbers_from : {X : Type 0} (m : ℕ) (es : List (ℕ × X)) → keys_of (from_number m es) ≡ at_least m (keys_of es)
+numbers_from m [] = refl
+numbers_from m (e ∷ es) = elim (cases_lt e.0 m) [
+  | inl h ↦ rw (lt-leb m e.0 h) (numbers_from m es)
+  | inr h ↦ rw (le-leb m e.0 h) (ap (λ rest. e.0 ∷ rest) (numbers_from m es))
 ]
 
 -- no commit is below 0

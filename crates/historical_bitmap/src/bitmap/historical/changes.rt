@@ -5,7 +5,7 @@ ghost use Rattle.std.specs.Iterator.{YieldsFirst, item_count};
 ghost use Rattle.chunk_map.specs.Entries.{IsNextMember};
 ghost use Rattle.historical_bitmap.specs.Changes.{changed_between, retained_bytes as retained_bytes_of};
 ghost use Rattle.historical_bitmap.specs.Compared.{between_numbers, IsComparing, IsNextChange, named_chunks};
-ghost use Rattle.historical_bitmap.specs.History.{EntriesRise};
+ghost use Rattle.historical_bitmap.specs.History.{at_least, EntriesRise};
 ghost use Rattle.historical_bitmap.specs.View.{history_of};
 
 use crate::bitmap::historical::at::AtCommit;
@@ -157,6 +157,19 @@ impl<const N: usize> BitMap<N, Clean> {
             next: 0,
             end,
         })
+    }
+}
+
+impl<'a, const N: usize> ChangedChunks<'a, N> {
+    /// Removes the indices below `chunk` from what is left. Examines no chunk.
+    ///
+    /// Does not allocate; constant time.
+    pub fn skip_below(&mut self, chunk: usize)
+        ensures { self.new ≡ at_least chunk self.old }
+    {
+        if self.next < chunk {
+            self.next = chunk;
+        }
     }
 }
 

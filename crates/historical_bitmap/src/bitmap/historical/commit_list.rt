@@ -6,7 +6,7 @@ ghost use Rattle.std.specs.Prelude.{◌≡◌, ℕ, ◌<◌, ◌≤◌, [], ◌�
 ghost use Rattle.std.specs.List.{All};
 ghost use Rattle.std.specs.Map.{keys_of};
 ghost use Rattle.std.specs.VecDeque.Iter.{deque_iter_rest};
-ghost use Rattle.historical_bitmap.specs.History.{earliest, kept_under, latest, past_number, RiseInNumber, up_to_number};
+ghost use Rattle.historical_bitmap.specs.History.{earliest, from_number, kept_under, latest, past_number, RiseInNumber, up_to_number};
 
 use crate::bitmap::historical::record::CommitDiff;
 use std::alloc::{AllocError, Global};
@@ -148,6 +148,17 @@ impl<const N: usize> CommitList<N> {
         ensures { deque_iter_rest result ≡ self.now }
     {
         self.commits.iter()
+    }
+
+    // Returns an iterator over the commits whose numbers are at least one, in order. The first is found by binary search.
+    pub(crate) fn iter_from(&self, number: u64) -> Iter<'_, (u64, CommitDiff<N>)>
+        ensures { deque_iter_rest result ≡ from_number number self.now }
+    {
+        if number == 0 {
+            return self.commits.iter();
+        }
+        let first = first_past(&self.commits, number - 1);
+        self.commits.range(first..)
     }
 
     // Appends a commit, whose number is above all others. If an allocation fails, the list is unchanged.

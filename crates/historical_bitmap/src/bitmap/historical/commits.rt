@@ -3,7 +3,7 @@
 ghost use Rattle.std.specs.Prelude.{◌≡◌, ℕ, ◌+◌, ◌-◌, ◌^◌, [], length, None, Some, Ok, is_some, IsSome, IfErr, IfOk, OnOk, if◌then◌else◌, alloc_error};
 ghost use Rattle.std.specs.List.{sum_by};
 ghost use Rattle.std.specs.Map.{keys_of};
-ghost use Rattle.historical_bitmap.specs.History.{AllCanUndo, earliest, from_number, is_above, kept_under, latest, past_number, RiseInNumber, undone, up_to_number};
+ghost use Rattle.historical_bitmap.specs.History.{AllCanUndo, at_least, earliest, from_number, is_above, kept_under, latest, past_number, RiseInNumber, undone, up_to_number};
 ghost use Rattle.historical_bitmap.specs.View.{costs_of, history_of};
 ghost use Rattle.historical_bitmap.specs.declared.bitmap.historical.error.RewindError.TheVariants.{Memory, NoSuchCommit};
 
@@ -205,6 +205,21 @@ impl<const N: usize> BitMap<N, Clean> {
     {
         CommitNumbers {
             commits: self.commits.iter(),
+        }
+    }
+
+    /// Returns an iterator over the numbers of the kept commits that are at least `number`, ascending, each once.
+    ///
+    /// Does not allocate.
+    ///
+    /// # Complexity
+    /// Logarithmic in the kept commits; a whole pass is linear in the commits that it returns. The earlier commits are not visited.
+    pub fn commits_from(&self, number: u64) -> Commits<'_, N>
+        ensures items { result ≡ at_least number (keys_of (history_of N self.now)) }
+        ensures ascending { RiseInNumber (history_of N self.now) }
+    {
+        CommitNumbers {
+            commits: self.commits.iter_from(number),
         }
     }
 
