@@ -10,7 +10,7 @@ ghost use Rattle.bitmap_bytes.specs.Chunk.{IsWidth};
 ghost use Rattle.bitmap_core.specs.Decoding.{admits, decode_error, pruned_error, pruned_in};
 ghost use Rattle.bitmap_core.specs.Encoding.{pruned_encoding};
 ghost use Rattle.historical_bitmap.specs.Changes.{changed_between};
-ghost use Rattle.historical_bitmap.specs.History.{kept_under};
+ghost use Rattle.historical_bitmap.specs.History.{at_least, kept_under};
 ghost use Rattle.bitmap_session.specs.Machine.{Agrees, StepTo, RunsOn, first_machine, is_dirty};
 ghost use Rattle.bitmap_session.specs.Abstraction.{machine_of, value_of};
 
@@ -447,6 +447,24 @@ impl<const N: usize> Session<N> {
     {
         match &self.state {
             State::Clean(bitmap) => Some(bitmap.commits()),
+            State::Dirty(_) => None,
+        }
+    }
+
+    /// Returns an iterator over the kept commit numbers that are at least `number`, ascending, each once, or `None` in a batch.
+    ///
+    /// # Memory
+    ///
+    /// Does not allocate.
+    ///
+    /// # Complexity
+    ///
+    /// As `commits_from` of `CleanBitMap`.
+    pub fn commits_from(&self, number: u64) -> Option<Commits<'_, N>>
+        ensures { result ≡ if is_dirty self.now.state then None else Some (at_least number (keys_of self.now.state.history)) }
+    {
+        match &self.state {
+            State::Clean(bitmap) => Some(bitmap.commits_from(number)),
             State::Dirty(_) => None,
         }
     }

@@ -46,6 +46,13 @@ fn changes(session: &Session<3>, from: u64, to: u64) -> Option<(Option<usize>, O
     Some((first, chunks.next()))
 }
 
+// The first two kept numbers from one on.
+fn numbers_from(session: &Session<3>, number: u64) -> Option<(Option<u64>, Option<u64>)> {
+    let mut numbers = session.commits_from(number)?;
+    let first = numbers.next();
+    Some((first, numbers.next()))
+}
+
 // The current bitmap, both commits, their numbers, and the one chunk in which they differ.
 #[test]
 fn two_commits_in_place(rt: HostRuntime) {
@@ -63,6 +70,9 @@ fn two_commits_in_place(rt: HostRuntime) {
     equal(&rt, numbers.next(), Some(4));
     equal(&rt, numbers.next(), Some(9));
     equal(&rt, numbers.next(), None);
+    equal(&rt, numbers_from(&session, 4), Some((Some(4), Some(9))));
+    equal(&rt, numbers_from(&session, 5), Some((Some(9), None)));
+    equal(&rt, numbers_from(&session, 10), Some((None, None)));
 }
 
 // In a batch nothing is read in place.
@@ -73,6 +83,7 @@ fn nothing_in_place_in_a_batch(rt: HostRuntime) {
     expect(&rt, session.current().is_none());
     expect(&rt, session.at(4).is_none());
     expect(&rt, session.commits().is_none());
+    expect(&rt, session.commits_from(0).is_none());
     expect(&rt, session.changed_chunks(4, 9).is_none());
 }
 
