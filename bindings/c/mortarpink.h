@@ -224,7 +224,7 @@ mortarpink_status mortarpink_encode_at(mortarpink_bitmap *bitmap, uint64_t numbe
 mortarpink_status mortarpink_rewind(mortarpink_bitmap *bitmap, uint64_t number);
 
 /* Writes the kept commit numbers from `from` on to `out`, ascending, up to `len` of them; *count becomes how many.
- * Pages as mortarpink_ones. Linear in the kept commits up to the last one written. */
+ * Pages as mortarpink_ones. Logarithmic in the kept commits, plus linear in the numbers written. */
 mortarpink_status mortarpink_commits(mortarpink_bitmap *bitmap, uint64_t from, uint64_t *out, size_t len,
                                      size_t *count);
 
@@ -237,8 +237,9 @@ mortarpink_status mortarpink_earliest(mortarpink_bitmap *bitmap, uint64_t *numbe
 
 /* Writes the indices of the chunks that differ between the bitmaps at two commits to `out`, ascending: those from
  * `first` on, up to `len` of them; *count becomes how many. A chunk that only one of them retains differs. Pages as
- * mortarpink_ones. Returns MORTARPINK_NO_SUCH_COMMIT unless both commits are kept and `from` is at most `to`. Per chunk
- * examined, it costs searches of the later commits. */
+ * mortarpink_ones. Returns MORTARPINK_NO_SUCH_COMMIT unless both commits are kept and `from` is at most `to`. Two
+ * searches of the kept commits. Each chunk examined costs a search of each commit after `from`; no chunk before `first`
+ * is examined, and none after the last one written if the page is full. */
 mortarpink_status mortarpink_changed_chunks(mortarpink_bitmap *bitmap, uint64_t from, uint64_t to, uint64_t first,
                                             uint64_t *out, size_t len, size_t *count);
 

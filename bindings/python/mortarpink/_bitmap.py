@@ -361,7 +361,7 @@ class Bitmap(_Reads):
     def commits(self) -> Iterator[int]:
         """Returns an iterator over the numbers of the kept commits, ascending. It reads in pages, as `ones`.
 
-        A page takes time linear in the commits up to its last one.
+        A page takes time logarithmic in the kept commits, plus linear in its numbers.
         """
         return ascending(lambda least: self._page("commits", least), 0)
 
@@ -388,7 +388,7 @@ class Bitmap(_Reads):
         """Returns an iterator over the indices of the chunks that differ between two commits, ascending.
 
         A chunk that only one of the versions retains differs. The iterator reads in pages, as `ones`. A page takes
-        time linear in the changed chunks up to its last one, with a search of each commit after `older` per chunk.
+        time linear in its changed chunks, with a search of each commit after `older` per chunk.
 
         Raises NoSuchCommitError unless both commits are kept and `older` is at most `newer`.
         """

@@ -395,7 +395,8 @@ impl Bitmap {
     ///
     /// # Complexity
     ///
-    /// The numbers are read in pages of 64. A page is linear in the commits up to its last one.
+    /// The numbers are read in pages of 64. A page is logarithmic in the kept commits, plus linear
+    /// in its numbers.
     ///
     /// # Examples
     ///
@@ -439,8 +440,9 @@ impl Bitmap {
     ///
     /// # Complexity
     ///
-    /// The indices are read in pages of 64. A page examines the chunks up to its last one that a
-    /// commit after `from` changed. Each costs a search of each commit after `from`.
+    /// The indices are read in pages of 64. A page examines the chunks after the previous page, up
+    /// to its last one, that a commit after `from` and up to `to` touched. Each costs a search of
+    /// each commit after `from`.
     ///
     /// # Examples
     ///

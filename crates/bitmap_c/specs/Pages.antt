@@ -1,9 +1,9 @@
 -- Pages: lists that are written to a buffer in parts.
-use Rattle.std.specs.Prelude.{◌≡◌, ℕ, min, List, length, take, drop, Result, Ok, Err, nat_le}
-use Rattle.std.specs.List.{filter}
+use Rattle.std.specs.Prelude.{◌≡◌, ℕ, min, List, length, take, drop, Result, Ok, Err}
 use Rattle.std.specs.Map.{keys_of}
 use Rattle.std.specs.Option.{ok_or, option_map}
 use Rattle.historical_bitmap.specs.Changes.{changed_between}
+use Rattle.historical_bitmap.specs.History.{at_least}
 use Rattle.bitmap_core.specs.Meaning.{Meaning, ones}
 use Rattle.bitmap_session.specs.Machine.{Machine}
 use Rattle.bitmap_c.specs.Reads.{outside_batch, status_of}
@@ -23,10 +23,6 @@ IsPageOf (Err status) count new_count old new = (new_count ≡ count) × (new �
 pub record ReturnsPage (status count new_count : ℕ) (old new : List ℕ) (read : Result (List ℕ) ℕ) : Type 0 where
   pub status_is : status ≡ status_of read
   pub page_is : IsPageOf read count new_count old new
-
--- the numbers of a list from `least` on
-abbrev pub at_least : ℕ → List ℕ → List ℕ
-at_least least numbers = filter (nat_le least) numbers
 
 -- the set positions of a range
 abbrev pub ones_read : ℕ → Meaning → ℕ → ℕ → Result (List ℕ) ℕ

@@ -22,10 +22,10 @@ fn numbers_of<const N: usize>(
     ensures { ReturnsPage result count.old count.new out.old out.new
         (numbers_read session.now from) }
 {
-    let Some(mut numbers) = session.commits() else {
+    let Some(mut numbers) = session.commits_from(from) else {
         return WRONG_MODE;
     };
-    *count = write_page(&mut numbers, from, out);
+    *count = write_page(&mut numbers, out);
     DONE
 }
 
@@ -55,7 +55,8 @@ fn changes_of<const N: usize>(
     let Some(mut chunks) = session.changed_chunks(from, to) else {
         return NO_SUCH_COMMIT;
     };
-    *count = write_page(&mut chunks, first, out);
+    chunks.skip_below(first as usize);
+    *count = write_page(&mut chunks, out);
     DONE
 }
 
@@ -88,7 +89,7 @@ fn changes(
 ///
 /// # Complexity
 ///
-/// Linear in the kept commits up to the last one written.
+/// Logarithmic in the kept commits, plus linear in the numbers written.
 #[unsafe(no_mangle)]
 pub extern "C" fn mortarpink_commits(
     alloc: Global,
@@ -119,7 +120,8 @@ pub extern "C" fn mortarpink_commits(
 ///
 /// # Complexity
 ///
-/// Each chunk with an entry in a commit after `from` and up to `to` costs a search of each commit after `from`.
+/// Two searches of the kept commits, and per chunk examined a search of each commit after `from`. A page examines the chunks
+/// from `first` on with an entry in a commit after `from` and up to `to`. If `out` is full, it stops at the last one written.
 #[unsafe(no_mangle)]
 pub extern "C" fn mortarpink_changed_chunks(
     alloc: Global,

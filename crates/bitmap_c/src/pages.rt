@@ -1,13 +1,12 @@
 //! Pages: lists of numbers that are written to the caller's buffer in parts.
 
-ghost use Rattle.std.specs.Iterator.{YieldsFirst};
 ghost use Rattle.bitmap_core.specs.Meaning.{ones};
-ghost use Rattle.bitmap_c.specs.Pages.{IsPage, at_least};
+ghost use Rattle.bitmap_c.specs.Pages.{IsPage};
 
 use bitmap_core::bitmap::{OnesIter, Readable};
 use historical_bitmap::bitmap::historical::{ChangedChunks, CommitNumbers};
 
-/// A list of numbers that is read from its start.
+/// A list of numbers that is read in order.
 pub trait Numbers {
     ghost use Rattle.std.specs.Prelude.{ℕ, List};
     ghost use Rattle.std.specs.Iterator.{YieldsFirst};
@@ -55,19 +54,7 @@ impl<'a, const N: usize> Numbers for ChangedChunks<'a, N> {
     }
 }
 
-// Removes the numbers up to the first that is at least `least`, and returns this one, or `None` if there is none.
-fn next_at_least<S: Numbers>(numbers: &mut S, least: u64) -> Option<u64>
-    ensures { YieldsFirst (λ s. at_least least (S.left s)) numbers.old result numbers.new }
-{
-    while let Some(number) = numbers.next_number() {
-        if number >= least {
-            return Some(number);
-        }
-    }
-    None
-}
-
-/// Writes the numbers that are at least `least` to the start of `out`, in order, up to its length, and returns how many.
+/// Writes the numbers that are left to the start of `out`, in order, up to its length, and returns how many.
 ///
 /// # Memory
 ///
@@ -75,12 +62,12 @@ fn next_at_least<S: Numbers>(numbers: &mut S, least: u64) -> Option<u64>
 ///
 /// # Complexity
 ///
-/// Reads the numbers up to the last one written.
-pub fn write_page<S: Numbers>(numbers: &mut S, least: u64, out: &mut [u64]) -> usize
-    ensures { IsPage (at_least least (S.left numbers.old)) result out.old out.new }
+/// One call of `next_number` per number written, and one more unless `out` is full.
+pub fn write_page<S: Numbers>(numbers: &mut S, out: &mut [u64]) -> usize
+    ensures { IsPage (S.left numbers.old) result out.old out.new }
 {
     for count in 0..out.len() {
-        let Some(number) = next_at_least(numbers, least) else {
+        let Some(number) = numbers.next_number() else {
             return count;
         };
         out[count] = number;
@@ -107,5 +94,5 @@ pub fn write_ones<B: Readable<N>, const N: usize>(
 {
     // The call shows the prover that 8 * N fits u64.
     let _ = bitmap.len();
-    write_page(&mut bitmap.ones_iter_range(from..to), 0, out)
+    write_page(&mut bitmap.ones_iter_range(from..to), out)
 }

@@ -1,7 +1,8 @@
 -- Pages of a list of four numbers.
 use Rattle.std.specs.Prelude.{◌≡◌, ℕ, List, [], ◌∷◌, Ok, Err}
 use Rattle.std.proofs.Common.{ap, get_or, refl, arith}
-use Rattle.bitmap_c.specs.Pages.{at_least, IsPage, IsPageOf, ReturnsPage}
+use Rattle.historical_bitmap.specs.History.{at_least}
+use Rattle.bitmap_c.specs.Pages.{IsPage, IsPageOf, ReturnsPage}
 
 abbrev numbers : List ℕ
 numbers = 3 ∷ 5 ∷ 8 ∷ 9 ∷ []

@@ -1,5 +1,5 @@
 -- Reads in place of three bits 0, 1, 1 at the positions 16 to 18, after two pruned chunks of one byte.
-use Rattle.std.specs.Prelude.{◌≡◌, ℕ, true, false, [], ◌∷◌, None, Some, Ok, Err}
+use Rattle.std.specs.Prelude.{◌≡◌, true, false, [], ◌∷◌, None, Some, Ok, Err}
 use Rattle.std.proofs.Common.{refl}
 use Rattle.bitmap_core.specs.Meaning.{Meaning, pruned_meaning}
 use Rattle.bitmap_core.specs.PrunedBits.{PrunedBits}

@@ -1,9 +1,8 @@
-use Rattle.std.proofs.Common.{ℕ, List, subst, ◌∙◌}
+use Rattle.std.proofs.Common.{ℕ, List, subst}
 use Rattle.bitmap_c.specs.Pages.{IsPage}
-use Rattle.bitmap_c.proofs.Lists.{at_least_0}
 use Rattle.bitmap_c.proofs.pages.write_ones.Goals as goal
 
 pub returns : goal.returns
 returns g c =
     let P : List ℕ → Type 0 = λ all. IsPage all c.write_page.result c.args.out.now c.write_page.new.out in
-    subst P (at_least_0 c.ones_iter_range.result.left ∙ c.ones_iter_range.ensures.positions) c.write_page.ensures
+    subst P c.ones_iter_range.ensures.positions c.write_page.ensures
