@@ -1,7 +1,8 @@
-//! Single pushes and pops past bytes, words and chunks, with and without reads, writes and prunes between them, at nine widths.
+//! Bits and bytes pushed, and bits popped, past bytes, words and chunks, with and without reads, writes and prunes between them, at nine widths.
 //!
 //! The bits are those of positions: every third one is set.
 
+ghost use Rattle.std.specs.Prelude.{◌<◌};
 ghost use Rattle.bitmap_bytes.specs.Chunk.{IsWidth};
 
 use crate::checked_calls::{
@@ -54,6 +55,23 @@ fn fill<const N: usize>(rt: &impl Abort, map: &mut DirtyBitMap<N>, to: u64) {
         push(rt, map, expected(position));
     }
     equal(rt, map.len(), to);
+}
+
+// The eight bits from a position on, the lowest first: of 0, 1, 2, .. every third from the first that is divisible by 3.
+fn expected_byte(position: u64) -> u8 {
+    match position % 3 {
+        0 => 0x49,
+        1 => 0x24,
+        _ => 0x92,
+    }
+}
+
+// Appends bytes, with no other call between.
+fn fill_bytes<const N: usize>(rt: &impl Abort, map: &mut DirtyBitMap<N>, count: u64) {
+    for _ in 0..count {
+        let byte = expected_byte(map.len());
+        push_byte(rt, map, byte);
+    }
 }
 
 // Removes bits down to length `to`.
@@ -144,6 +162,56 @@ fn check_fills<const N: usize>(rt: &impl Abort, alloc: Global)
     fill(rt, &mut map, 650);
     check_pending(rt, &map);
     check_current(rt, &map.abort());
+}
+
+// Bytes from a position on, past words and chunks. Then bits are popped, and bytes and bits follow, some of them with a read after each.
+// The batch begins with a bit in the current bitmap's last chunk.
+fn check_bytes<const N: usize>(rt: &impl Abort, alloc: Global, first: u64)
+    requires width { IsWidth N }
+    requires near { first < 64 }
+{
+    let mut map = CleanBitMap::<N>::new(alloc).into_dirty();
+    fill(rt, &mut map, first);
+    fill_bytes(rt, &mut map, 80);
+    check_pending(rt, &map);
+    shrink(rt, &mut map, first + 203);
+    fill_bytes(rt, &mut map, 20);
+    check_pending(rt, &map);
+    shrink(rt, &mut map, 333);
+    let map = commit(rt, map, 1);
+    check_current(rt, &map);
+    let mut map = map.into_dirty();
+    set_bit(rt, &mut map, 332, expected(332));
+    fill_bytes(rt, &mut map, 11);
+    grow(rt, &mut map, 440 + first);
+    fill_bytes(rt, &mut map, 3);
+    check_pending(rt, &map);
+    check_current(rt, &map.abort());
+}
+
+// Bytes at each position of a byte, and at the last two of a word.
+fn check_all_bytes<const N: usize>(rt: &impl Abort, alloc: Global)
+    requires { IsWidth N }
+{
+    for first in 0..8 {
+        check_bytes::<N>(rt, alloc, first);
+    }
+    check_bytes::<N>(rt, alloc, 62);
+    check_bytes::<N>(rt, alloc, 63);
+}
+
+// Bytes pushed past words and chunks of each width.
+#[test]
+fn bytes_pushed_past_words_and_chunks(rt: HostRuntime) {
+    check_all_bytes::<1>(&rt, rt.alloc());
+    check_all_bytes::<3>(&rt, rt.alloc());
+    check_all_bytes::<4>(&rt, rt.alloc());
+    check_all_bytes::<7>(&rt, rt.alloc());
+    check_all_bytes::<8>(&rt, rt.alloc());
+    check_all_bytes::<9>(&rt, rt.alloc());
+    check_all_bytes::<32>(&rt, rt.alloc());
+    check_all_bytes::<64>(&rt, rt.alloc());
+    check_all_bytes::<65>(&rt, rt.alloc());
 }
 
 // Bits pushed past words and chunks of each width.

@@ -1,11 +1,11 @@
 -- Reads and writes of entries of chunks with a cached word.
-use Rattle.std.proofs.Common.{◌≡◌, ℕ, ◌+◌, ◌-◌, ◌*◌, ◌/◌, ◌%◌, ◌^◌, ◌<◌, ◌≤◌, Bool, true, false, cond, List, [], length, map, replicate, eqb, bit_and, bit_or, w64, Some, None, Result, Ok, Err, refl, sym, ap, ◌∙◌, subst, arith}
+use Rattle.std.proofs.Common.{◌≡◌, ℕ, ◌+◌, ◌-◌, ◌*◌, ◌/◌, ◌%◌, ◌^◌, ◌<◌, ◌≤◌, Bool, true, false, cond, List, [], length, map, max, min, replicate, eqb, bit_and, bit_or, w64, Some, None, Result, Ok, Err, refl, sym, ap, ◌∙◌, subst, arith}
 use mathlib.Core.Logic.{inl, inr, ◌≢◌, ◌⊎◌}
 use Rattle.std.proofs.Math.Nat.{mod-eq_of_lt}
 use Rattle.std.proofs.Math.Pow.{pow-lt}
 use Rattle.std.proofs.lemmas.Bool.{cases_eq, cases_lt, eq-eqb, eqb-true, ne_eqb, lt-ltb, le-ltb, le-leb, lt-leb, false≢true}
-use Rattle.std.proofs.lemmas.Nat.{div-mul-add, mod-mul-add, mod_below}
-use Rattle.std.proofs.lemmas.Nat.Bits.{bit_at-lt, bit_at-pow_other, bit_at-pow_same, bit_at-zero, bit_at_and, bit_at_not}
+use Rattle.std.proofs.lemmas.Nat.{div-mul-add, mod-mul-add, mod_below, pow_pos}
+use Rattle.std.proofs.lemmas.Nat.Bits.{bit_at_above, bit_at_cat_high, bit_at_cat_low, bit_at-lt, bit_at_ones, bit_at_ones_above, bit_at_or, bit_at-pow_other, bit_at-pow_same, bit_at-zero, bit_at_and, bit_at_not}
 use Rattle.std.proofs.lemmas.List.{get_or-replicate}
 use Rattle.std.proofs.lemmas.List.FromFn.{length-map-range_with_len}
 use Rattle.std.specs.Prelude.{nat_eq, Option, IsOk, IsSome, IfSome, MatchOption, OnOk, unwrap_or}
@@ -16,9 +16,10 @@ use Rattle.std.specs.List.Sorted.{IsStrictlySortedBy}
 use Rattle.std.specs.Map.{keys_of, lookup}
 use Rattle.std.specs.Option.{option_map}
 use Rattle.std.specs.Ordering.{nat_cmp}
-use Rattle.bitmap_bytes.specs.Chunk.{byte_of, chunk_bit, chunk_from, IsChunk, IsWidth}
+use Rattle.bitmap_bytes.specs.Chunk.{byte_of, chunk_bit, chunk_from, IsByteJoined, IsChunk, IsWidth}
 use Rattle.bitmap_bytes.specs.Words.{next_word, starts_word, word_start}
 use Rattle.bitmap_bytes.proofs.Bytes.Bits.{bit_or_here, bit_or_other}
+use Rattle.bitmap_bytes.proofs.Bytes.Shifted.{bit_at_mod}
 use Rattle.bitmap_bytes.proofs.Bytes.Made.{bytes_are, byte_same, chunk_bit_of_bytes, map_range_same}
 use Rattle.bitmap_bytes.proofs.Chunks.Bits.{chunk_bit-mod}
 use Rattle.bitmap_bytes.proofs.Words.Starts.{end_near, next_cases, start_chunk, start_of}
@@ -40,6 +41,12 @@ module _ (n i k : ℕ) (low : 8 * n * i ≤ k) (high : k < 8 * n * i + 8 * n) wh
 
   pub rest_is : k % (8 * n) ≡ k - 8 * n * i
   rest_is = ap (λ j. j % (8 * n)) within ∙ mod-mul-add i (8 * n) (k - 8 * n * i) (omega (arith, low, high))
+
+-- the last bit of a byte is in the chunk of its first bit
+pub byte_end : (n i k : ℕ) → i ≡ k / (8 * n) → k % (8 * n) + 8 ≤ 8 * n → i ≡ (k + 7) / (8 * n)
+byte_end n i k e space =
+    let at : 8 * n * i + k % (8 * n) ≡ k = ap (λ (j : ℕ). 8 * n * j + k % (8 * n)) e ∙ place_of (8 * n) k in
+    sym (index_is n i (k + 7) (omega (arith, at)) (omega (arith, at, space)))
 
 -- a chunk made from its bits
 from_is : (n : ℕ) (f : ℕ → Bool) (i : ℕ) → chunk_from n f i ≡ map (λ j. byte_of (λ t. f (8 * n * i + (8 * j + t)))) (range_with_len 0 n)
@@ -100,6 +107,33 @@ word_written n chunk base count word new i k value pos start end low high here o
     go p ne = elim (cases_word base count p) [
       | inl h ↦ in_word n chunk base count new p h.0 h.1 ∙ (ap (λ b. eqb b 1) (others (p - base) (omega (arith, h)) (λ e. ne (omega (arith, e, h.0, low)))) ∙ sym (in_word n chunk base count word p h.0 h.1))
       | inr h ↦ out_word n chunk base count new p h ∙ sym (out_word n chunk base count word p h)
+    ]
+
+-- the eight bits of a byte are written to the word
+pub byte_written : (n : ℕ) (chunk : List ℕ) (base count word new i k byte : ℕ) → 0 < n → 8 * n * i ≤ base → base + count ≤ 8 * n * i + 8 * n → count ≤ 64 → base ≤ k → k + 8 ≤ base + count
+    → ((t : ℕ) → t < 8 → bit_at new (k - base + t) ≡ bit_at byte t) → ((t : ℕ) → t < 64 → (t < k - base) ⊎ (k - base + 8 ≤ t) → bit_at new t ≡ bit_at word t)
+    → IsByteJoined n (chunk_with_word n chunk base count word i) (chunk_with_word n chunk base count new i) k byte
+byte_written n chunk base count word new i k byte pos start end short low high here others = record {
+  here = λ j from to.
+      let p : ℕ = 8 * n * i + j % (8 * n) in
+      let at : p - base ≡ k - base + (j % (8 * n) - k % (8 * n)) = omega (arith, rest, from, low) in
+      bit_from n (bit_with_word n chunk base count new) i j pos
+      ∙ (in_word n chunk base count new p (omega (arith, rest, from, low)) (omega (arith, rest, to, low, high))
+      ∙ ap (λ b. eqb b 1) (ap (bit_at new) at ∙ here (j % (8 * n) - k % (8 * n)) (omega (arith, from, to))));
+  others = λ j out. bit_from n (bit_with_word n chunk base count new) i j pos ∙ (go j out ∙ sym (bit_from n (bit_with_word n chunk base count word) i j pos));
+}
+  where
+    rest : k % (8 * n) ≡ k - 8 * n * i
+    rest = rest_is n i k (omega (arith, start, low)) (omega (arith, end, high))
+
+    side : (j : ℕ) → (j % (8 * n) < k % (8 * n)) ⊎ (k % (8 * n) + 8 ≤ j % (8 * n)) → base ≤ 8 * n * i + j % (8 * n) → (8 * n * i + j % (8 * n) - base < k - base) ⊎ (k - base + 8 ≤ 8 * n * i + j % (8 * n) - base)
+    side j (inl l) from = inl (omega (arith, rest, l, from, start, low))
+    side j (inr l) from = inr (omega (arith, rest, l, from, start, low))
+
+    go : (j : ℕ) → (j % (8 * n) < k % (8 * n)) ⊎ (k % (8 * n) + 8 ≤ j % (8 * n)) → bit_with_word n chunk base count new (8 * n * i + j % (8 * n)) ≡ bit_with_word n chunk base count word (8 * n * i + j % (8 * n))
+    go j out = elim (cases_word base count (8 * n * i + j % (8 * n))) [
+      | inl h ↦ in_word n chunk base count new _ h.0 h.1 ∙ (ap (λ b. eqb b 1) (others _ (omega (arith, h, short)) (side j out h.0)) ∙ sym (in_word n chunk base count word _ h.0 h.1))
+      | inr h ↦ out_word n chunk base count new _ h ∙ sym (out_word n chunk base count word _ h)
     ]
 
 -- the word is put into its chunk
@@ -167,6 +201,46 @@ cleared_other word t s h u ne =
     let l = bit_at-lt word s in
     grind arith
 
+-- a byte that is written to a word
+module _ (word at byte : ℕ) (fits : at + 8 ≤ 64) (small : byte < 2 ^ 8) where
+  shifted_low : (x i : ℕ) → i < at → bit_at (x * 2 ^ at % 2 ^ 64) i ≡ 0
+  shifted_low x i h =
+      let e : x * 2 ^ at ≡ x * 2 ^ at + 0 = omega arith in
+      bit_at_mod 64 (x * 2 ^ at) i (omega (arith, fits, h)) ∙ (ap (λ y. bit_at y i) e ∙ (bit_at_cat_low x at 0 i h ∙ bit_at-zero i))
+
+  shifted_high : (x i : ℕ) → i < 64 → at ≤ i → bit_at (x * 2 ^ at % 2 ^ 64) i ≡ bit_at x (i - at)
+  shifted_high x i u h =
+      let e : x * 2 ^ at ≡ x * 2 ^ at + 0 = omega arith in
+      bit_at_mod 64 (x * 2 ^ at) i u ∙ (ap (λ y. bit_at y i) e ∙ bit_at_cat_high x at 0 i (pow_pos at) h)
+
+  abbrev mask : ℕ
+  mask = 255 * 2 ^ at % 2 ^ 64
+
+  kept : (i : ℕ) → i < 64 → bit_at (bit_or (bit_and word (2 ^ 64 - 1 - mask)) (byte * 2 ^ at % 2 ^ 64)) i ≡ max (min (bit_at word i) (1 - bit_at mask i)) (bit_at (byte * 2 ^ at % 2 ^ 64) i)
+  kept i u =
+      let below : mask < 2 ^ 64 = mod_below (255 * 2 ^ at) (2 ^ 64) (pow_pos 64) in
+      bit_at_or (bit_and word (2 ^ 64 - 1 - mask)) (byte * 2 ^ at % 2 ^ 64) i
+      ∙ ap (λ b. max b (bit_at (byte * 2 ^ at % 2 ^ 64) i)) (bit_at_and word (2 ^ 64 - 1 - mask) i ∙ ap (min (bit_at word i)) (bit_at_not w64 mask i below u))
+
+  pub joined_here : (t : ℕ) → t < 8 → bit_at (bit_or (bit_and word (2 ^ 64 - 1 - 255 * 2 ^ at % 2 ^ 64)) (byte * 2 ^ at % 2 ^ 64)) (at + t) ≡ bit_at byte t
+  joined_here t h =
+      let back : at + t - at ≡ t = omega arith in
+      let ones : bit_at mask (at + t) ≡ 1 = shifted_high 255 (at + t) (omega (arith, fits, h)) (omega arith) ∙ (ap (bit_at 255) back ∙ bit_at_ones 8 t h) in
+      let bits : bit_at (byte * 2 ^ at % 2 ^ 64) (at + t) ≡ bit_at byte t = shifted_high byte (at + t) (omega (arith, fits, h)) (omega arith) ∙ ap (bit_at byte) back in
+      kept (at + t) (omega (arith, fits, h)) ∙ omega (arith, ones, bits)
+
+  pub joined_others : (i : ℕ) → i < 64 → (i < at) ⊎ (at + 8 ≤ i) → bit_at (bit_or (bit_and word (2 ^ 64 - 1 - 255 * 2 ^ at % 2 ^ 64)) (byte * 2 ^ at % 2 ^ 64)) i ≡ bit_at word i
+  joined_others i u (inl l) =
+      let none : bit_at mask i ≡ 0 = shifted_low 255 i l in
+      let bits : bit_at (byte * 2 ^ at % 2 ^ 64) i ≡ 0 = shifted_low byte i l in
+      let two = bit_at-lt word i in
+      kept i u ∙ omega (arith, none, bits, two)
+  joined_others i u (inr l) =
+      let none : bit_at mask i ≡ 0 = shifted_high 255 i u (omega (arith, l)) ∙ bit_at_ones_above 8 (i - at) (omega (arith, l)) in
+      let bits : bit_at (byte * 2 ^ at % 2 ^ 64) i ≡ 0 = shifted_high byte i u (omega (arith, l)) ∙ bit_at_above byte 8 (i - at) small (omega (arith, l)) in
+      let two = bit_at-lt word i in
+      kept i u ∙ omega (arith, none, bits, two)
+
 -- ---- a position of the cached word
 module _ (n : ℕ) (es : List (ℕ × List ℕ)) (base count word k : ℕ) (width : IsWidth n) (low : base ≤ k) (high : k < base + count) where
   -- its chunk is the cached one
@@ -214,6 +288,21 @@ module _ (n : ℕ) (es : List (ℕ × List ℕ)) (base count word k : ℕ) (widt
       let fits : k - base < 64 = omega (arith, ok.short, high, low) in
       let written = word_written n (stored i) base count word new i k false width.positive ok.low ok.high low high (ap (λ w. eqb (bit_at w (k - base)) 1) e ∙ cleared_here word (k - base) fits) (λ t h ne. ap (λ w. bit_at w t) e ∙ cleared_other word (k - base) t fits (omega (arith, h, ok.short)) ne) in
       subst (λ (j : ℕ). IfSome (lookup (nat_eq j) (with_word n es (Some i) base count word)) (λ chunk. IsSetIn n (with_word n es (Some i) base count word) (with_word n es (Some i) base count new) j chunk k false)) (sym (place i ok)) (cached_some n es (Some i) (chunk_with_word n (stored i) base count word i) (chunk_with_word n (stored i) base count new i) i k false cache (itself i) written)
+
+  -- a byte is written
+  pub joined_in : (j new byte : ℕ) (cached : Option ℕ) → j ≡ k / (8 * n) → k + 8 ≤ base + count → MatchOption cached (count ≡ 0) (IsWordOf n es base count)
+      → ((t : ℕ) → t < 8 → bit_at new (k - base + t) ≡ bit_at byte t) → ((t : ℕ) → t < 64 → (t < k - base) ⊎ (k - base + 8 ≤ t) → bit_at new t ≡ bit_at word t)
+      → IsByteSetIn n (with_word n es cached base count word) (with_word n es cached base count new) j k byte
+  unfolding stored
+  joined_in j new byte None e ends none here others = absurd (omega (arith, none, low, high))
+  joined_in j new byte (Some i) e ends ok here others = subst (λ (q : ℕ). IsByteSetIn n (with_word n es (Some i) base count word) (with_word n es (Some i) base count new) q k byte) (sym (e ∙ place i ok)) (record {
+    chunk = chunk_with_word n (stored i) base count word i;
+    found = found i ok;
+    bytes = chunk_with_word n (stored i) base count new i;
+    size = from_size n (bit_with_word n (stored i) base count new) i;
+    written = byte_written n (stored i) base count word new i k byte width.positive ok.low ok.high ok.short low ends here others;
+    edited = puts_here n es (Some i) (chunk_with_word n (stored i) base count word i) (chunk_with_word n (stored i) base count new i) i (word_cached n es base count i width ok) (itself i);
+  })
 
   pub some_in : (cached : Option ℕ) → MatchOption cached (count ≡ 0) (IsWordOf n es base count) → lookup (nat_eq (k / (8 * n))) (with_word n es cached base count word) ≡ None → ⊥
   some_in None none e = absurd (omega (arith, none, low, high))

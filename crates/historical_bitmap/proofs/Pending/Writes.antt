@@ -1,12 +1,12 @@
 -- The writes into chunks, as the code makes them, are edits of the pending edits.
-use Rattle.std.proofs.Common.{◌≡◌, ℕ, ◌+◌, ◌-◌, ◌*◌, ◌/◌, ◌%◌, ◌<◌, ◌≤◌, Bool, false, cond, List, [], ◌∷◌, ◌++◌, eqb, length, get_or, map, replicate, append_assoc, Some, None, refl, ap, sym, ◌∙◌, arith}
+use Rattle.std.proofs.Common.{◌≡◌, ℕ, ◌+◌, ◌-◌, ◌*◌, ◌/◌, ◌%◌, ◌<◌, ◌≤◌, Bool, false, cond, List, [], ◌∷◌, ◌++◌, eqb, length, get_or, map, replicate, append_assoc, Some, None, refl, ap, sym, ◌∙◌, arith, ◌^◌, set}
 use mathlib.Core.Logic.{inl, inr, ◌≢◌, ◌⊎◌}
 use Rattle.std.proofs.lemmas.Bool.{cases_lt, cases_eq, eq-eqb, ne_eqb, lt-ltb, le-ltb}
 use Rattle.std.proofs.lemmas.Option.{same_Some}
-use Rattle.std.proofs.lemmas.List.{get_or_past, get_or-replicate, append-nil}
+use Rattle.std.proofs.lemmas.List.{get_or_past, get_or-replicate, get_or-set_other, get_or-set_same, length-replicate, append-nil}
 use Rattle.std.proofs.lemmas.List.FromFn.{get_or-map-range_with_len, length-map-range_with_len, map-range_with_len_more}
 use Rattle.std.proofs.lemmas.Nat.{mul-le, mod_below}
-use Rattle.std.proofs.lemmas.Nat.Bits.{bit_at-zero}
+use Rattle.std.proofs.lemmas.Nat.Bits.{bit_at_above, bit_at-zero}
 use Rattle.std.specs.Prelude.{nat_lt, nat_eq, Option, MatchOption, IfSome}
 use Rattle.std.proofs.Math.Nat.{mod-eq_of_lt}
 use Rattle.std.specs.Int.{bit_at as bit_at_byte}
@@ -16,6 +16,8 @@ use Rattle.std.specs.Option.{option_map}
 use Rattle.bitmap_bytes.specs.Chunk.{bytes_bit, byte_bits, chunk_bit, chunk_bits, IsChunk, IsByteJoined}
 use Rattle.bitmap_core.specs.PrunedBits.{PrunedBits, pruned_bits, bit_len, bit_at, chunk, truncated, IsRetained}
 use Rattle.bitmap_bytes.proofs.Bytes.Made.{map_range_same}
+use Rattle.bitmap_bytes.proofs.Bytes.Shifted.{bit_at_shr}
+use Rattle.bitmap_bytes.proofs.Chunks.Bits.{mod_parts}
 use Rattle.bitmap_core.proofs.Pruned.Positions.{place, bit_past}
 use Rattle.bitmap_core.proofs.Pruned.Edits.{bit_truncated}
 use Rattle.chunk_map.specs.Entries.{Puts}
@@ -258,3 +260,40 @@ module _ (n : ℕ) (b : PrunedBits) (l : PendingEdits) (byte : ℕ) (pos : 0 < n
   pub appends_byte : (m : PendingEdits) → m.len ≡ l.len + 8 → m.pruned ≡ l.pruned → m.captured ≡ l.captured → IsByteSetIn n l.edited m.edited (l.len / (8 * n)) l.len byte → Appends n b l (byte_bits byte) m
   appends_byte m len pruned captured set =
       appends_one n b l m (byte_bits byte) pos (omega arith) len pruned captured set.bytes (omega (arith, space)) (byte_has set.chunk set.bytes set.found set.size set.written) set.edited
+
+-- the chunk of the bits of a byte from bit `from` on
+module _ (n byte from i : ℕ) (pos : 0 < n) (within : from < 8) (small : byte < 2 ^ 8) where
+  abbrev rest : ℕ
+  rest = i % (8 * n)
+
+  whole : rest ≡ i / 8 % n * 8 + i % 8
+  whole = mod_parts n i pos
+
+  past : 8 ≤ from + rest → bytes_bit (byte ∷ []) (from + rest) ≡ false
+  past h =
+      let far : 1 ≤ (from + rest) / 8 = omega (arith, h) in
+      rw (get_or_past (byte ∷ []) ((from + rest) / 8) 0 far, bit_at-zero ((from + rest) % 8)) refl
+
+  near : from + rest < 8 → bytes_bit (byte ∷ []) (from + rest) ≡ eqb (bit_at_byte byte (from + rest)) 1
+  near h =
+      let zero : (from + rest) / 8 ≡ 0 = omega (arith, h) in
+      let same : (from + rest) % 8 ≡ from + rest = mod-eq_of_lt {n = from + rest} {m = 8} h in
+      rw (zero, same) refl
+
+  in_first : i / 8 % n ≡ 0 → eqb (bit_at_byte (byte / 2 ^ from) (i % 8)) 1 ≡ bytes_bit (byte ∷ []) (from + rest)
+  in_first z =
+      let at : i % 8 + from ≡ from + rest = omega (arith, whole, z) in
+      ap (λ b. eqb b 1) (bit_at_shr byte from (i % 8) ∙ ap (bit_at_byte byte) at) ∙ elim (cases_lt (from + rest) 8) [
+        | inl h ↦ sym (near h)
+        | inr h ↦ ap (λ b. eqb b 1) (bit_at_above byte 8 (from + rest) small h) ∙ sym (past h)
+      ]
+
+  pub byte_rest : chunk_bit n (set (replicate n 0) 0 (byte / 2 ^ from)) i ≡ bytes_bit (byte ∷ []) (from + i % (8 * n))
+  byte_rest = elim (cases_eq (i / 8 % n) 0) [
+    | inl z ↦
+        let here : get_or (set (replicate n 0) 0 (byte / 2 ^ from)) (i / 8 % n) 0 ≡ byte / 2 ^ from = ap (λ (k : ℕ). get_or (set (replicate n 0) 0 (byte / 2 ^ from)) k 0) z ∙ get_or-set_same (replicate n 0) 0 (byte / 2 ^ from) 0 (omega (arith, pos, length-replicate {A = ℕ} n 0)) in
+        ap (λ b. eqb (bit_at_byte b (i % 8)) 1) here ∙ in_first z
+    | inr ne ↦
+        let zero : get_or (set (replicate n 0) 0 (byte / 2 ^ from)) (i / 8 % n) 0 ≡ 0 = get_or-set_other (replicate n 0) 0 (i / 8 % n) (byte / 2 ^ from) 0 ne ∙ get_or-replicate {A = ℕ} n (i / 8 % n) 0 0 (mod_below (i / 8) n pos) in
+        ap (λ b. eqb (bit_at_byte b (i % 8)) 1) zero ∙ (ap (λ b. eqb b 1) (bit_at-zero (i % 8)) ∙ sym (past (omega (arith, whole, ne))))
+  ]

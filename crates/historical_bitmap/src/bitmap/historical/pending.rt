@@ -1,6 +1,6 @@
 //! The pending edits of a batch.
 
-ghost use Rattle.std.specs.Prelude.{◌≡◌, ℕ, ◌+◌, ◌-◌, ◌*◌, ◌/◌, ◌%◌, ◌^◌, ◌<◌, ◌≤◌, ◌++◌, List, length, map, true, false, if◌then◌else◌, nat_lt, IfOk, IfSome, MatchOption, None, OnOk, OnErr, IsOk, IsSome, nat_eq, unwrap_or, slice_index, [], vec_len, vec_capacity};
+ghost use Rattle.std.specs.Prelude.{◌≡◌, ℕ, ◌+◌, ◌-◌, ◌*◌, ◌/◌, ◌%◌, ◌^◌, ◌<◌, ◌≤◌, ◌++◌, ◌∷◌, List, length, map, true, false, if◌then◌else◌, nat_lt, IfOk, IfSome, MatchOption, None, OnOk, OnErr, IsOk, IsSome, nat_eq, unwrap_or, slice_index, [], vec_len, vec_capacity};
 ghost use Rattle.std.specs.List.{range_with_len};
 ghost use Rattle.std.specs.List.Sorted.{IsStrictlySortedBy};
 ghost use Rattle.std.specs.Map.{keys_of, lookup};
@@ -177,6 +177,28 @@ fn record_edited<const N: usize>(
     record_range(record, edits, current, first, past)?;
     record_map(record, edits, current, others, past, to)?;
     Ok(())
+}
+
+// Returns the chunk of the bits from bit `from` on of a byte, and zeros past them.
+fn rest_of_byte<const N: usize>(byte: u8, from: u64) -> [u8; N]
+    requires width { IsWidth N }
+    requires within { from < 8 }
+    ensures { (i : ℕ) → chunk_bit N result i ≡ bytes_bit (byte ∷ []) (from + i % (8 * N)) }
+{
+    let mut chunk = [0; N];
+    chunk[0] = byte >> from;
+    chunk
+}
+
+// Returns the chunk of the bits from bit `from` on of some bytes, and zeros past them. That of one byte is made without a loop.
+fn rest_of<const N: usize>(bytes: &[u8], from: u64) -> [u8; N]
+    requires width { IsWidth N }
+    ensures { (i : ℕ) → chunk_bit N result i ≡ bytes_bit (bytes.now ++ []) (from + i % (8 * N)) }
+{
+    if bytes.len() == 1 && from < 8 {
+        return rest_of_byte(bytes[0], from);
+    }
+    chunk_from(bytes, &[], from)
 }
 
 impl<const N: usize> Dirty<N> {
@@ -375,7 +397,7 @@ impl<const N: usize> Dirty<N> {
             self.len = len + count;
             return Ok(());
         }
-        let rest = chunk_from(bytes, &[], space);
+        let rest = rest_of(bytes, space);
         known(&rest);
         self.edited.write_two(first, begun, rest)?;
         self.len = len + count;

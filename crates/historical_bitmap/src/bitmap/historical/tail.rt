@@ -1,6 +1,7 @@
 //! The edited chunks of a batch, with the word that single pushes and pops write to.
 
-ghost use Rattle.std.specs.Prelude.{◌≡◌, ℕ, ◌+◌, ◌-◌, ◌*◌, ◌/◌, ◌%◌, ◌^◌, ◌<◌, ◌≤◌, ◌&&◌, ◌++◌, [], List, length, replicate, Option, Some, None, IfOk, IfSome, OnOk, OnErr, IsOk, IsSome, if◌then◌else◌, nat_eq, nat_le, nat_lt, true, false};
+ghost use Rattle.std.specs.Prelude.{◌≡◌, ℕ, ◌+◌, ◌-◌, ◌*◌, ◌/◌, ◌%◌, ◌^◌, ◌<◌, ◌≤◌, ◌&&◌, ◌++◌, ◌⊎◌, [], List, length, replicate, Option, Some, None, IfOk, IfSome, OnOk, OnErr, IsOk, IsSome, if◌then◌else◌, nat_eq, nat_le, nat_lt, true, false};
+ghost use Rattle.std.specs.Int.{bit_at};
 ghost use Rattle.std.specs.List.Sorted.{IsStrictlySortedBy};
 ghost use Rattle.std.specs.Map.{keys_of, lookup};
 ghost use Rattle.std.specs.Option.{option_map};
@@ -72,6 +73,25 @@ fn mask_if(at: u64, value: bool) -> u64
     ensures { result ≡ (if value then 2 ^ at else 0) }
 {
     (value as u64) << at
+}
+
+// Returns whether the eight bits from a position on are among `count` positions from `base` on.
+#[inline]
+fn has_byte(base: u64, count: u64, bit: u64) -> bool
+    requires { base + count ≤ 2 ^ 64 }
+    ensures { result ≡ true → (base ≤ bit) × (bit + 8 ≤ base + count) }
+{
+    is_within(base, count, bit) && count - (bit - base) >= 8
+}
+
+// Returns a word with the eight bits of a byte from bit `at` on. Its other bits do not change.
+#[inline]
+fn with_byte(word: u64, at: u64, byte: u8) -> u64
+    requires { at + 8 ≤ 64 }
+    ensures here { (t : ℕ) → t < 8 → bit_at result (at + t) ≡ bit_at byte t }
+    ensures others { (t : ℕ) → t < 64 → (t < at) ⊎ (at + 8 ≤ t) → bit_at result t ≡ bit_at word t }
+{
+    word & !(255 << at) | (byte as u64) << at
 }
 
 // Returns a tail without a word.
@@ -394,12 +414,35 @@ impl<const N: usize> TailChunks<N> {
     #[inline]
     pub(crate) fn join_byte(&mut self, index: usize, bit: u64, byte: u8) -> bool
         requires width { IsWidth N }
+        requires index { index ≡ bit / (8 * N) }
         requires space { bit % (8 * N) + 8 ≤ 8 * N }
+        requires fits { bit + 8 < 2 ^ 64 }
+        ensures written { result ≡ true → IsByteSetIn N self.old self.new index bit byte }
+        ensures other { result ≡ false → self.new ≡ self.old }
+    {
+        if has_byte(self.tail.base, self.tail.count, bit) {
+            self.tail.word = with_byte(self.tail.word, bit - self.tail.base, byte);
+            return true;
+        }
+        self.join_other(index, bit, byte)
+    }
+
+    // As `join_byte`, for a byte that is not in the cached word. Caches the word of its last bit. It is kept out of the way of the others.
+    #[inline(never)]
+    fn join_other(&mut self, index: usize, bit: u64, byte: u8) -> bool
+        requires width { IsWidth N }
+        requires index { index ≡ bit / (8 * N) }
+        requires space { bit % (8 * N) + 8 ≤ 8 * N }
+        requires fits { bit + 8 < 2 ^ 64 }
         ensures written { result ≡ true → IsByteSetIn N self.old self.new index bit byte }
         ensures other { result ≡ false → self.new ≡ self.old }
     {
         settle(&mut self.chunks, &mut self.tail);
-        self.chunks.join_byte(index, bit, byte)
+        if !self.chunks.join_byte(index, bit, byte) {
+            return false;
+        }
+        self.tail = load(&self.chunks, index, bit + 7);
+        true
     }
 
     // Inserts or replaces the chunk at an index. Does not allocate, and succeeds, if there is a chunk.

@@ -1,8 +1,9 @@
-use Rattle.std.proofs.Common.{sym}
-use Rattle.historical_bitmap.proofs.EditedChunks.CachedWord.{byte_between, no_word}
+use Rattle.std.proofs.Common.{arith, sym}
+use Rattle.historical_bitmap.proofs.EditedChunks.CachedWord.{joined_in}
 use Rattle.historical_bitmap.proofs.bitmap.historical.tail.TailChunks.join_byte.Goals as goal
 
-pub returns-clause-written : goal.returns-clause-written
-returns-clause-written g c =
-    let t = c.settle.new.tail in
-    λ e. rw (sym c.self.view_is) (byte_between g.row.N _ c.settle.new.chunks c.join_byte.new.self _ c.args.index c.args.bit c.args.byte c.settle.ensures.value (no_word g.row.N c.join_byte.new.self t.cached t.base t.count t.word c.settle.ensures.cached) (c.join_byte.ensures.written e))
+pub returns-then-has_byte-clause-written : goal.returns-then-has_byte-clause-written
+returns-then-has_byte-clause-written g c =
+    let t = c.self.inside.tail in
+    let h = c.has_byte.ensures c.if-has_byte.true in
+    λ e. rw (sym c.self.view_is) (joined_in g.row.N c.self.inside.chunks t.base t.count t.word c.args.bit c.requires.width h.0 (omega (arith, h)) c.args.index _ c.args.byte t.cached c.requires.index h.1 c.self.invariant.word c.with_byte-self-inside.ensures.here c.with_byte-self-inside.ensures.others)
