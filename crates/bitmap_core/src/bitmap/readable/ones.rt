@@ -288,15 +288,18 @@ impl<'a, B: Readable<N>, const N: usize> Iterator for OnesIter<'a, B, N> {
     ghost remaining = { item_count (λ s. s.left) };
 
     fn next(&mut self) -> Option<u64> {
-        self.run = advance(
-            self.readable,
-            self.end,
-            self.wanted,
-            self.run,
-            &mut self.cursor,
-        );
+        // Within a word nothing else changes, so the compiler need not store it.
         if self.cursor.word == 0 {
-            return None;
+            self.run = advance(
+                self.readable,
+                self.end,
+                self.wanted,
+                self.run,
+                &mut self.cursor,
+            );
+            if self.cursor.word == 0 {
+                return None;
+            }
         }
         let place = take_lowest(&mut self.cursor.word);
         Some(self.cursor.base + place)
