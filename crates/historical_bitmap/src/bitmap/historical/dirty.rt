@@ -297,6 +297,35 @@ impl<const N: usize> BitMap<N, Dirty<N>> {
         ensures edit { IsEditOf N self.old Pop self.new }
     {
         let _ = self.current.len();
+        match self.state.pop_cached() {
+            Some(value) => value,
+            None => self.pop_uncached(),
+        }
+    }
+
+    // As `pop`, mostly for a bit that is not in the cached word.
+    #[inline]
+    fn pop_uncached(&mut self) -> bool
+        requires { 0 < length (pending_of N self.old).bits }
+        ensures value { result ≡ last_bit (pending_of N self.old) }
+        ensures edit { IsEditOf N self.old Pop self.new }
+    {
+        let last = self.state.len() - 1;
+        if self.state.pop_unedited() {
+            return self.current.get_bit(last);
+        }
+        self.pop_other()
+    }
+
+    // As `pop`, mostly for a batch with edited chunks. As a cold call it is kept out of the way of the others, which so need no stack frame.
+    #[cold]
+    #[inline(never)]
+    fn pop_other(&mut self) -> bool
+        requires { 0 < length (pending_of N self.old).bits }
+        ensures value { result ≡ last_bit (pending_of N self.old) }
+        ensures edit { IsEditOf N self.old Pop self.new }
+    {
+        let _ = self.current.len();
         let last = self.state.len() - 1;
         match self.state.pop() {
             Some(value) => value,

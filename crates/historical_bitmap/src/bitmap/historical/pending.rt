@@ -1,6 +1,6 @@
 //! The pending edits of a batch.
 
-ghost use Rattle.std.specs.Prelude.{◌≡◌, ℕ, ◌+◌, ◌-◌, ◌*◌, ◌/◌, ◌%◌, ◌^◌, ◌<◌, ◌≤◌, ◌++◌, ◌∷◌, List, length, map, true, false, if◌then◌else◌, nat_lt, IfOk, IfSome, MatchOption, None, OnOk, OnErr, IsOk, IsSome, nat_eq, unwrap_or, slice_index, [], vec_len, vec_capacity};
+ghost use Rattle.std.specs.Prelude.{◌≡◌, ℕ, ◌+◌, ◌-◌, ◌*◌, ◌/◌, ◌%◌, ◌^◌, ◌<◌, ◌≤◌, ◌++◌, ◌∷◌, List, length, map, true, false, if◌then◌else◌, nat_lt, IfOk, IfSome, MatchOption, None, Some, OnOk, OnErr, IsOk, IsSome, nat_eq, unwrap_or, slice_index, [], vec_len, vec_capacity};
 ghost use Rattle.std.specs.List.{range_with_len};
 ghost use Rattle.std.specs.List.Sorted.{IsStrictlySortedBy};
 ghost use Rattle.std.specs.Map.{keys_of, lookup};
@@ -306,8 +306,39 @@ impl<const N: usize> Dirty<N> {
         Ok(())
     }
 
-    // Removes the last bit, and returns it if its chunk is edited. Does not allocate.
+    // Removes the last bit and returns it, if it is in the cached word and is not the first of its chunk.
     #[inline]
+    pub(crate) fn pop_cached(&mut self) -> Option<bool>
+        requires some { 0 < self.old.len }
+        ensures pops { IfSome result (λ bit. Pops N self.old self.new) }
+        ensures bit { IfSome result (λ bit. Some bit ≡ option_map (λ bytes. chunk_bit N bytes (self.old.len - 1)) (edited_chunk self.old ((self.old.len - 1) / (8 * N)))) }
+        ensures none { result ≡ None → self.new ≡ self.old }
+    {
+        let last = self.len - 1;
+        if last % chunk_width::<N>() == 0 {
+            return None;
+        }
+        let bit = self.edited.clear_cached(last)?;
+        self.len = last;
+        Some(bit)
+    }
+
+    // Removes the last bit, if no chunk is edited. Returns whether none is.
+    #[inline]
+    pub(crate) fn pop_unedited(&mut self) -> bool
+        requires some { 0 < self.old.len }
+        ensures pops { result ≡ true → Pops N self.old self.new }
+        ensures unedited { result ≡ true → edited_chunk self.old ((self.old.len - 1) / (8 * N)) ≡ None }
+        ensures other { result ≡ false → self.new ≡ self.old }
+    {
+        if !self.edited.is_empty() {
+            return false;
+        }
+        self.len -= 1;
+        true
+    }
+
+    // Removes the last bit, and returns it if its chunk is edited. Does not allocate.
     pub(crate) fn pop(&mut self) -> Option<bool>
         requires some { 0 < self.old.len }
         requires last { (q : ℕ) → self.old.len ≤ 8 * N * q → edited_chunk self.old q ≡ None }
@@ -318,10 +349,10 @@ impl<const N: usize> Dirty<N> {
         let index = chunk_index::<N>(last);
         self.len = last;
         if last % chunk_width::<N>() == 0 {
-            return match self.edited.remove(index) {
-                Some(bytes) => Some(get_bit(&bytes, last)),
-                None => None,
-            };
+            let bytes = self.edited.remove(index)?;
+            // The next pop, if any, is of this word.
+            self.edited.cache_word(last.saturating_sub(1));
+            return Some(get_bit(&bytes, last));
         }
         self.edited.clear_bit(last)
     }

@@ -371,18 +371,31 @@ impl<const N: usize> TailChunks<N> {
         Ok(())
     }
 
-    // Clears a bit and returns its old value, if its chunk is edited. Does not allocate.
+    // Clears a bit and returns its old value, if it is in the cached word.
     #[inline]
+    pub(crate) fn clear_cached(&mut self, bit: u64) -> Option<bool>
+        requires width { IsWidth N }
+        ensures bit { IfSome result (λ old. Some old ≡ option_map (λ chunk. chunk_bit N chunk bit) (lookup (nat_eq (bit / (8 * N))) self.old)) }
+        ensures none { result ≡ None → self.new ≡ self.old }
+        ensures some { IfSome result (λ old. IfSome (lookup (nat_eq (bit / (8 * N))) self.old) (λ chunk. IsSetIn N self.old self.new (bit / (8 * N)) chunk bit false)) }
+    {
+        if is_within(self.tail.base, self.tail.count, bit) {
+            let mask = mask_if(bit - self.tail.base, true);
+            let old = self.tail.word & mask != 0;
+            self.tail.word &= !mask;
+            return Some(old);
+        }
+        None
+    }
+
+    // Clears a bit and returns its old value, if its chunk is edited. Does not allocate.
     pub(crate) fn clear_bit(&mut self, bit: u64) -> Option<bool>
         requires width { IsWidth N }
         ensures bit { result ≡ option_map (λ chunk. chunk_bit N chunk bit) (lookup (nat_eq (bit / (8 * N))) self.old) }
         ensures none { lookup (nat_eq (bit / (8 * N))) self.old ≡ None → self.new ≡ self.old }
         ensures some { IfSome (lookup (nat_eq (bit / (8 * N))) self.old) (λ chunk. IsSetIn N self.old self.new (bit / (8 * N)) chunk bit false) }
     {
-        if is_within(self.tail.base, self.tail.count, bit) {
-            let mask = mask_if(bit - self.tail.base, true);
-            let old = self.tail.word & mask != 0;
-            self.tail.word &= !mask;
+        if let Some(old) = self.clear_cached(bit) {
             return Some(old);
         }
         if self.is_empty() {
@@ -501,6 +514,15 @@ impl<const N: usize> TailChunks<N> {
     {
         settle(&mut self.chunks, &mut self.tail);
         self.chunks.remove(index)
+    }
+
+    // Caches the word of a bit, if its chunk is edited. Does not allocate.
+    pub(crate) fn cache_word(&mut self, bit: u64)
+        requires width { IsWidth N }
+        ensures same { self.new ≡ self.old }
+    {
+        settle(&mut self.chunks, &mut self.tail);
+        self.tail = load(&self.chunks, chunk_index::<N>(bit), bit);
     }
 
     // Returns the map of the chunks beside the appended run, and the part of the run from index `from` up to `to`: its first index, and the one past its last.

@@ -1,8 +1,8 @@
 use Rattle.std.proofs.Common.{◌-◌, ◌^◌, Some, not, eqb, bit_and, ap, sym, ◌∙◌}
 use Rattle.bitmap_bytes.proofs.Bytes.Bits.{bit_test}
 use Rattle.historical_bitmap.proofs.EditedChunks.AppendedRun.{inside}
-use Rattle.historical_bitmap.proofs.EditedChunks.CachedWord.{cleared_in, read_in, some_in}
-use Rattle.historical_bitmap.proofs.bitmap.historical.tail.TailChunks.clear_bit.Goals as goal
+use Rattle.historical_bitmap.proofs.EditedChunks.CachedWord.{cleared_in, read_in}
+use Rattle.historical_bitmap.proofs.bitmap.historical.tail.TailChunks.clear_cached.Goals as goal
 
 pub returns-then-is_within-clause-bit : goal.returns-then-is_within-clause-bit
 returns-then-is_within-clause-bit g c =
@@ -10,12 +10,6 @@ returns-then-is_within-clause-bit g c =
     let h = inside t.base t.count c.args.bit (sym c.is_within.ensures ∙ c.if-is_within.true) in
     let bit = ap (λ m. not (eqb (bit_and t.word m) 0)) c.mask_if-mask.ensures ∙ bit_test t.word (c.args.bit - t.base) in
     rw (sym c.self.view_is) (ap Some bit ∙ read_in g.row.N c.self.inside.chunks t.base t.count t.word c.args.bit c.requires.width h.0 h.1 t.cached c.self.invariant.word)
-
-pub returns-then-is_within-clause-none : goal.returns-then-is_within-clause-none
-returns-then-is_within-clause-none g c =
-    let t = c.self.inside.tail in
-    let h = inside t.base t.count c.args.bit (sym c.is_within.ensures ∙ c.if-is_within.true) in
-    rw (sym c.self.view_is) (λ e. absurd (some_in g.row.N c.self.inside.chunks t.base t.count t.word c.args.bit c.requires.width h.0 h.1 t.cached c.self.invariant.word e))
 
 pub returns-then-is_within-clause-some : goal.returns-then-is_within-clause-some
 returns-then-is_within-clause-some g c =
