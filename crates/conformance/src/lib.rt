@@ -20,6 +20,8 @@ mod dense_helpers;
 #[cfg(test)]
 mod ends;
 #[cfg(test)]
+mod long_equality;
+#[cfg(test)]
 mod long_iterations;
 #[cfg(test)]
 mod long_searches;

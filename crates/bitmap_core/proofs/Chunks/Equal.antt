@@ -1,9 +1,7 @@
 -- Equality of runs of chunks.
-use Rattle.std.proofs.Common.{◌≡◌, ℕ, suc, ◌<◌, Bool, List, [], ◌∷◌, ◌++◌, eqb, length, get_or, append_assoc, take, drop, refl, sym, ap, ◌∙◌, arith}
+use Rattle.std.proofs.Common.{◌≡◌, ℕ, suc, ◌<◌, Bool, List, [], ◌∷◌, ◌++◌, length, get_or, append_assoc, take, drop, refl, sym, ap, ◌∙◌, arith}
 use Rattle.std.specs.Bool.{Decides}
 use Rattle.std.specs.List.{flat_map}
-use Rattle.std.specs.Cmp.Lexicographic.{pointwise, pointwise_decides}
-use Rattle.std.proofs.lemmas.Bool.Decides.{Decides-eqb}
 use Rattle.std.proofs.lemmas.List.{ext_get_or, get_or_default, take-append-drop}
 use Rattle.std.proofs.Math.Seq.{take-append_seam, drop-append_seam}
 use Rattle.bitmap_bytes.specs.Bits.{chunks_bit, AreChunks}
@@ -29,7 +27,7 @@ pub same_bits_decided : (n : ℕ) (r : Bool) (xs ys : List (List ℕ)) → 0 < n
     → Decides r ((k : ℕ) → chunks_bit n xs k ≡ chunks_bit n ys k)
 same_bits_decided n r xs ys p l f g d = (λ q k. ap (λ zs. chunks_bit n zs k) (d.0 q), λ h. d.1 (chunks_from_bits n xs ys p l f g h))
 
-append_split : {A : Type 0} (fs gs xs ys : List A) → length fs ≡ length xs → fs ++ gs ≡ xs ++ ys → (fs ≡ xs) × (gs ≡ ys)
+pub append_split : {A : Type 0} (fs gs xs ys : List A) → length fs ≡ length xs → fs ++ gs ≡ xs ++ ys → (fs ≡ xs) × (gs ≡ ys)
 append_split fs gs xs ys l e = (
   sym (take-append_seam fs gs) ∙ ap (λ k. take k (fs ++ gs)) l ∙ ap (λ zs. take (length xs) zs) e ∙ take-append_seam xs ys,
   sym (drop-append_seam fs gs) ∙ ap (λ k. drop k (fs ++ gs)) l ∙ ap (λ zs. drop (length xs) zs) e ∙ drop-append_seam xs ys,
@@ -47,13 +45,12 @@ chunks_from_bytes n (x ∷ xs) (y ∷ ys) l f g e =
     ap (λ z. z ∷ xs) s.0
     ∙ ap (λ zs. y ∷ zs) (chunks_from_bytes n xs ys (omega arith) (λ i h. f (suc i) (omega arith)) (λ i h. g (suc i) (omega arith)) s.1)
 
--- chunks with equal bytes are equal
-pub bytes_decided : (n : ℕ) (r : Bool) (xs ys : List (List ℕ)) → length xs ≡ length ys → AreChunks n xs → AreChunks n ys
-    → r ≡ pointwise eqb (flat_map (λ x. x) xs) (flat_map (λ x. x) ys)
+-- comparing the bytes of chunks is comparing the chunks
+pub bytes_decided : (n : ℕ) (r : Bool) (xs ys : List (List ℕ)) (us vs : List ℕ) → length xs ≡ length ys → AreChunks n xs → AreChunks n ys
+    → us ≡ flat_map (λ x. x) xs → vs ≡ flat_map (λ x. x) ys → Decides r (us ≡ vs)
     → Decides r (xs ≡ ys)
-bytes_decided n r xs ys l f g e =
-    let d = pointwise_decides Decides-eqb (flat_map (λ x. x) xs) (flat_map (λ x. x) ys) in
-    (λ q. chunks_from_bytes n xs ys l f g (d.0 (sym e ∙ q)), λ q. e ∙ d.1 (ap (λ zs. flat_map (λ x. x) zs) q))
+bytes_decided n r xs ys us vs l f g u v d =
+    (λ q. chunks_from_bytes n xs ys l f g (sym u ∙ d.0 q ∙ v), λ q. d.1 (u ∙ ap (λ zs. flat_map (λ x. x) zs) q ∙ sym v))
 
 -- a list is its two parts, one after the other
 pub parts_of : {A : Type 0} (xs low high : List A) (k : ℕ) → low ≡ take k xs → high ≡ drop k xs → xs ≡ low ++ high

@@ -7,6 +7,7 @@ mod append;
 mod bits;
 mod bools;
 mod counts;
+mod equality;
 mod every;
 mod growth;
 mod pairs;

@@ -7,6 +7,7 @@ ghost use Rattle.bitmap_bytes.specs.Bits.{chunks_bit, AreChunks};
 ghost use Rattle.bitmap_bytes.specs.Chunk.{chunk_bit};
 ghost use Rattle.bitmap_bytes.specs.Combined.{IsCombined};
 
+use crate::bitmap::deque::equality::bytes_equal;
 use crate::bitmap::deque::runs::slices;
 use crate::chunk::facts::all_known;
 use crate::chunk::whole::{self, Bitwise};
@@ -142,7 +143,7 @@ fn slices_equal<const N: usize>(a: &[[u8; N]], b: &[[u8; N]]) -> bool
 {
     all_known(a);
     all_known(b);
-    a.as_flattened() == b.as_flattened()
+    bytes_equal(a.as_flattened(), b.as_flattened())
 }
 
 // Feeds each chunk to a hasher, in order.
