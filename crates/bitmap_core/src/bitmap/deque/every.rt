@@ -14,6 +14,9 @@ use crate::chunk::whole::{self, Bitwise};
 use std::collections::VecDeque;
 use std::hash::Hasher;
 
+// The least width, in bytes, of chunks that are combined one by one.
+const WIDE: usize = 32;
+
 // Inverts every bit.
 pub fn flip<const N: usize>(chunks: &mut VecDeque<[u8; N]>)
     requires { 0 < N }
@@ -76,12 +79,16 @@ pub fn combine<B: Bitwise, const N: usize>(
     combine_slices::<B, N>(tail, back);
 }
 
-// Sixteen chunks per step, as in `flip_slice`.
+// Sixteen chunks per step, as in `flip_slice`. The copy of so many wide chunks takes time, so these are combined one by one.
 fn combine_slices<B: Bitwise, const N: usize>(chunks: &mut [[u8; N]], others: &[[u8; N]])
     requires positive { 0 < N }
     requires same { length chunks.old ≡ length others.now }
     ensures { IsCombined N B.gives chunks.old others.now chunks.new }
 {
+    if N >= WIDE {
+        combine_some::<B, N>(chunks, others, 0);
+        return;
+    }
     let groups = chunks.len() / 16;
     for i in 0..groups {
         // A copy, so that the compiler knows that no write changes `others`: it combines all sixteen at once.
@@ -101,7 +108,8 @@ fn combine_some<B: Bitwise, const N: usize>(chunks: &mut [[u8; N]], others: &[[u
     ensures above { (k : ℕ) → from + length others.now ≤ k → slice_index_or chunks.new k [] ≡ slice_index_or chunks.old k [] }
 {
     for i in 0..others.len() {
-        whole::combine::<B, N>(&mut chunks[from + i], &others[i]);
+        let theirs = others[i];
+        whole::combine::<B, N>(&mut chunks[from + i], &theirs);
     }
 }
 

@@ -7,10 +7,10 @@ loop-i-preserved g c =
     let theirs : c.unwrap-theirs.result ≡ take 16 (drop (16 * c.loop-i.i) c.args.others.now) = search rules in
     let size : length c.unwrap-theirs.result ≡ 16 = run_length c.args.others.now c.unwrap-theirs.result (16 * c.loop-i.i) 16 theirs (omega arith) in
     record {
-      count = omega (arith, c.combine_some.ensures.count, c.loop-i.invariant.count);
-      done = λ k h. combined_run g.row.N g.B.Bitwise.gives c.args.chunks.now c.loop-i.chunks c.args.others.now c.unwrap-theirs.result c.combine_some.new.chunks (16 * c.loop-i.i) c.loop-i.invariant.done c.loop-i.invariant.rest
-          (run_of c.args.others.now c.unwrap-theirs.result (16 * c.loop-i.i) 16 theirs) c.combine_some.ensures.bits c.combine_some.ensures.below k (omega arith);
-      rest = λ k h. c.combine_some.ensures.above k (omega arith) ∙ c.loop-i.invariant.rest k (omega arith);
+      count = omega (arith, c.combine_some-in-loop-i.ensures.count, c.loop-i.invariant.count);
+      done = λ k h. combined_run g.row.N g.B.Bitwise.gives c.args.chunks.now c.loop-i.chunks c.args.others.now c.unwrap-theirs.result c.combine_some-in-loop-i.new.chunks (16 * c.loop-i.i) c.loop-i.invariant.done c.loop-i.invariant.rest
+          (run_of c.args.others.now c.unwrap-theirs.result (16 * c.loop-i.i) 16 theirs) c.combine_some-in-loop-i.ensures.bits c.combine_some-in-loop-i.ensures.below k (omega arith);
+      rest = λ k h. c.combine_some-in-loop-i.ensures.above k (omega arith) ∙ c.loop-i.invariant.rest k (omega arith);
     }
 
 pub returns : goal.returns
