@@ -1,5 +1,6 @@
 //! A call that appends many bytes.
 
+ghost use Rattle.bitmap_bytes.specs.Chunk.{IsWidth};
 ghost use Rattle.bitmap_c.specs.Calls.{CallsPushBytes, PushesAnyBytes, PushesBytes};
 
 use crate::any::AnySession;
@@ -12,6 +13,7 @@ use std::alloc::Global;
 // Pushes the bytes in order, up to the first one that is refused. Returns its status, and writes the number of bytes pushed.
 #[tactic(auto, unfolding(crate::specs::Calls::PushesBytes))]
 fn push_each<const N: usize>(session: &mut Session<N>, bytes: &[u8], count: &mut usize) -> u32
+    requires width { IsWidth N }
     ensures { PushesBytes N session.old bytes.now count.new result session.new }
 {
     for i in 0..bytes.len() {

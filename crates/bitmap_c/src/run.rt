@@ -1,6 +1,7 @@
 //! Commands that a session runs, with the status and the outputs of their replies.
 
 ghost use Rattle.std.specs.Prelude.{◌≡◌, length};
+ghost use Rattle.bitmap_bytes.specs.Chunk.{IsWidth};
 ghost use Rattle.bitmap_session.specs.Abstraction.{value_of};
 ghost use Rattle.bitmap_c.specs.Calls.{Serves, ServesChunk};
 ghost use Rattle.bitmap_c.specs.Reports.{Reports, ReportsBit, ReportsBytes, ReportsChunk, ReportsEntries, ReportsNumber, ReportsPrevious, bit_or, chunk_or, entries_or, number_or, previous_or, reply_status};
@@ -109,6 +110,7 @@ fn report_bytes<const N: usize>(reply: &Reply<N>, out: &mut [u8], size: &mut usi
 /// Runs a command, and returns the status of its reply.
 #[tactic(auto, unfolding(crate::specs::Calls::Serves, crate::specs::Reports::Reports))]
 pub fn run<const N: usize>(session: &mut Session<N>, command: Command<N>) -> u32
+    requires width { IsWidth N }
     ensures { Serves N session.old command.entry (Reports result) session.new }
 {
     reply_status(&session.serve(&command))
@@ -117,6 +119,7 @@ pub fn run<const N: usize>(session: &mut Session<N>, command: Command<N>) -> u32
 /// Runs a command, returns the status of its reply, and writes its bit.
 #[tactic(auto, unfolding(crate::specs::Calls::Serves, crate::specs::Reports::ReportsBit))]
 pub fn run_bit<const N: usize>(session: &mut Session<N>, command: Command<N>, bit: &mut u8) -> u32
+    requires width { IsWidth N }
     ensures { Serves N session.old command.entry (ReportsBit result bit.old bit.new) session.new }
 {
     report_bit(&session.serve(&command), bit)
@@ -129,6 +132,7 @@ pub fn run_number<const N: usize>(
     command: Command<N>,
     number: &mut u64,
 ) -> u32
+    requires width { IsWidth N }
     ensures { Serves N session.old command.entry (ReportsNumber result number.old number.new)
         session.new }
 {
@@ -143,6 +147,7 @@ pub fn run_bytes<const N: usize>(
     out: &mut [u8],
     size: &mut usize,
 ) -> u32
+    requires width { IsWidth N }
     ensures { Serves N session.old command.entry
         (ReportsBytes result size.old size.new out.old out.new) session.new }
 {
@@ -152,6 +157,7 @@ pub fn run_bytes<const N: usize>(
 /// Runs `Commit`, returns the status of its reply, and writes the last number if the reply has one.
 #[tactic(auto, unfolding(crate::specs::Calls::Serves, crate::specs::Reports::ReportsPrevious))]
 pub fn run_commit<const N: usize>(session: &mut Session<N>, number: u64, previous: &mut u64) -> u32
+    requires width { IsWidth N }
     ensures { Serves N session.old (Command.Commit number)
         (ReportsPrevious result previous.old previous.new) session.new }
 {
@@ -161,6 +167,7 @@ pub fn run_commit<const N: usize>(session: &mut Session<N>, number: u64, previou
 /// Runs `Entries`, returns the status of its reply, and writes the number of entries.
 #[tactic(auto, unfolding(crate::specs::Calls::Serves, crate::specs::Reports::ReportsEntries))]
 pub fn run_entries<const N: usize>(session: &mut Session<N>, entries: &mut u64) -> u32
+    requires width { IsWidth N }
     ensures { Serves N session.old Command.Entries (ReportsEntries result entries.old entries.new)
         session.new }
 {
@@ -170,6 +177,7 @@ pub fn run_entries<const N: usize>(session: &mut Session<N>, entries: &mut u64) 
 /// Runs `Chunk` if the buffer has the size of a chunk: returns the status of the reply, and writes its chunk.
 #[tactic(auto, unfolding(crate::specs::Calls::Serves, crate::specs::Calls::ServesChunk, crate::specs::Reports::ReportsChunk))]
 pub fn run_chunk<const N: usize>(session: &mut Session<N>, position: u64, out: &mut [u8]) -> u32
+    requires width { IsWidth N }
     ensures { ServesChunk N (length out.old) session.old (Command.Chunk position)
         (ReportsChunk result out.old out.new) ((result ≡ WRONG_SIZE) × (out.new ≡ out.old))
         session.new }
@@ -183,6 +191,7 @@ pub fn run_chunk<const N: usize>(session: &mut Session<N>, position: u64, out: &
 /// Runs `Push` in place, and returns the status of its reply.
 #[tactic(auto, unfolding(crate::specs::Calls::Serves, crate::specs::Reports::Reports))]
 pub fn run_push<const N: usize>(session: &mut Session<N>, bit: bool) -> u32
+    requires width { IsWidth N }
     ensures { Serves N session.old (Command.Push bit) (Reports result) session.new }
 {
     reply_status(&session.push(bit))
@@ -191,6 +200,7 @@ pub fn run_push<const N: usize>(session: &mut Session<N>, bit: bool) -> u32
 /// Runs `PushByte` in place, and returns the status of its reply.
 #[tactic(auto, unfolding(crate::specs::Calls::Serves, crate::specs::Reports::Reports))]
 pub fn run_push_byte<const N: usize>(session: &mut Session<N>, byte: u8) -> u32
+    requires width { IsWidth N }
     ensures { Serves N session.old (Command.PushByte byte) (Reports result) session.new }
 {
     reply_status(&session.push_byte(byte))
@@ -199,6 +209,7 @@ pub fn run_push_byte<const N: usize>(session: &mut Session<N>, byte: u8) -> u32
 /// Runs `PushChunk` in place if the bytes have the size of a chunk, and returns the status of its reply.
 #[tactic(auto, unfolding(crate::specs::Calls::Serves, crate::specs::Calls::ServesChunk, crate::specs::Reports::Reports))]
 pub fn run_push_chunk<const N: usize>(session: &mut Session<N>, bytes: &[u8]) -> u32
+    requires width { IsWidth N }
     ensures { ServesChunk N (length bytes.now) session.old (Command.PushChunk bytes.now)
         (Reports result) (result ≡ WRONG_SIZE) session.new }
 {
@@ -213,6 +224,7 @@ pub fn run_push_chunk<const N: usize>(session: &mut Session<N>, bytes: &[u8]) ->
 /// Runs `Pop` in place, returns the status of its reply, and writes the bit.
 #[tactic(auto, unfolding(crate::specs::Calls::Serves, crate::specs::Reports::ReportsBit))]
 pub fn run_pop<const N: usize>(session: &mut Session<N>, bit: &mut u8) -> u32
+    requires width { IsWidth N }
     ensures { Serves N session.old Command.Pop (ReportsBit result bit.old bit.new) session.new }
 {
     report_bit(&session.pop(), bit)
@@ -221,6 +233,7 @@ pub fn run_pop<const N: usize>(session: &mut Session<N>, bit: &mut u8) -> u32
 /// Runs `Set` in place, and returns the status of its reply.
 #[tactic(auto, unfolding(crate::specs::Calls::Serves, crate::specs::Reports::Reports))]
 pub fn run_set<const N: usize>(session: &mut Session<N>, position: u64, bit: bool) -> u32
+    requires width { IsWidth N }
     ensures { Serves N session.old (Command.Set position bit) (Reports result) session.new }
 {
     reply_status(&session.set(position, bit))
@@ -229,6 +242,7 @@ pub fn run_set<const N: usize>(session: &mut Session<N>, position: u64, bit: boo
 /// Runs `Prune` in place, and returns the status of its reply.
 #[tactic(auto, unfolding(crate::specs::Calls::Serves, crate::specs::Reports::Reports))]
 pub fn run_prune<const N: usize>(session: &mut Session<N>, position: u64) -> u32
+    requires width { IsWidth N }
     ensures { Serves N session.old (Command.Prune position) (Reports result) session.new }
 {
     reply_status(&session.prune(position))
@@ -237,6 +251,7 @@ pub fn run_prune<const N: usize>(session: &mut Session<N>, position: u64) -> u32
 /// Runs `Get` in place, returns the status of its reply, and writes the bit.
 #[tactic(auto, unfolding(crate::specs::Calls::Serves, crate::specs::Reports::ReportsBit))]
 pub fn run_get<const N: usize>(session: &Session<N>, position: u64, bit: &mut u8) -> u32
+    requires width { IsWidth N }
     ensures { Serves N session.now (Command.Get position) (ReportsBit result bit.old bit.new)
         session.now }
 {
@@ -246,6 +261,7 @@ pub fn run_get<const N: usize>(session: &Session<N>, position: u64, bit: &mut u8
 /// Runs `Len` in place, returns the status of its reply, and writes the length.
 #[tactic(auto, unfolding(crate::specs::Calls::Serves, crate::specs::Reports::ReportsNumber))]
 pub fn run_len<const N: usize>(session: &Session<N>, len: &mut u64) -> u32
+    requires width { IsWidth N }
     ensures { Serves N session.now Command.Len (ReportsNumber result len.old len.new) session.now }
 {
     report_number(&session.len(), len)

@@ -8,11 +8,10 @@
 //! A search visits at most 16 nodes, one per digit in base 16 by which the index differs from another. An insertion adds at most one node.
 //! A removal keeps the nodes.
 
-ghost use Rattle.std.specs.Prelude.{◌≡◌, ℕ, ◌+◌, ◌*◌, ◌^◌, ◌<◌, ◌++◌, ◌↔◌, [], ◌∷◌, List, length, MatchOption, Option, Some, None, IsTrue, slice_index, IfOk, IfNone, IfSome, IsOk, IsSome, OnOk, OnErr, nat_eq, is_some, vec_len};
+ghost use Rattle.std.specs.Prelude.{◌≡◌, ℕ, ◌+◌, ◌*◌, ◌^◌, ◌<◌, ◌++◌, ◌↔◌, [], ◌∷◌, List, length, MatchOption, Option, Some, None, IsTrue, slice_index, slice_set, IfOk, IfNone, IfSome, IsOk, IsSome, OnOk, OnErr, nat_eq, is_some, vec_len};
 ghost use Rattle.std.specs.Vec.{vec_capacity};
 ghost use Rattle.std.specs.List.Sorted.{IsStrictlySortedBy};
 ghost use Rattle.std.specs.Map.{keys_of, lookup};
-ghost use Rattle.std.specs.Option.{option_copied};
 ghost use Rattle.std.specs.Ordering.{nat_cmp};
 ghost use Rattle.chunk_map.specs.Entries.{IsNextMember, Puts};
 ghost use Rattle.chunk_map.specs.Trie.{IsAt, without_place};
@@ -174,7 +173,7 @@ impl<const N: usize> ChunkMap<N> {
         self.chunks[place] = chunk;
     }
 
-    /// Returns the chunk at `index`, if there is one.
+    /// Replaces byte `at` of the chunk at `place`. The place must be below the number of chunks, and `at` below `N`.
     ///
     /// # Memory
     ///
@@ -182,16 +181,16 @@ impl<const N: usize> ChunkMap<N> {
     ///
     /// # Complexity
     ///
-    /// Visits at most 16 nodes.
+    /// Constant.
     #[inline]
-    pub fn get(&self, index: usize) -> Option<&[u8; N]>
-        ensures value { option_copied result ≡ lookup (nat_eq index) self.now.entries }
-        ensures sorted { IsStrictlySortedBy nat_cmp (keys_of self.now.entries) }
+    pub fn set_byte_at(&mut self, place: usize, at: usize, byte: u8)
+        requires place { place < length self.old.indices }
+        requires at { at < N }
+        ensures entries { IfSome (lookup (nat_eq (slice_index self.old.indices place)) self.old.entries) (λ chunk. Puts self.old.entries self.new.entries (slice_index self.old.indices place) (Some (slice_set chunk at byte))) }
+        ensures indices { self.new.indices ≡ self.old.indices }
+        ensures sorted { IsStrictlySortedBy nat_cmp (keys_of self.new.entries) }
     {
-        match self.find(index) {
-            Some(place) => Some(&self.chunks[place]),
-            None => None,
-        }
+        self.chunks[place][at] = byte;
     }
 
     /// Inserts or replaces the chunk at `index`.

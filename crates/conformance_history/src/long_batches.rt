@@ -389,6 +389,7 @@ fn check_touched<const N: usize>(rt: &impl Abort, batch: &DirtyBitMap<N>, expect
     for (chunk, touched) in expected.touched.iter().enumerate() {
         if *touched {
             check_bits(rt, batch, expected, chunk);
+            let _ = batch.len();
             let bytes = pending_bytes_of(rt, batch, chunk);
             let same = bytes == bytes_of(&expected.bits, chunk);
             expect_at(rt, ("touched", chunk, N), same);

@@ -18,7 +18,9 @@ fn run_done<const N: usize>(
     alloc: Global,
     session: &mut Session<N>,
     command: Command<N>,
-) {
+)
+    requires { IsWidth N }
+{
     expect(rt, is_done(rt, alloc, session, command));
 }
 
@@ -41,12 +43,9 @@ fn is_pruned<const N: usize>(reply: &Reply<N>) -> bool {
 
 // Two commits. The first has a chunk, a byte and a bit, with the first bit unset. The second prunes the chunk, replaces the bit by a
 // byte and unsets a bit.
-fn run_batches<const N: usize>(
-    rt: &impl Abort,
-    alloc: Global,
-    session: &mut Session<N>,
-    width: u64,
-) {
+fn run_batches<const N: usize>(rt: &impl Abort, alloc: Global, session: &mut Session<N>, width: u64)
+    requires { IsWidth N }
+{
     run_done(rt, alloc, session, Command::Begin);
     run_done(rt, alloc, session, Command::PushChunk([0xa5; N]));
     run_done(rt, alloc, session, Command::PushByte(0x0f));
@@ -68,7 +67,9 @@ fn check_current<const N: usize>(
     alloc: Global,
     session: &mut Session<N>,
     width: u64,
-) {
+)
+    requires { IsWidth N }
+{
     expect(rt, width <= 512);
     equal(rt, len(rt, alloc, session), Some(width + 16));
     let pruned = run_one(rt, alloc, session, Command::PrunedChunks);
@@ -89,12 +90,9 @@ fn check_current<const N: usize>(
 }
 
 // The kept commits, and the first of them read in place and rebuilt.
-fn check_past<const N: usize>(
-    rt: &impl Abort,
-    alloc: Global,
-    session: &mut Session<N>,
-    width: u64,
-) {
+fn check_past<const N: usize>(rt: &impl Abort, alloc: Global, session: &mut Session<N>, width: u64)
+    requires { IsWidth N }
+{
     expect(rt, width <= 512);
     let commits = run_one(rt, alloc, session, Command::Commits);
     expect(rt, has_positions(&commits, &[1, 2]));
@@ -116,7 +114,9 @@ fn check_encoding<const N: usize>(
     alloc: Global,
     session: &mut Session<N>,
     width: u64,
-) {
+)
+    requires { IsWidth N }
+{
     expect(rt, N <= 64 && width <= 512);
     let Reply::Bytes(Some(bytes)) = run_one(rt, alloc, session, Command::Encode) else {
         panic!(rt; "another reply");

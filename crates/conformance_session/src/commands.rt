@@ -1,5 +1,7 @@
 //! Runs one command at a time, and reads its reply.
 
+ghost use Rattle.bitmap_bytes.specs.Chunk.{IsWidth};
+
 use crate::checks::expect;
 use bitmap_session::command::Command;
 use bitmap_session::reply::Reply;
@@ -29,16 +31,16 @@ pub fn is_done<const N: usize>(
     alloc: Global,
     session: &mut Session<N>,
     command: Command<N>,
-) -> bool {
+) -> bool
+    requires { IsWidth N }
+{
     matches!(run_one(rt, alloc, session, command), Reply::Done)
 }
 
 /// Returns the length that the session replies.
-pub fn len<const N: usize>(
-    rt: &impl Abort,
-    alloc: Global,
-    session: &mut Session<N>,
-) -> Option<u64> {
+pub fn len<const N: usize>(rt: &impl Abort, alloc: Global, session: &mut Session<N>) -> Option<u64>
+    requires { IsWidth N }
+{
     match run_one(rt, alloc, session, Command::Len) {
         Reply::Number(len) => Some(len),
         _ => None,

@@ -8,7 +8,7 @@
 -- Cost: how many entries a record may have.
 -- Changes: the chunks in which two states differ.
 -- Pending: pending edits, each edit of them, and the record that a commit makes.
--- Compared, WriteCache, Run, Tail: conditions inside the code that compares states and stores edited chunks.
+-- Compared, Run, Tail: conditions inside the code that compares states and stores edited chunks.
 -- View: a whole historical bitmap, as the contracts of its calls describe it.
 -- Batch: the result of a batch.
 pub mod Edits
@@ -22,7 +22,6 @@ pub mod Cost
 pub mod Changes
 pub mod Pending
 pub mod Compared
-pub mod WriteCache
 pub mod Run
 pub mod Tail
 pub mod View

@@ -1,11 +1,11 @@
 -- Entries of chunks with a cached word: bits of one chunk, stored apart from it. A chunk has n bytes.
-use Rattle.std.specs.Prelude.{◌≡◌, ℕ, ◌+◌, ◌-◌, ◌*◌, ◌%◌, ◌^◌, ◌<◌, ◌≤◌, ◌&&◌, ◌==◌, ◌⊎◌, Bool, List, [], Option, Some, None, MatchOption, IsSome, if◌then◌else◌, nat_eq, nat_le, nat_lt, unwrap_or}
+use Rattle.std.specs.Prelude.{◌≡◌, ℕ, ◌+◌, ◌-◌, ◌*◌, ◌%◌, ◌^◌, ◌<◌, ◌≤◌, ◌&&◌, ◌==◌, ◌⊎◌, Bool, false, List, [], Option, Some, None, MatchOption, IsSome, if◌then◌else◌, nat_eq, nat_le, nat_lt, unwrap_or}
+use Rattle.std.specs.BTreeMap.{is_at}
 use Rattle.std.specs.Int.{bit_at}
 use Rattle.std.specs.List.Sorted.{IsStrictlySortedBy}
-use Rattle.std.specs.Map.{keys_of, lookup}
+use Rattle.std.specs.Map.{keys_of, lookup, set_value}
 use Rattle.std.specs.Ordering.{nat_cmp}
 use Rattle.bitmap_bytes.specs.Chunk.{chunk_bit, chunk_from, IsWidth}
-use Rattle.historical_bitmap.specs.WriteCache.{with_cached}
 
 -- bit k of a chunk of which the `count` bits from position `base` on are those of a word
 abbrev pub bit_with_word : ℕ → List ℕ → ℕ → ℕ → ℕ → ℕ → Bool
@@ -15,10 +15,19 @@ bit_with_word n chunk base count word k = if nat_le base k && nat_lt k (base + c
 abbrev pub chunk_with_word : ℕ → List ℕ → ℕ → ℕ → ℕ → ℕ → List ℕ
 chunk_with_word n chunk base count word i = chunk_from n (bit_with_word n chunk base count word) i
 
+-- the entries with another chunk under an index that has one
+abbrev pub with_chunk : List (ℕ × List ℕ) → ℕ → List ℕ → List (ℕ × List ℕ)
+with_chunk entries index chunk = set_value (is_at (nat_cmp index)) entries chunk
+
+-- whether an index is that of the chunk with the cached word
+abbrev pub is_cached_at : Option ℕ → ℕ → Bool
+is_cached_at None index = false
+is_cached_at (Some cached) index = nat_eq cached index
+
 -- the entries, with the bits of the cached word in its chunk if there is one
 abbrev pub with_word : ℕ → List (ℕ × List ℕ) → Option ℕ → ℕ → ℕ → ℕ → List (ℕ × List ℕ)
 with_word n entries None base count word = entries
-with_word n entries (Some i) base count word = with_cached entries (Some i) (chunk_with_word n (unwrap_or (lookup (nat_eq i) entries) []) base count word i)
+with_word n entries (Some i) base count word = with_chunk entries i (chunk_with_word n (unwrap_or (lookup (nat_eq i) entries) []) base count word i)
 
 -- the `count` bits from position `base` on are whole bytes of chunk i, which is among the entries, and fit a word; the position past them fits 64 bits or is the first that does not
 pub record IsWordOf (n : ℕ) (entries : List (ℕ × List ℕ)) (base count : ℕ) (i : ℕ) : Type 0 where

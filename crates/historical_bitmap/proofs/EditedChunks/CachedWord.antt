@@ -26,9 +26,8 @@ use Rattle.bitmap_bytes.proofs.Words.Starts.{end_near, next_cases, start_chunk, 
 use Rattle.bitmap_core.proofs.Pruned.Positions.{place as place_of}
 use Rattle.chunk_map.specs.Entries.{Puts}
 use Rattle.historical_bitmap.specs.Pending.{IsByteSetIn, IsClearFrom, IsSetIn, IsWritten, SetsIn}
-use Rattle.historical_bitmap.specs.Tail.{bit_with_word, chunk_with_word, IsTail, IsWordOf, IsWordPut, with_word}
-use Rattle.historical_bitmap.specs.WriteCache.{IsCached, is_cached_at, with_cached}
-use Rattle.historical_bitmap.proofs.EditedChunks.CachedChunks.{cache_same, cached_filled, cached_keys, cached_some, cached_sorted, holds, lookup_beside, lookup_here, lookup_put, puts_here}
+use Rattle.historical_bitmap.specs.Tail.{bit_with_word, chunk_with_word, is_cached_at, IsTail, IsWordOf, IsWordPut, with_chunk, with_word}
+use Rattle.historical_bitmap.proofs.EditedChunks.ReplacedChunk.{lookup_at, lookup_beside, lookup_here, lookup_put, puts_here, replaced_filled, replaced_keys, replaced_same, replaced_sorted, replaces, sets_here}
 use Rattle.historical_bitmap.proofs.Lists.Maps.{not_some, same_entries}
 
 -- ---- places in a chunk
@@ -169,12 +168,6 @@ word_same n chunk base count word i pos is start end bits = sym (from_bits_of n 
     ])))
 
 -- ---- entries with a cached word
-word_cached : (n : ℕ) (es : List (ℕ × List ℕ)) (base count i : ℕ) → IsWidth n → IsWordOf n es base count i → IsCached n es (Some i)
-word_cached n es base count i width ok = record { width = width; sorted = ok.sorted; found = ok.found }
-
-itself : (i : ℕ) → is_cached_at (Some i) i ≡ true
-itself i = eq-eqb i i refl
-
 -- a bit that is set in a word in which it is zero
 or_here : (word t : ℕ) (value : Bool) → eqb (bit_at word t) 1 ≡ false → eqb (bit_at (bit_or word (cond value (2 ^ t) 0)) t) 1 ≡ value
 or_here word t true zero = ap (λ b. eqb b 1) (bit_or_here word t)
@@ -252,7 +245,7 @@ module _ (n : ℕ) (es : List (ℕ × List ℕ)) (base count word k : ℕ) (widt
 
   found : (i : ℕ) → IsWordOf n es base count i → lookup (nat_eq i) (with_word n es (Some i) base count word) ≡ Some (chunk_with_word n (stored i) base count word i)
   unfolding stored
-  found i ok = lookup_here n es (Some i) (chunk_with_word n (stored i) base count word i) i (word_cached n es base count i width ok) (itself i)
+  found i ok = lookup_here es i (chunk_with_word n (stored i) base count word i) ok.found
 
   bit_is : (i : ℕ) → IsWordOf n es base count i → chunk_bit n (chunk_with_word n (stored i) base count word i) k ≡ eqb (bit_at word (k - base)) 1
   bit_is i ok = seen n (stored i) base count word i k width.positive (omega (arith, ok.low, low)) (omega (arith, ok.high, high)) ∙ in_word n (stored i) base count word k low high
@@ -268,14 +261,13 @@ module _ (n : ℕ) (es : List (ℕ × List ℕ)) (base count word k : ℕ) (widt
   unfolding stored
   pushed_in first new value None none zero e = absurd (omega (arith, none, low, high))
   pushed_in first new value (Some i) ok zero e =
-      let cache = word_cached n es base count i width ok in
       let zero_there : chunk_bit n (chunk_with_word n (stored i) base count word i) k ≡ false = subst (λ o. IfSome o (λ chunk. chunk_bit n chunk k ≡ false)) (ap (λ (j : ℕ). lookup (nat_eq j) (with_word n es (Some i) base count word)) (place i ok) ∙ found i ok) zero in
       let written = word_written n (stored i) base count word new i k value width.positive ok.low ok.high low high (ap (λ w. eqb (bit_at w (k - base)) 1) e ∙ or_here word (k - base) value (sym (bit_is i ok) ∙ zero_there)) (λ t h ne. ap (λ w. bit_at w t) e ∙ or_other word (k - base) t value ne) in
       subst (λ (j : ℕ). (bytes : List ℕ) × SetsIn n first (with_word n es (Some i) base count word) (with_word n es (Some i) base count new) j k value bytes) (sym (place i ok)) (
         chunk_with_word n (stored i) base count new i,
         record {
           written = subst (λ o. IsWritten n (unwrap_or o first) k value (chunk_with_word n (stored i) base count new i)) (sym (found i ok)) written;
-          edited = puts_here n es (Some i) (chunk_with_word n (stored i) base count word i) (chunk_with_word n (stored i) base count new i) i cache (itself i);
+          edited = puts_here es i (chunk_with_word n (stored i) base count word i) (chunk_with_word n (stored i) base count new i) ok.found;
         },
       )
 
@@ -284,10 +276,9 @@ module _ (n : ℕ) (es : List (ℕ × List ℕ)) (base count word k : ℕ) (widt
   unfolding stored
   cleared_in new None none e = absurd (omega (arith, none, low, high))
   cleared_in new (Some i) ok e =
-      let cache = word_cached n es base count i width ok in
       let fits : k - base < 64 = omega (arith, ok.short, high, low) in
       let written = word_written n (stored i) base count word new i k false width.positive ok.low ok.high low high (ap (λ w. eqb (bit_at w (k - base)) 1) e ∙ cleared_here word (k - base) fits) (λ t h ne. ap (λ w. bit_at w t) e ∙ cleared_other word (k - base) t fits (omega (arith, h, ok.short)) ne) in
-      subst (λ (j : ℕ). IfSome (lookup (nat_eq j) (with_word n es (Some i) base count word)) (λ chunk. IsSetIn n (with_word n es (Some i) base count word) (with_word n es (Some i) base count new) j chunk k false)) (sym (place i ok)) (cached_some n es (Some i) (chunk_with_word n (stored i) base count word i) (chunk_with_word n (stored i) base count new i) i k false cache (itself i) written)
+      subst (λ (j : ℕ). IfSome (lookup (nat_eq j) (with_word n es (Some i) base count word)) (λ chunk. IsSetIn n (with_word n es (Some i) base count word) (with_word n es (Some i) base count new) j chunk k false)) (sym (place i ok)) (sets_here n es i (chunk_with_word n (stored i) base count word i) (chunk_with_word n (stored i) base count new i) k false ok.found written)
 
   -- a byte is written
   pub joined_in : (j new byte : ℕ) (cached : Option ℕ) → j ≡ k / (8 * n) → k + 8 ≤ base + count → MatchOption cached (count ≡ 0) (IsWordOf n es base count)
@@ -301,7 +292,7 @@ module _ (n : ℕ) (es : List (ℕ × List ℕ)) (base count word k : ℕ) (widt
     bytes = chunk_with_word n (stored i) base count new i;
     size = from_size n (bit_with_word n (stored i) base count new) i;
     written = byte_written n (stored i) base count word new i k byte width.positive ok.low ok.high ok.short low ends here others;
-    edited = puts_here n es (Some i) (chunk_with_word n (stored i) base count word i) (chunk_with_word n (stored i) base count new i) i (word_cached n es base count i width ok) (itself i);
+    edited = puts_here es i (chunk_with_word n (stored i) base count word i) (chunk_with_word n (stored i) base count new i) ok.found;
   })
 
   pub some_in : (cached : Option ℕ) → MatchOption cached (count ≡ 0) (IsWordOf n es base count) → lookup (nat_eq (k / (8 * n))) (with_word n es cached base count word) ≡ None → ⊥
@@ -311,21 +302,18 @@ module _ (n : ℕ) (es : List (ℕ × List ℕ)) (base count word k : ℕ) (widt
 -- with a chunk there is one
 pub word_filled : (n : ℕ) (es : List (ℕ × List ℕ)) (cached : Option ℕ) (base count word : ℕ) → 0 < length es → 0 < length (with_word n es cached base count word)
 word_filled n es None base count word h = h
-word_filled n es (Some i) base count word h = cached_filled es (Some i) (chunk_with_word n (unwrap_or (lookup (nat_eq i) es) []) base count word i) h
+word_filled n es (Some i) base count word h = replaced_filled es i (chunk_with_word n (unwrap_or (lookup (nat_eq i) es) []) base count word i) h
 
 -- a position outside the cached word is read from the entries
 pub read_out : (n : ℕ) (es : List (ℕ × List ℕ)) (cached : Option ℕ) (base count word k : ℕ) → IsTail n es cached base count → (k < base) ⊎ (base + count ≤ k) → option_map (λ chunk. chunk_bit n chunk k) (lookup (nat_eq (k / (8 * n))) (with_word n es cached base count word)) ≡ option_map (λ chunk. chunk_bit n chunk k) (lookup (nat_eq (k / (8 * n))) es)
 read_out n es None base count word k ok out = refl
 read_out n es (Some i) base count word k ok out = elim (cases_eq (k / (8 * n)) i) [
-  | inr ne ↦ ap (option_map (λ chunk. chunk_bit n chunk k)) (lookup_beside n es (Some i) _ (k / (8 * n)) cache (ne_eqb i (k / (8 * n)) (λ e. ne (sym e))))
+  | inr ne ↦ ap (option_map (λ chunk. chunk_bit n chunk k)) (lookup_beside es i (k / (8 * n)) _ ok.word.found (ne_eqb i (k / (8 * n)) (λ e. ne (sym e))))
   | inl e ↦ subst (λ (j : ℕ). option_map (λ chunk. chunk_bit n chunk k) (lookup (nat_eq j) (with_word n es (Some i) base count word)) ≡ option_map (λ chunk. chunk_bit n chunk k) (lookup (nat_eq j) es)) (sym e) (
-      ap (option_map (λ chunk. chunk_bit n chunk k)) (lookup_here n es (Some i) (chunk_with_word n (unwrap_or (lookup (nat_eq i) es) []) base count word i) i cache (itself i))
+      ap (option_map (λ chunk. chunk_bit n chunk k)) (lookup_here es i (chunk_with_word n (unwrap_or (lookup (nat_eq i) es) []) base count word i) ok.word.found)
       ∙ go (lookup (nat_eq i) es) refl ok.word.found e)
 ]
   where
-    cache : IsCached n es (Some i)
-    cache = word_cached n es base count i ok.width ok.word
-
     go : (o : Option (List ℕ)) → lookup (nat_eq i) es ≡ o → IsSome o → k / (8 * n) ≡ i → Some (chunk_bit n (chunk_with_word n (unwrap_or o []) base count word i) k) ≡ option_map (λ chunk. chunk_bit n chunk k) o
     go None e some at = cc
     go (Some chunk) e some at =
@@ -345,11 +333,11 @@ pub whole_here : (n : ℕ) (es : List (ℕ × List ℕ)) (base count word i : �
 whole_here n es base count word i old new ok e is put =
     ap Some (word_put n old new base count word i ok.width.positive is ok.word.some ok.word.low ok.word.high put)
     ∙ (ap (λ o. Some (chunk_with_word n (unwrap_or o []) base count word i)) (sym e)
-    ∙ sym (lookup_here n es (Some i) (chunk_with_word n (unwrap_or (lookup (nat_eq i) es) []) base count word i) i (word_cached n es base count i ok.width ok.word) (itself i)))
+    ∙ sym (lookup_here es i (chunk_with_word n (unwrap_or (lookup (nat_eq i) es) []) base count word i) ok.word.found))
 
 pub whole_beside : (n : ℕ) (es : List (ℕ × List ℕ)) (cached : Option ℕ) (base count word i : ℕ) → IsTail n es cached base count → is_cached_at cached i ≡ false → lookup (nat_eq i) (with_word n es cached base count word) ≡ lookup (nat_eq i) es
 whole_beside n es None base count word i ok out = refl
-whole_beside n es (Some h) base count word i ok out = lookup_beside n es (Some h) (chunk_with_word n (unwrap_or (lookup (nat_eq h) es) []) base count word h) i (word_cached n es base count h ok.width ok.word) out
+whole_beside n es (Some h) base count word i ok out = lookup_beside es h i (chunk_with_word n (unwrap_or (lookup (nat_eq h) es) []) base count word h) ok.word.found out
 
 -- the same, for a cached index that is known to be there
 pub place_at : (n : ℕ) (es : List (ℕ × List ℕ)) (cached : Option ℕ) (base count i : ℕ) → cached ≡ Some i → IsTail n es cached base count → (base % (8 * n) % 8 ≡ 0) × (count % 8 ≡ 0) × (count ≤ 64) × (base % (8 * n) + count ≤ 8 * n)
@@ -370,13 +358,13 @@ whole_none n es (Some h) base count word i ok none = elim (cases_eq h i) [
 pub written_back : (n : ℕ) (es fs : List (ℕ × List ℕ)) (base count word i : ℕ) (old new : List ℕ) → IsTail n es (Some i) base count → lookup (nat_eq i) es ≡ Some old → IsChunk n new → IsWordPut n old new base count word → IsStrictlySortedBy nat_cmp (keys_of fs) → Puts es fs i (Some new) → fs ≡ with_word n es (Some i) base count word
 written_back n es fs base count word i old new ok e is put sorted puts =
     let bytes = word_put n old new base count word i ok.width.positive is ok.word.some ok.word.low ok.word.high put in
-    let same : fs ≡ with_cached es (Some i) new = same_entries fs (with_cached es (Some i) new) sorted (cached_sorted n es (Some i) new (word_cached n es base count i ok.width ok.word)) (λ q. puts q ∙ sym (holds es i old new e q)) in
-    same ∙ (ap (with_cached es (Some i)) bytes ∙ ap (λ o. with_cached es (Some i) (chunk_with_word n (unwrap_or o []) base count word i)) (sym e))
+    let same : fs ≡ with_chunk es i new = same_entries fs (with_chunk es i new) sorted (replaced_sorted es i new ok.word.sorted) (λ q. puts q ∙ sym (replaces es i old new e q)) in
+    same ∙ (ap (with_chunk es i) bytes ∙ ap (λ o. with_chunk es i (chunk_with_word n (unwrap_or o []) base count word i)) (sym e))
 
 -- the indices of all entries
 pub word_keys : (n : ℕ) (es : List (ℕ × List ℕ)) (cached : Option ℕ) (base count word : ℕ) → keys_of es ≡ keys_of (with_word n es cached base count word)
 word_keys n es None base count word = refl
-word_keys n es (Some i) base count word = sym (cached_keys es (Some i) (chunk_with_word n (unwrap_or (lookup (nat_eq i) es) []) base count word i))
+word_keys n es (Some i) base count word = sym (replaced_keys es i (chunk_with_word n (unwrap_or (lookup (nat_eq i) es) []) base count word i))
 
 -- ---- a word is loaded
 module _ (n k i : ℕ) (pos : 0 < n) (index : i ≡ k / (8 * n)) where
@@ -415,7 +403,7 @@ module _ (n k i : ℕ) (pos : 0 < n) (index : i ≡ k / (8 * n)) where
       let within : start % (8 * n) + t < 8 * n = omega (arith, rest, ok.high, h) in
       let same_rest : (start % (8 * n) + t) % (8 * n) ≡ (start + t) % (8 * n) = mod-eq_of_lt {n = start % (8 * n) + t} {m = 8 * n} within ∙ omega (arith, rest, rest_is n i (start + t) (omega (arith, low)) (omega (arith, ok.high, h))) in
       bits t (omega (arith, h, ok.short)) (omega (arith, h)) within ∙ chunk_bit-mod n chunk (start % (8 * n) + t) (start + t) pos same_rest) in
-      ap (λ o. with_cached es (Some i) (chunk_with_word n (unwrap_or o []) start (end - start) word i)) found ∙ (ap (with_cached es (Some i)) same ∙ cache_same es i chunk found)
+      ap (λ o. with_chunk es i (chunk_with_word n (unwrap_or o []) start (end - start) word i)) found ∙ (ap (with_chunk es i) same ∙ replaced_same es i chunk found)
 
 pub loaded_start : (n k : ℕ) → 0 < n → (start end : ℕ) → start ≡ word_start n k → end ≡ next_word n start → (starts_word n start ≡ true) × (start < end)
 loaded_start n k pos start end s e = (rw s (start_of n k pos), omega (arith, e, end_near n start pos))
@@ -464,7 +452,7 @@ module _ (n i k count : ℕ) (value : Bool) (chunk : List ℕ) (pos : 0 < n) (lo
   begun_sets : (first : List ℕ) (es : List (ℕ × List ℕ)) → lookup (nat_eq i) es ≡ Some chunk → SetsIn n first es (with_word n es (Some i) k count (cond value 1 0)) i k value begun
   begun_sets first es found = record {
     written = subst (λ o. IsWritten n (unwrap_or o first) k value begun) (sym found) begun_written;
-    edited = subst (λ o. Puts es (with_cached es (Some i) (chunk_with_word n (unwrap_or o []) k count (cond value 1 0) i)) i (Some begun)) (sym found) (holds es i chunk begun found);
+    edited = subst (λ o. Puts es (with_chunk es i (chunk_with_word n (unwrap_or o []) k count (cond value 1 0) i)) i (Some begun)) (sym found) (replaces es i chunk begun found);
   }
 
 -- the tail that a new word makes
@@ -501,9 +489,8 @@ module _ (n i k : ℕ) (value : Bool) (width : IsWidth n) (index : i ≡ k / (8 
       → (fs : List (ℕ × List ℕ)) → fs ≡ with_word n es old low many bits_before → IsTail n fs cached base count × ((first : List ℕ) → (bytes : List ℕ) × SetsIn n first fs (with_word n fs cached base count word) i k value bytes)
   begun_next es None low many bits_before ok here clear fs same = cc
   begun_next es (Some h) low many bits_before ok here clear fs same =
-      let cache = word_cached n es low many h width ok.word in
-      let found = lookup_here n es (Some h) _ i cache here in
-      rw same (begun_in _ _ (cached_sorted n es (Some h) _ cache) found (subst (λ o. IfSome o (IsClearFrom n i k)) found clear))
+      let found = lookup_at es h i _ ok.word.found here in
+      rw same (begun_in _ _ (replaced_sorted es h _ ok.word.sorted) found (subst (λ o. IfSome o (IsClearFrom n i k)) found clear))
 
 -- ---- the word is written back before a call
 pub no_word : (n : ℕ) (es : List (ℕ × List ℕ)) (cached : Option ℕ) (base count word : ℕ) → cached ≡ None → with_word n es cached base count word ≡ es

@@ -95,7 +95,7 @@ impl<const N: usize> BitMap<N, Dirty<N>> {
     ///
     /// # Complexity
     ///
-    /// Constant in the appended run and in the write cache; else a search among the edited chunks.
+    /// Constant in the appended run and in the chunk of the last `set_bit`; else a search among the edited chunks.
     pub fn get_bit(&self, bit: u64) -> bool
         requires { IsRetained N (pending_of N self.now) bit }
         ensures { result ≡ bit_at N (pending_of N self.now) bit }
@@ -289,7 +289,7 @@ impl<const N: usize> BitMap<N, Dirty<N>> {
     ///
     /// # Complexity
     ///
-    /// Constant in the appended run, and in the write cache unless its chunk becomes empty; else a few searches among the edited chunks.
+    /// Constant within the appended run and within the chunk of the last `pop`; else a few searches among the edited chunks.
     #[inline]
     pub fn pop(&mut self) -> bool
         requires { 0 < length (pending_of N self.old).bits }
@@ -456,7 +456,8 @@ impl<const N: usize> BitMap<N, Dirty<N>> {
     ///
     /// # Complexity
     ///
-    /// Constant in the appended run and in the write cache; else a few searches among the edited chunks, and a copy of the chunk.
+    /// Constant in the appended run and in the chunk of the last `set_bit`; else a search among the edited chunks, and a second one with
+    /// a copy of the chunk if it is not yet edited.
     /// Amortized, if it allocates.
     #[inline]
     pub fn set_bit(&mut self, bit: u64, value: bool) -> Result<Edit<'_, N>, AllocError>
@@ -514,7 +515,7 @@ impl<const N: usize> BitMap<N, Dirty<N>> {
     /// # Complexity
     ///
     /// Amortized constant in the appended run.
-    /// Else a copy of the chunk, with a few searches among the edited chunks unless the chunk is in the write cache.
+    /// Else a copy of the chunk, with a few searches among the edited chunks.
     #[inline]
     pub fn push(&mut self, value: bool) -> Result<Edit<'_, N>, AllocError>
         requires { bit_len N (pending_of N self.old) + 1 < 2 ^ 64 }
@@ -540,7 +541,7 @@ impl<const N: usize> BitMap<N, Dirty<N>> {
     ///
     /// # Complexity
     ///
-    /// Amortized constant within one chunk of the appended run or the write cache.
+    /// Amortized constant within one chunk of the appended run.
     /// Else at most two chunks are copied, with a few searches among the edited chunks for each.
     pub fn push_byte(&mut self, byte: u8) -> Result<Edit<'_, N>, AllocError>
         requires { bit_len N (pending_of N self.old) + 8 < 2 ^ 64 }

@@ -1,6 +1,7 @@
-//! The edited chunks of a batch by index, with a write cache.
+//! The edited chunks of a batch by index.
 
-ghost use Rattle.std.specs.Prelude.{◌≡◌, ℕ, ◌+◌, ◌*◌, ◌/◌, ◌%◌, ◌^◌, ◌<◌, ◌≤◌, [], List, length, take, Option, Some, None, IfOk, IfSome, OnOk, OnErr, IsOk, IsSome, nat_eq, nat_lt, if◌then◌else◌, true, false, unwrap_or};
+ghost use Rattle.std.specs.Prelude.{◌≡◌, ℕ, ◌+◌, ◌*◌, ◌/◌, ◌%◌, ◌^◌, ◌<◌, ◌≤◌, ◌≢◌, ◌==◌, [], List, length, take, Option, Some, None, IfSome, MatchOption, OnOk, OnErr, IfOk, IsOk, IsSome, nat_eq, nat_lt, slice_index, if◌then◌else◌, true, false};
+ghost use Rattle.std.specs.Int.{bit_at};
 ghost use Rattle.std.specs.List.Sorted.{IsStrictlySortedBy};
 ghost use Rattle.std.specs.Map.{keys_of, lookup};
 ghost use Rattle.std.specs.Option.{option_copied, option_map};
@@ -9,8 +10,8 @@ ghost use Rattle.std.specs.Set.{is_member};
 ghost use Rattle.bitmap_bytes.specs.Chunk.{chunk_bit, IsChunk, IsWidth};
 ghost use Rattle.bitmap_core.specs.PrunedBits.{chunk, truncated};
 ghost use Rattle.chunk_map.specs.Entries.{IsNextMember, Puts};
-ghost use Rattle.historical_bitmap.specs.WriteCache.{is_cached_at, with_cached};
-ghost use Rattle.historical_bitmap.specs.Pending.{IsByteSetIn, IsPartSet, IsPartSetIn, IsSetIn, IsWritten, PutsEach, PutsTwo, SetsIn};
+ghost use Rattle.chunk_map.specs.Trie.{IsAt};
+ghost use Rattle.historical_bitmap.specs.Pending.{IsByteSetIn, IsPartSetIn, IsSetIn, IsWritten, PutsEach, PutsTwo, SetsIn};
 
 use bitmap_core::bitmap::prunable::Prunable;
 use bitmap_core::chunk::facts::known;
@@ -21,26 +22,23 @@ use chunk_map::map::ChunkMap;
 use std::alloc::{AllocError, Global};
 use std::marker::Model;
 
-// Chunks by index. The write cache keeps one of them outside the map: the last one that was pushed to, popped from, or set twice in a row.
-// The map may have outdated bytes under the cached index. A write to the cached chunk does not search the map.
-// A write to another chunk searches it once, once more to insert a chunk, and twice more if that chunk replaces the cached one.
+// Chunks by index. A chunk is first looked for at the place `recent`: that of the chunk of which a bit was written last.
+// So consecutive writes to one chunk search once.
 #[derive(Debug, Drop)]
 pub(crate) struct EditedChunks<const N: usize> {
     chunks: ChunkMap<N>,
-    cached: Option<usize>,
-    chunk: [u8; N],
     recent: usize,
 }
 
 impl<const N: usize> Model for EditedChunks<N> {
     ghost use Rattle.std.specs.Prelude.{ℕ, List};
-    ghost use Rattle.historical_bitmap.specs.WriteCache.{IsCached, with_cached};
+    ghost use Rattle.bitmap_bytes.specs.Chunk.{IsWidth};
 
     ghost Value = { List (ℕ × List ℕ) };
 
-    ghost view = { λ c. with_cached c.chunks.entries c.cached c.chunk };
+    ghost view = { λ c. c.chunks.entries };
 
-    ghost invariant = { λ c. IsCached N c.chunks.entries c.cached };
+    ghost invariant = { λ c. IsWidth N };
 }
 
 // Writes a bit of a chunk and returns the old one.
@@ -104,75 +102,51 @@ pub(crate) fn first_chunk<const N: usize>(current: &Prunable<N>, len: u64, index
     bytes
 }
 
-// Returns whether an index is the cached one.
-pub(crate) fn is_cached(cached: Option<usize>, index: usize) -> bool
-    ensures { result ≡ is_cached_at cached index }
+// Returns the place of the chunk at an index, if there is one. Does not search if that is the place `recent`.
+#[inline]
+fn place_of<const N: usize>(chunks: &ChunkMap<N>, recent: usize, index: usize) -> Option<usize>
+    ensures place { MatchOption result (lookup (nat_eq index) chunks.now.entries ≡ None) (IsAt chunks.now.indices index) }
 {
-    match cached {
-        Some(cached) => cached == index,
-        None => false,
+    if recent < chunks.len() {
+        if chunks.index_at(recent) == index {
+            return Some(recent);
+        }
     }
+    chunks.find(index)
 }
 
-// Writes a bit of the chunk at an index. Starts from the current bitmap's chunk if none is edited there.
-// Searches once, and once more to insert a chunk. Does not allocate, and succeeds, if the map has that chunk.
-fn write_in<const N: usize>(
+// Returns a byte with bit `bit mod 8` set to `value`. Its other bits do not change.
+#[inline]
+fn with_bit(byte: u8, bit: u64, value: bool) -> u8
+    ensures here { (bit_at result (bit % 8) == 1) ≡ value }
+    ensures others { (k : ℕ) → k < 8 → k ≢ bit % 8 → bit_at result k ≡ bit_at byte k }
+{
+    let mask = bit_mask(bit);
+    if value { byte | mask } else { byte & !mask }
+}
+
+// Replaces a bit of the chunk at the place of an index and returns the old one.
+#[inline]
+fn replace_bit_at<const N: usize>(
     chunks: &mut ChunkMap<N>,
-    current: &Prunable<N>,
-    len: u64,
+    place: usize,
     index: usize,
     bit: u64,
     value: bool,
-) -> Result<(), AllocError>
+) -> bool
     requires width { IsWidth N }
-    requires from { current.now.pruned ≤ index }
-    requires fits { 8 * N * index < 2 ^ 64 }
-    ensures ok { OnOk result ((bytes : List ℕ) × SetsIn N (chunk N (truncated N current.now len) index) chunks.old.entries chunks.new.entries index bit value bytes) }
-    ensures err { OnErr result (chunks.new.entries ≡ chunks.old.entries) }
-    ensures absent { OnErr result (lookup (nat_eq index) chunks.old.entries ≡ None) }
-    ensures sorted { OnOk result (IsStrictlySortedBy nat_cmp (keys_of chunks.new.entries)) }
+    requires place { IsAt chunks.old.indices index place }
+    ensures bit { Some result ≡ option_map (λ chunk. chunk_bit N chunk bit) (lookup (nat_eq index) chunks.old.entries) }
+    ensures new { IfSome (lookup (nat_eq index) chunks.old.entries) (λ chunk. IsSetIn N chunks.old.entries chunks.new.entries index chunk bit value) }
+    ensures found { IsSome (lookup (nat_eq index) chunks.old.entries) }
 {
-    match chunks.find(index) {
-        Some(place) => {
-            let mut bytes = *chunks.chunk_at(place);
-            let _ = replace_bit(&mut bytes, bit, value);
-            chunks.set_at(place, bytes);
-            Ok(())
-        }
-        None => {
-            let mut bytes = first_chunk(current, len, index);
-            let _ = replace_bit(&mut bytes, bit, value);
-            chunks.add(index, bytes)?;
-            Ok(())
-        }
-    }
-}
-
-// Replaces the chunk at an index, if there is one.
-fn put_in<const N: usize>(chunks: &mut ChunkMap<N>, index: usize, chunk: [u8; N])
-    ensures entries { chunks.new.entries ≡ with_cached chunks.old.entries (Some index) chunk.entry }
-    ensures sorted { IsStrictlySortedBy nat_cmp (keys_of chunks.new.entries) }
-{
-    chunks.order();
-    if let Some(place) = chunks.find(index) {
-        chunks.set_at(place, chunk);
-    }
-}
-
-// Sets the bits of a chunk of a map at or above bit `from` and below bit `to`, counted from its start.
-fn set_part<const N: usize>(chunks: &mut ChunkMap<N>, index: usize, from: u64, to: u64, value: bool)
-    requires width { IsWidth N }
-    requires within { to ≤ 8 * N }
-    requires edited { IsSome (lookup (nat_eq index) chunks.old.entries) }
-    ensures { (bytes : List ℕ) × IsPartSet N (unwrap_or (lookup (nat_eq index) chunks.old.entries) []) bytes from to value × (chunks.new.entries ≡ with_cached chunks.old.entries (Some index) bytes) }
-{
-    chunks.order();
-    if let Some(place) = chunks.find(index) {
-        let mut bytes = *chunks.chunk_at(place);
-        set_in(&mut bytes, from, to, value);
-        known(&bytes);
-        chunks.set_at(place, bytes);
-    }
+    let at = byte_index::<N>(bit);
+    let bytes = chunks.chunk_at(place);
+    known(bytes);
+    let old = chunk::get_bit(bytes, bit);
+    let byte = with_bit(bytes[at], bit, value);
+    chunks.set_byte_at(place, at, byte);
+    old
 }
 
 impl<const N: usize> EditedChunks<N> {
@@ -183,44 +157,20 @@ impl<const N: usize> EditedChunks<N> {
     {
         EditedChunks {
             chunks: ChunkMap::new(alloc),
-            cached: None,
-            chunk: [0; N],
             recent: 0,
         }
     }
 
     // Returns the chunk at an index, if there is one.
+    #[inline]
     pub(crate) fn get(&self, index: usize) -> Option<&[u8; N]>
         ensures value { option_copied result ≡ lookup (nat_eq index) self.now }
         ensures sorted { IsStrictlySortedBy nat_cmp (keys_of self.now) }
     {
-        if is_cached(self.cached, index) {
-            return Some(&self.chunk);
-        }
-        self.chunks.get(index)
-    }
-
-    // Caches a chunk in place of the one at an index. Writes the previously cached chunk back to the map. Does not allocate.
-    #[inline(never)]
-    fn cache(&mut self, index: usize, chunk: [u8; N])
-        requires there { IsSome (lookup (nat_eq index) self.old) }
-        ensures { self.new ≡ with_cached self.old (Some index) chunk.entry }
-    {
-        if let Some(cached) = self.cached {
-            put_in(&mut self.chunks, cached, self.chunk);
-        }
-        self.chunk = chunk;
-        self.cached = Some(index);
-    }
-
-    // Caches the chunk at an index, if there is one.
-    #[inline(never)]
-    fn cache_present(&mut self, index: usize)
-        ensures same { self.new ≡ self.old }
-    {
-        if let Some(chunk) = self.get(index) {
-            let chunk = *chunk;
-            self.cache(index, chunk);
+        self.chunks.order();
+        match place_of(&self.chunks, self.recent, index) {
+            Some(place) => Some(self.chunks.chunk_at(place)),
+            None => None,
         }
     }
 
@@ -242,16 +192,19 @@ impl<const N: usize> EditedChunks<N> {
         ensures err { OnErr result (self.new ≡ self.old) }
         ensures edited { IsSome (lookup (nat_eq index) self.old) → IsOk result }
     {
-        if is_cached(self.cached, index) {
-            let _ = replace_bit(&mut self.chunk, bit, value);
-            return Ok(());
+        match place_of(&self.chunks, self.recent, index) {
+            Some(place) => {
+                self.recent = place;
+                let _ = replace_bit_at(&mut self.chunks, place, index, bit, value);
+                Ok(())
+            }
+            None => self.write_first(current, len, index, bit, value),
         }
-        self.write_other(current, len, index, bit, value)
     }
 
-    // As `write_bit`, mostly for a chunk that is not cached. It is kept out of `write_bit`, which then is short for the cached chunk.
+    // Inserts the current bitmap's chunk, cut to `len` bits, at an index that has none, with a bit written.
     #[inline(never)]
-    fn write_other(
+    fn write_first(
         &mut self,
         current: &Prunable<N>,
         len: u64,
@@ -262,21 +215,14 @@ impl<const N: usize> EditedChunks<N> {
         requires width { IsWidth N }
         requires from { current.now.pruned ≤ index }
         requires fits { 8 * N * index < 2 ^ 64 }
+        requires absent { lookup (nat_eq index) self.old ≡ None }
         ensures ok { OnOk result ((bytes : List ℕ) × SetsIn N (chunk N (truncated N current.now len) index) self.old self.new index bit value bytes) }
         ensures err { OnErr result (self.new ≡ self.old) }
-        ensures edited { IsSome (lookup (nat_eq index) self.old) → IsOk result }
     {
-        if is_cached(self.cached, index) {
-            let _ = replace_bit(&mut self.chunk, bit, value);
-            return Ok(());
-        }
-        write_in(&mut self.chunks, current, len, index, bit, value)?;
-        let is_second = self.recent == index;
-        self.recent = index;
-        if is_second {
-            self.cache_present(index);
-        }
-        Ok(())
+        let mut bytes = first_chunk(current, len, index);
+        let _ = replace_bit(&mut bytes, bit, value);
+        self.recent = self.chunks.len();
+        self.chunks.add(index, bytes)
     }
 
     // Replaces a bit of the chunk at an index and returns the old one, if there is such a chunk. Does not allocate.
@@ -288,28 +234,35 @@ impl<const N: usize> EditedChunks<N> {
         ensures some { IfSome (lookup (nat_eq index) self.old) (λ chunk. IsSetIn N self.old self.new index chunk bit value) }
         ensures sorted { IsStrictlySortedBy nat_cmp (keys_of self.new) }
     {
-        if is_cached(self.cached, index) {
-            return Some(replace_bit(&mut self.chunk, bit, value));
-        }
-        let mut chunk = *self.chunks.get(index)?;
-        let old = replace_bit(&mut chunk, bit, value);
-        self.cache(index, chunk);
-        Some(old)
+        let place = place_of(&self.chunks, self.recent, index);
+        let old = match place {
+            Some(place) => {
+                self.recent = place;
+                Some(replace_bit_at(&mut self.chunks, place, index, bit, value))
+            }
+            None => None,
+        };
+        self.chunks.order();
+        old
     }
 
-    // Writes the eight bits of a byte from position `bit` on, if the chunk at the index is cached. Returns whether it is. Does not allocate.
+    // Writes the eight bits of a byte from position `bit` on, if there is a chunk at the index. Returns whether there is. Does not allocate.
     pub(crate) fn join_byte(&mut self, index: usize, bit: u64, byte: u8) -> bool
         requires width { IsWidth N }
         requires space { bit % (8 * N) + 8 ≤ 8 * N }
         ensures written { result ≡ true → IsByteSetIn N self.old self.new index bit byte }
         ensures other { result ≡ false → self.new ≡ self.old }
     {
-        if !is_cached(self.cached, index) {
-            return false;
+        match place_of(&self.chunks, self.recent, index) {
+            Some(place) => {
+                let mut bytes = *self.chunks.chunk_at(place);
+                join_byte(&mut bytes, bit, byte);
+                known(&bytes);
+                self.chunks.set_at(place, bytes);
+                true
+            }
+            None => false,
         }
-        join_byte(&mut self.chunk, bit, byte);
-        known(&self.chunk);
-        true
     }
 
     // Sets the bits of an edited chunk at or above bit `from` and below bit `to`, counted from its start. Does not allocate.
@@ -319,31 +272,15 @@ impl<const N: usize> EditedChunks<N> {
         requires edited { IsSome (lookup (nat_eq index) self.old) }
         ensures { IsPartSetIn N self.old self.new index from to value }
     {
-        if is_cached(self.cached, index) {
-            set_in(&mut self.chunk, from, to, value);
-            known(&self.chunk);
-            return;
+        if let Some(place) = place_of(&self.chunks, self.recent, index) {
+            let mut bytes = *self.chunks.chunk_at(place);
+            set_in(&mut bytes, from, to, value);
+            known(&bytes);
+            self.chunks.set_at(place, bytes);
         }
-        set_part(&mut self.chunks, index, from, to, value);
     }
 
     // Inserts or replaces the chunk at an index. Does not allocate, and succeeds, if there is one.
-    fn put(&mut self, index: usize, chunk: [u8; N]) -> Result<(), AllocError>
-        ensures ok { OnOk result (Puts self.old self.new index (Some chunk.entry)) }
-        ensures err { OnErr result (self.new ≡ self.old) }
-        ensures edited { IsSome (lookup (nat_eq index) self.old) → IsOk result }
-        ensures was_sorted { IsStrictlySortedBy nat_cmp (keys_of self.old) }
-        ensures sorted { IsStrictlySortedBy nat_cmp (keys_of self.new) }
-    {
-        if is_cached(self.cached, index) {
-            self.chunk = chunk;
-            return Ok(());
-        }
-        self.chunks.insert(index, chunk)?;
-        Ok(())
-    }
-
-    // Inserts or replaces the chunk at an index, and caches it. Does not allocate, and succeeds, if there is one.
     pub(crate) fn write(&mut self, index: usize, chunk: [u8; N]) -> Result<(), AllocError>
         ensures ok { OnOk result (Puts self.old self.new index (Some chunk.entry)) }
         ensures err { OnErr result (self.new ≡ self.old) }
@@ -351,14 +288,11 @@ impl<const N: usize> EditedChunks<N> {
         ensures was_sorted { IsStrictlySortedBy nat_cmp (keys_of self.old) }
         ensures sorted { IsStrictlySortedBy nat_cmp (keys_of self.new) }
     {
-        self.put(index, chunk)?;
-        if !is_cached(self.cached, index) {
-            self.cache(index, chunk);
-        }
-        Ok(())
+        self.chunks.order();
+        self.chunks.insert(index, chunk)
     }
 
-    // Inserts two chunks, at an index and at the next one, which has none. Caches the second. After an error nothing is changed.
+    // Inserts two chunks, at an index and at the next one, which has none. After an error nothing is changed.
     pub(crate) fn write_two(
         &mut self,
         index: usize,
@@ -370,12 +304,11 @@ impl<const N: usize> EditedChunks<N> {
         ensures ok { OnOk result (PutsTwo self.old self.new index first.entry second.entry) }
         ensures err { OnErr result (self.new ≡ self.old) }
     {
-        self.put(index + 1, second)?;
-        if self.put(index, first).is_err() {
+        self.write(index + 1, second)?;
+        if self.write(index, first).is_err() {
             let _ = self.remove(index + 1);
             return Err(AllocError);
         }
-        self.cache(index + 1, second);
         Ok(())
     }
 
@@ -385,17 +318,12 @@ impl<const N: usize> EditedChunks<N> {
         ensures removed { Puts self.old self.new index None }
         ensures sorted { IsStrictlySortedBy nat_cmp (keys_of self.new) }
     {
-        let removed = self.chunks.remove(index);
-        if is_cached(self.cached, index) {
-            self.cached = None;
-            return Some(self.chunk);
-        }
-        removed
+        self.chunks.remove(index)
     }
 
-    // Returns the map of the chunks. It may have outdated bytes under the cached index.
+    // Returns the map of the chunks.
     pub(crate) fn map(&self) -> &ChunkMap<N>
-        ensures { keys_of result.now.entries ≡ keys_of self.now }
+        ensures { result.now.entries ≡ self.now }
     {
         &self.chunks
     }
@@ -419,7 +347,7 @@ impl<const N: usize> EditedChunks<N> {
     pub(crate) fn order(&self)
         ensures { IsStrictlySortedBy nat_cmp (keys_of self.now) }
     {
-        let _recent = self.recent;
+        self.chunks.order();
     }
 
     // Returns a copy. Allocates for its chunks.
@@ -428,8 +356,6 @@ impl<const N: usize> EditedChunks<N> {
     {
         Ok(EditedChunks {
             chunks: self.chunks.duplicate()?,
-            cached: self.cached,
-            chunk: self.chunk,
             recent: self.recent,
         })
     }
@@ -438,11 +364,7 @@ impl<const N: usize> EditedChunks<N> {
     pub(crate) fn into_map(self) -> ChunkMap<N>
         ensures { result.entries ≡ self.entry }
     {
-        let mut chunks = self.chunks;
-        if let Some(cached) = self.cached {
-            put_in(&mut chunks, cached, self.chunk);
-        }
-        chunks
+        self.chunks
     }
 }
 
@@ -478,7 +400,10 @@ pub(crate) fn insert_each<const N: usize>(
     chunks.order();
     for at in 0..indices.len() {
         let index = indices[at];
-        if chunks.put(index, first_chunk(current, len, index)).is_err() {
+        if chunks
+            .write(index, first_chunk(current, len, index))
+            .is_err()
+        {
             remove_each(chunks, indices, at);
             return Err(AllocError);
         }

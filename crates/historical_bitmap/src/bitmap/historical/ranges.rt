@@ -19,6 +19,7 @@ fn missing<const N: usize>(
     past: usize,
     alloc: Global,
 ) -> Result<Vec<usize>, AllocError>
+    requires width { IsWidth N }
     requires order { first ≤ past }
     ensures indices { IfOk result (λ indices. AreMissing chunks.now first past indices.items) }
     ensures edited { ((q : ℕ) → first ≤ q → q < past → IsSome (lookup (nat_eq q) chunks.now)) → IsOk result }

@@ -12,9 +12,8 @@ ghost use Rattle.bitmap_core.specs.PrunedBits.{chunk, truncated};
 ghost use Rattle.chunk_map.specs.Entries.{IsNextMember, Puts};
 ghost use Rattle.historical_bitmap.specs.Edits.{from_to};
 ghost use Rattle.historical_bitmap.specs.Pending.{IsByteSetIn, IsClearFrom, IsSetIn, PutsTwo, SetsChunks, SetsIn, members_between};
-ghost use Rattle.historical_bitmap.specs.Tail.{IsTail, with_word};
+ghost use Rattle.historical_bitmap.specs.Tail.{IsTail, is_cached_at, with_word};
 
-use crate::bitmap::historical::edited::is_cached;
 use crate::bitmap::historical::grown::GrownChunks;
 use crate::bitmap::historical::ranges::set_range;
 use crate::bitmap::historical::word::put_word;
@@ -92,6 +91,16 @@ fn with_byte(word: u64, at: u64, byte: u8) -> u64
     ensures others { (t : ℕ) → t < 64 → (t < at) ⊎ (at + 8 ≤ t) → bit_at result t ≡ bit_at word t }
 {
     word & !(255 << at) | (byte as u64) << at
+}
+
+// Returns whether an index is that of the chunk with the cached word.
+fn is_cached(cached: Option<usize>, index: usize) -> bool
+    ensures { result ≡ is_cached_at cached index }
+{
+    match cached {
+        Some(cached) => cached == index,
+        None => false,
+    }
 }
 
 // Returns a tail without a word.
@@ -388,26 +397,8 @@ impl<const N: usize> TailChunks<N> {
         None
     }
 
-    // Clears a bit and returns its old value, if its chunk is edited. Does not allocate.
+    // Clears a bit and returns its old value, if its chunk is edited. Caches its word then. Does not allocate.
     pub(crate) fn clear_bit(&mut self, bit: u64) -> Option<bool>
-        requires width { IsWidth N }
-        ensures bit { result ≡ option_map (λ chunk. chunk_bit N chunk bit) (lookup (nat_eq (bit / (8 * N))) self.old) }
-        ensures none { lookup (nat_eq (bit / (8 * N))) self.old ≡ None → self.new ≡ self.old }
-        ensures some { IfSome (lookup (nat_eq (bit / (8 * N))) self.old) (λ chunk. IsSetIn N self.old self.new (bit / (8 * N)) chunk bit false) }
-    {
-        if let Some(old) = self.clear_cached(bit) {
-            return Some(old);
-        }
-        if self.is_empty() {
-            return None;
-        }
-        self.clear_other(bit)
-    }
-
-    // As `clear_bit`, for a bit that is not in the cached word. Caches its word, if its chunk is edited.
-    #[cold]
-    #[inline(never)]
-    fn clear_other(&mut self, bit: u64) -> Option<bool>
         requires width { IsWidth N }
         ensures bit { result ≡ option_map (λ chunk. chunk_bit N chunk bit) (lookup (nat_eq (bit / (8 * N))) self.old) }
         ensures none { lookup (nat_eq (bit / (8 * N))) self.old ≡ None → self.new ≡ self.old }

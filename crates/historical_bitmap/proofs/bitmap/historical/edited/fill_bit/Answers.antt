@@ -1,4 +1,4 @@
-use Rattle.historical_bitmap.proofs.EditedChunks.FilledBits.{filled}
+use Rattle.historical_bitmap.proofs.EditedChunks.WrittenBits.{filled}
 use Rattle.historical_bitmap.proofs.bitmap.historical.edited.fill_bit.Goals as goal
 
 pub returns : goal.returns

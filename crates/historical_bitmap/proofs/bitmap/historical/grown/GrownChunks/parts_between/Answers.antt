@@ -9,7 +9,7 @@ returns g c =
     let past : c.clamp-past.result ≡ max c.args.from (min (min (c.self.inside.from + length c.self.inside.run.items) (2 ^ 64 - 1)) c.args.to) =
     c.clamp-past.ensures ∙ ap (λ (m : ℕ). max c.args.from (min m c.args.to)) (c.saturating_add.ensures ∙ ap (λ (m : ℕ). min (c.self.inside.from + m) (2 ^ 64 - 1)) count) in
     let parts = run_between c.self.inside.from c.self.inside.run.items c.self.inside.others (keys_of c.map.result.now.entries) c.args.from c.clamp-first.result c.clamp-past.result c.args.to
-    c.map.ensures c.requires.order c.ranges.to.fits c.clamp-first.ensures past in
+    (ap keys_of c.map.ensures) c.requires.order c.ranges.to.fits c.clamp-first.ensures past in
     record {
       from = parts.0;
       rises = parts.1;

@@ -1,6 +1,6 @@
 use Rattle.std.proofs.Common.{Some, ap, sym, ◌∙◌, arith}
 use Rattle.std.proofs.lemmas.Bool.{ne_eqb}
-use Rattle.historical_bitmap.specs.WriteCache.{is_cached_at}
+use Rattle.historical_bitmap.specs.Tail.{is_cached_at}
 use Rattle.historical_bitmap.proofs.EditedChunks.CachedWord.{place_at, whole_at, whole_beside, whole_none}
 use Rattle.historical_bitmap.proofs.bitmap.historical.tail.TailChunks.chunk.Goals as goal
 use Rattle.historical_bitmap.proofs.bitmap.historical.tail.TailChunks.chunk.Goals.{in-Some+then-cached-index, in-Some+else-cached-index, in_default}
