@@ -2,6 +2,7 @@
 """Checks the C library, and its bindings for Rust and Python.
 
 usage: check_bindings.py                  builds the library and installs it twice by tools/package.sh, in a temporary folder
+       check_bindings.py --after-gate     the same, over the libraries that `rt ci` has just left
        check_bindings.py --prefix DIR     takes the library that is installed in DIR
        check_bindings.py --declarations   compares the declarations alone
 
@@ -99,11 +100,11 @@ def is_there(tool, *words):
 
 # The package
 
-def made_packages(folder):
-    """Installs the library twice from one build. The prefix of the first, and the cases."""
+def made_packages(folder, words):
+    """Installs the library twice from one build, which takes some words. The prefix of the first, and the cases."""
     print("building the library: this proves what has changed since its last build", flush=True)
     prefixes = [folder / name / "mortarpink" for name in ("first", "second")]
-    for prefix, words in zip(prefixes, ([], ["--built"])):
+    for prefix, words in zip(prefixes, (words, ["--built"])):
         prefix.mkdir(parents=True)
         failure = failure_of([TOP / "tools/package.sh", *words, prefix])
         if failure:
@@ -254,7 +255,8 @@ def all_cases(given):
         return
     with tempfile.TemporaryDirectory() as name:
         folder = Path(name)
-        prefix, cases = (Path(given.prefix).resolve(), []) if given.prefix else made_packages(folder)
+        words = ["--after-gate"] if given.after_gate else []
+        prefix, cases = (Path(given.prefix).resolve(), []) if given.prefix else made_packages(folder, words)
         yield from cases
         if prefix:
             yield from library_cases(Place(prefix, folder))
@@ -263,6 +265,7 @@ def all_cases(given):
 def main():
     parser = argparse.ArgumentParser(usage=__doc__.split("usage: ")[1].split("\n\n")[0])
     parser.add_argument("--prefix")
+    parser.add_argument("--after-gate", action="store_true")
     parser.add_argument("--declarations", action="store_true")
     given = parser.parse_args()
     missing = [tool for tool in TOOLS if not shutil.which(tool)]

@@ -1,12 +1,14 @@
 #!/usr/bin/env bash
 # Builds the C library and installs it.
 #
-# usage: package.sh [--built] PREFIX
+# usage: package.sh [--built | --after-gate] PREFIX
 #
 # Under PREFIX come the static and the shared library, the header, the file of pkg-config and the licence. Next to PREFIX
 # comes an archive of the same tree, which is the same byte for byte if it is made again from the same build.
 #
 # With --built the library of crates/bitmap_c is not built again. It has to be newer than the sources.
+# With --after-gate it is built over the libraries that `rt ci` has just left in crates/*/out, and only crates/bitmap_c is
+# proved again. If that cannot be, it is built as without the option.
 #
 # This needs the Rattle toolchain (`rt`), a C compiler and binutils. The first build proves crates/bitmap_c and every crate
 # below it, which is most of the gate's work. Later builds reuse what is in crates/*/out.
@@ -15,13 +17,15 @@ umask 022
 version=0.1.0
 name=mortarpink-$version-x86_64-linux
 
-built=
-if [[ ${1:-} == --built ]]; then
-    built=yes
-    shift
-fi
+from=sources
+case ${1:-} in
+    --built | --after-gate)
+        from=${1#--}
+        shift
+        ;;
+esac
 if (($# != 1)) || [[ $1 == -* ]]; then
-    echo "usage: package.sh [--built] PREFIX" >&2
+    echo "usage: package.sh [--built | --after-gate] PREFIX" >&2
     exit 2
 fi
 for tool in rt cc ld objcopy ar tar gzip; do
@@ -45,6 +49,29 @@ build() {
         echo "package: the first build proves bitmap_c and every crate below it; this takes long" >&2
     fi
     (cd crates/bitmap_c && rt lib)
+}
+
+# Builds that archive over the libraries that `rt ci` left. Fails if some are missing, or are of an earlier `rt lib`.
+build_after_gate() {
+    local rattle name library words=()
+    rattle=$(dirname "$(rt doc)")
+    for name in std $(sed -n 's/^bitmap_c staticlib: //p' crates.txt); do
+        library=$rattle/rlibs/$name.rlib
+        if [[ -d crates/$name ]]; then
+            library=$PWD/crates/$name/out/rlib/$name.rlib
+        fi
+        if [[ ! -e $library/format || -e ${library%/*}/stamp ]]; then
+            return 1
+        fi
+        words+=(--extern "$name=$library")
+    done
+    for library in "$PWD"/crates/*/out/rlib "$rattle/rlibs"; do
+        words+=(-L "dependency=$library")
+    done
+    words+=(--antt-project "$rattle/rattle/logic/antt-project.json" --logic-built "$rattle/logic_built" --toolchain "$rattle/toolchain")
+    mkdir -p "${built_library%/*}"
+    (cd crates/bitmap_c && "$rattle/bin/rattle" build --crate-name bitmap_c src/lib.rt "${words[@]}" --jobs "$(nproc)" \
+        --crate-type staticlib --backend llvm -o "../../$built_library")
 }
 
 # Fails if there is no archive, or if it is older than a source of any crate.
@@ -100,11 +127,11 @@ install_tree() {
         -C "$work" -cf - "$name" | gzip -9n >"$(dirname "$prefix")/$name.tar.gz"
 }
 
-if [[ $built ]]; then
-    check_built
-else
-    build
-fi
+case $from in
+    built) check_built ;;
+    after-gate) build_after_gate || build ;;
+    sources) build ;;
+esac
 link_object
 write_libraries
 write_pkgconfig
