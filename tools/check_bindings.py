@@ -100,11 +100,11 @@ def is_there(tool, *words):
 
 # The package
 
-def made_packages(folder, words):
-    """Installs the library twice from one build, which takes some words. The prefix of the first, and the cases."""
-    print("building the library: this proves what has changed since its last build", flush=True)
+def made_packages(folder, options):
+    """Installs the library twice from one build with some options. The prefix of the first, and the cases."""
+    print("building the library: this proves bitmap_c, and what has changed of the crates below it", flush=True)
     prefixes = [folder / name / "mortarpink" for name in ("first", "second")]
-    for prefix, words in zip(prefixes, (words, ["--built"])):
+    for prefix, words in zip(prefixes, (options, ["--built"])):
         prefix.mkdir(parents=True)
         failure = failure_of([TOP / "tools/package.sh", *words, prefix])
         if failure:
@@ -255,8 +255,8 @@ def all_cases(given):
         return
     with tempfile.TemporaryDirectory() as name:
         folder = Path(name)
-        words = ["--after-gate"] if given.after_gate else []
-        prefix, cases = (Path(given.prefix).resolve(), []) if given.prefix else made_packages(folder, words)
+        options = ["--after-gate"] if given.after_gate else []
+        prefix, cases = (Path(given.prefix).resolve(), []) if given.prefix else made_packages(folder, options)
         yield from cases
         if prefix:
             yield from library_cases(Place(prefix, folder))
