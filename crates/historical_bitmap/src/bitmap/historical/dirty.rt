@@ -95,7 +95,7 @@ impl<const N: usize> BitMap<N, Dirty<N>> {
     ///
     /// # Complexity
     ///
-    /// Constant in the appended run and in the chunk of the last `set_bit`; else a search among the edited chunks.
+    /// Constant in the appended run and in the chunk that `set_bit` or `pop` wrote last; else a search among the edited chunks.
     pub fn get_bit(&self, bit: u64) -> bool
         requires { IsRetained N (pending_of N self.now) bit }
         ensures { result ≡ bit_at N (pending_of N self.now) bit }
@@ -456,7 +456,7 @@ impl<const N: usize> BitMap<N, Dirty<N>> {
     ///
     /// # Complexity
     ///
-    /// Constant in the appended run and in the chunk of the last `set_bit`; else a search among the edited chunks, and a second one with
+    /// Constant in the appended run and in the chunk that `set_bit` or `pop` wrote last; else a search among the edited chunks, and a second one with
     /// a copy of the chunk if it is not yet edited.
     /// Amortized, if it allocates.
     #[inline]

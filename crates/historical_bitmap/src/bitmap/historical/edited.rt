@@ -252,6 +252,7 @@ impl<const N: usize> EditedChunks<N> {
         requires space { bit % (8 * N) + 8 ≤ 8 * N }
         ensures written { result ≡ true → IsByteSetIn N self.old self.new index bit byte }
         ensures other { result ≡ false → self.new ≡ self.old }
+        ensures none { result ≡ false → lookup (nat_eq index) self.old ≡ None }
     {
         match place_of(&self.chunks, self.recent, index) {
             Some(place) => {

@@ -217,14 +217,14 @@ impl<const N: usize> GrownChunks<N> {
         self.others.replace_bit(index, bit, value)
     }
 
-    // Writes the eight bits of a byte from position `bit` on, if the chunk at the index is in the run or cached.
-    // Returns whether it is. Does not allocate.
+    // Writes the eight bits of a byte from position `bit` on, if there is a chunk at the index. Returns whether there is. Does not allocate.
     #[inline]
     pub(crate) fn join_byte(&mut self, index: usize, bit: u64, byte: u8) -> bool
         requires width { IsWidth N }
         requires space { bit % (8 * N) + 8 ≤ 8 * N }
         ensures written { result ≡ true → IsByteSetIn N self.old self.new index bit byte }
         ensures other { result ≡ false → self.new ≡ self.old }
+        ensures none { result ≡ false → lookup (nat_eq index) self.old ≡ None }
     {
         if is_in(self.from, self.run.len(), index) {
             let at = index - self.from;

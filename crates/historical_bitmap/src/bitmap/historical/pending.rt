@@ -435,7 +435,7 @@ impl<const N: usize> Dirty<N> {
         Ok(())
     }
 
-    // Appends a byte if the last chunk is in the run or cached and has space for it. Returns whether it did. Does not allocate.
+    // Appends a byte if the last chunk is edited and has space for it. Returns whether it did. Does not allocate.
     fn put_byte(&mut self, byte: u8) -> bool
         requires fits { self.old.len + 8 < 2 ^ 64 }
         ensures done { result ≡ true → (b : PrunedBits) → PendingFits N b self.old → Appends N b self.old (byte_bits byte) self.new }

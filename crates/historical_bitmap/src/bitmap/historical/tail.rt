@@ -413,8 +413,7 @@ impl<const N: usize> TailChunks<N> {
         old
     }
 
-    // Writes the eight bits of a byte from position `bit` on, if the chunk at the index is in the run or cached.
-    // Returns whether it is. Does not allocate.
+    // Writes the eight bits of a byte from position `bit` on, if there is a chunk at the index. Returns whether there is. Does not allocate.
     #[inline]
     pub(crate) fn join_byte(&mut self, index: usize, bit: u64, byte: u8) -> bool
         requires width { IsWidth N }
@@ -423,6 +422,7 @@ impl<const N: usize> TailChunks<N> {
         requires fits { bit + 8 < 2 ^ 64 }
         ensures written { result ≡ true → IsByteSetIn N self.old self.new index bit byte }
         ensures other { result ≡ false → self.new ≡ self.old }
+        ensures none { result ≡ false → lookup (nat_eq index) self.old ≡ None }
     {
         if has_byte(self.tail.base, self.tail.count, bit) {
             self.tail.word = with_byte(self.tail.word, bit - self.tail.base, byte);
@@ -440,6 +440,7 @@ impl<const N: usize> TailChunks<N> {
         requires fits { bit + 8 < 2 ^ 64 }
         ensures written { result ≡ true → IsByteSetIn N self.old self.new index bit byte }
         ensures other { result ≡ false → self.new ≡ self.old }
+        ensures none { result ≡ false → lookup (nat_eq index) self.old ≡ None }
     {
         settle(&mut self.chunks, &mut self.tail);
         if !self.chunks.join_byte(index, bit, byte) {

@@ -1,6 +1,6 @@
 use Rattle.std.proofs.Common.{◌∙◌, sym, subst, get_or, ◌-◌}
 use Rattle.bitmap_bytes.specs.Chunk.{IsByteJoined}
-use Rattle.historical_bitmap.proofs.EditedChunks.AppendedRun.{byte_keeps, byte_other, in_run, look_in, out_run, puts_in}
+use Rattle.historical_bitmap.proofs.EditedChunks.AppendedRun.{byte_keeps, byte_other, in_run, look_beside, look_in, out_run, puts_in}
 use Rattle.historical_bitmap.proofs.bitmap.historical.grown.GrownChunks.join_byte.Goals as goal
 
 pub returns-then-is_in-clause-written : goal.returns-then-is_in-clause-written
@@ -24,3 +24,8 @@ pub returns-clause-written : goal.returns-clause-written
 returns-clause-written g c =
     let out = out_run c.self.inside.from c.len.result c.args.index c.self.inside.run.items c.is_in.result (c.len.ensures ∙ c.self.inside.run.ok.0) c.is_in.ensures c.if-is_in.false in
     λ e. rw (sym c.self.view_is) (byte_other g.row.N c.self.inside.from c.self.inside.run.items c.self.inside.others c.join_byte-2.new.self c.args.index c.args.bit c.args.byte out (c.join_byte-2.ensures.written e))
+
+pub returns-clause-none : goal.returns-clause-none
+returns-clause-none g c =
+    let out = out_run c.self.inside.from c.len.result c.args.index c.self.inside.run.items c.is_in.result (c.len.ensures ∙ c.self.inside.run.ok.0) c.is_in.ensures c.if-is_in.false in
+    λ e. rw (sym c.self.view_is, look_beside c.self.inside.from c.self.inside.run.items c.self.inside.others c.args.index out) (c.join_byte-2.ensures.none e)
