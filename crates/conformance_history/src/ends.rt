@@ -50,6 +50,7 @@ fn empty<const N: usize>(rt: &impl Abort, map: &mut DirtyBitMap<N>, first: u64) 
 
 // The pending bitmap at its first retained position and at the last, both of which are written.
 fn check_pending<const N: usize>(rt: &impl Abort, map: &mut DirtyBitMap<N>, first: u64) {
+    // The prover learns the bounds of `N` from this call.
     let _ = map.len();
     let last = pending_bit(rt, map, LAST);
     set_bit(rt, map, LAST, !last);

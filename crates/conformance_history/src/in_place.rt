@@ -15,6 +15,7 @@ use test_support::compare::same_bits;
 // Pushes `count` chunks whose bytes are all `byte`.
 fn push_chunks<const N: usize>(rt: &impl Abort, map: &mut DirtyBitMap<N>, count: u64, byte: u8) {
     for _ in 0..count {
+        // The prover learns the bounds of `N` from this call.
         let _ = map.len();
         push_chunk(rt, map, &[byte; N]);
     }

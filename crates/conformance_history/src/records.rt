@@ -21,6 +21,7 @@ fn pop_chunk<const N: usize>(rt: &impl Abort, map: &mut DirtyBitMap<N>) {
 // Appends the chunks 0 to 5. The bytes of chunk i are i + 1.
 fn push_six<const N: usize>(rt: &impl Abort, map: &mut DirtyBitMap<N>) {
     for byte in 1..7 {
+        // The prover learns the bounds of `N` from this call.
         let _ = map.len();
         push_chunk(rt, map, &[byte; N]);
     }
@@ -28,6 +29,7 @@ fn push_six<const N: usize>(rt: &impl Abort, map: &mut DirtyBitMap<N>) {
 
 // Prunes chunk 0, clears the first bits of the chunks 2 and 4, and appends the chunks 6 and 7.
 fn prune_set_append<const N: usize>(rt: &impl Abort, map: &mut DirtyBitMap<N>, width: u64) {
+    // The prover learns the bounds of `N` from this call.
     let _ = map.len();
     push_chunk(rt, map, &[0xaa; N]);
     set_bit(rt, map, width.saturating_mul(4), false);
@@ -42,6 +44,7 @@ fn remove_below_the_old_length<const N: usize>(
     map: &mut DirtyBitMap<N>,
     width: u64,
 ) {
+    // The prover learns the bounds of `N` from this call.
     let _ = map.len();
     push_chunk(rt, map, &[0x55; N]);
     pop_chunk(rt, map);
@@ -56,6 +59,7 @@ fn remove_below_the_old_length<const N: usize>(
 
 // Sets a bit of chunk 2, appends the bits of two chunks, which end in chunk 8, and prunes all chunks before that one.
 fn prune_what_is_edited<const N: usize>(rt: &impl Abort, map: &mut DirtyBitMap<N>, width: u64) {
+    // The prover learns the bounds of `N` from this call.
     let _ = map.len();
     set_bit(rt, map, width.saturating_mul(2), true);
     push_chunk(rt, map, &[0x0f; N]);
