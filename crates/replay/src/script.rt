@@ -96,13 +96,13 @@ fn chunk<const N: usize>(word: &[u8]) -> Option<[u8; N]> {
 // Parses a range of lengths, whose parts are separated by colons.
 fn range(word: &[u8]) -> Option<RangeCfg> {
     let mut parts = word.split(|byte| *byte == b':');
-    let name = parts.next()?;
+    let name = str::from_utf8(parts.next()?).ok()?;
     match (name, parts.next(), parts.next(), parts.next()) {
-        (b"any", None, ..) => Some(RangeCfg::any()),
-        (b"exact", Some(len), None, _) => Some(RangeCfg::exact(decimal(len)?)),
-        (b"least", Some(least), None, _) => Some(RangeCfg::at_least(decimal(least)?)),
-        (b"most", Some(most), None, _) => Some(RangeCfg::at_most(decimal(most)?)),
-        (b"between", Some(least), Some(most), None) => {
+        ("any", None, ..) => Some(RangeCfg::any()),
+        ("exact", Some(len), None, _) => Some(RangeCfg::exact(decimal(len)?)),
+        ("least", Some(least), None, _) => Some(RangeCfg::at_least(decimal(least)?)),
+        ("most", Some(most), None, _) => Some(RangeCfg::at_most(decimal(most)?)),
+        ("between", Some(least), Some(most), None) => {
             Some(RangeCfg::between(decimal(least)?, decimal(most)?))
         }
         _ => None,
@@ -110,55 +110,55 @@ fn range(word: &[u8]) -> Option<RangeCfg> {
 }
 
 // Returns the command of a name without arguments.
-fn alone<const N: usize>(name: &[u8]) -> Option<Command<N>> {
+fn alone<const N: usize>(name: &str) -> Option<Command<N>> {
     Some(match name {
-        b"begin" => Command::Begin,
-        b"pop" => Command::Pop,
-        b"abort" => Command::Abort,
-        b"len" => Command::Len,
-        b"pruned-chunks" => Command::PrunedChunks,
-        b"encode" => Command::Encode,
-        b"commits" => Command::Commits,
-        b"latest" => Command::Latest,
-        b"earliest" => Command::Earliest,
-        b"clear" => Command::Clear,
-        b"entries" => Command::Entries,
+        "begin" => Command::Begin,
+        "pop" => Command::Pop,
+        "abort" => Command::Abort,
+        "len" => Command::Len,
+        "pruned-chunks" => Command::PrunedChunks,
+        "encode" => Command::Encode,
+        "commits" => Command::Commits,
+        "latest" => Command::Latest,
+        "earliest" => Command::Earliest,
+        "clear" => Command::Clear,
+        "entries" => Command::Entries,
         _ => return None,
     })
 }
 
 // Returns the command of a name and a decimal number.
-fn with_number<const N: usize>(name: &[u8], number: u64) -> Option<Command<N>> {
+fn with_number<const N: usize>(name: &str, number: u64) -> Option<Command<N>> {
     Some(match name {
-        b"prune" => Command::Prune(number),
-        b"commit" => Command::Commit(number),
-        b"rewind" => Command::Rewind(number),
-        b"get" => Command::Get(number),
-        b"chunk" => Command::Chunk(number),
-        b"at" => Command::At(number),
-        b"encode-at" => Command::EncodeAt(number),
-        b"exists" => Command::Exists(number),
-        b"drop-before" => Command::DropBefore(number),
+        "prune" => Command::Prune(number),
+        "commit" => Command::Commit(number),
+        "rewind" => Command::Rewind(number),
+        "get" => Command::Get(number),
+        "chunk" => Command::Chunk(number),
+        "at" => Command::At(number),
+        "encode-at" => Command::EncodeAt(number),
+        "exists" => Command::Exists(number),
+        "drop-before" => Command::DropBefore(number),
         _ => return None,
     })
 }
 
 // Returns the command of a name and one argument.
-fn with_one<const N: usize>(name: &[u8], word: &[u8]) -> Option<Command<N>> {
+fn with_one<const N: usize>(name: &str, word: &[u8]) -> Option<Command<N>> {
     match name {
-        b"start" => Some(Command::Start(count(word)?)),
-        b"push" => Some(Command::Push(bit(word)?)),
-        b"push-byte" => Some(Command::PushByte(byte(word)?)),
-        b"push-chunk" => Some(Command::PushChunk(chunk(word)?)),
+        "start" => Some(Command::Start(count(word)?)),
+        "push" => Some(Command::Push(bit(word)?)),
+        "push-byte" => Some(Command::PushByte(byte(word)?)),
+        "push-chunk" => Some(Command::PushChunk(chunk(word)?)),
         _ => with_number(name, decimal(word)?),
     }
 }
 
 // Returns the command of a name and two arguments, other than `decode`.
-fn with_two<const N: usize>(name: &[u8], first: &[u8], second: &[u8]) -> Option<Command<N>> {
+fn with_two<const N: usize>(name: &str, first: &[u8], second: &[u8]) -> Option<Command<N>> {
     Some(match name {
-        b"set" => Command::Set(decimal(first)?, bit(second)?),
-        b"ones" => Command::Ones(decimal(first)?, decimal(second)?),
+        "set" => Command::Set(decimal(first)?, bit(second)?),
+        "ones" => Command::Ones(decimal(first)?, decimal(second)?),
         _ => return None,
     })
 }
@@ -184,15 +184,15 @@ impl<'a, const N: usize> Line<'a, N> {
     /// Linear in the bytes of the line.
     pub fn parse(line: &'a [u8]) -> Option<Self> {
         let mut words = line.split(|byte| *byte == b' ');
-        let name = words.next()?;
+        let name = str::from_utf8(words.next()?).ok()?;
         let command = match (name, words.next(), words.next(), words.next(), words.next()) {
             (_, None, ..) => alone(name)?,
             (_, Some(word), None, ..) => with_one(name, word)?,
-            (b"decode", Some(digits), Some(admitted), None, _) => {
+            ("decode", Some(digits), Some(admitted), None, _) => {
                 return Some(Line::Decode(hex_bytes(digits)?, range(admitted)?));
             }
             (_, Some(first), Some(second), None, _) => with_two(name, first, second)?,
-            (b"ones-at", Some(number), Some(start), Some(end), None) => {
+            ("ones-at", Some(number), Some(start), Some(end), None) => {
                 Command::OnesAt(decimal(number)?, decimal(start)?, decimal(end)?)
             }
             _ => return None,
