@@ -1,38 +1,70 @@
 //! Callers of the bitmaps: every example of the documents and doc comments, and other short uses. All are proved and tested.
 //!
 //! `tools/check_docs.py` fails if an example and its document differ.
+//! All modules are test modules: a crate with code and tests is proved twice.
 #![tactic(auto)]
 
-pub mod any_bitmap;
-pub mod appended_version;
-pub mod bit_then;
-pub mod byte_forms;
-pub mod changed_chunks;
+#[cfg(test)]
+mod any_bitmap;
+#[cfg(test)]
+mod appended_version;
+#[cfg(test)]
+mod bit_then;
+#[cfg(test)]
+mod byte_forms;
+#[cfg(test)]
+mod changed_chunks;
 #[cfg(test)]
 mod checks;
-pub mod chunk_digests;
-pub mod chunks_to_send;
-pub mod epochs;
-pub mod exchange;
-pub mod free_slots;
-pub mod joint_bits;
-pub mod kept_bits;
-pub mod latest_events;
-pub mod loops;
-pub mod next_around;
-pub mod old_version;
-pub mod one_byte;
-pub mod one_chunk;
-pub mod out_of_memory;
-pub mod peer;
-pub mod pending_search;
-pub mod quick_start;
-pub mod recent_log;
-pub mod restored;
-pub mod session;
-pub mod strangers;
-pub mod taken_slots;
-pub mod tried_push;
-pub mod two_bits;
-pub mod version_store;
-pub mod versions;
+#[cfg(test)]
+mod chunk_digests;
+#[cfg(test)]
+mod chunks_to_send;
+#[cfg(test)]
+mod epochs;
+#[cfg(test)]
+mod exchange;
+#[cfg(test)]
+mod free_slots;
+#[cfg(test)]
+mod joint_bits;
+#[cfg(test)]
+mod kept_bits;
+#[cfg(test)]
+mod latest_events;
+#[cfg(test)]
+mod loops;
+#[cfg(test)]
+mod next_around;
+#[cfg(test)]
+mod old_version;
+#[cfg(test)]
+mod one_byte;
+#[cfg(test)]
+mod one_chunk;
+#[cfg(test)]
+mod out_of_memory;
+#[cfg(test)]
+mod peer;
+#[cfg(test)]
+mod pending_search;
+#[cfg(test)]
+mod quick_start;
+#[cfg(test)]
+mod recent_log;
+#[cfg(test)]
+mod restored;
+#[cfg(test)]
+mod session;
+#[cfg(test)]
+mod strangers;
+#[cfg(test)]
+mod taken_slots;
+#[cfg(test)]
+mod tried_push;
+#[cfg(test)]
+mod two_bits;
+#[cfg(test)]
+mod version_store;
+#[cfg(test)]
+mod versions;
