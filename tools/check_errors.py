@@ -46,6 +46,7 @@ def broken_scripts():
     for byte in (0, 9, 11, 13, 32, 127, 128, 255):
         yield f"the byte {byte} at the end of a line", b"len\n\nlen" + bytes([byte]) + b"\n", 3
         yield f"the byte {byte} alone", bytes([byte]) + b"\nlen\n", 1
+        yield f"the byte {byte} at the end of a range", b"decode - any" + bytes([byte]) + b"\n", 1
     yield "two lines that are not commands", b"# open\n\nlen\nopen\nclose\n", 4
     yield "a line of a megabyte", b"len\n" + b"a" * (1 << 20) + b"\n", 2
     yield "a number of a megabyte", b"get " + b"9" * (1 << 20) + b"\n", 1
