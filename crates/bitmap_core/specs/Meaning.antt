@@ -69,18 +69,20 @@ words_between n lo hi = if nat_lt lo hi then length (ones_between (starts_word n
 abbrev pub words : ℕ → Meaning → ℕ → ℕ → ℕ
 words n m a b = words_between n (max a (8 * n * m.pruned)) (min b m.len)
 
--- the value of an iterator over set positions: the positions left, the number of words loaded, and the number of words of its range
+-- the value of an iterator over set positions: the positions left, the number of words loaded, the number of words of its range, and how many of these it has not reached
 pub record Scan : Type 0 where
   pub left : List ℕ
   pub loads : ℕ
   pub words : ℕ
+  pub ahead : ℕ
 
--- a call of `next` on an iterator over set positions: it returns the first position left, if any. The words of the range stay the same, the loads never decrease, and they are at most those words.
+-- a call of `next` on an iterator over set positions: it returns the first position left, if any. The words of the range stay the same, the loads never decrease, and they are at most those words: one per word that was reached.
 pub record IsScanStep (old : Scan) (result : Option ℕ) (new : Scan) : Type 0 where
   pub yields : YieldsFirst (λ (s : Scan). s.left) old result new
   pub grows : old.loads ≤ new.loads
   pub range : new.words ≡ old.words
   pub within : new.loads ≤ old.words
+  pub reached : new.loads + new.ahead ≤ old.words
 
 -- the bit at position k in a word that begins at base
 abbrev pub word_bit : ℕ → ℕ → ℕ → Bool
@@ -94,7 +96,7 @@ left_from m base word next end = ones_between (word_bit base word) base (base + 
 abbrev pub run_end : ℕ → List (List ℕ) → ℕ
 run_end next run = next + 64 * length run
 
--- what holds of the cursor of an iterator: from `next` on it has words in place. Where they end, a word of a retained chunk begins, and it has a copy of that chunk unless the chunk begins there too. It loads at most the words of its range.
+-- what holds of the cursor of an iterator: from `next` on it has words in place. Where they end, a word of a retained chunk begins, and it has a copy of that chunk unless the chunk begins there too. It loads at most the words of its range before `next`, and a load covers at most 64 positions.
 pub record IsScan (n : ℕ) (m : Meaning) (next end : ℕ) (run : List (List ℕ)) (chunk : List ℕ) (loads first : ℕ) : Type 0 where
   pub lawful : IsLawful n m
   pub within : end ≤ m.len
@@ -104,6 +106,7 @@ pub record IsScan (n : ℕ) (m : Meaning) (next end : ℕ) (run : List (List ℕ
   pub aligned : run_end next run < end → starts_word n (run_end next run) ≡ true
   pub shown : run_end next run < end → (run_end next run % (8 * n) ≡ 0 → ⊥) → ShowsChunk n m (run_end next run / (8 * n)) chunk
   pub counted : loads + words_between n next end ≤ words_between n first end
+  pub covered : next ≤ first + 64 * loads
 
 -- what holds of an iterator: its cursor is right, and its word has no set bit at or past the end
 pub record IsIterating (n : ℕ) (m : Meaning) (base word next end : ℕ) (run : List (List ℕ)) (chunk : List ℕ) (loads first : ℕ) : Type 0 where

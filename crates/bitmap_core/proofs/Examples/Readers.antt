@@ -238,6 +238,7 @@ iterator = record {
   aligned = λ h. refl;
   shown = λ h ne. absurd (ne refl);
   counted = omega arith;
+  covered = omega arith;
 }
 
 -- 70 bits, none set
@@ -260,11 +261,15 @@ iterator_in_place = record {
   aligned = λ h. refl;
   shown = λ h ne. absurd (ne refl);
   counted = omega arith;
+  covered = omega arith;
 }
 
--- not valid: two words loaded already, another chunk in the iterator, a position at which no word begins, and another word in place
+-- not valid: two words loaded already, none loaded, another chunk in the iterator, a position at which no word begins, and another word in place
 too_many_loads : IsScan 1 ten 8 10 [] (5 ∷ []) 2 0 → ⊥
 too_many_loads s = omega (arith, s.counted)
+
+no_load : IsScan 1 ten 8 10 [] (5 ∷ []) 0 0 → ⊥
+no_load s = omega (arith, s.covered)
 
 another_chunk : IsScan 9 unset 64 70 [] (1 ∷ []) 1 0 → ⊥
 another_chunk s = false≢true (sym (s.shown (omega arith) (λ e. absurd (omega (arith, e))) 0 (omega arith) (omega arith)))

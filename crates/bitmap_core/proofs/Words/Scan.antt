@@ -1,5 +1,5 @@
 -- The words of a range that were loaded, and how many there are.
-use Rattle.std.proofs.Common.{◌≡◌, ℕ, suc, ◌+◌, ◌*◌, ◌/◌, ◌%◌, ◌^◌, ◌<◌, ◌≤◌, ⊎_elim, min, Bool, true, List, [], ◌∷◌, length, get_or, refl, arith, sym, ap, subst, ◌∙◌}
+use Rattle.std.proofs.Common.{◌≡◌, ℕ, zero, suc, ◌+◌, ◌*◌, ◌/◌, ◌%◌, ◌^◌, ◌<◌, ◌≤◌, ⊎_elim, min, Bool, true, List, [], ◌∷◌, length, get_or, refl, arith, sym, ap, subst, ◌∙◌}
 use Rattle.std.proofs.lemmas.Bool.{cases_lt, lt-ltb, le-ltb, eq-eqb}
 use Rattle.std.proofs.lemmas.Nat.{mod_below}
 use Rattle.std.proofs.lemmas.List.{length-append}
@@ -63,9 +63,9 @@ words_after n k base next end p h e is =
 -- the cursor after a word of a copied chunk, with no words in place
 pub copied_scan : (n : ℕ) (m : Meaning) (base next end : ℕ) (run : List (List ℕ)) (chunk : List ℕ) (loads first : ℕ) → IsLawful n m → end ≤ m.len
     → length run ≡ 0 → starts_word n base ≡ true → base < end → 8 * n * m.pruned ≤ base → next ≡ min (next_word n base) end
-    → ShowsChunk n m (base / (8 * n)) chunk → loads + words_between n next end ≤ words_between n first end
+    → ShowsChunk n m (base / (8 * n)) chunk → loads + words_between n next end ≤ words_between n first end → base + 64 ≤ first + 64 * loads
     → IsScan n m next end run chunk loads first
-copied_scan n m base next end run chunk loads first lawful within none start below retained is shown counted =
+copied_scan n m base next end run chunk loads first lawful within none start below retained is shown counted covered =
     let w : ℕ = 8 * n in
     let f : Follows n base (next_word n base) = follows n base lawful.width.positive start in
     let at : run_end next run ≡ next = omega arith in
@@ -85,6 +85,7 @@ copied_scan n m base next end run chunk loads first lawful within none start bel
           (λ (s : Leaves w base (next_word n base)). absurd (ne (ap (λ k. k % w) q ∙ s.within)))
           (next_cases n base lawful.width.positive);
       counted = counted;
+      covered = omega (arith, f.near);
     }
 
 -- the conditions of a load at `next`, and its effect
@@ -128,17 +129,35 @@ load {n} {m} {next} {end} {run} {chunk} {loads} {first} scan none below fits =
       space = load_fits scan below fits;
       scan = λ bytes after shown is.
           copied_scan n m next after end run bytes (loads + 1) first scan.lawful scan.within none start below (scan.retained below) is shown
-          (omega (arith, scan.counted, words_after n next next after end p below (omega (arith, start_aligned n next start)) is));
+          (omega (arith, scan.counted, words_after n next next after end p below (omega (arith, start_aligned n next start)) is))
+          (omega (arith, scan.covered));
     }
 
 -- ---- words in place
 
--- the cursor after the first k words in place, of which at most one is loaded
+-- each of the first k words of 64 bits from `next` on begins another word, if it begins before the end
+words_passed : (n next k end : ℕ) → 0 < n → next + 64 * k ≤ end → k + words_between n (next + 64 * k) end ≤ words_between n next end
+words_passed n next zero end p h =
+    let q : next + 64 * zero ≡ next = omega arith in
+    omega (arith, ap (λ c. words_between n c end) q)
+words_passed n next (suc k) end p h =
+    let at : ℕ = next + 64 * k in
+    let q : at + 64 ≡ next + 64 * suc k = omega arith in
+    omega (arith, words_passed n next k end p (omega arith), words_in_place n at 64 end p (omega arith) (omega arith), ap (λ c. words_between n c end) q)
+
+-- the number of loads fits if each word in place is loaded
+pub loads_fit : {n : ℕ} {m : Meaning} {next end : ℕ} {run : List (List ℕ)} {chunk : List ℕ} {loads first : ℕ} → IsScan n m next end run chunk loads first
+    → end < 2 ^ 64 → loads + length run < 2 ^ 64
+loads_fit {n} {m} {next} {end} {run} {chunk} {loads} {first} scan fits =
+    let inside = scan.inside in
+    omega (arith, scan.counted, words_passed n next (length run) end scan.lawful.width.positive (omega arith), words_between-le n first end)
+
+-- the cursor after the first k words in place, each of which is loaded once
 pub dropped_scan : {n : ℕ} {m : Meaning} {next end : ℕ} {run : List (List ℕ)} {chunk : List ℕ} {loads first : ℕ} → IsScan n m next end run chunk loads first
-    → (k after more : ℕ) (part : List (List ℕ)) → 0 < k → after ≡ next + 64 * k → more ≤ loads + 1 → k + length part ≡ length run
+    → (k after more : ℕ) (part : List (List ℕ)) → after ≡ next + 64 * k → more ≡ loads + k → k + length part ≡ length run
     → ((j : ℕ) → j < length part → get_or part j [] ≡ get_or run (k + j) [])
     → IsScan n m after end part chunk more first
-dropped_scan {n} {m} {next} {end} {run} {chunk} {loads} {first} scan k after more part some is loaded size items =
+dropped_scan {n} {m} {next} {end} {run} {chunk} {loads} {first} scan k after more part is loaded size items =
     let inside = scan.inside in
     let at : run_end after part ≡ run_end next run = omega arith in
     record {
@@ -157,9 +176,10 @@ dropped_scan {n} {m} {next} {end} {run} {chunk} {loads} {first} scan k after mor
           omega (
             arith,
             scan.counted,
-            words_in_place n next (64 * k) end scan.lawful.width.positive (omega arith) (omega arith),
+            words_passed n next k end scan.lawful.width.positive (omega arith),
             ap (λ c. words_between n c end) q,
           );
+      covered = omega (arith, scan.covered);
     }
 
 -- the cursor with new words in place
@@ -176,14 +196,15 @@ run_scan {n} {m} {next} {end} {old} {chunk} {loads} {first} scan run below some 
   aligned = λ h. let z = whole some in eq-eqb (run_end next run % (8 * n) % 64) 0 (ap (λ k. k % 64) z ∙ refl);
   shown = λ h ne. absurd (ne (whole some));
   counted = scan.counted;
+  covered = scan.covered;
 }
 
 -- ---- an empty range
 
 -- the cursor of an empty range
-pub empty_scan : (n : ℕ) (m : Meaning) (end : ℕ) (run : List (List ℕ)) (chunk : List ℕ) (first : ℕ) → IsLawful n m → end ≤ m.len → length run ≡ 0
+pub empty_scan : (n : ℕ) (m : Meaning) (end : ℕ) (run : List (List ℕ)) (chunk : List ℕ) (first : ℕ) → IsLawful n m → end ≤ m.len → length run ≡ 0 → end ≤ first
     → IsScan n m end end run chunk 0 first
-empty_scan n m end run chunk first lawful within none = record {
+empty_scan n m end run chunk first lawful within none past = record {
   lawful = lawful;
   within = within;
   retained = λ h. absurd (omega arith);
@@ -192,4 +213,5 @@ empty_scan n m end run chunk first lawful within none = record {
   aligned = λ h. absurd (omega arith);
   shown = λ h. absurd (omega arith);
   counted = omega (arith, words_none n end end (omega arith));
+  covered = omega arith;
 }

@@ -24,6 +24,7 @@ ghost use Rattle.std.specs.Prelude.{◌≡◌, ℕ, ◌+◌, ◌-◌, ◌*◌, �
 mod blocks;
 mod dense;
 mod in_place;
+mod loads;
 mod ones;
 mod prunable;
 mod search;

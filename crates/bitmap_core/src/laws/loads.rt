@@ -1,11 +1,13 @@
 //! Laws of the words that an iterator over set positions loads.
 
-ghost use Rattle.std.specs.Prelude.{◌≡◌, ◌≤◌, []};
+ghost use Rattle.std.specs.Prelude.{◌≡◌, ◌+◌, ◌≤◌, []};
 ghost use Rattle.std.specs.Iterator.{YieldsFirst};
 
 use crate::bitmap::readable::{OnesIter, Readable};
 
 /// A call of `next` never decreases the number of words loaded, which is at most the number of words of the range. That number does not change.
+///
+/// At any time, the words loaded and those that the iterator has not reached are together at most the words of the range.
 pub fn step_counted<B: Readable<N>, const N: usize>(
     positions: &mut OnesIter<'_, B, N>,
 ) -> Option<u64>
@@ -13,6 +15,7 @@ pub fn step_counted<B: Readable<N>, const N: usize>(
     ensures grows { positions.old.loads ≤ positions.new.loads }
     ensures range { positions.new.words ≡ positions.old.words }
     ensures within { positions.new.loads ≤ positions.old.words }
+    ensures reached { positions.new.loads + positions.new.ahead ≤ positions.old.words }
 {
     positions.next()
 }

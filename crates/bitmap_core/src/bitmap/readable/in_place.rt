@@ -1,15 +1,15 @@
 //! Words of 64 bits of chunks in place. They follow one another from the first chunk on, whatever the width of a chunk.
 
-ghost use Rattle.std.specs.Prelude.{◌≡◌, ℕ, ◌+◌, ◌*◌, ◌%◌, ◌<◌, ◌≤◌, ◌==◌, ◌⊎◌, false, length};
+ghost use Rattle.std.specs.Prelude.{◌≡◌, ℕ, ◌+◌, ◌*◌, ◌%◌, ◌^◌, ◌<◌, ◌≤◌, ◌==◌, ◌⊎◌, false, length, min};
 ghost use Rattle.std.specs.Int.{bit_at};
 ghost use Rattle.bitmap_bytes.specs.Bits.{chunks_bit};
 ghost use Rattle.bitmap_bytes.specs.Chunk.{is_wanted, IsWidth};
 ghost use Rattle.bitmap_core.specs.Meaning.{IsLawful};
 
 use crate::bitmap::readable::Readable;
+use crate::bitmap::readable::loads::load_word;
 use crate::bitmap::readable::search::slice_from;
 use crate::chunk::facts::all_known;
-use crate::chunk::load::wanted_below;
 
 // The number of the first chunks, of `count` chunks, that are whole words together: all, or at most seven fewer.
 fn whole_count<const N: usize>(count: usize) -> usize
@@ -54,15 +54,19 @@ pub(crate) fn run_from<B: Readable<N>, const N: usize>(
 }
 
 // The index of the first word with a wanted bit, and the wanted bits of this word. If there is none, the number of words, and 0.
-pub(crate) fn first_wanted(words: &[[u8; 8]], wanted: bool) -> (usize, u64)
+//
+// Adds the number of words loaded to `loads`: each word up to that one, once.
+pub(crate) fn first_wanted(words: &[[u8; 8]], wanted: bool, loads: &mut u64) -> (usize, u64)
+    requires space { loads.old + length words.now < 2 ^ 64 }
     ensures within { result.0 ≤ length words.now }
     ensures none { (i : ℕ) → i < 64 * result.0 → is_wanted wanted (chunks_bit 8 words.now i) ≡ false }
     ensures bits { result.0 < length words.now → (t : ℕ) → t < 64 → (bit_at result.1 t == 1) ≡ is_wanted wanted (chunks_bit 8 words.now (64 * result.0 + t)) }
     ensures some { result.0 < length words.now → 0 < result.1 }
+    ensures counted { loads.new ≡ loads.old + min (result.0 + 1) (length words.now) }
 {
     let mut index = 0;
     while index < words.len() {
-        let word = wanted_below(&words[index], 0, 64, wanted);
+        let word = load_word(&words[index], 0, 64, wanted, loads);
         if word != 0 {
             return (index, word);
         }

@@ -12,7 +12,8 @@ ghost use Rattle.bitmap_core.specs.Meaning.{left_from, IsScan, ones, ones_betwee
 
 use crate::bitmap::readable::Readable;
 use crate::bitmap::readable::in_place::{first_wanted, run_from};
-use crate::chunk::load::{following_word, high_bits, take_lowest, wanted_below, word_base};
+use crate::bitmap::readable::loads::load_word;
+use crate::chunk::load::{following_word, high_bits, take_lowest, word_base};
 use crate::chunk::{chunk_index, chunk_width};
 use std::marker::Model;
 use std::ops::Range;
@@ -61,30 +62,10 @@ impl<'a, B: Readable<N>, const N: usize> Model for OnesIter<'a, B, N> {
       left = left_from (seen_as s.wanted (B.meaning s.readable.now)) s.cursor.base s.cursor.word s.cursor.next s.end;
       loads = s.cursor.loads;
       words = words_between N s.cursor.first s.end;
+      ahead = words_between N s.cursor.next s.end;
     } };
 
     ghost invariant = { λ s. IsIterating N (B.meaning s.readable.now) s.cursor.base s.cursor.word s.cursor.next s.end s.run.now s.cursor.chunk s.cursor.loads s.cursor.first };
-}
-
-// The wanted bits of the word at `base` of its chunk, with zeros past the end of the chunk and from `end` on. Counts one load.
-fn load_word<const N: usize>(
-    chunk: &[u8; N],
-    base: u64,
-    end: u64,
-    wanted: bool,
-    loads: &mut u64,
-) -> u64
-    requires width { IsWidth N }
-    requires start { starts_word N base ≡ true }
-    requires below { base < end }
-    requires space { loads.old + 1 < 2 ^ 64 }
-    ensures inside { (i : ℕ) → i < 64 → base + i < end → base % (8 * N) + i < 8 * N → (bit_at result i == 1) ≡ is_wanted wanted (chunk_bit N chunk.now (base % (8 * N) + i)) }
-    ensures past_chunk { (i : ℕ) → i < 64 → 8 * N ≤ base % (8 * N) + i → (bit_at result i == 1) ≡ false }
-    ensures past_end { IsCut base result end }
-    ensures counted { loads.new ≡ loads.old + 1 }
-{
-    *loads += 1;
-    wanted_below(chunk, base, end, wanted)
 }
 
 // The position at which the next word begins after the word at `base`, or `end` if that is less.
@@ -148,7 +129,7 @@ fn load_more<'a, B: Readable<N>, const N: usize>(
     if run.is_empty() {
         return refill(readable, end, wanted, cursor);
     }
-    let (passed, word) = first_wanted(run, wanted);
+    let (passed, word) = first_wanted(run, wanted, &mut cursor.loads);
     cursor.base = cursor.next + 64 * passed as u64;
     cursor.next = cursor.base;
     if passed == run.len() {
@@ -156,7 +137,6 @@ fn load_more<'a, B: Readable<N>, const N: usize>(
     }
     cursor.word = word;
     cursor.next += 64;
-    cursor.loads += 1;
     &run[passed + 1..]
 }
 

@@ -7,9 +7,10 @@ loop-index-preserved c =
     let loop = c.loop-index.invariant in
     record {
       within = omega (arith, c.loop-index-test.true);
+      counted = omega (arith, c.load_word-word.ensures.counted, loop.counted);
       none =
-          one_more_clear c.args.words.now c.args.wanted c.loop-index.index c.wanted_below-word.result (omega (arith, c.if-word-ne0.false))
-          (word_in_place c.args.words.now c.args.wanted c.loop-index.index c.wanted_below-word.result
-          (λ t h. c.wanted_below-word.ensures.inside t h (omega arith) (omega arith)))
+          one_more_clear c.args.words.now c.args.wanted c.loop-index.index c.load_word-word.result (omega (arith, c.if-word-ne0.false))
+          (word_in_place c.args.words.now c.args.wanted c.loop-index.index c.load_word-word.result
+          (λ t h. c.load_word-word.ensures.inside t h (omega arith) (omega arith)))
           loop.none;
     }

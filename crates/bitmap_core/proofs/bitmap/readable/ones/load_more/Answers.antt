@@ -1,10 +1,9 @@
 use Rattle.std.proofs.Common.{◌≡◌, ℕ, ◌+◌, ◌-◌, ◌*◌, ◌<◌, [], length, refl, sym, ◌∙◌, arith}
 use Rattle.std.proofs.lemmas.Bool.{eqb-true}
-use Rattle.std.proofs.lemmas.Bool.Decides.{nat_tests}
 use Rattle.bitmap_core.specs.Meaning.{Meaning, seen_as}
 use Rattle.bitmap_core.proofs.Slices.{part_items, part_length}
 use Rattle.bitmap_core.proofs.Words.Loaded.{IsFirstWanted, left_same, left_passed, left_in_place}
-use Rattle.bitmap_core.proofs.Words.Scan.{used_scan, load_fits, dropped_scan}
+use Rattle.bitmap_core.proofs.Words.Scan.{used_scan, loads_fit, dropped_scan}
 use Rattle.bitmap_core.proofs.bitmap.readable.ones.load_more.Goals as goal
 
 pub refill-requires : goal.refill-requires
@@ -14,8 +13,8 @@ refill-requires g c =
 
 pub returns-then-passed-run-clause-scan : goal.returns-then-passed-run-clause-scan
 returns-then-passed-run-clause-scan g c =
-    let some : 0 < length c.args.run.now = grind (arith, nat_tests) in
-    dropped_scan c.requires.scan (length c.args.run.now) _ _ [] some (omega (arith, c.if-passed-run.true)) (omega arith) (omega arith) (λ j h. absurd (omega arith))
+    dropped_scan c.requires.scan (length c.args.run.now) _ _ [] (omega (arith, c.if-passed-run.true))
+    (omega (arith, c.first_wanted-passed.ensures.counted, c.if-passed-run.true)) (omega arith) (λ j h. absurd (omega arith))
 
 pub returns-then-passed-run-clause-left : goal.returns-then-passed-run-clause-left
 returns-then-passed-run-clause-left g c =
@@ -32,14 +31,14 @@ returns-then-passed-run-clause-left g c =
     left_same (seen_as c.args.wanted m) base cursor.word base base c.args.end c.requires.used refl
     ∙ left_passed m c.args.wanted cursor.next c.args.end c.first_wanted-passed.result.0 c.first_wanted-passed.result.1 c.args.run.now first
 
-pub overflow_add-cursor-3 : goal.overflow_add-cursor-3
-overflow_add-cursor-3 g c = omega (arith, load_fits c.requires.scan c.requires.below c.ranges.end.fits)
+pub first_wanted-passed-requires : goal.first_wanted-passed-requires
+first_wanted-passed-requires g c = record { space = loads_fit c.requires.scan c.ranges.end.fits }
 
 pub returns-clause-scan : goal.returns-clause-scan
 returns-clause-scan g c =
     let passed : ℕ = c.first_wanted-passed.result.0 in
     let some : passed < length c.args.run.now = omega (arith, c.first_wanted-passed.ensures.within, c.if-passed-run.false) in
-    dropped_scan c.requires.scan (passed + 1) _ _ _ (omega arith) (omega arith) (omega arith)
+    dropped_scan c.requires.scan (passed + 1) _ _ _ (omega arith) (omega (arith, c.first_wanted-passed.ensures.counted))
     (omega (arith, part_length (length c.args.run.now - (passed + 1)) (passed + 1) c.args.run.now (omega arith)))
     (part_items (length c.args.run.now - (passed + 1)) (passed + 1) c.args.run.now)
 

@@ -12,7 +12,8 @@ use Rattle.bitmap_core.proofs.bitmap.readable.ones.OnesIter.over.Goals.{After-ne
 
 pub invariant_of-result : goal.invariant_of-result
 invariant_of-result g c = record {
-  scan = empty_scan g.row.N (g.B.Readable.meaning c.args.readable.now) c.min-end.result _ _ c.max-position.result c.requires.lawful (omega (arith, c.requires.len)) refl;
+  scan = empty_scan g.row.N (g.B.Readable.meaning c.args.readable.now) c.min-end.result _ _ c.max-position.result c.requires.lawful (omega (arith, c.requires.len)) refl
+      (omega (arith, c.if-position-end.true));
   cut = empty_cut c.min-end.result 0 c.min-end.result refl;
 }
 
@@ -50,7 +51,8 @@ invariant_of-result-2 g c =
       scan = copied_scan g.row.N m (word_start g.row.N c.max-position.result) c.next_below.result c.min-end.result _ c.get_chunk-chunk.result 1 c.max-position.result
           c.requires.lawful (omega (arith, c.requires.len)) refl (start_of g.row.N c.max-position.result p) (omega (arith, c.if-position-end.false))
           (retained_start g.row.N m.pruned c.max-position.result p (omega (arith, c.pruned_bits.ensures))) next (shown g c)
-          (words_after g.row.N c.max-position.result _ c.next_below.result c.min-end.result p c.if-position-end.false refl next);
+          (words_after g.row.N c.max-position.result _ c.next_below.result c.min-end.result p c.if-position-end.false refl next)
+          (omega arith);
       cut = masked_cut _ _ _ _ _ (masked g c) (rw c.word_base-base.ensures at c.load_word-word.ensures.past_end);
     })
 

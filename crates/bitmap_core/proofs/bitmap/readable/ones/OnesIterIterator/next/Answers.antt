@@ -28,15 +28,16 @@ returns-clause-steps g c =
       | then-self-eq0+else-self-eq0-2 w ↦ rw w.self-inside-is w.advance-self-inside.ensures.counted
       | else-self-eq0 w ↦ rw w.self-inside-is (omega arith)
     ] in
-    let within : new.cursor.loads ≤ words_between g.row.N new.cursor.first new.end = elim c.if-self-eq0.branch [
-      | then-self-eq0+else-self-eq0-2 w ↦ rw w.self-inside-is (omega (arith, w.advance-self-inside.ensures.scan.counted))
-      | else-self-eq0 w ↦ rw w.self-inside-is (omega (arith, c.self.invariant.scan.counted))
+    let reached : new.cursor.loads + words_between g.row.N new.cursor.next new.end ≤ words_between g.row.N new.cursor.first new.end = elim c.if-self-eq0.branch [
+      | then-self-eq0+else-self-eq0-2 w ↦ rw w.self-inside-is w.advance-self-inside.ensures.scan.counted
+      | else-self-eq0 w ↦ rw w.self-inside-is c.self.invariant.scan.counted
     ] in
     record {
       yields = left_taken new.cursor.word c.take_lowest-place.new.word c.take_lowest-place.result taken m new.cursor.base new.cursor.next new.end before c.args.self.now.left same left;
       grows = omega (arith, loads, grows);
       range = range ∙ words;
-      within = omega (arith, within, range, words);
+      within = omega (arith, reached, range, words);
+      reached = omega (arith, reached, range, words);
     }
 
 pub returns-clause-goes : goal.returns-clause-goes
