@@ -1,5 +1,5 @@
 -- Entries of indices and chunks that are in another order.
-use Rattle.std.proofs.Common.{◌≡◌, ◌≢◌, ℕ, zero, suc, ◌+◌, ◌-◌, ◌<◌, cond, List, [], ◌∷◌, ◌++◌, length, slice_index, slice_index_or, slice_set, Option, Some, None, MatchOption, arith, refl, sym, ap, ◌∙◌, subst}
+use Rattle.std.proofs.Common.{◌≡◌, ◌≢◌, ℕ, zero, suc, ◌+◌, ◌-◌, ◌<◌, cond, Bool, true, false, List, [], ◌∷◌, ◌++◌, length, slice_index, slice_index_or, slice_set, Option, Some, None, MatchOption, arith, refl, sym, ap, ◌∙◌, subst}
 use mathlib.Core.Logic.{inl, inr, ◌⊎◌}
 use Rattle.std.proofs.lemmas.Bool.{cases_eq, cases_lt, cases_order, eq-eqb, false≢true, ne_eqb, lt-ltb, le-ltb}
 use Rattle.std.proofs.lemmas.List.{get_or-set_same, get_or-set_other, get_or-take, get_or_append_left, get_or_default, get_or_push, length-set, length-take-le, length_push}
@@ -10,7 +10,7 @@ use Rattle.std.specs.List.{AllByRecursion}
 use Rattle.std.specs.List.Sorted.{IsStrictlySortedBy}
 use Rattle.std.specs.Map.{keys_of, lookup}
 use Rattle.std.specs.Ordering.{match_ordering, nat_cmp}
-use Rattle.std.specs.Prelude.{nat_eq, is_some, IsSome}
+use Rattle.std.specs.Prelude.{nat_eq, is_some, IsSome, ◌||◌}
 use Rattle.std.specs.Set.{is_member}
 use Rattle.chunk_map.specs.Entries.{IsNextMember, IsPaired, Puts, entries_of}
 use Rattle.chunk_map.specs.Next.{AreBelow, IsNextPlace}
@@ -194,6 +194,26 @@ puts_push ks cs k c was a s q =
 -- ---- members
 pub member_is : (ks : List ℕ) (cs : List (List ℕ)) (j : ℕ) → is_member nat_eq (keys_of (entries_of ks cs)) j ≡ is_some (lookup (nat_eq j) (entries_of ks cs))
 member_is ks cs j = sym (is_some-lookup (nat_eq j) (entries_of ks cs))
+
+member_at : (ks : List ℕ) (q p : ℕ) → p < length ks → slice_index ks p ≡ q → is_member nat_eq ks q ≡ true
+member_at [] q p w e = absurd (omega (arith, w))
+member_at (k ∷ ks) q zero w e = rw (eq-eqb q k (sym e)) refl
+member_at (k ∷ ks) q (suc p) w e = rw (member_at ks q p (omega (arith, w)) e) (or_true (nat_eq q k))
+  where
+    or_true : (t : Bool) → (t || true) ≡ true
+    or_true true = refl
+    or_true false = refl
+
+not_member : (ks : List ℕ) (q : ℕ) → IsAbsent ks q → is_member nat_eq ks q ≡ false
+not_member [] q h = refl
+not_member (k ∷ ks) q h = rw (ne_eqb q k (λ e. h 0 (omega arith) (sym e))) (not_member ks q (λ place w. h (suc place) (omega (arith, w))))
+
+-- the indices are those of the entries
+pub indices_are : (ks : List ℕ) (cs : List (List ℕ)) → AreApart ks → length cs ≡ length ks → (q : ℕ) → is_member nat_eq ks q ≡ is_member nat_eq (keys_of (entries_of ks cs)) q
+indices_are ks cs a s q = elim (place_or_none ks q) [
+  | inl f ↦ member_at ks q f.0 f.1.within f.1.is ∙ sym (member_is ks cs q ∙ ap is_some (found_at ks cs q f.0 [] a s f.1))
+  | inr h ↦ not_member ks q h ∙ sym (member_is ks cs q ∙ ap is_some (entry_absent ks cs q h))
+]
 
 pub next_none : (ks : List ℕ) (cs : List (List ℕ)) (from : ℕ) → AreBelow ks from → IsNextMember (keys_of (entries_of ks cs)) from None
 next_none ks cs from h = λ j l. member_is ks cs j ∙ ap is_some (entry_absent ks cs j (λ place w e. let b = h place w in absurd (omega (arith, b, e, l))))

@@ -13,8 +13,9 @@ ghost use Rattle.std.specs.Vec.{vec_capacity};
 ghost use Rattle.std.specs.List.Sorted.{IsStrictlySortedBy};
 ghost use Rattle.std.specs.Map.{keys_of, lookup};
 ghost use Rattle.std.specs.Ordering.{nat_cmp};
+ghost use Rattle.std.specs.Set.{is_member};
 ghost use Rattle.chunk_map.specs.Entries.{IsNextMember, Puts};
-ghost use Rattle.chunk_map.specs.Trie.{IsAt, without_place};
+ghost use Rattle.chunk_map.specs.Trie.{AreApart, IsAt, without_place};
 
 use crate::places::Places;
 use std::alloc::{AllocError, Global};
@@ -305,6 +306,8 @@ impl<const N: usize> ChunkMap<N> {
     pub fn order(&self)
         ensures sorted { IsStrictlySortedBy nat_cmp (keys_of self.now.entries) }
         ensures places { (index : ℕ) → IsSome (lookup (nat_eq index) self.now.entries) → (place : ℕ) × IsAt self.now.indices index place }
+        ensures apart { AreApart self.now.indices }
+        ensures members { (index : ℕ) → is_member nat_eq self.now.indices index ≡ is_member nat_eq (keys_of self.now.entries) index }
     {
         let _chunks = &self.chunks;
     }

@@ -5,6 +5,7 @@
 -- MarkedChunks: which chunks are marked.
 -- Chunks: a chunk that is read with the pending edits.
 -- Record: the record that a commit makes.
+-- Sorted: the indices of a map's chunks in the order of its places, and sorted.
 -- Applied: the pending edits, applied in steps, give the pending bitmap.
 -- AppliedInAnyOrder: chunks written in any order of their indices.
 -- AppliedRun: so they do if the appended run is applied after the other chunks.
@@ -19,6 +20,7 @@ pub mod Ends
 pub mod MarkedChunks
 pub mod Chunks
 pub mod Record
+pub mod Sorted
 pub mod Applied
 pub mod AppliedInAnyOrder
 pub mod AppliedRun

@@ -210,6 +210,10 @@ diff_of n b l i =
 abbrev pub members_between : List ℕ → ℕ → ℕ → List ℕ
 members_between xs from to = filter (is_member nat_eq xs) (from_to from to)
 
+-- the numbers of a list that are from one number up to, but not including, another, in the order of the list
+abbrev pub picked_between : List ℕ → ℕ → ℕ → List ℕ
+picked_between xs from to = filter (is_between from to) xs
+
 -- the entries of some chunks in the record of a commit
 abbrev pub entries_for : ℕ → PrunedBits → PendingEdits → List ℕ → List (ℕ × ChunkDiff)
 entries_for n b l chunks = map (λ i. (i, diff_of n b l i)) chunks

@@ -116,7 +116,7 @@ run_above : (a c m : ℕ) → a < c → AllByRecursion (λ k. nat_cmp a k ≡ Le
 run_above a c zero l = tt
 run_above a c (suc m) l = (rw (lt-ltb a c l) refl, run_above a (c + 1) m (omega arith))
 
-run_sorted : (a m : ℕ) → IsStrictlySortedBy nat_cmp (range_with_len a m)
+pub run_sorted : (a m : ℕ) → IsStrictlySortedBy nat_cmp (range_with_len a m)
 unfolding IsStrictlySortedBy
 run_sorted a zero = tt
 run_sorted a (suc m) = (run_above a (a + 1) m (omega arith), run_sorted (a + 1) m)

@@ -369,6 +369,7 @@ impl<const N: usize> BitMap<N, Dirty<N>> {
     /// Allocates the reverse record. If there is no capacity for them, also the chunks by which the current bitmap grows, and a place in the list of commits.
     /// The record has at most one entry per marked chunk, and at most one more if the batch popped down to whole chunks.
     /// It is allocated once, with capacity for at most one more entry per edited chunk that is also pruned or cut off.
+    /// Before its entries are made, allocates at most twice for the indices of the edited chunks outside the appended run, and frees these.
     ///
     /// # Complexity
     ///

@@ -11,7 +11,7 @@ ghost use Rattle.bitmap_bytes.specs.Chunk.{bytes_bit, byte_bits, chunk_bit, chun
 ghost use Rattle.bitmap_core.specs.PrunedBits.{PrunedBits, bit_at, bit_len, chunk, IsRetained, pruned_bits, truncated};
 ghost use Rattle.chunk_map.specs.Entries.{IsNextMember};
 ghost use Rattle.historical_bitmap.specs.Edits.{from_to};
-ghost use Rattle.historical_bitmap.specs.Pending.{AddsEntries, Appends, diff_of, edited_chunk, first_cut_of, IsClearFrom, marked_chunks, members_between, PendingFits, old_chunk, pending_bits, pending_chunk, Pops, Prunes, IsRecordOf, run_bits, SetsRange, unedited, Writes};
+ghost use Rattle.historical_bitmap.specs.Pending.{AddsEntries, Appends, diff_of, edited_chunk, first_cut_of, IsClearFrom, marked_chunks, members_between, PendingFits, picked_between, old_chunk, pending_bits, pending_chunk, Pops, Prunes, IsRecordOf, run_bits, SetsRange, unedited, Writes};
 ghost use Rattle.historical_bitmap.specs.Record.{LeadsBack};
 ghost use Rattle.historical_bitmap.specs.Stored.{diff_value};
 ghost use Rattle.historical_bitmap.specs.Undo.{CanUndo};
@@ -130,6 +130,40 @@ fn record_range<const N: usize>(
     Ok(())
 }
 
+// Returns the indices from index `from` up to `to` of the chunks that a map has, in the order of their places.
+fn indices_by_place<const N: usize>(
+    alloc: Global,
+    chunks: &ChunkMap<N>,
+    from: usize,
+    to: usize,
+) -> Result<Vec<usize>, AllocError>
+    ensures { IfOk result (λ indices. indices.items ≡ picked_between chunks.now.indices from to) }
+{
+    let mut indices = Vec::with_capacity(alloc, chunks.len())?;
+    for place in 0..chunks.len() {
+        let index = chunks.index_at(place);
+        if from <= index && index < to {
+            indices.push(index)?;
+        }
+    }
+    Ok(indices)
+}
+
+// Returns the indices from index `from` up to `to` of the chunks that a map has, ascending. Allocates once, for them.
+fn indices_between<const N: usize>(
+    alloc: Global,
+    chunks: &ChunkMap<N>,
+    from: usize,
+    to: usize,
+) -> Result<Vec<usize>, AllocError>
+    ensures { IfOk result (λ indices. indices.items ≡ members_between (keys_of chunks.now.entries) from to) }
+{
+    chunks.order();
+    let mut indices = indices_by_place(alloc, chunks, from, to)?;
+    indices.sort_unstable();
+    Ok(indices)
+}
+
 // Appends the entries of the chunks that a map has from index `from` up to `to`.
 fn record_map<const N: usize>(
     record: &mut CommitDiff<N>,
@@ -146,14 +180,13 @@ fn record_map<const N: usize>(
     ensures { OnOk result (AddsEntries N current.now edits.now (members_between (keys_of chunks.now.entries) from to) record.old record.new) }
 {
     let _ = current.len();
-    let mut at = from;
-    while let Some(index) = chunks.next_from(at) {
-        if index >= to {
-            return Ok(());
-        }
-        let diff = edits.diff(current, index);
-        record.push(index, diff)?;
-        at = index + 1;
+    if from == to {
+        return Ok(());
+    }
+    let indices = indices_between(edits.allocator(), chunks, from, to)?;
+    for index in indices.as_slice() {
+        let diff = edits.diff(current, *index);
+        record.push(*index, diff)?;
     }
     Ok(())
 }
