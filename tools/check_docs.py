@@ -7,7 +7,7 @@
 - Each file that a document names exists.
 - Each mutant that a table names exists, and each clause that a table names is the label of a clause.
 - Each mutant of the second tier can be applied, and has a name of its own.
-- Each document exists and has at most so many words.
+- Each document exists.
 """
 
 import re
@@ -17,17 +17,10 @@ from typing import NamedTuple
 
 TOP = Path(__file__).resolve().parent.parent
 USES = TOP / "crates/uses"
-MOST_WORDS = {
-    "README.md": 900,
-    "CONTRIBUTING.md": 500,
-    "docs/GUIDE.md": 1800,
-    "docs/TRUST.md": 1500,
-    "docs/ARCHITECTURE.md": 1500,
-    "docs/DECISIONS.md": 1200,
-    "docs/DIFFERENCES.md": 900,
-    "docs/SCRIPT.md": 1300,
-    "docs/BENCHMARKS.md": 600,
-}
+DOCUMENTS = [
+    "README.md", "CONTRIBUTING.md", "docs/GUIDE.md", "docs/TRUST.md", "docs/ARCHITECTURE.md", "docs/DECISIONS.md", "docs/DIFFERENCES.md",
+    "docs/SCRIPT.md", "docs/BENCHMARKS.md",
+]
 
 
 class Example(NamedTuple):
@@ -208,14 +201,6 @@ def known_labels():
     return {name for names in found for name in names} | calls
 
 
-def length_errors(name, most):
-    path = TOP / name
-    if not path.exists():
-        return [f"{name}: missing"]
-    words = len(path.read_text().split())
-    return [f"{name}: {words} words, more than {most}"] if words > most else []
-
-
 def main():
     texts = [path for path in sources(TOP / "crates") if USES not in path.parents] + documents()
     callers = [lines_of(path) for path in sources(USES / "src")]
@@ -231,10 +216,10 @@ def main():
     errors += [error for path in documents() for error in file_errors(path, files)]
     errors += [error for path in documents() for error in name_errors(path, mutants, labels)]
     errors += [error for mutant in second_tier for error in second_tier_errors(mutant)]
-    errors += [error for name, most in MOST_WORDS.items() for error in length_errors(name, most)]
+    errors += [f"{name}: missing" for name in DOCUMENTS if not (TOP / name).exists()]
     for error in errors:
         print(error)
-    print(f"documents: {len(all_examples)} examples, {len(all_links)} links, {len(MOST_WORDS)} lengths, {len(errors)} errors")
+    print(f"documents: {len(all_examples)} examples, {len(all_links)} links, {len(errors)} errors")
     return 1 if errors else 0
 
 
