@@ -11,7 +11,7 @@ enum { WIDTH = 8, PAGE = 4 };
 
 /* Commits a day on which some orders are opened and one is closed. If a call fails, the day is aborted. */
 static mortarpink_status add_day(mortarpink_bitmap *orders, uint64_t day, unsigned opened, uint64_t closed) {
-    uint64_t previous;
+    uint64_t previous = 0;
     mortarpink_status status = mortarpink_begin(orders);
     if (status != MORTARPINK_DONE) return status;
     for (; opened > 0 && status == MORTARPINK_DONE; opened--) status = mortarpink_push(orders, 1);
@@ -24,8 +24,8 @@ static mortarpink_status add_day(mortarpink_bitmap *orders, uint64_t day, unsign
 /* Prints a page of the orders that were open on a day, from one order on. Returns the first order after the page, or
  * UINT64_MAX after the last page. */
 static uint64_t print_page(mortarpink_bitmap *orders, uint64_t day, uint64_t from) {
-    uint64_t page[PAGE];
-    size_t count;
+    uint64_t page[PAGE] = {0};
+    size_t count = 0;
     if (mortarpink_ones_at(orders, day, from, UINT64_MAX, page, PAGE, &count) != MORTARPINK_DONE) return UINT64_MAX;
     for (size_t k = 0; k < count; k++) printf(" %" PRIu64, page[k]);
     return count == PAGE ? page[PAGE - 1] + 1 : UINT64_MAX;
@@ -33,7 +33,7 @@ static uint64_t print_page(mortarpink_bitmap *orders, uint64_t day, uint64_t fro
 
 /* Prints the orders of a day. The day is read in place: no bitmap is copied. */
 static mortarpink_status print_day(mortarpink_bitmap *orders, uint64_t day) {
-    uint64_t len, from = 0;
+    uint64_t len = 0, from = 0;
     mortarpink_status status = mortarpink_len_at(orders, day, &len);
     if (status != MORTARPINK_DONE) return status;
     printf("day %" PRIu64 ": %" PRIu64 " orders, open:", day, len);
@@ -45,7 +45,7 @@ static mortarpink_status print_day(mortarpink_bitmap *orders, uint64_t day) {
 /* Makes a log of three days, and rewinds to the second one. */
 static mortarpink_status keep_log(mortarpink_bitmap *orders) {
     mortarpink_status status;
-    uint64_t latest;
+    uint64_t latest = 0;
     if ((status = add_day(orders, 1, 5, 3)) != MORTARPINK_DONE) return status;
     if ((status = add_day(orders, 2, 2, 1)) != MORTARPINK_DONE) return status;
     if ((status = add_day(orders, 3, 1, 2)) != MORTARPINK_DONE) return status;
@@ -62,10 +62,10 @@ static mortarpink_status keep_log(mortarpink_bitmap *orders) {
 
 /* Encodes the current bitmap into memory that the caller frees. */
 static mortarpink_status encode(mortarpink_bitmap *orders, uint8_t **bytes, size_t *size) {
-    uint8_t none;
+    uint8_t none = 0;
     mortarpink_status status = mortarpink_encode(orders, &none, 0, size);
     if (status != MORTARPINK_WRONG_SIZE) return status;
-    *bytes = malloc(*size);
+    *bytes = calloc(*size, 1);
     if (!*bytes) return MORTARPINK_NO_MEMORY;
     return mortarpink_encode(orders, *bytes, *size, size);
 }
@@ -73,8 +73,8 @@ static mortarpink_status encode(mortarpink_bitmap *orders, uint8_t **bytes, size
 /* Reads the bytes of a log of at most this many orders, as one that receives them would. */
 static mortarpink_status receive(const uint8_t *bytes, size_t size, uint64_t most) {
     mortarpink_bitmap orders = MORTARPINK_EMPTY;
-    uint64_t length, open;
-    size_t used;
+    uint64_t length = 0, open = 0;
+    size_t used = 0;
     mortarpink_status status = mortarpink_read(&orders, WIDTH, 0, most, bytes, size, &used, &length);
     if (status == MORTARPINK_INVALID_LENGTH) printf("received %" PRIu64 " orders, which are too many\n", length);
     if (status != MORTARPINK_DONE) return status;
@@ -86,7 +86,7 @@ static mortarpink_status receive(const uint8_t *bytes, size_t size, uint64_t mos
 
 static mortarpink_status send_log(mortarpink_bitmap *orders) {
     uint8_t *bytes = NULL;
-    size_t size;
+    size_t size = 0;
     mortarpink_status status = encode(orders, &bytes, &size);
     if (status == MORTARPINK_DONE) status = receive(bytes, size, 1000);
     if (status == MORTARPINK_DONE && receive(bytes, size, 4) != MORTARPINK_INVALID_LENGTH) status = MORTARPINK_INVALID;

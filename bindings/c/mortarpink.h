@@ -4,7 +4,7 @@
  * 8, 32 or 64 bytes, which is the bitmap's width.
  *
  *     mortarpink_bitmap bitmap = MORTARPINK_EMPTY;
- *     uint64_t previous;
+ *     uint64_t previous = 0;
  *     if (mortarpink_new(&bitmap, 8) != MORTARPINK_DONE) return 1;
  *     mortarpink_begin(&bitmap);
  *     if (mortarpink_push(&bitmap, 1) == MORTARPINK_DONE) mortarpink_commit(&bitmap, 7, &previous);
@@ -15,11 +15,24 @@
  * is not empty, except to move it: the old place is not used again. An empty handle is valid in every call, and a freed
  * handle is empty again.
  *
- * Pointers are never NULL, not even for a length of 0. They point to memory of their type, to `len` elements if a
- * length follows. No two pointers of one call overlap. Nothing else is assumed: every other argument is checked.
+ * What callers have to ensure. No call can check these rules, and the calls do what this header says only if the
+ * program keeps all of them. Every other argument is checked.
  *
- * Threads: while a call runs, no other call uses its handles, reads included. Calls on different handles may run at
- * the same time. No call is made from a signal handler. Memory comes from malloc and realloc, and goes to free.
+ * - Handles: the program keeps the rules of ownership above, and reads or writes the member of a handle only to move it.
+ * - Pointers: no pointer is NULL, not even for a length of 0. Each points to memory of its type, with the alignment of
+ *   that type: to one value, or to `len` elements if a length follows.
+ * - Values: all of that memory holds a value when the call begins. Initialize outputs and buffers too.
+ * - Overlap: the memory of no two pointers of one call overlaps.
+ * - Access: while a call runs, nothing else reads or writes the memory of its handles and outputs, or the bitmaps that
+ *   the handles own. Nothing else writes the memory of its inputs.
+ * - Threads: each handle is used by one call at a time, reads included. Calls on different handles may run at the same
+ *   time. A handle goes to another thread in an ordered way: through a lock, the start or the join of a thread, or
+ *   a sequentially consistent atomic.
+ * - Signals and forks: no call is made from a signal handler, or in the forked child of a process with threads.
+ * - Memory: the program's malloc, realloc and free are from one allocator and work as the C standard says. malloc and
+ *   realloc align a block to each power of two up to 16 that divides its size. The library allocates by malloc and
+ *   realloc alone, and frees by free.
+ * - Stack: the thread has enough stack left for the call.
  *
  * Statuses: each call returns one. Unless its comment says otherwise, any status but MORTARPINK_DONE means that the
  * bitmap and all output are unchanged. After MORTARPINK_NO_MEMORY the same call may be made again.
@@ -249,8 +262,11 @@ mortarpink_status mortarpink_drop_before(mortarpink_bitmap *bitmap, uint64_t num
 /* Drops all commits. Linear in what is dropped. */
 mortarpink_status mortarpink_clear(mortarpink_bitmap *bitmap);
 
-/* *entries becomes the number of chunks in the reverse records of all kept commits: the memory that the history
- * takes. If it passes 2^64 - 1, *entries becomes 2^64 - 1. Linear in the kept commits. */
+/* *entries becomes the number of entries in the reverse records of all kept commits, or 2^64 - 1 if there are more. The
+ * record of a commit has at most one entry per chunk that its batch edited, removed or pruned, and at most one more. An
+ * entry has the old bytes of one chunk, or no bytes if the commit added the chunk. So *entries is at least the number of
+ * old chunks that the history keeps. It is not the number of bytes that the history takes. Linear in the kept
+ * commits. */
 mortarpink_status mortarpink_entries(mortarpink_bitmap *bitmap, uint64_t *entries);
 
 #ifdef __cplusplus

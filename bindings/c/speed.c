@@ -56,7 +56,7 @@ static uint64_t near_sets(mortarpink_bitmap *bitmap) {
 }
 
 static uint64_t current_gets(mortarpink_bitmap *bitmap) {
-    uint8_t bit;
+    uint8_t bit = 0;
     for (uint64_t k = 0; k < BITS; k++) {
         check(mortarpink_get(bitmap, scattered(k), &bit));
         total += bit;
@@ -66,8 +66,8 @@ static uint64_t current_gets(mortarpink_bitmap *bitmap) {
 
 /* Reads a past state, after which there are ten commits. */
 static uint64_t past_gets(mortarpink_bitmap *bitmap) {
-    uint64_t latest;
-    uint8_t bit;
+    uint64_t latest = 0;
+    uint8_t bit = 0;
     check(mortarpink_latest(bitmap, &latest));
     for (uint64_t k = 0; k < BITS; k++) {
         check(mortarpink_get_at(bitmap, latest - 10, scattered(k), &bit));
@@ -78,7 +78,7 @@ static uint64_t past_gets(mortarpink_bitmap *bitmap) {
 
 /* Commits batches of one set. */
 static uint64_t commits(mortarpink_bitmap *bitmap) {
-    uint64_t latest, previous;
+    uint64_t latest = 0, previous = 0;
     check(mortarpink_latest(bitmap, &latest));
     for (uint64_t k = 1; k <= COMMITS; k++) {
         check(mortarpink_begin(bitmap));
@@ -89,7 +89,7 @@ static uint64_t commits(mortarpink_bitmap *bitmap) {
 }
 
 static void fill(mortarpink_bitmap *bitmap) {
-    uint64_t previous;
+    uint64_t previous = 0;
     check(mortarpink_begin(bitmap));
     for (uint64_t k = 0; k < BITS; k++) check(mortarpink_push(bitmap, k % 3 == 0));
     check(mortarpink_commit(bitmap, 0, &previous));

@@ -62,15 +62,15 @@ static void add_visible(struct description *description, mortarpink_bitmap *bitm
     add(description, &len, sizeof len);
     add(description, &pruned, sizeof pruned);
     for (uint64_t position = 8 * width * pruned; position < len; position += 8 * width) {
-        uint8_t chunk[64];
+        uint8_t chunk[64] = {0};
         check_done(mortarpink_chunk(bitmap, position, chunk, width));
         add(description, chunk, width);
     }
 }
 
 static void add_encodings(struct description *description, mortarpink_bitmap *bitmap) {
-    uint64_t numbers[NUMBERS];
-    uint8_t bytes[BYTES];
+    uint64_t numbers[NUMBERS] = {0};
+    uint8_t bytes[BYTES] = {0};
     size_t size = 0, count = 0;
     check_status(mortarpink_encode(bitmap, bytes, 0, &size), MORTARPINK_WRONG_SIZE);
     check_done(mortarpink_encode(bitmap, bytes, size, &size));
@@ -323,9 +323,9 @@ static void run_bytes(void) {
 /* ---- Calls that do not allocate ---- */
 
 static void read_in_place(mortarpink_bitmap *bitmap) {
-    uint64_t number, numbers[NUMBERS];
-    uint8_t bit, chunk[64];
-    size_t count;
+    uint64_t number = 0, numbers[NUMBERS] = {0};
+    uint8_t bit = 0, chunk[64] = {0};
+    size_t count = 0;
     check_done(mortarpink_get_at(bitmap, 1, 1, &bit));
     check_done(mortarpink_chunk_at(bitmap, 1, 1, chunk, width));
     check_done(mortarpink_ones_at(bitmap, 1, 0, UINT64_MAX, numbers, NUMBERS, &count));

@@ -867,7 +867,7 @@ static void check_longest(struct view view, uint32_t width) {
 static void test_longest_bytes(mortarpink_bitmap *bitmap, uint32_t width) {
     const size_t size = 16 + (size_t)width;
     mortarpink_bitmap copy = MORTARPINK_EMPTY;
-    uint8_t bytes[80];
+    uint8_t bytes[80] = {0};
     check_value(mortarpink_encode(bitmap, bytes, size, &out.size), out.size, size);
     check_value(mortarpink_read(&copy, width, 0, UINT64_MAX, bytes, size, &out.size, &out.number), out.size, size);
     check_longest(visible(&copy), width);

@@ -381,7 +381,12 @@ class Bitmap(_Reads):
 
     @property
     def entries(self) -> int:
-        """The number of chunks that the kept commits hold: the memory that they take. At most 2^64 - 1."""
+        """The number of entries in the reverse records of the kept commits, or 2^64 - 1 if there are more.
+
+        The record of a commit has at most one entry per chunk that its batch edited, removed or pruned, and at most one
+        more. An entry has the old bytes of one chunk, or no bytes if the commit added the chunk. The number of entries is
+        not the number of bytes that the history takes.
+        """
         return self._number("entries")
 
     def changed_chunks(self, older: int, newer: int) -> Iterator[int]:

@@ -532,9 +532,11 @@ impl Bitmap {
         self.settled_mut().clear();
     }
 
-    /// Returns the number of chunks that the kept commits hold: the memory that they take.
+    /// Returns the number of entries in the reverse records of the kept commits, or `u64::MAX` if there are more.
     ///
-    /// If it passes `u64::MAX`, returns `u64::MAX`.
+    /// The record of a commit has at most one entry per chunk that its batch edited, removed or pruned, and at most one
+    /// more. An entry has the old bytes of one chunk, or no bytes if the commit added the chunk. The number of entries is
+    /// not the number of bytes that the history takes.
     ///
     /// # Complexity
     ///
