@@ -2,19 +2,21 @@
 """Compares the definitions in docs/THEOREM.md with the specs and sources, and fails if they differ. With --write it writes them there.
 
 A line `<!-- FILE: NAME, NAME -->` is before each fenced block: the block has those definitions of that file, in that order, each under
-its comment. `Model for T` names the value and the view of a type's model. Every definition of the specs that one on the page depends on
-has to be on the page too.
+its comment, and in the modules with parameters or the `impl` that it is in. `Model for T` names the value and the view of a type's model.
+Every definition of the specs that one on the page depends on has to be on the page too. A name that has several meanings on the page has
+to be in its table of such names.
 """
 
 import re
 import sys
 from functools import cache
 from pathlib import Path
-from textwrap import dedent
 
 TOP = Path(__file__).resolve().parent.parent
 DOCUMENT = TOP / "docs/THEOREM.md"
 BLOCK = re.compile(r"<!-- (\S+): ([^\n]+) -->\n```\n(?:[^`\n][^\n]*\n|\n)*```\n")
+MODULE = re.compile(r" *module _ .* where")
+SHARED = re.compile(r"^\| `([^`|]+)` \|", re.MULTILINE)
 DEFINED = re.compile(r"(?: *(?:abbrev|unfoldable) pub | *pub (?:record|data|fn) |pub )(\w+)")
 IMPORT = re.compile(r"use Rattle\.(\w+)\.specs\.(\w+)(?:\.(\w+))?(?:\.\{([^}]*)\}| as (\w+))")
 
@@ -77,6 +79,21 @@ def meaning(file, word):
     return (found, imported) if found.endswith(".antt") and line_of(found, imported) is not None else None
 
 
+def scopes(file, name):
+    """The lines that begin the modules with parameters, or the `impl`, that a definition is in, the outermost first."""
+    lines, at = lines_of(file), line_of(file, name)
+    depth, found = indentation(lines[at]), []
+    for line in reversed(lines[:at]):
+        if line.strip() and indentation(line) < depth:
+            depth = indentation(line)
+            found += [line] if MODULE.match(line) or line.startswith("impl") else []
+    return found[::-1]
+
+
+def indentation(line):
+    return len(line) - len(line.lstrip())
+
+
 def depends(file, name):
     """The spec definitions that a definition depends on."""
     text = "\n".join(re.sub("--.*", "", line) for line in definition(file, name))
@@ -86,10 +103,44 @@ def depends(file, name):
 
 
 def block(found):
-    """A fenced block with its definitions."""
+    """A fenced block with its definitions. A line that begins a module or an `impl` is before the first definition in it."""
     file, names = found[1], found[2].split(", ")
-    texts = [dedent("\n".join(comment(file, name) + definition(file, name))) for name in names]
-    return f"<!-- {file}: {found[2]} -->\n```\n" + "\n\n".join(texts) + "\n```\n"
+    text, before = "", []
+    for name in names:
+        around = scopes(file, name)
+        shared = next((k for k, pair in enumerate(zip(before, around)) if pair[0] != pair[1]), min(len(before), len(around)))
+        text += ends(before[shared:]) + ("\n" if text else "")
+        text += "\n".join(around[shared:] + comment(file, name) + definition(file, name)) + "\n"
+        before = around
+    return f"<!-- {file}: {found[2]} -->\n```\n" + text + ends(before) + "```\n"
+
+
+def ends(around):
+    """The lines that end some of these modules and `impl`s. A module ends with its indentation."""
+    return "".join("}\n" for line in around if line.startswith("impl"))
+
+
+def fields(file, name):
+    """The fields or the constructors of a definition."""
+    return re.findall(r"^ +(?:pub )?(\w+) :", "\n".join(definition(file, name)), re.MULTILINE) if file.endswith(".antt") else []
+
+
+def std_names(file):
+    """The names that a file imports from std."""
+    lists = re.findall(r"^use Rattle\.std\.[\w.]+\.\{([^}]*)\}", "\n".join(lines_of(file)), re.MULTILINE)
+    return {name.strip() for listed in lists for name in listed.split(",") if " as " not in name}
+
+
+def several_meanings(named):
+    """The names that the page defines twice, that are a definition and a field, or that are a definition and a word of std."""
+    defined = [name for _, name in named if not name.startswith("Model for ")]
+    data = {(file, name) for file, name in named if re.search(r"\bdata ", "".join(definition(file, name)[:1]))}
+    constructors = [field for each in data for field in fields(*each)]
+    record_fields = {field for each in named if each not in data for field in fields(*each)}
+    used = {file: set(re.findall(r"[\w-]+", "\n".join("\n".join(definition(*each)) for each in named if each[0] == file))) for file, _ in named}
+    of_std = {name for file in used if file.endswith(".antt") for name in std_names(file) & used[file]}
+    twice = {name for names in (defined, constructors) for name in names if names.count(name) > 1}
+    return twice | (set(defined) & (record_fields | of_std))
 
 
 def errors_of(page):
@@ -98,8 +149,9 @@ def errors_of(page):
     unknown = [f"{file} has no definition of {name}" for file, name in named if not (TOP / file).exists() or line_of(file, name) is None]
     if unknown:
         return unknown
+    unlisted = [f"{name} has several meanings and is not in the table of such names" for name in several_meanings(named) - set(SHARED.findall(page))]
     return sorted({f"{name} of {file} depends on {other} of {source}, which is not on the page"
-                   for file, name in named for source, other in depends(file, name) if (source, other) not in named})
+                   for file, name in named for source, other in depends(file, name) if (source, other) not in named} | set(unlisted))
 
 
 def main():
