@@ -1,13 +1,13 @@
 -- The indices of a map's chunks in the order of its places, and sorted.
-use Rattle.std.proofs.Common.{◌≡◌, ℕ, zero, ◌+◌, ◌-◌, ◌<◌, ◌≤◌, cond, Bool, true, false, List, [], ◌∷◌, length, get_or, map, refl, ap, arith, sym, ◌∙◌, subst}
-use mathlib.Core.Logic.{inl, inr}
+use Rattle.std.proofs.Common.{◌≡◌, ℕ, zero, ◌+◌, ◌-◌, ◌<◌, ◌≤◌, cond, Bool, true, false, List, [], ◌∷◌, length, get_or, map, take, ◌++◌, refl, ap, arith, sym, ◌∙◌, subst}
+use mathlib.Core.Logic.{inl, inr, ◌⊎◌}
 use Rattle.std.proofs.lemmas.Bool.{cases_Bool, cases_eq, cases_lt, eq-eqb, eqb-true, ne_eqb, le-ltb, lt-ltb}
-use Rattle.std.proofs.lemmas.Cmp.{nat_eq_equiv}
-use Rattle.std.proofs.lemmas.List.{get_or_default}
-use Rattle.std.proofs.lemmas.List.Elements.{All-filter}
+use Rattle.std.proofs.lemmas.Cmp.{nat_cmp_total, nat_eq_equiv}
+use Rattle.std.proofs.lemmas.List.{append-nil, get_or_default}
+use Rattle.std.proofs.lemmas.List.Elements.{All-filter, filter_more}
 use Rattle.std.proofs.lemmas.List.Kept.{IsStrictlySortedBy-filter}
 use Rattle.std.proofs.lemmas.List.Sorted.{list_any-IsPermutation}
-use Rattle.std.proofs.lemmas.Map.Keys.{IsDistinct-IsPermutation, IsDistinct-from_apart, IsStrictlyIncreasing-from_distinct, sorted_from_strictly_increasing}
+use Rattle.std.proofs.lemmas.Map.Keys.{IsDistinct-IsPermutation, IsDistinct-from_apart, IsStrictlyIncreasing-from_distinct, sorted_from_all_adjacent, sorted_from_strictly_increasing}
 use Rattle.std.proofs.lemmas.Map.Made.{is_member-filter}
 use Rattle.std.proofs.lemmas.List.FromFn.{length-range_with_len, get_or-range_with_len}
 use Rattle.std.specs.List.{range_with_len, All, AllByRecursion, IsDistinct, filter}
@@ -97,6 +97,16 @@ and_flips true false = refl
 and_flips false true = refl
 and_flips false false = refl
 
+-- the numbers of a list between two bounds are its members between them
+same_members : (indices keys : List ℕ) (from to : ℕ) → ((q : ℕ) → is_member nat_eq indices q ≡ is_member nat_eq keys q)
+    → (q : ℕ) → is_member nat_eq (picked_between indices from to) q ≡ is_member nat_eq (members_between keys from to) q
+same_members indices keys from to members q =
+    is_member-filter nat_eq_equiv (is_between from to) q (λ x e. ap (is_between from to) (eqb-true q x e)) indices
+    ∙ ap (λ t. t && is_between from to q) (members q)
+    ∙ and_flips (is_member nat_eq keys q) (is_between from to q)
+    ∙ ap (λ t. t && is_member nat_eq keys q) (sym (between_test from to q))
+    ∙ sym (is_member-filter nat_eq_equiv (is_member nat_eq keys) q (λ x e. ap (is_member nat_eq keys) (eqb-true q x e)) (from_to from to))
+
 -- the numbers of a list between two bounds, sorted, are its members between them
 pub sorted_are : (indices keys : List ℕ) (from to : ℕ) (js : List ℕ) → AreApart indices
     → ((q : ℕ) → is_member nat_eq indices q ≡ is_member nat_eq keys q)
@@ -108,12 +118,53 @@ sorted_are indices keys from to js apart members moved rises =
     let ascending = sorted_from_strictly_increasing js (IsStrictlyIncreasing-from_distinct js rises distinct) in
     let between = IsStrictlySortedBy-filter nat_cmp (is_member nat_eq keys) (from_to from to) (run_sorted from (to - from)) in
     ascending_same js (members_between keys from to) ascending between (λ q.
-    sym (list_any-IsPermutation (nat_eq q) ks js moved)
-    ∙ is_member-filter nat_eq_equiv (is_between from to) q (λ x e. ap (is_between from to) (eqb-true q x e)) indices
-    ∙ ap (λ t. t && is_between from to q) (members q)
-    ∙ and_flips (is_member nat_eq keys q) (is_between from to q)
-    ∙ ap (λ t. t && is_member nat_eq keys q) (sym (between_test from to q))
-    ∙ sym (is_member-filter nat_eq_equiv (is_member nat_eq keys) q (λ x e. ap (is_member nat_eq keys) (eqb-true q x e)) (from_to from to)))
+    sym (list_any-IsPermutation (nat_eq q) ks js moved) ∙ same_members indices keys from to members q)
+
+-- ---- the indices of a map, if they ascend
+pub ascending_at : (xs : List ℕ) → ((k : ℕ) → k + 1 < length xs → get_or xs k 0 < get_or xs (k + 1) 0) → IsStrictlySortedBy nat_cmp xs
+ascending_at xs rises = sorted_from_all_adjacent nat_cmp_total xs 0 (λ k within. rw (lt-ltb (get_or xs k 0) (get_or xs (k + 1) 0) (rises k within)) refl)
+
+-- the numbers before a place rise, and so do the last of them and the one at the place
+pub rises_more : (xs : List ℕ) (at : ℕ) → 0 < at → ((k : ℕ) → k + 1 < at → get_or xs k 0 < get_or xs (k + 1) 0) → get_or xs (at - 1) 0 < get_or xs at 0
+    → (k : ℕ) → k + 1 < at + 1 → get_or xs k 0 < get_or xs (k + 1) 0
+rises_more xs at some rises last k within = elim (cases_lt (k + 1) at) [
+  | inl before ↦ rises k before
+  | inr here ↦
+      let is : at ≡ k + 1 = omega (arith, within, here) in
+      let was : at - 1 ≡ k = omega (arith, is) in
+      subst (λ j. get_or xs k 0 < get_or xs j 0) is (subst (λ j. get_or xs j 0 < get_or xs at 0) was last)
+]
+
+-- if the indices ascend, those between two bounds are the members between them
+pub picked_are : (indices keys : List ℕ) (from to : ℕ) → IsStrictlySortedBy nat_cmp indices
+    → ((q : ℕ) → is_member nat_eq indices q ≡ is_member nat_eq keys q)
+    → picked_between indices from to ≡ members_between keys from to
+picked_are indices keys from to ascending members =
+    ascending_same (picked_between indices from to) (members_between keys from to)
+    (IsStrictlySortedBy-filter nat_cmp (is_between from to) indices ascending)
+    (IsStrictlySortedBy-filter nat_cmp (is_member nat_eq keys) (from_to from to) (run_sorted from (to - from)))
+    (same_members indices keys from to members)
+
+-- one more place, with a number between two bounds or not
+pub picked_more : (xs : List ℕ) (from to at x : ℕ) → at < length xs → x ≡ get_or xs at 0 → from ≤ x → x < to
+    → picked_between (take (at + 1) xs) from to ≡ picked_between (take at xs) from to ++ x ∷ []
+picked_more xs from to at x within is low high =
+    filter_more (is_between from to) xs at 0 within
+    ∙ rw (sym is, le-ltb x from low, lt-ltb x to high) refl
+
+pub picked_same : (xs : List ℕ) (from to at x : ℕ) → at < length xs → x ≡ get_or xs at 0 → (x < from) ⊎ (to ≤ x)
+    → picked_between (take (at + 1) xs) from to ≡ picked_between (take at xs) from to
+picked_same xs from to at x within is (inl below) =
+    filter_more (is_between from to) xs at 0 within
+    ∙ rw (sym is, lt-ltb x from below) (append-nil (picked_between (take at xs) from to))
+picked_same xs from to at x within is (inr past) = elim (cases_lt x from) [
+  | inl below ↦
+      filter_more (is_between from to) xs at 0 within
+      ∙ rw (sym is, lt-ltb x from below) (append-nil (picked_between (take at xs) from to))
+  | inr low ↦
+      filter_more (is_between from to) xs at 0 within
+      ∙ rw (sym is, le-ltb x from low, le-ltb x to past) (append-nil (picked_between (take at xs) from to))
+]
 
 -- each of the members between two bounds is between them
 bounded : (from m : ℕ) → All (λ k. (from ≤ k) × (k < from + m)) (range_with_len from m)

@@ -369,13 +369,14 @@ impl<const N: usize> BitMap<N, Dirty<N>> {
     /// Allocates the reverse record. If there is no capacity for them, also the chunks by which the current bitmap grows, and a place in the list of commits.
     /// The record has at most one entry per marked chunk, and at most one more if the batch popped down to whole chunks.
     /// It is allocated once, with capacity for at most one more entry per edited chunk that is also pruned or cut off.
-    /// Before its entries are made, allocates at most twice for the indices of the edited chunks outside the appended run, and frees these.
+    /// Unless the edited chunks outside the appended run were first edited in ascending order, also allocates at most twice for their indices.
+    /// Frees these before it returns.
     ///
     /// # Complexity
     ///
     /// Per entry of the record, and per edited chunk. Amortized, since the current bitmap and the list of commits may have to reallocate to grow.
-    /// A `set_range` that ran out of memory leaves the nodes of the chunks that it had inserted, which are visited too.
-    /// Else independent of the bitmap's length and of the number of kept commits.
+    /// Unless the edited chunks outside the appended run were first edited in ascending order, also sorts their indices.
+    /// Independent of the bitmap's length and of the number of kept commits.
     #[inline(always)]
     pub fn commit(mut self, number: u64) -> Result<CleanBitMap<N>, (DirtyBitMap<N>, Error)>
         ensures accepted { OnOk result (commit_error self.entry.last number ≡ None) }

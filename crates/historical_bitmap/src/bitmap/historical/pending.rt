@@ -164,8 +164,47 @@ fn indices_between<const N: usize>(
     Ok(indices)
 }
 
-// Appends the entries of the chunks that a map has from index `from` up to `to`.
-fn record_map<const N: usize>(
+// Returns whether the indices of a map's chunks ascend in the order of their places.
+fn is_ascending<const N: usize>(chunks: &ChunkMap<N>) -> bool
+    ensures { result ≡ true → IsStrictlySortedBy nat_cmp chunks.now.indices }
+{
+    for place in 1..chunks.len() {
+        let before = chunks.index_at(place - 1);
+        let index = chunks.index_at(place);
+        if index <= before {
+            return false;
+        }
+    }
+    true
+}
+
+// Appends the entries of the chunks that a map has from index `from` up to `to`, in the order of their places.
+fn record_places<const N: usize>(
+    record: &mut CommitDiff<N>,
+    edits: &Dirty<N>,
+    current: &Prunable<N>,
+    chunks: &ChunkMap<N>,
+    from: usize,
+    to: usize,
+) -> Result<(), AllocError>
+    requires low { current.now.pruned ≤ from }
+    requires count { length edits.now.captured ≡ edits.now.pruned - current.now.pruned }
+    requires fits { (i : ℕ) → i < to → 8 * N * i < 2 ^ 64 }
+    ensures { OnOk result (AddsEntries N current.now edits.now (picked_between chunks.now.indices from to) record.old record.new) }
+{
+    let _ = current.len();
+    for place in 0..chunks.len() {
+        let index = chunks.index_at(place);
+        if from <= index && index < to {
+            let diff = edits.diff(current, index);
+            record.push(index, diff)?;
+        }
+    }
+    Ok(())
+}
+
+// As `record_map`, for chunks in any order of their places. Allocates once, for their indices.
+fn record_sorted<const N: usize>(
     record: &mut CommitDiff<N>,
     edits: &Dirty<N>,
     current: &Prunable<N>,
@@ -180,15 +219,38 @@ fn record_map<const N: usize>(
     ensures { OnOk result (AddsEntries N current.now edits.now (members_between (keys_of chunks.now.entries) from to) record.old record.new) }
 {
     let _ = current.len();
-    if from == to {
-        return Ok(());
-    }
     let indices = indices_between(edits.allocator(), chunks, from, to)?;
     for index in indices.as_slice() {
         let diff = edits.diff(current, *index);
         record.push(*index, diff)?;
     }
     Ok(())
+}
+
+// Appends the entries of the chunks that a map has from index `from` up to `to`.
+// Does not allocate for their indices if these ascend in the order of the places.
+fn record_map<const N: usize>(
+    record: &mut CommitDiff<N>,
+    edits: &Dirty<N>,
+    current: &Prunable<N>,
+    chunks: &ChunkMap<N>,
+    from: usize,
+    to: usize,
+) -> Result<(), AllocError>
+    requires order { from ≤ to }
+    requires low { current.now.pruned ≤ from }
+    requires count { length edits.now.captured ≡ edits.now.pruned - current.now.pruned }
+    requires fits { (i : ℕ) → i < to → 8 * N * i < 2 ^ 64 }
+    ensures { OnOk result (AddsEntries N current.now edits.now (members_between (keys_of chunks.now.entries) from to) record.old record.new) }
+{
+    if from == to {
+        return Ok(());
+    }
+    chunks.order();
+    if is_ascending(chunks) {
+        return record_places(record, edits, current, chunks, from, to);
+    }
+    record_sorted(record, edits, current, chunks, from, to)
 }
 
 // Appends the entries of the edited chunks from index `from` up to `to`: those before the appended run, in it and past it.
