@@ -64,13 +64,17 @@ pub(crate) fn first_wanted(words: &[[u8; 8]], wanted: bool, loads: &mut u64) -> 
     ensures some { result.0 < length words.now → 0 < result.1 }
     ensures counted { loads.new ≡ loads.old + min (result.0 + 1) (length words.now) }
 {
+    // Counts in a local, so that the compiled loop writes nothing to memory.
+    let mut loaded = 0;
     let mut index = 0;
     while index < words.len() {
-        let word = load_word(&words[index], 0, 64, wanted, loads);
+        let word = load_word(&words[index], 0, 64, wanted, &mut loaded);
         if word != 0 {
+            *loads += loaded;
             return (index, word);
         }
         index += 1;
     }
+    *loads += loaded;
     (index, 0)
 }

@@ -8,6 +8,7 @@ loop-index-preserved c =
     record {
       within = omega (arith, c.loop-index-test.true);
       counted = omega (arith, c.load_word-word.ensures.counted, loop.counted);
+      same = loop.same;
       none =
           one_more_clear c.args.words.now c.args.wanted c.loop-index.index c.load_word-word.result (omega (arith, c.if-word-ne0.false))
           (word_in_place c.args.words.now c.args.wanted c.loop-index.index c.load_word-word.result
