@@ -4,7 +4,7 @@ ghost use Rattle.std.specs.Prelude.{◌*◌, ◌^◌, ◌<◌};
 
 use crate::batches::{Positions, filled, set_one};
 use historical_bitmap::bitmap::Readable;
-use historical_bitmap::bitmap::historical::{CleanBitMap, CommitIndex};
+use historical_bitmap::bitmap::historical::CleanBitMap;
 use std::alloc::{AllocError, Global};
 
 /// A call that is run many times on a bitmap with small commits.
@@ -152,18 +152,15 @@ fn read_oldest<const N: usize>(
 
 // The same, with an index.
 fn read_indexed<const N: usize>(
-    bitmap: &CleanBitMap<N>,
+    bitmap: CleanBitMap<N>,
     positions: &mut Positions,
     scans: bool,
     times: u64,
 ) -> Result<u64, AllocError> {
-    let index = CommitIndex::of(bitmap)?;
-    let sum = match bitmap.at_indexed(&index, 0) {
-        Some(oldest) if scans => scan_each(&oldest, times),
-        Some(oldest) => get_each(&oldest, positions, times),
-        None => 0,
-    };
-    Ok(sum)
+    match bitmap.indexed() {
+        Ok(bitmap) => Ok(read_oldest(&bitmap, positions, scans, times)),
+        Err((_, why)) => Err(why),
+    }
 }
 
 /// Runs a call `times` times on a bitmap of `bytes` bytes with `count` commits, and returns a number that depends on its results.
@@ -186,7 +183,7 @@ pub fn run<const N: usize>(
         Call::Rebuild => rebuild_each(&bitmap, times),
         Call::Get => Ok(read_oldest(&bitmap, &mut positions, false, times)),
         Call::Scan => Ok(read_oldest(&bitmap, &mut positions, true, times)),
-        Call::IndexedGet => read_indexed(&bitmap, &mut positions, false, times),
-        Call::IndexedScan => read_indexed(&bitmap, &mut positions, true, times),
+        Call::IndexedGet => read_indexed(bitmap, &mut positions, false, times),
+        Call::IndexedScan => read_indexed(bitmap, &mut positions, true, times),
     }
 }

@@ -6,19 +6,13 @@
 mod applied;
 mod no_allocation;
 
-ghost use Rattle.std.specs.Prelude.{◌≡◌, IfSome};
-ghost use Rattle.historical_bitmap.specs.History.{before_latest};
-ghost use Rattle.historical_bitmap.specs.Index.{IsIndexOf};
-
 use crate::checked_calls::{
     failed_commit, has_pending_bits, keeps, pending_pruned_bits, pop, pop_run, try_commit,
     try_had_bits, try_prune_to_bit, try_push, try_push_byte, try_push_chunk, try_push_run,
     try_set_bit, try_set_range,
 };
 use crate::checks::{equal, expect};
-use historical_bitmap::bitmap::historical::{
-    CleanBitMap, CommitIndex, DirtyBitMap, Error, RewindError,
-};
+use historical_bitmap::bitmap::historical::{CleanBitMap, DirtyBitMap, Error, RewindError};
 use std::alloc::{AllocError, Global};
 use std::process::Abort;
 use test_support::compare::{has_bits, has_runs, same_bits};
@@ -624,14 +618,12 @@ fn dirty_bitmap_copied(rt: HostRuntime) {
     use_further(&rt, map, &before);
 }
 
-// Whether each commit is the same read with the index as without it.
-fn same_with_index(map: &CleanBitMap<1>, index: &CommitIndex<1>) -> bool
-    requires { IsIndexOf index.now map.now.commits }
-{
+// Whether both have the same commits, with the same bits, read in place. Does not allocate.
+fn same_in_place(map: &CleanBitMap<1>, other: &CleanBitMap<1>) -> bool {
     for number in [1, 2, 3] {
-        match (map.at(number), map.at_indexed(index, number)) {
-            (Some(walked), Some(found)) => {
-                if !same_bits(&found, &walked) {
+        match (map.at(number), other.at(number)) {
+            (Some(found), Some(wanted)) => {
+                if !same_bits(&found, &wanted) {
                     return false;
                 }
             }
@@ -642,54 +634,100 @@ fn same_with_index(map: &CleanBitMap<1>, index: &CommitIndex<1>) -> bool
     true
 }
 
+// `committed` and an indexed copy of it, or `None` if an allocation fails.
+fn with_indexed_copy(rt: &impl Abort, alloc: Global) -> Option<(CleanBitMap<1>, CleanBitMap<1>)> {
+    let plain = committed(rt, alloc)?;
+    let copy = plain.clone().ok()?;
+    match copy.indexed() {
+        Ok(indexed) => Some((plain, indexed)),
+        Err(_) => None,
+    }
+}
+
 // The index of all commits is made, on the second try if the first one fails.
 #[test]
 fn index_made(rt: HostRuntime) {
-    let Some(map) = committed(&rt, rt.alloc()) else {
+    let Some(plain) = committed(&rt, rt.alloc()) else {
         return;
     };
-    if let Ok(index) = CommitIndex::of(&map) {
-        expect(&rt, same_with_index(&map, &index));
+    let Ok(map) = plain.clone() else {
         return;
-    }
-    if let Ok(index) = CommitIndex::of(&map) {
-        expect(&rt, same_with_index(&map, &index));
+    };
+    match map.indexed() {
+        Ok(map) => expect(&rt, same_in_place(&map, &plain)),
+        Err((map, _)) => {
+            expect(&rt, same_in_place(&map, &plain));
+            match map.indexed() {
+                Ok(map) | Err((map, _)) => expect(&rt, same_in_place(&map, &plain)),
+            }
+        }
     }
 }
 
-// Clears a bit on a copy of a bitmap, and commits.
-fn one_more(rt: &impl Abort, map: CleanBitMap<1>) -> Option<CleanBitMap<1>>
-    ensures { IfSome result (λ more. before_latest more.commits ≡ map.commits) }
-{
+// A batch that clears a bit of a bitmap, or `None` if an allocation fails.
+fn bit_cleared(rt: &impl Abort, map: CleanBitMap<1>) -> Option<DirtyBitMap<1>> {
     let mut batch = map.into_dirty();
-    assert!(rt; pending_pruned_bits(rt, &batch) <= 9 && 9 < batch.len());
-    let Ok(_) = batch.set_bit(9, false) else {
-        return None;
-    };
-    batch.commit(3).ok()
+    try_set_bit(rt, &mut batch, 9, false).ok()?;
+    Some(batch)
 }
 
-// After a failed call the index is that of the commits before the latest one.
+// The batch of `commit_added_to_an_index`, on an indexed bitmap; that bitmap without it; and one with its commit.
+fn indexed_batch(
+    rt: &impl Abort,
+    alloc: Global,
+) -> Option<(DirtyBitMap<1>, CleanBitMap<1>, CleanBitMap<1>)> {
+    let (plain, indexed) = with_indexed_copy(rt, alloc)?;
+    let copy = plain.clone().ok()?;
+    let more = try_commit(rt, bit_cleared(rt, copy)?, 3).ok()?;
+    Some((bit_cleared(rt, indexed)?, plain, more))
+}
+
+// The index has the new commit. After a failed commit it is that of the commits before, and the batch can be committed again.
 #[test]
 fn commit_added_to_an_index(rt: HostRuntime) {
-    let Some(before) = committed(&rt, rt.alloc()) else {
+    let Some((batch, plain, more)) = indexed_batch(&rt, rt.alloc()) else {
         return;
     };
-    let Ok(mut index) = CommitIndex::of(&before) else {
-        return;
-    };
-    let Ok(copy) = before.clone() else {
-        return;
-    };
-    let Some(map) = one_more(&rt, copy) else {
-        return;
-    };
-    if index.add_latest(&map).is_ok() {
-        expect(&rt, same_with_index(&map, &index));
-        return;
+    match batch.commit(3) {
+        Ok(map) => expect(&rt, same_in_place(&map, &more)),
+        Err((batch, why)) => {
+            expect(&rt, why == Error::Memory(AllocError));
+            match batch.commit(3) {
+                Ok(map) => expect(&rt, same_in_place(&map, &more)),
+                Err((batch, why)) => {
+                    expect(&rt, why == Error::Memory(AllocError));
+                    expect(&rt, same_in_place(&batch.abort(), &plain));
+                }
+            }
+        }
     }
-    expect(&rt, same_with_index(&before, &index));
-    if index.add_latest(&map).is_ok() {
-        expect(&rt, same_with_index(&map, &index));
+}
+
+// After a failed rewind the index is that of all commits, and else that of the commits that are left.
+#[test]
+fn indexed_bitmap_rewound(rt: HostRuntime) {
+    let Some((plain, indexed)) = with_indexed_copy(&rt, rt.alloc()) else {
+        return;
+    };
+    match indexed.rewind_to(1) {
+        Ok(map) => {
+            expect(&rt, has_bits(map.current(), 0, b"1011001001110101"));
+            expect(&rt, map.at(1).is_some() && map.at(2).is_none());
+        }
+        Err((map, why)) => {
+            expect(&rt, why == RewindError::Memory(AllocError));
+            expect(&rt, same_in_place(&map, &plain));
+        }
     }
+}
+
+#[test]
+fn indexed_bitmap_copied(rt: HostRuntime) {
+    let Some((plain, indexed)) = with_indexed_copy(&rt, rt.alloc()) else {
+        return;
+    };
+    if let Ok(copy) = indexed.clone() {
+        expect(&rt, same_in_place(&copy, &plain));
+    }
+    expect(&rt, same_in_place(&indexed, &plain));
 }

@@ -6,7 +6,7 @@ use crate::checked_calls::{
     commit, pending_pruned_bits, pop, prune_to_bit, push_byte, push_chunk, push_run, set_bit,
 };
 use crate::checks::{equal, expect, expect_at, ok};
-use historical_bitmap::bitmap::historical::{CleanBitMap, CommitIndex, DirtyBitMap};
+use historical_bitmap::bitmap::historical::{CleanBitMap, DirtyBitMap};
 use historical_bitmap::bitmap::{Prunable, Readable};
 use std::alloc::{AllocError, Global};
 use std::process::Abort;
@@ -129,12 +129,12 @@ fn check_read_both_ways<const N: usize>(rt: &impl Abort, alloc: Global)
     requires { IsWidth N }
 {
     let map = four_commits::<N>(rt, alloc);
-    let index = ok(rt, CommitIndex::of(&map));
+    let indexed = ok(rt, ok(rt, map.clone()).indexed());
     for number in [1, 4, 5, 9] {
         match (
             ok(rt, map.get_at_commit(number)),
             map.at(number),
-            map.at_indexed(&index, number),
+            indexed.at(number),
         ) {
             (Some(old), Some(then), Some(found)) => {
                 let positions = ok(rt, ends(alloc, &old));
@@ -148,7 +148,7 @@ fn check_read_both_ways<const N: usize>(rt: &impl Abort, alloc: Global)
     }
     for number in [0, 2, 3, 6, 10, u64::MAX] {
         expect_at(rt, number, map.at(number).is_none());
-        expect_at(rt, number, map.at_indexed(&index, number).is_none());
+        expect_at(rt, number, indexed.at(number).is_none());
     }
 }
 

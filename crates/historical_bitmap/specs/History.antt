@@ -1,5 +1,5 @@
 -- Past states: the bitmap of each kept commit, by number. A chunk has n bytes.
-use Rattle.std.specs.Prelude.{◌≡◌, ℕ, ◌-◌, ◌*◌, ◌^◌, ◌<◌, ◌≤◌, Bool, true, List, [], ◌∷◌, length, map, take, Option, Some, None, slice_get, nat_eq, nat_lt, nat_le}
+use Rattle.std.specs.Prelude.{◌≡◌, ℕ, ◌-◌, ◌*◌, ◌^◌, ◌<◌, ◌≤◌, Bool, true, List, [], ◌∷◌, length, map, take, Option, Some, None, IfSome, slice_get, nat_eq, nat_lt, nat_le}
 use Rattle.std.specs.List.{All, filter}
 use Rattle.std.specs.List.Sorted.{IsStrictlySortedBy}
 use Rattle.std.specs.Map.{lookup, keys_of}
@@ -65,6 +65,10 @@ pub record IsLeftBy (n number : ℕ) (commits : List (ℕ × ReverseRecord)) (cu
 -- the entries of each record strictly ascend by chunk
 abbrev pub EntriesRise : List (ℕ × ReverseRecord) → Type 0
 EntriesRise commits = All (λ commit. IsStrictlySortedBy nat_cmp (keys_of commit.1.entries)) commits
+
+-- the entries of the latest record, if there is one, strictly ascend by chunk
+abbrev pub LatestRises : List (ℕ × ReverseRecord) → Type 0
+LatestRises commits = IfSome (slice_get commits (length commits - 1)) (λ commit. IsStrictlySortedBy nat_cmp (keys_of commit.1.entries))
 
 -- the old bytes of chunk i in the first of some records that keeps any
 abbrev pub first_kept : List (ℕ × ReverseRecord) → ℕ → Option (List ℕ)

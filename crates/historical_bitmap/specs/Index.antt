@@ -1,9 +1,11 @@
 -- The index of kept commits by chunk: the old bytes that their reverse records keep of a chunk. A place is a chunk and the number of a commit.
-use Rattle.std.specs.Prelude.{◌≡◌, ℕ, ◌<◌, Bool, false, ◌&&◌, List, [], ◌∷◌, Option, Some, None, MatchOption, if◌then◌else◌, nat_eq}
+use Rattle.std.specs.Prelude.{◌≡◌, ℕ, ◌<◌, Bool, false, ◌&&◌, List, [], ◌∷◌, Option, Some, None, IfSome, MatchOption, if◌then◌else◌, nat_eq}
+use Rattle.std.specs.BTreeMap.{BTreeMap}
 use Rattle.std.specs.List.{list_any}
 use Rattle.std.specs.Map.{lookup}
 use Rattle.std.specs.Option.{option_or}
-use Rattle.historical_bitmap.specs.History.{kept_under}
+use Rattle.bitmap_bytes.specs.Chunk.{IsWidth}
+use Rattle.historical_bitmap.specs.History.{kept_under, RiseInNumber}
 use Rattle.historical_bitmap.specs.Record.{ChunkDiff, ReverseRecord, kept, kept_bytes}
 
 -- the old bytes that a record keeps of chunk i, if there is a record
@@ -18,6 +20,12 @@ bytes_at index i number = lookup (λ place. nat_eq i place.0 && nat_eq number pl
 -- at each chunk and number an index has the bytes that the record of the commit with that number keeps of the chunk, and no bytes if it keeps none
 abbrev pub IsIndexOf : List ((ℕ × ℕ) × List ℕ) → List (ℕ × ReverseRecord) → Type 0
 IsIndexOf index commits = (i number : ℕ) → bytes_at index i number ≡ kept_in (kept_under commits number) i
+
+-- the invariant of a list of kept commits with an index, or without one: the numbers ascend, and the index is that of the commits
+pub record IsIndexed (n : ℕ) (commits : List (ℕ × ReverseRecord)) (index : Option (BTreeMap (ℕ × ℕ) (List ℕ))) : Type 0 where
+  pub width : IsWidth n
+  pub rise : RiseInNumber commits
+  pub is_index : IfSome index (λ places. IsIndexOf places.entries commits)
 
 -- ---- conditions inside the code
 -- whether one of some entries is for chunk i

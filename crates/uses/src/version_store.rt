@@ -1,50 +1,34 @@
-//! A store of versions that keeps an index beside its bitmap, so that each version is read at the cost of a search.
+//! A store of versions whose commits are indexed, so that each version is read at the cost of a search.
 
-ghost use Rattle.std.specs.Prelude.{◌≡◌, ◌++◌, ◌∷◌, [], IfErr, IfOk, IfSome, length};
+ghost use Rattle.std.specs.Prelude.{◌≡◌, ◌++◌, ◌∷◌, [], IfErr, IfOk, Some, length};
 ghost use Rattle.std.specs.Option.{option_map};
 ghost use Rattle.bitmap_core.specs.Meaning.{ones, pruned_meaning};
 ghost use Rattle.bitmap_core.specs.PrunedBits.{pushed};
-ghost use Rattle.historical_bitmap.specs.History.{before_latest, from_number, kept_under};
-ghost use Rattle.historical_bitmap.specs.Index.{IsIndexOf};
+ghost use Rattle.historical_bitmap.specs.History.{from_number, kept_under, up_to_number};
 ghost use Rattle.historical_bitmap.specs.View.{history_of};
 
 use historical_bitmap::bitmap::Readable;
-use historical_bitmap::bitmap::historical::{CleanBitMap, CommitIndex};
+use historical_bitmap::bitmap::historical::CleanBitMap;
 use std::alloc::{AllocError, Global};
 use std::marker::Model;
 use std::ops::Range;
 
 /// Versions of flags, each kept under a number.
 ///
-/// The index is absent after an allocation for it failed. Then versions are read without it, until `restore_index` succeeds.
+/// Their index belongs to the bitmap, which keeps it up to date. `drop_index` frees its memory: then versions are read without it,
+/// until `restore_index` succeeds.
 #[derive(Drop)]
 pub struct VersionStore {
     versions: CleanBitMap<8>,
-    index: Option<CommitIndex<8>>,
 }
 
 impl Model for VersionStore {
-    ghost use Rattle.std.specs.Prelude.{⊤, IfSome};
-    ghost use Rattle.historical_bitmap.specs.Index.{IsIndexOf};
+    ghost use Rattle.std.specs.Prelude.{⊤};
     ghost use Rattle.historical_bitmap.specs.View.{View};
 
     ghost Value = { View ⊤ };
 
     ghost view = { λ s. s.versions };
-
-    ghost invariant = { λ s. IfSome s.index (λ index. IsIndexOf index s.versions.commits) };
-}
-
-// Adds the latest version to the index of the earlier ones, or drops the index if that fails.
-fn with_latest(index: Option<CommitIndex<8>>, versions: &CleanBitMap<8>) -> Option<CommitIndex<8>>
-    requires { IfSome index (λ i. IsIndexOf i (before_latest versions.now.commits)) }
-    ensures { IfSome result (λ i. IsIndexOf i versions.now.commits) }
-{
-    let mut index = index?;
-    match index.add_latest(versions) {
-        Ok(()) => Some(index),
-        Err(_) => None,
-    }
 }
 
 // Appends a flag, and keeps the result as version `number`. On an error the versions are returned unchanged.
@@ -54,7 +38,6 @@ fn appended(
     number: u64,
 ) -> Result<CleanBitMap<8>, CleanBitMap<8>>
     ensures kept { IfOk result (λ more. history_of 8 more ≡ history_of 8 versions ++ (number, pushed versions.current flag) ∷ []) }
-    ensures earlier { IfOk result (λ more. before_latest more.commits ≡ versions.commits) }
     ensures unchanged { IfErr result (λ same. same ≡ versions) }
 {
     if versions.len() == u64::MAX {
@@ -70,21 +53,14 @@ fn appended(
     }
 }
 
-// Returns how many bits are set in a range.
-fn count_in<B: Readable<8>>(version: &B, range: Range<u64>) -> usize
-    ensures { result ≡ length (ones 8 (B.meaning version.now) range.start range.end) }
-{
-    version.ones_iter_range(range).count()
-}
-
 impl VersionStore {
-    /// Returns a store of no flags and no versions. Does not allocate.
-    pub fn new(alloc: Global) -> Self
-        ensures { history_of 8 result ≡ [] }
+    /// Returns a store of no flags and no versions.
+    pub fn new(alloc: Global) -> Result<Self, AllocError>
+        ensures { IfOk result (λ s. history_of 8 s ≡ []) }
     {
-        VersionStore {
-            versions: CleanBitMap::new(alloc),
-            index: Some(CommitIndex::new(alloc)),
+        match CleanBitMap::new(alloc).indexed() {
+            Ok(versions) => Ok(VersionStore { versions }),
+            Err((_, why)) => Err(why),
         }
     }
 
@@ -95,33 +71,50 @@ impl VersionStore {
         ensures kept { IfOk result (λ s. history_of 8 s ≡ history_of 8 self ++ (number, pushed self.current flag) ∷ []) }
         ensures unchanged { IfErr result (λ s. s ≡ self) }
     {
-        let VersionStore { versions, index } = self;
-        match appended(versions, flag, number) {
-            Ok(versions) => {
-                let index = with_latest(index, &versions);
-                Ok(VersionStore { versions, index })
-            }
-            Err(versions) => Err(VersionStore { versions, index }),
+        match appended(self.versions, flag, number) {
+            Ok(versions) => Ok(VersionStore { versions }),
+            Err(versions) => Err(VersionStore { versions }),
         }
     }
 
-    /// Makes the index anew, if it is absent. On an error the store is unchanged.
-    pub fn restore_index(&mut self) -> Result<(), AllocError>
-        ensures { self.new ≡ self.old }
+    /// Rewinds to version `number`, and drops the later ones.
+    ///
+    /// On an error the store is returned unchanged: the version is not kept, or memory is exhausted.
+    pub fn rewind(self, number: u64) -> Result<Self, Self>
+        ensures back { IfOk result (λ s. kept_under (history_of 8 self) number ≡ Some s.current) }
+        ensures kept { IfOk result (λ s. history_of 8 s ≡ up_to_number number (history_of 8 self)) }
+        ensures unchanged { IfErr result (λ s. s ≡ self) }
     {
-        if self.index.is_none() {
-            self.index = Some(CommitIndex::of(&self.versions)?);
+        match self.versions.rewind_to(number) {
+            Ok(versions) => Ok(VersionStore { versions }),
+            Err((versions, _)) => Err(VersionStore { versions }),
         }
-        Ok(())
+    }
+
+    /// Drops the index, which frees its memory.
+    pub fn drop_index(self) -> Self
+        ensures { result ≡ self }
+    {
+        VersionStore {
+            versions: self.versions.without_index(),
+        }
+    }
+
+    /// Makes the index anew, if it is absent. On an error the store is returned unchanged.
+    pub fn restore_index(self) -> Result<Self, Self>
+        ensures ok { IfOk result (λ s. s ≡ self) }
+        ensures unchanged { IfErr result (λ s. s ≡ self) }
+    {
+        match self.versions.indexed() {
+            Ok(versions) => Ok(VersionStore { versions }),
+            Err((versions, _)) => Err(VersionStore { versions }),
+        }
     }
 
     /// Drops the versions whose numbers are below `number`.
     pub fn drop_before(&mut self, number: u64)
         ensures { history_of 8 self.new ≡ from_number number (history_of 8 self.old) }
     {
-        if let Some(index) = &mut self.index {
-            index.remove_before(&self.versions, number);
-        }
         let _ = self.versions.prune_commits_before(number);
     }
 
@@ -129,10 +122,8 @@ impl VersionStore {
     pub fn count(&self, number: u64, range: Range<u64>) -> Option<usize>
         ensures { result ≡ option_map (λ version. length (ones 8 (pruned_meaning 8 version) range.start range.end)) (kept_under (history_of 8 self.now) number) }
     {
-        match &self.index {
-            Some(index) => Some(count_in(&self.versions.at_indexed(index, number)?, range)),
-            None => Some(count_in(&self.versions.at(number)?, range)),
-        }
+        let version = self.versions.at(number)?;
+        Some(version.ones_iter_range(range).count())
     }
 }
 
@@ -142,24 +133,41 @@ mod tests {
     use crate::checks::equal;
     use std::process::Abort;
 
-    // Appends a flag as a version.
-    fn with_flag(rt: &impl Abort, store: VersionStore, flag: bool, number: u64) -> VersionStore {
-        match store.append(flag, number) {
+    // Returns the store, and fails the test if the call failed.
+    fn stored<E: Drop>(rt: &impl Abort, returned: Result<VersionStore, E>) -> VersionStore {
+        match returned {
             Ok(store) => store,
-            Err(_) => panic!(rt; "version {number} is not kept"),
+            Err(_) => panic!(rt; "the call failed"),
         }
     }
 
     #[test]
     fn counts_the_flags_of_each_version(rt: HostRuntime) {
-        let store = with_flag(&rt, VersionStore::new(rt.alloc()), true, 1);
-        let store = with_flag(&rt, store, false, 2);
-        let mut store = with_flag(&rt, store, true, 5);
+        let store = stored(&rt, VersionStore::new(rt.alloc()));
+        let store = stored(&rt, store.append(true, 1));
+        let store = stored(&rt, store.append(false, 2));
+        let mut store = stored(&rt, store.append(true, 5));
         equal(&rt, store.count(1, 0..9), Some(1));
         equal(&rt, store.count(2, 0..9), Some(1));
         equal(&rt, store.count(5, 0..9), Some(2));
         store.drop_before(2);
         equal(&rt, store.count(1, 0..9), None);
+        equal(&rt, store.count(2, 0..9), Some(1));
+    }
+
+    #[test]
+    fn rewinds_and_makes_the_index_anew(rt: HostRuntime) {
+        let store = stored(&rt, VersionStore::new(rt.alloc()));
+        let store = stored(&rt, store.append(true, 1));
+        let store = stored(&rt, store.append(true, 2));
+        let store = stored(&rt, store.rewind(1));
+        equal(&rt, store.count(2, 0..9), None);
+        let store = stored(&rt, store.append(false, 2));
+        equal(&rt, store.count(2, 0..9), Some(1));
+        let store = store.drop_index();
+        equal(&rt, store.count(1, 0..9), Some(1));
+        let store = stored(&rt, store.restore_index());
+        equal(&rt, store.count(1, 0..9), Some(1));
         equal(&rt, store.count(2, 0..9), Some(1));
     }
 }

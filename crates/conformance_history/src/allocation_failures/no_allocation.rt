@@ -1,6 +1,8 @@
 //! Calls that do not allocate. They give the same results while every allocation after the set-up fails.
 
-use crate::allocation_failures::{PENDING, batch_begun, committed};
+use crate::allocation_failures::{
+    PENDING, batch_begun, committed, same_in_place, with_indexed_copy,
+};
 use crate::checked_calls::{
     current_bit, current_chunk, failed_commit, failed_rewind, has_pending_bits, keeps, pending_bit,
     pending_chunk, pop, pop_run, read_bit, try_commit, try_prune_to_bit, try_push, try_push_byte,
@@ -95,6 +97,21 @@ fn nothing_more_pruned(rt: HostRuntime) {
         expect_at(&rt, bit, try_prune_to_bit(&rt, &mut map, bit).is_ok());
     }
     expect(&rt, has_pending_bits(&rt, &map, 1, PENDING));
+}
+
+// An index is read, its entries are removed, and an index of no commits is made.
+#[test]
+fn index_read_and_dropped(rt: HostRuntime) {
+    let Some((plain, mut map)) = with_indexed_copy(&rt, rt.alloc()) else {
+        return;
+    };
+    expect(&rt, same_in_place(&map, &plain));
+    equal(&rt, map.prune_commits_before(2), 1);
+    expect(&rt, map.at(1).is_none() && map.at(2).is_some());
+    map.clear_history();
+    expect(&rt, map.at(2).is_none());
+    let made = map.without_index().indexed();
+    expect(&rt, made.is_ok_and(|map| map.at(2).is_none()));
 }
 
 #[test]

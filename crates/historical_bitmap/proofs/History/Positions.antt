@@ -4,17 +4,18 @@ use mathlib.Core.Logic.{inl, inr, ◌≢◌}
 use Rattle.std.proofs.lemmas.Bool.{cases_eq, cases_lt, eq-eqb, ne_eqb, le-leb, le-ltb, lt-leb, lt-ltb}
 use Rattle.std.proofs.lemmas.List.{drop-append-le, drop_all, drop_at, drop_more, get_or-take, length-append, length-drop, length-take-le, take-append-drop, take-map, take_all, take_more}
 use Rattle.std.proofs.lemmas.List.Elements.{filter-append}
+use Rattle.std.proofs.Math.Seq.{take-append_seam}
 use Rattle.std.proofs.lemmas.Map.Entries.{length-keys_of}
 use Rattle.std.proofs.lemmas.Map.Keys.{below_from_sorted, sorted_tail}
 use Rattle.std.proofs.lemmas.Option.{get_or_from_slice_get, slice_get_within}
 use Rattle.std.specs.declared.cmp.Ordering.TheVariants.{Less}
-use Rattle.std.specs.List.{All, AllByRecursion, filter, slice_range}
+use Rattle.std.specs.List.{All, AllByRecursion, slice_range}
 use Rattle.std.specs.List.Sorted.{IsStrictlySortedBy}
 use Rattle.std.specs.Map.{keys_of}
 use Rattle.std.specs.Ordering.{nat_cmp}
-use Rattle.std.specs.Prelude.{Some, true, false, is_some, nat_eq, nat_le, nat_lt, slice_get}
+use Rattle.std.specs.Prelude.{Some, true, false, is_some, nat_eq, nat_le, slice_get}
 use Rattle.historical_bitmap.specs.Compared.{between_numbers}
-use Rattle.historical_bitmap.specs.History.{at_least, from_number, kept_under, past_number, RiseInNumber, up_to_number}
+use Rattle.historical_bitmap.specs.History.{at_least, before_latest, from_number, kept_under, past_number, RiseInNumber, up_to_number}
 use Rattle.historical_bitmap.proofs.Pending.Record.{keys_push, sorted_push}
 
 -- ---- numbers by position
@@ -105,6 +106,18 @@ up_to_at (x ∷ xs) zero m earlier later within =
 up_to_at (x ∷ xs) (suc p) m earlier later within =
     rw (le-leb x.0 m (earlier 0 (omega arith))) (ap (λ ys. x ∷ ys) (up_to_at xs p m (λ j l. earlier (suc j) (omega arith)) (λ j h l. later (suc j) (omega arith) (omega arith)) (omega arith)))
 
+-- ---- one more
+pub count_before : {X : Type 0} (es : List X) (e : X) → length (es ++ e ∷ []) - 1 ≡ length es
+count_before es e = omega (arith, length-append es (e ∷ []))
+
+-- the ones before it
+pub before_pushed : {X : Type 0} (es : List X) (e : X) → before_latest (es ++ e ∷ []) ≡ es
+before_pushed es e = ap (λ k. take k (es ++ e ∷ [])) (count_before es e) ∙ take-append_seam es (e ∷ [])
+
+-- and the ones that are left if the last is removed
+pub popped_again : {X : Type 0} (es more : List X) (e : X) (count : ℕ) → more ≡ es ++ e ∷ [] → count ≡ length more → take (count - 1) more ≡ es
+popped_again es more e count pushed whole = ap (λ k. take (k - 1) more) whole ∙ (ap before_latest pushed ∙ before_pushed es e)
+
 -- ---- a part of a list rises in number
 -- no numbers rise
 pub sorted_none : IsStrictlySortedBy nat_cmp []
@@ -137,6 +150,9 @@ rise_rest (e ∷ es) rise = sorted_tail nat_cmp e.0 (keys_of es) rise
 -- they begin with the one at the position
 pub first_from : {X : Type 0} (i : ℕ) (es : List X) (e : X) → slice_get es i ≡ Some e → drop i es ≡ e ∷ drop (i + 1) es
 first_from i es e is = drop_more es i e (slice_get_within es i e is) ∙ ap (λ x. x ∷ drop (i + 1) es) (get_or_from_slice_get es i e e is)
+
+pub read_from : {X : Type 0} (i : ℕ) (es : List X) (e : X) → i < length es → e ≡ get_or es i e → drop i es ≡ e ∷ drop (i + 1) es
+read_from i es e l is = drop_more es i e l ∙ ap (λ x. x ∷ drop (i + 1) es) (sym is)
 
 -- ---- the commits between two positions
 abbrev pub from_to : {X : Type 0} → ℕ → ℕ → List X → List X
@@ -192,14 +208,6 @@ module _ {X : Type 0} (from to p q : ℕ) (es : List (ℕ × X)) (order : from �
   between_order = omega (arith, ap (λ xs. length xs) parts, length-append (take p es) (between_numbers from to es), length-take-le p es within, length-take-le q es inside)
 
 -- ---- below a number
--- the commits up to the number before one are those below it
-pub below_next : {X : Type 0} (m last : ℕ) (es : List (ℕ × X)) → last + 1 ≡ m → up_to_number last es ≡ filter (λ e. nat_lt e.0 m) es
-below_next m last [] next = refl
-below_next m last (e ∷ es) next = elim (cases_lt last e.0) [
-  | inl h ↦ rw (lt-leb e.0 last h, le-ltb e.0 m (omega (arith, h, next))) (below_next m last es next)
-  | inr h ↦ rw (le-leb e.0 last h, lt-ltb e.0 m (omega (arith, h, next))) (ap (λ rest. e ∷ rest) (below_next m last es next))
-]
-
 -- the commits past the number before one are those from it on
 pub past_previous : {X : Type 0} (m previous : ℕ) (es : List (ℕ × X)) → previous + 1 ≡ m → past_number previous es ≡ from_number m es
 past_previous m previous [] next = refl

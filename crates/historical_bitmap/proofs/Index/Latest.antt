@@ -1,11 +1,10 @@
--- The latest commit, added to an index of the earlier ones; and the index as it was, if that fails.
-use Rattle.std.proofs.Common.{◌≡◌, ℕ, ◌+◌, ◌-◌, ◌<◌, List, [], ◌∷◌, ◌++◌, length, take, refl, ap, arith, subst, sym, ◌∙◌}
+-- The latest commit, added to an index of the earlier ones; and the index of the earlier ones again, if that fails.
+use Rattle.std.proofs.Common.{◌≡◌, ℕ, ◌+◌, ◌-◌, ◌<◌, List, [], ◌∷◌, ◌++◌, length, take, refl, ap, arith, sym, ◌∙◌}
 use mathlib.Core.Logic.{inl, inr}
 use Rattle.std.proofs.lemmas.Bool.{cases_Bool, cases_eq, and_parts, eq-eqb, eqb-true, ne_eqb}
 use Rattle.std.proofs.lemmas.List.{take_more}
-use Rattle.std.proofs.lemmas.List.Elements.{All-head, All-tail}
 use Rattle.std.proofs.lemmas.Map.Keys.{sorted_head, sorted_tail}
-use Rattle.std.proofs.lemmas.Option.{get_or_from_slice_get, same_Some, slice_get_within}
+use Rattle.std.proofs.lemmas.Option.{get_or_from_slice_get, slice_get_within}
 use Rattle.std.proofs.Math.Seq.{take-length}
 use Rattle.std.specs.declared.cmp.Ordering.TheVariants.{Less}
 use Rattle.std.specs.List.{AllByRecursion}
@@ -14,12 +13,28 @@ use Rattle.std.specs.Map.{keys_of}
 use Rattle.std.specs.Option.{option_or}
 use Rattle.std.specs.Ordering.{nat_cmp}
 use Rattle.std.specs.Prelude.{◌&&◌, Some, None, nat_eq, slice_get}
-use Rattle.historical_bitmap.specs.History.{before_latest, EntriesRise, kept_under, RiseInNumber}
+use Rattle.historical_bitmap.specs.History.{before_latest, kept_under, LatestRises, RiseInNumber}
 use Rattle.historical_bitmap.specs.Index.{AddsPlaces, bytes_at, IsIndexOf, kept_in, KeepsOthers, last_kept, names, RemovesPlaces}
 use Rattle.historical_bitmap.specs.Record.{ReverseRecord}
 use Rattle.historical_bitmap.proofs.History.PastStates.{below}
+use Rattle.historical_bitmap.proofs.History.Positions.{count_before}
 use Rattle.historical_bitmap.proofs.History.Rewound.{or_none}
 use Rattle.historical_bitmap.proofs.Index.Updates.{last_is}
+
+-- ---- one commit more
+-- it is the latest
+latest_pushed : {X : Type 0} (cs : List X) (c : X) → slice_get (cs ++ c ∷ []) (length (cs ++ c ∷ []) - 1) ≡ Some c
+latest_pushed cs c = ap (λ k. slice_get (cs ++ c ∷ []) k) (count_before cs c) ∙ at_end cs c
+  where
+    at_end : {X : Type 0} (cs : List X) (c : X) → slice_get (cs ++ c ∷ []) (length cs) ≡ Some c
+    at_end [] c = refl
+    at_end (d ∷ cs) c = at_end cs c
+
+pub latest_rises : (cs : List (ℕ × ReverseRecord)) (c : ℕ × ReverseRecord) → IsStrictlySortedBy nat_cmp (keys_of c.1.entries) → LatestRises (cs ++ c ∷ [])
+latest_rises cs c sorted = rw (latest_pushed cs c) sorted
+
+pub rises_at : (commits : List (ℕ × ReverseRecord)) (c : ℕ × ReverseRecord) → slice_get commits (length commits - 1) ≡ Some c → LatestRises commits → IsStrictlySortedBy nat_cmp (keys_of c.1.entries)
+rises_at commits c is rise = rw is at rise
 
 -- the commits are the earlier ones and the latest
 split : {X : Type 0} (commits : List X) (c : X) → slice_get commits (length commits - 1) ≡ Some c → commits ≡ before_latest commits ++ c ∷ []
@@ -50,16 +65,6 @@ not_earlier (d ∷ cs) c rise =
     let l = last_above d.0 cs c (sorted_head nat_cmp d.0 (keys_of (cs ++ c ∷ [])) rise) in
     rw (ne_eqb c.0 d.0 (λ e. absurd (omega (arith, e, l)))) (not_earlier cs c (sorted_tail nat_cmp d.0 (keys_of (cs ++ c ∷ [])) rise))
 
--- the entries of a kept record ascend
-rises_under : (m : ℕ) (cs : List (ℕ × ReverseRecord)) (r : ReverseRecord) → EntriesRise cs → kept_under cs m ≡ Some r → IsStrictlySortedBy nat_cmp (keys_of r.entries)
-rises_under m [] r rise found = absurd (let f : None ≡ Some r = found in cc)
-rises_under m (c ∷ cs) r rise found = elim (cases_eq m c.0) [
-  | inl e ↦
-      let same : Some c.1 ≡ Some r = rw (eq-eqb m c.0 e) at found in
-      subst (λ s. IsStrictlySortedBy nat_cmp (keys_of s.entries)) (same_Some c.1 r same) (All-head (λ commit. IsStrictlySortedBy nat_cmp (keys_of commit.1.entries)) c cs rise)
-  | inr ne ↦ rises_under m cs r (All-tail (λ commit. IsStrictlySortedBy nat_cmp (keys_of commit.1.entries)) c cs rise) (rw (ne_eqb m c.0 ne) at found)
-]
-
 module _ (commits : List (ℕ × ReverseRecord)) (c : ℕ × ReverseRecord) (last : slice_get commits (length commits - 1) ≡ Some c) (rise : RiseInNumber commits)
     (old : List ((ℕ × ℕ) × List ℕ)) (index : IsIndexOf old (before_latest commits)) where
   absent : kept_under (before_latest commits) c.0 ≡ None
@@ -75,23 +80,23 @@ module _ (commits : List (ℕ × ReverseRecord)) (c : ℕ × ReverseRecord) (las
   not_indexed i m e = index i m ∙ (ap (λ k. kept_in (kept_under (before_latest commits) k) i) e ∙ ap (λ o. kept_in o i) absent)
 
   -- the index of the earlier commits, with the entries of the latest record, is that of all
-  pub latest_added : (new : List ((ℕ × ℕ) × List ℕ)) → EntriesRise commits → AddsPlaces c.0 c.1.entries old new → IsIndexOf new commits
-  latest_added new entries adds i m = adds i m ∙ elim (cases_eq m c.0) [
+  pub latest_added : (new : List ((ℕ × ℕ) × List ℕ)) → IsStrictlySortedBy nat_cmp (keys_of c.1.entries) → AddsPlaces c.0 c.1.entries old new → IsIndexOf new commits
+  latest_added new sorted adds i m = adds i m ∙ elim (cases_eq m c.0) [
     | inl e ↦
         rw (eq-eqb m c.0 e) (ap (λ o. option_or (last_kept c.1.entries i) o) (not_indexed i m e)
         ∙ (or_none (last_kept c.1.entries i)
-        ∙ (last_is c.1.entries i (rises_under c.0 commits c.1 entries latest)
+        ∙ (last_is c.1.entries i sorted
         ∙ sym (ap (λ k. kept_in (kept_under commits k) i) e ∙ ap (λ o. kept_in o i) latest))))
     | inr ne ↦
         let same : kept_under commits m ≡ kept_under (before_latest commits) m = found m ∙ rw (ne_eqb m c.0 ne) (or_none (kept_under (before_latest commits) m)) in
         rw (ne_eqb m c.0 ne) (index i m ∙ sym (ap (λ o. kept_in o i) same))
   ]
 
-  -- entries of the latest record, some of them added and then all removed, leave the index as it was
-  pub latest_removed : (mid new : List ((ℕ × ℕ) × List ℕ)) → KeepsOthers c.0 c.1.entries old mid → RemovesPlaces c.0 c.1.entries mid new → (i m : ℕ) → bytes_at new i m ≡ bytes_at old i m
-  latest_removed mid new others removes i m = removes i m ∙ elim (cases_Bool (nat_eq m c.0 && names c.1.entries i)) [
+  -- entries of the latest record, some of them added and then all removed, leave the index of the earlier commits
+  pub latest_removed : (mid new : List ((ℕ × ℕ) × List ℕ)) → KeepsOthers c.0 c.1.entries old mid → RemovesPlaces c.0 c.1.entries mid new → IsIndexOf new (before_latest commits)
+  latest_removed mid new others removes i m = (removes i m ∙ elim (cases_Bool (nat_eq m c.0 && names c.1.entries i)) [
     | inr f ↦ rw f (others i m f)
     | inl t ↦
         let same = eqb-true m c.0 (and_parts (nat_eq m c.0) (names c.1.entries i) t).0 in
         rw t (sym (not_indexed i m same))
-  ]
+  ]) ∙ index i m

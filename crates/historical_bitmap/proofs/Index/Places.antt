@@ -2,11 +2,9 @@
 use Rattle.std.proofs.Common.{◌≡◌, ℕ, ◌<◌, ◌≤◌, Bool, true, false, cond, List, [], ◌∷◌, refl, ap, arith, sym, ◌∙◌}
 use mathlib.Core.Logic.{inl, inr, ◌≢◌}
 use Rattle.std.proofs.lemmas.Bool.{cases_lt, cases_order, eq-eqb, ne_eqb, lt-ltb, le-ltb, false≢true}
-use Rattle.std.proofs.lemmas.Cmp.{nat_cmp_total, nat_eq_equiv, on_total, then_total}
-use Rattle.std.proofs.lemmas.Map.Lookups.{btree_map_from_get, exact_pairs, exact_unsigned}
-use Rattle.std.specs.BTreeMap.{BTreeMap, get, is_at, IsOrdered}
+use Rattle.std.proofs.lemmas.Cmp.{nat_eq_equiv}
+use Rattle.std.specs.BTreeMap.{BTreeMap, get, is_at}
 use Rattle.std.specs.BTreeMap.Range.{IsRangeOf}
-use Rattle.std.specs.Cmp.{IsTotalOrder}
 use Rattle.std.specs.declared.cmp.Ordering.{Ordering}
 use Rattle.std.specs.declared.cmp.Ordering.TheVariants.{Equal, Greater, Less}
 use Rattle.std.specs.declared.ops.Bound.TheVariants.{Excluded, Unbounded}
@@ -66,14 +64,6 @@ put old new chunk number bytes h i m =
     ∙ (h (i, m)
     ∙ (ap (λ t. cond t bytes (lookup (is_at (place_cmp (i, m))) old)) (same_test i m chunk number)
     ∙ ap (λ o. cond (nat_eq m number && nat_eq i chunk) bytes o) (found_is old i m)))
-
--- ---- maps with the same bytes at each place are equal
-total : IsTotalOrder place_cmp
-total = then_total (on_total (λ p. p.0) nat_cmp_total) (on_total (λ p. p.1) nat_cmp_total)
-
-pub same_places : (s t : BTreeMap (ℕ × ℕ) (List ℕ)) → IsOrdered place_cmp s → IsOrdered place_cmp t → ((i m : ℕ) → bytes_at s.entries i m ≡ bytes_at t.entries i m) → s.entries ≡ t.entries
-same_places s t up up_too same =
-    btree_map_from_get total s t up up_too (λ q. found_is s.entries q.0 q.1 ∙ (same q.0 q.1 ∙ sym (found_is t.entries q.0 q.1))) (exact_pairs nat_cmp nat_cmp exact_unsigned exact_unsigned)
 
 -- ---- the order of places
 later : (i n m : ℕ) → n < m → place_cmp (i, n) (i, m) ≡ Less

@@ -1,25 +1,23 @@
 -- The places of a record, added to an index and removed from it.
-use Rattle.std.proofs.Common.{◌≡◌, ℕ, ◌+◌, ◌<◌, Bool, true, false, cond, not, List, [], ◌∷◌, ◌++◌, length, take, drop, get_or, refl, ap, arith, sym, ◌∙◌}
+use Rattle.std.proofs.Common.{◌≡◌, ℕ, ◌+◌, ◌<◌, Bool, true, false, cond, List, [], ◌∷◌, ◌++◌, length, take, drop, get_or, refl, ap, arith, sym, ◌∙◌}
 use mathlib.Core.Logic.{inl, inr}
-use Rattle.std.proofs.lemmas.Bool.{cases_Bool, cases_eq, cases_lt, eq-eqb, ne_eqb, le-leb, le-ltb, lt-leb, lt-ltb, or_parts}
+use Rattle.std.proofs.lemmas.Bool.{cases_Bool, cases_eq, eq-eqb, ne_eqb, or_parts}
 use Rattle.std.proofs.lemmas.List.{map-append, take-append-drop, take_more}
 use Rattle.std.proofs.lemmas.List.Elements.{All-head, All-tail}
 use Rattle.std.proofs.lemmas.List.Folds.{list_any-append}
-use Rattle.std.proofs.lemmas.List.Kept.{IsStrictlySortedBy-filter}
 use Rattle.std.proofs.lemmas.Map.Keys.{sorted_head, sorted_tail}
 use Rattle.std.specs.BTreeMap.{is_at}
-use Rattle.std.specs.List.{filter}
 use Rattle.std.specs.List.Sorted.{IsStrictlySortedBy}
 use Rattle.std.specs.Map.{keys_of, lookup}
 use Rattle.std.specs.Option.{option_or}
 use Rattle.std.specs.Ordering.{nat_cmp}
-use Rattle.std.specs.Prelude.{◌&&◌, ◌||◌, Option, Some, None, is_some, if◌then◌else◌, nat_eq, nat_le, nat_lt}
-use Rattle.historical_bitmap.specs.History.{EntriesRise, from_number, kept_under, past_number, RiseInNumber, up_to_number}
+use Rattle.std.specs.Prelude.{◌&&◌, ◌||◌, Option, Some, None, is_some, if◌then◌else◌, nat_eq}
+use Rattle.historical_bitmap.specs.History.{EntriesRise, kept_under, RiseInNumber}
 use Rattle.historical_bitmap.specs.Index.{AddsPlaces, bytes_at, IsIndexOf, kept_in, KeepsOthers, last_kept, names, RemovesPlaces}
 use Rattle.historical_bitmap.specs.declared.bitmap.historical.record.ChunkDiff as stored
 use Rattle.historical_bitmap.specs.Stored.{diff_value, entry_values}
 use Rattle.historical_bitmap.specs.Record.{ChunkDiff, ReverseRecord, bytes_of, kept, kept_bytes}
-use Rattle.historical_bitmap.proofs.History.KeptUnder.{kept_from_number, kept_up_to_number, kept_where}
+use Rattle.historical_bitmap.proofs.History.Positions.{rise_take}
 use Rattle.historical_bitmap.proofs.History.Rewound.{or_assoc, or_none}
 use Rattle.historical_bitmap.proofs.Index.Places.{place_cmp, put}
 use Rattle.historical_bitmap.proofs.Records.UndoneInSteps.{none_past}
@@ -242,55 +240,68 @@ record_removed left rest keep c places next e removes before = record {
 pub all_removed : (left keep : List (ℕ × ReverseRecord)) (places : List ((ℕ × ℕ) × List ℕ)) → left ≡ [] → RemovesOn left keep places → IsIndexOf places keep
 all_removed left keep places e before i m = before.index i m ∙ ap (λ cs. kept_in (option_or (kept_under cs m) (kept_under keep m)) i) e
 
--- the commits whose numbers pass a test are removed, and the others are kept
-part : (b : Bool) (o : Option ReverseRecord) → option_or (if b then o else None) (if not b then o else None) ≡ o
-part true None = refl
-part true (Some r) = refl
-part false o = refl
-
-module _ (p : ℕ → Bool) (commits left keep : List (ℕ × ReverseRecord)) (places : List ((ℕ × ℕ) × List ℕ)) (is : left ≡ filter (λ c. p c.0) commits)
-    (kept_where_not : (m : ℕ) → kept_under keep m ≡ (if not (p m) then kept_under commits m else None)) (rise : RiseInNumber left) (index : IsIndexOf places commits) where
-  left_where : (m : ℕ) → kept_under left m ≡ (if p m then kept_under commits m else None)
-  left_where m = ap (λ cs. kept_under cs m) is ∙ kept_where p m commits
-
-  pub removes_where : RemovesOn left keep places
-  removes_where = record {
-    rise = rise;
-    apart = λ m r found. elim (cases_Bool (p m)) [
-      | inl e ↦ let k = kept_where_not m in rw e at k
-      | inr e ↦ absurd (let l = rw e at (left_where m) in let f : Some r ≡ None = sym found ∙ l in cc)
-    ];
-    index = λ i m. index i m ∙ ap (λ o. kept_in o i) (sym (part (p m) (kept_under commits m)) ∙ (ap (λ o. option_or o (if not (p m) then kept_under commits m else None)) (sym (left_where m)) ∙ ap (λ o. option_or (kept_under left m) o) (sym (kept_where_not m))));
-  }
-
--- the numbers of the commits that pass a test ascend
-numbers_where : {X : Type 0} (p : ℕ → Bool) (es : List (ℕ × X)) → keys_of (filter (λ e. p e.0) es) ≡ filter p (keys_of es)
-numbers_where p [] = refl
-numbers_where p (e ∷ es) = elim (cases_Bool (p e.0)) [
-  | inl t ↦ rw t (ap (λ numbers. e.0 ∷ numbers) (numbers_where p es))
-  | inr f ↦ rw f (numbers_where p es)
+-- ---- the later ones of some commits are removed, or the first one
+-- what is kept under a number is among the earlier commits or among the later ones
+kept_append : {X : Type 0} (first later : List (ℕ × X)) (m : ℕ) → kept_under (first ++ later) m ≡ option_or (kept_under first m) (kept_under later m)
+kept_append [] later m = refl
+kept_append (c ∷ first) later m = elim (cases_eq m c.0) [
+  | inl e ↦ rw (eq-eqb m c.0 e) refl
+  | inr ne ↦ rw (ne_eqb m c.0 ne) (kept_append first later m)
 ]
 
-rise_where : {X : Type 0} (p : ℕ → Bool) (es left : List (ℕ × X)) → left ≡ filter (λ e. p e.0) es → RiseInNumber es → RiseInNumber left
-rise_where p es left is rise = rw (is, numbers_where p es) (IsStrictlySortedBy-filter nat_cmp p (keys_of es) rise)
+later_none : {X : Type 0} (a b : Option X) → option_or a b ≡ None → b ≡ None
+later_none None b e = e
+later_none (Some x) b e = absurd (let f : Some x ≡ None = e in cc)
 
--- those past a number are removed
-at_most : (number m : ℕ) → nat_le m number ≡ not (nat_lt number m)
-at_most number m = elim (cases_lt number m) [
-  | inl l ↦ rw (lt-leb m number l, lt-ltb number m l) refl
-  | inr l ↦ rw (le-leb m number l, le-ltb number m l) refl
+-- a number of the later ones is not among the earlier ones
+not_among_first : {X : Type 0} (first later : List (ℕ × X)) (m : ℕ) (x : X) → RiseInNumber (first ++ later) → kept_under later m ≡ Some x → kept_under first m ≡ None
+not_among_first [] later m x rise found = refl
+not_among_first (c ∷ first) later m x rise found = elim (cases_eq m c.0) [
+  | inl e ↦
+      let none = later_none (kept_under first m) (kept_under later m) (sym (kept_append first later m) ∙ head_alone c (first ++ later) rise m e) in
+      absurd (let f : Some x ≡ None = sym found ∙ none in cc)
+  | inr ne ↦ rw (ne_eqb m c.0 ne) (not_among_first first later m x (sorted_tail nat_cmp c.0 (keys_of (first ++ later)) rise) found)
 ]
 
-pub removes_past : (number : ℕ) (commits left : List (ℕ × ReverseRecord)) (places : List ((ℕ × ℕ) × List ℕ)) → left ≡ past_number number commits → RiseInNumber commits → IsIndexOf places commits → RemovesOn left (up_to_number number commits) places
-removes_past number commits left places is rise index =
-    removes_where (nat_lt number) commits left (up_to_number number commits) places is
-    (λ m. kept_up_to_number number m commits ∙ ap (λ t. if t then kept_under commits m else None) (at_most number m)) (rise_where (nat_lt number) commits left is rise) index
+later_rise : {X : Type 0} (first later : List (ℕ × X)) → RiseInNumber (first ++ later) → RiseInNumber later
+later_rise [] later rise = rise
+later_rise (c ∷ first) later rise = later_rise first later (sorted_tail nat_cmp c.0 (keys_of (first ++ later)) rise)
 
--- those below a number are removed
-at_least : (number m : ℕ) → nat_le number m ≡ not (nat_lt m number)
-at_least number m = at_most m number
+-- if at most one of two is there, their order does not matter
+either_order : {X : Type 0} (a b : Option X) → ((x : X) → b ≡ Some x → a ≡ None) → option_or a b ≡ option_or b a
+either_order a None apart = or_none a
+either_order a (Some x) apart = ap (λ o. option_or o (Some x)) (apart x refl)
 
-pub removes_below : (number : ℕ) (commits left : List (ℕ × ReverseRecord)) (places : List ((ℕ × ℕ) × List ℕ)) → left ≡ filter (λ c. nat_lt c.0 number) commits → RiseInNumber commits → IsIndexOf places commits → RemovesOn left (from_number number commits) places
-removes_below number commits left places is rise index =
-    removes_where (λ m. nat_lt m number) commits left (from_number number commits) places is
-    (λ m. kept_from_number number m commits ∙ ap (λ t. if t then kept_under commits m else None) (at_least number m)) (rise_where (λ m. nat_lt m number) commits left is rise) index
+-- the commits from a position on are to be removed
+pub removes_from : (p : ℕ) (commits : List (ℕ × ReverseRecord)) (places : List ((ℕ × ℕ) × List ℕ)) → RiseInNumber commits → IsIndexOf places commits → RemovesOn (drop p commits) (take p commits) places
+removes_from p commits places rise index = record {
+  rise = later_rise first later split_rise;
+  apart = λ m r found. not_among_first first later m r split_rise found;
+  index = λ i m.
+      index i m
+      ∙ ap (λ o. kept_in o i)
+      (ap (λ cs. kept_under cs m) (sym (take-append-drop p commits)) ∙ (kept_append first later m ∙ either_order (kept_under first m) (kept_under later m) (λ r found. not_among_first first later m r split_rise found)));
+}
+  where
+    first : List (ℕ × ReverseRecord)
+    first = take p commits
+
+    later : List (ℕ × ReverseRecord)
+    later = drop p commits
+
+    split_rise : RiseInNumber (first ++ later)
+    split_rise = rw (take-append-drop p commits) rise
+
+-- the first of some commits is removed
+pub first_removed : (c : ℕ × ReverseRecord) (rest : List (ℕ × ReverseRecord)) (places next : List ((ℕ × ℕ) × List ℕ)) → RiseInNumber (c ∷ rest) → IsIndexOf places (c ∷ rest) → RemovesPlaces c.0 c.1.entries places next → IsIndexOf next rest
+first_removed c rest places next rise index removes =
+    all_removed [] rest next refl
+    (record_removed (c ∷ []) [] rest c places next refl removes
+    record {
+      rise = rise_take 1 (c ∷ rest) rise;
+      apart = λ m r found. elim (cases_eq m c.0) [
+        | inl e ↦ head_alone c rest rise m e
+        | inr ne ↦ absurd (let f : None ≡ Some r = rw (ne_eqb m c.0 ne) at found in cc)
+      ];
+      index = λ i m. index i m ∙ ap (λ o. kept_in o i) (kept_append (c ∷ []) rest m);
+    })

@@ -66,7 +66,6 @@ use crate::bitmap::historical::commit_list::CommitList;
 pub use crate::bitmap::historical::commits::{CommitNumbers, Commits};
 pub use crate::bitmap::historical::edit::{Edit, Lent};
 pub use crate::bitmap::historical::error::{ApplyError, Error, RewindError};
-pub use crate::bitmap::historical::index::{AtIndexed, CommitIndex};
 pub use crate::bitmap::historical::pending::Dirty;
 pub use crate::bitmap::historical::pending_changes::PendingChanges;
 pub use crate::bitmap::historical::state::{Clean, State};

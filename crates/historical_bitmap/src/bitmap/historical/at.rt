@@ -1,17 +1,19 @@
 //! Past states that are read in place, without a bitmap of their own.
 
-ghost use Rattle.std.specs.Prelude.{◌≡◌, ◌-◌, ◌^◌, drop, None, option_copied, option_map, slice_get};
+ghost use Rattle.std.specs.Prelude.{◌≡◌, ◌-◌, ◌^◌, drop, [], IfErr, IfOk, IsOk, None, option_copied, option_map, slice_get};
 ghost use Rattle.bitmap_bytes.specs.Chunk.{IsWidth};
 ghost use Rattle.bitmap_core.specs.Meaning.{pruned_meaning, ShowsChunk};
 ghost use Rattle.bitmap_core.specs.PrunedBits.{IsRetainedChunk};
-ghost use Rattle.historical_bitmap.specs.History.{EntriesRise, first_kept as first_kept_of, IsLeftBy, kept_under, left_by, past_number};
+ghost use Rattle.historical_bitmap.specs.History.{EntriesRise, first_kept as first_kept_of, IsLeftBy, kept_under, left_by, past_number, RiseInNumber};
 ghost use Rattle.historical_bitmap.specs.View.{history_of};
 
 use crate::bitmap::historical::commit_list::CommitList;
+use crate::bitmap::historical::index::next_kept;
 use crate::bitmap::historical::record::CommitDiff;
-use crate::bitmap::historical::{BitMap, Clean};
+use crate::bitmap::historical::{BitMap, Clean, CleanBitMap};
 use bitmap_core::bitmap::Readable;
 use bitmap_core::chunk::{chunk_index, chunk_width};
+use std::alloc::AllocError;
 use std::marker::Model;
 
 /// The bitmap at a kept commit, read in place: a chunk is searched for in the reverse records of later commits, then in the current bitmap.
@@ -20,10 +22,12 @@ use std::marker::Model;
 ///
 /// # Complexity
 /// `len` and `pruned_chunks`: constant.
-/// A read of a chunk: one binary search per reverse record past the commit, until one keeps the chunk.
+/// A read of a chunk if the bitmap is indexed: one search, logarithmic in the entries of the index, however many commits are kept.
+/// Else: one binary search per reverse record past the commit, until one keeps the chunk.
 ///
-/// To read a few bits, this is cheaper than `get_at_commit`. To read many bits of a state with many commits after it, `get_at_commit`
-/// is cheaper: it costs a copy of the current bitmap and one pass over the later records, and then each read takes constant time.
+/// To read a few bits, this is cheaper than `get_at_commit`. To read many bits of a state with many commits after it, an index helps
+/// (`CleanBitMap::indexed`), or `get_at_commit`: it costs a copy of the current bitmap and one pass over the later records, and then each
+/// read takes constant time.
 #[derive(Drop)]
 pub struct AtCommit<'a, const N: usize> {
     of: &'a BitMap<N, Clean>,
@@ -76,7 +80,75 @@ fn first_kept<const N: usize>(
     None
 }
 
+// Returns the old bytes of a chunk from the first record past a number that keeps any: by one search in the index, if there is one.
+// The first commit past the number is at position `past`.
+fn kept_past<const N: usize>(
+    commits: &CommitList<N>,
+    number: u64,
+    past: usize,
+    chunk: usize,
+) -> Option<&[u8; N]>
+    requires width { IsWidth N }
+    requires rise { RiseInNumber commits.now }
+    requires past { drop past commits.now ≡ past_number number commits.now }
+    requires entries { EntriesRise (past_number number commits.now) }
+    ensures { option_copied result ≡ first_kept_of (past_number number commits.now) chunk }
+{
+    match commits.index() {
+        Some(places) => next_kept(places, chunk, number),
+        None => first_kept(commits, past, chunk),
+    }
+}
+
 impl<const N: usize> BitMap<N, Clean> {
+    /// Adds an index of the kept commits, with which `at` reads a chunk of any of them by one search, however many are kept.
+    ///
+    /// The bitmap is indexed from then on: commits, `rewind_to`, `prune_commits_before` and `clear_history` keep the index up to date,
+    /// and a clone has a copy of it. So a commit of an indexed bitmap also allocates the index's entries for it, and fails as a whole
+    /// if that fails. Nothing else that a call returns depends on the index: an indexed bitmap equals the same one without.
+    /// If the bitmap is indexed already, it is returned as it is.
+    ///
+    /// # Errors
+    ///
+    /// `AllocError` if an allocation fails. The bitmap is returned unchanged with the error, without an index.
+    ///
+    /// # Memory
+    ///
+    /// Allocates the index: a sorted map with one entry per chunk whose old bytes a kept reverse record has, with these bytes.
+    /// Chunks that a commit added have no old bytes. Does not allocate if no commit is kept.
+    ///
+    /// # Complexity
+    ///
+    /// Per kept commit, constant; per entry of the kept reverse records, logarithmic in the entries of the index.
+    pub fn indexed(mut self) -> Result<CleanBitMap<N>, (CleanBitMap<N>, AllocError)>
+        ensures ok { IfOk result (λ b. b ≡ self.entry) }
+        ensures unchanged { IfErr result (λ e. e.0 ≡ self.entry) }
+        ensures none { self.entry.commits ≡ [] → IsOk result }
+    {
+        let _ = self.current.len();
+        let alloc = self.state.allocator();
+        match self.commits.add_index(alloc) {
+            Ok(()) => Ok(self),
+            Err(why) => Err((self, why)),
+        }
+    }
+
+    /// Drops the index of the kept commits, if there is one. `at` reads without it from then on.
+    ///
+    /// # Memory
+    ///
+    /// Does not allocate. Frees the index.
+    ///
+    /// # Complexity
+    ///
+    /// Linear in the entries of the index.
+    pub fn without_index(mut self) -> CleanBitMap<N>
+        ensures { result ≡ self.entry }
+    {
+        self.commits.drop_index();
+        self
+    }
+
     /// Returns the bitmap at commit `number`, to be read in place, or `None` if that commit is not kept. `u64::MAX` is never kept.
     ///
     /// It is the same state that `get_at_commit` returns as a bitmap of its own. Does not allocate.
@@ -147,7 +219,7 @@ impl<const N: usize> BitMap<N, Clean> {
         ensures { ShowsChunk N (pruned_meaning N (left_by N number self.now.commits self.now.current)) chunk result }
     {
         let _ = self.current.len();
-        let kept = first_kept(&self.commits, past, chunk);
+        let kept = kept_past(&self.commits, number, past, chunk);
         self.kept_or_current(number, chunk, kept)
     }
 

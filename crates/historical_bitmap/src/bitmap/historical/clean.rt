@@ -64,6 +64,8 @@ impl<const N: usize> BitMap<N, Clean> {
     pub fn from_bitmap(alloc: Global, bitmap: Prunable<N>) -> Self
         ensures { result ≡ record { current = bitmap.entry; commits = []; last = None; state = tt } }
     {
+        // The prover learns the width from this call.
+        let _ = bitmap.len();
         BitMap {
             current: bitmap,
             commits: CommitList::new(alloc),

@@ -1,13 +1,21 @@
 //! The kept commits of a historical bitmap, in ascending order of number.
 //!
 //! A commit is appended after all others, and removed at either end. So the commits are in a queue, and a number is found by binary search.
+//! A list may have an index of its commits by chunk. No clause speaks of it, but it is always that of the commits.
 
-ghost use Rattle.std.specs.Prelude.{◌≡◌, ℕ, ◌<◌, ◌≤◌, [], ◌∷◌, ◌++◌, drop, is_some, length, OnErr, OnOk, Some, slice_get, slice_index, take};
+ghost use Rattle.std.specs.Prelude.{◌≡◌, ℕ, ◌<◌, ◌≤◌, [], ◌∷◌, ◌++◌, drop, is_some, length, IfSome, IsOk, OnErr, OnOk, Some, slice_get, slice_index, take};
 ghost use Rattle.std.specs.List.{All};
+ghost use Rattle.std.specs.List.Sorted.{IsStrictlySortedBy};
 ghost use Rattle.std.specs.Map.{keys_of};
+ghost use Rattle.std.specs.Ordering.{nat_cmp};
 ghost use Rattle.std.specs.VecDeque.Iter.{deque_iter_rest};
-ghost use Rattle.historical_bitmap.specs.History.{earliest, from_number, kept_under, latest, past_number, RiseInNumber, up_to_number};
+ghost use Rattle.bitmap_bytes.specs.Chunk.{IsWidth};
+ghost use Rattle.historical_bitmap.specs.History.{earliest, EntriesRise, from_number, kept_under, latest, past_number, RiseInNumber, up_to_number};
+ghost use Rattle.historical_bitmap.specs.Index.{IsIndexOf};
 
+use crate::bitmap::historical::index::{
+    Places, index_last, places_of, unindex_all, unindex_first, unindex_from,
+};
 use crate::bitmap::historical::record::CommitDiff;
 use std::alloc::{AllocError, Global};
 use std::collections::VecDeque;
@@ -19,18 +27,20 @@ use std::marker::Model;
 #[derive(Drop)]
 pub(crate) struct CommitList<const N: usize> {
     commits: VecDeque<(u64, CommitDiff<N>)>,
+    // The index of the commits, if they are indexed.
+    index: Option<Places<N>>,
 }
 
 impl<const N: usize> Model for CommitList<N> {
     ghost use Rattle.std.specs.Prelude.{List, ℕ};
-    ghost use Rattle.historical_bitmap.specs.History.{RiseInNumber};
+    ghost use Rattle.historical_bitmap.specs.Index.{IsIndexed};
     ghost use Rattle.historical_bitmap.specs.Record.{ReverseRecord};
 
     ghost Value = { List (ℕ × ReverseRecord) };
 
     ghost view = { λ list. list.commits.items };
 
-    ghost invariant = { λ list. RiseInNumber list.commits.items };
+    ghost invariant = { λ list. IsIndexed N list.commits.items list.index };
 }
 
 // Returns the position of the first number past one, or the count of the commits if there is none, by binary search.
@@ -88,10 +98,12 @@ fn has_number<const N: usize>(commits: &VecDeque<(u64, CommitDiff<N>)>, number: 
 impl<const N: usize> CommitList<N> {
     // Returns a list of no commits. Does not allocate.
     pub(crate) fn new(alloc: Global) -> Self
+        requires width { IsWidth N }
         ensures { result ≡ [] }
     {
         CommitList {
             commits: VecDeque::new(alloc),
+            index: None,
         }
     }
 
@@ -161,14 +173,46 @@ impl<const N: usize> CommitList<N> {
         self.commits.range(first..)
     }
 
-    // Appends a commit, whose number is above all others. If an allocation fails, the list is unchanged.
+    // Returns the index of the commits, or `None` if they are not indexed.
+    pub(crate) fn index(&self) -> Option<&Places<N>>
+        ensures { IfSome result (λ places. IsIndexOf places.now.entries self.now) }
+    {
+        self.index.as_ref()
+    }
+
+    // Indexes the commits, if they are not indexed yet. Allocates the index. If an allocation fails, the list is unchanged.
+    pub(crate) fn add_index(&mut self, alloc: Global) -> Result<(), AllocError>
+        requires { EntriesRise self.old }
+        ensures same { self.new ≡ self.old }
+        ensures none { self.old ≡ [] → IsOk result }
+    {
+        if self.index.is_none() {
+            self.index = Some(places_of(alloc, &self.commits)?);
+        }
+        Ok(())
+    }
+
+    // Drops the index, if there is one. Does not allocate.
+    pub(crate) fn drop_index(&mut self)
+        ensures { self.new ≡ self.old }
+    {
+        self.index = None;
+    }
+
+    // Appends a commit, whose number is above all others, and whose entries ascend. Adds it to the index, if there is one.
+    // If an allocation fails, the list is unchanged.
     #[inline]
     pub(crate) fn append(&mut self, number: u64, diff: CommitDiff<N>) -> Result<(), AllocError>
-        requires { All (λ kept. kept < number) (keys_of self.old) }
+        requires number { All (λ kept. kept < number) (keys_of self.old) }
+        requires entries { IsStrictlySortedBy nat_cmp (keys_of diff.entries) }
         ensures ok { OnOk result (self.new ≡ self.old ++ (number, diff.entry) ∷ []) }
         ensures err { OnErr result (self.new ≡ self.old) }
     {
         self.commits.push_back((number, diff))?;
+        let Ok(()) = index_last(&mut self.index, &self.commits) else {
+            let _ = self.commits.pop_back();
+            return Err(AllocError);
+        };
         Ok(())
     }
 
@@ -177,6 +221,7 @@ impl<const N: usize> CommitList<N> {
         ensures value { self.new ≡ drop 1 self.old }
         ensures rise { RiseInNumber self.new }
     {
+        unindex_first(&mut self.index, &self.commits);
         let _ = self.commits.pop_front();
     }
 
@@ -184,6 +229,7 @@ impl<const N: usize> CommitList<N> {
     pub(crate) fn truncate(&mut self, position: usize)
         ensures { self.new ≡ take position self.old }
     {
+        unindex_from(&mut self.index, &self.commits, position);
         self.commits.truncate(position);
     }
 
@@ -191,6 +237,7 @@ impl<const N: usize> CommitList<N> {
     pub(crate) fn clear(&mut self)
         ensures { self.new ≡ [] }
     {
+        unindex_all(&mut self.index);
         self.commits.clear();
     }
 }
@@ -200,10 +247,12 @@ impl<const N: usize> Clone for CommitList<N> {
 
     ghost is_clone = { λ a b. b ≡ a };
 
-    // Returns an equal list. Allocates for the commits and their entries, and fails if that fails.
+    // Returns an equal list, with a copy of the index, if there is one.
+    // Allocates for the commits, their entries and the entries of the index, and fails if that fails.
     fn clone(&self) -> Result<Self, AllocError> {
         Ok(CommitList {
             commits: self.commits.clone()?,
+            index: self.index.clone()?,
         })
     }
 }

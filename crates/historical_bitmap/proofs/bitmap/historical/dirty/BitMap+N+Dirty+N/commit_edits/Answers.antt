@@ -48,7 +48,7 @@ returns-clause-costs g c =
 pub append-requires : goal.append-requires
 append-requires g c =
     let accepted : commit_error c.self.inside.last c.args.number ≡ None = rw (sym c.self.view_is) at c.requires.accepted in
-    (omega arith, (omega arith, all_below (keys_of c.self.inside.commits) c.self.inside.last c.args.number c.ranges.number.fits c.self.invariant.1.numbers accepted))
+    (omega arith, (omega arith, (all_below (keys_of c.self.inside.commits) c.self.inside.last c.args.number c.ranges.number.fits c.self.invariant.1.numbers accepted, c.in-Ok.ensures.can_undo.sorted)))
 
 -- if the insertion of the record fails, the bitmap and the commits are unchanged
 current_again : (g : Over) (c : After-shrink_back g) → c.shrink_back.new.current ≡ c.self.inside.current

@@ -1,8 +1,0 @@
-use Rattle.std.proofs.Common.{sym}
-use Rattle.historical_bitmap.proofs.History.KeptCommits.{found_under}
-use Rattle.historical_bitmap.proofs.bitmap.historical.index.BitMap+N+Clean.at_indexed.Goals as goal
-
-pub returns-clause-value : goal.returns-clause-value
-returns-clause-value g c =
-    let there = rw (← c.self.view_is) at (sym c.if-not-commit_exists.ensures.value) in
-    rw (← c.self.view_is) (sym (found_under g.row.N c.args.number c.self.inside.commits c.self.inside.current c.self.invariant.1.rise there))
