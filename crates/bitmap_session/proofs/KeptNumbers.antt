@@ -1,5 +1,5 @@
--- The kept numbers are strictly ascending in every machine that a run reaches.
-use Rattle.std.proofs.Common.{◌≡◌, ℕ, ◌-◌, ◌<◌, ◌≤◌, List, [], ◌∷◌, Bool, Option, Some, None, refl, sym, ap, ◌∙◌, inl, inr, arith, length}
+-- The kept numbers stay strictly ascending, up to the last number.
+use Rattle.std.proofs.Common.{◌≡◌, ℕ, ◌-◌, ◌<◌, ◌≤◌, List, [], ◌∷◌, Bool, Option, Some, None, refl, sym, ap, subst, ◌∙◌, inl, inr, arith, length}
 use Rattle.std.specs.Prelude.{nat_le, slice_get, suc}
 use Rattle.std.specs.List.{All, filter}
 use Rattle.std.specs.List.Sorted.{IsStrictlySortedBy}
@@ -16,8 +16,10 @@ use Rattle.historical_bitmap.proofs.History.PastStates.{below}
 use Rattle.historical_bitmap.proofs.Pending.Record.{keys_push, sorted_push}
 use Rattle.bitmap_session.specs.declared.command.Command.{Command}
 use Rattle.bitmap_session.specs.Replies.{ReplyValue}
-use Rattle.bitmap_session.specs.Laws.{IsGreatestOf, IsReached, NumbersRise}
-use Rattle.bitmap_session.specs.Machine.{Machine, Run, State, first_machine}
+use Rattle.bitmap_session.specs.Laws.{HasRisingNumbers, IsGreatestOf, LatestIsGreatest, NoCommitsRise, NumbersRise, NumbersRiseOn}
+use Rattle.bitmap_session.specs.Machine.{Machine, Agrees, State, StepTo}
+use Rattle.bitmap_session.proofs.Runs.{step_is_run}
+use Rattle.bitmap_session.proofs.Steps.{itself}
 use Rattle.bitmap_session.proofs.Moves.{Moves, Stays, Starts, Keeps, Rewinds, Drops, Clears, IsAbove, moves}
 
 abbrev pub History : Type 0
@@ -81,20 +83,35 @@ keeps_rising {s} (Drops number e f) r =
     )
 keeps_rising {s} (Clears e f) r = rw (e, f) (sorted_none, of_none s.last)
 
--- a run preserves this
-runs_rising : (N : ℕ) (old new : Machine) (commands : List (Command N)) (replies : List ReplyValue)
-    → Run N old commands replies new
-    → Rise old.state.history old.state.last
-    → Rise new.state.history new.state.last
-runs_rising N old new [] [] run r = rw run r
-runs_rising N old new (command ∷ commands) (reply ∷ replies) run r =
-    runs_rising N run.0 new commands replies run.2 (keeps_rising (moves N old command reply run.0 run.1) r)
-runs_rising N old new [] (reply ∷ replies) run r = absurd run
-runs_rising N old new (command ∷ commands) [] run r = absurd run
+-- the law of kept numbers
+pub numbers_rise : (N : ℕ) → NumbersRise N
+numbers_rise N old new [] [] rise run = rw run rise
+numbers_rise N old new (command ∷ commands) (reply ∷ replies) rise run =
+    let next = keeps_rising (moves N old command reply run.0 run.1) (rise.rise, rise.last) in
+    numbers_rise N run.0 new commands replies (record { rise = next.0; last = next.1 }) run.2
+numbers_rise N old new [] (reply ∷ replies) rise run = absurd run
+numbers_rise N old new (command ∷ commands) [] rise run = absurd run
 
--- they are so in every machine that a run from the first machine reaches
-pub reached_rise : (N : ℕ) (m : Machine) → IsReached N m → Rise m.state.history m.state.last
-reached_rise N m reached = runs_rising N first_machine m reached.0 reached.1.0 reached.1.1 (sorted_none, refl)
+-- a state without commits, such as that of the first machine
+pub no_commits_rise : NoCommitsRise
+no_commits_rise s e = record { rise = rw e sorted_none; last = rw e (of_none s.last) }
+
+-- the states of machines that agree are the same
+pub numbers_rise_on : (N : ℕ) → NumbersRiseOn N
+numbers_rise_on N old new commands replies rise runs =
+    let run = runs old (itself old) in
+    let after = numbers_rise N old run.0 commands replies rise run.2 in
+    rw run.1.same after
+
+-- a step of a session, from a machine that is given as an equal one
+pub still_rises : (N : ℕ) (same old new : Machine) (command : Command N) (reply : ReplyValue)
+    → same ≡ old
+    → HasRisingNumbers same.state
+    → StepTo N Agrees old command reply new
+    → HasRisingNumbers new.state
+still_rises N same old new command reply e rise step =
+    let before : HasRisingNumbers old.state = subst (λ (m : Machine). HasRisingNumbers m.state) e rise in
+    numbers_rise_on N old new (command ∷ []) (reply ∷ []) before (step_is_run N old new command reply step)
 
 -- the latest number of two or more commits is the latest of those after the first
 latest-cons : (e f : ℕ × PrunedBits) (es : History) → latest (e ∷ f ∷ es) ≡ latest (f ∷ es)
@@ -119,8 +136,6 @@ latest_greatest (e ∷ f ∷ es) rise =
     let l = below e.0 f.0 (sorted_head nat_cmp e.0 (keys_of (f ∷ es)) rise).0 in
     rw (latest-cons e f es) (one_more e.0 f.0 (latest (f ∷ es)) (keys_of es) l rest)
 
--- the law of kept numbers
-pub numbers_rise : (N : ℕ) → NumbersRise N
-numbers_rise N m reached =
-    let rise = reached_rise N m reached in
-    record { rise = rise.0; greatest = latest_greatest m.state.history rise.0; last = rise.1 }
+-- the law of the latest number
+pub latest_is_greatest : LatestIsGreatest
+latest_is_greatest s rise = latest_greatest s.history rise.rise

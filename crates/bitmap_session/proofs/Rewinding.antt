@@ -14,7 +14,7 @@ use Rattle.bitmap_session.specs.declared.command.Command.TheVariants.{Commit, Re
 use Rattle.bitmap_session.specs.Replies.{ReplyValue}
 use Rattle.bitmap_session.specs.Laws.{Rewinding, RunKeeping}
 use Rattle.bitmap_session.specs.Machine.{Machine, State, shown}
-use Rattle.bitmap_session.proofs.KeptNumbers.{History, all_below, reached_rise}
+use Rattle.bitmap_session.proofs.KeptNumbers.{History, all_below}
 use Rattle.bitmap_session.proofs.Moves.{Moves, Stays, Starts, Keeps, Rewinds, Drops, Clears, IsAbove, above, done, moves}
 
 -- ---- filtered histories
@@ -242,12 +242,11 @@ kept_before number bitmap left es h =
 
 -- the law of rewinding
 pub rewinding : (N : ℕ) → Rewinding N
-rewinding N number before committed left back commands replies reached commit run rewind =
+rewinding N number before committed left back commands replies rise commit run rewind =
     let es = before.state.history in
     let bitmap = shown before.state in
-    let rise = reached_rise N before reached in
     let made = done N before (Commit number) committed commit in
-    let under = all_below before.state.last (keys_of es) number (above N before.state number made.0) rise.1 in
+    let under = all_below before.state.last (keys_of es) number (above N before.state number made.0) rise.last in
     let begun = committed_from number bitmap es committed.state under (ap (λ m. m.state.history) made.1.1) (ap (λ m. m.state.last) made.1.1) in
     let arrived = through N number (es ++ (number, bitmap) ∷ []) committed left commands replies run begun in
     let went = done N left (Rewind number) back rewind in

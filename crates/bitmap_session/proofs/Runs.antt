@@ -5,7 +5,7 @@ use Rattle.bitmap_session.specs.declared.command.Command.{Command}
 use Rattle.bitmap_session.specs.declared.reply.Reply.{Reply}
 use Rattle.bitmap_session.specs.Replies.{ReplyValue}
 use Rattle.bitmap_session.specs.Machine.{Machine, Agrees, StepTo, Run, RunsOn}
-use Rattle.bitmap_session.specs.Laws.{RunsJoin}
+use Rattle.bitmap_session.specs.Laws.{RunsJoin, StepIsRun, StepsAreRun}
 use Rattle.bitmap_session.specs.Abstraction.{value_of}
 use Rattle.bitmap_session.proofs.Simulates.{simulates}
 
@@ -25,6 +25,20 @@ runs_join N old mid new commands more replies others r s before a =
     let first = r before a in
     let second = s first.0 first.1 in
     (second.0, second.1, Run-append N before first.0 second.0 commands more replies others first.2 second.2)
+
+-- a session that takes a step runs its command
+pub step_is_run : (N : ℕ) → StepIsRun N
+step_is_run N old new command reply step before a =
+    let next = simulates N old new before command reply a step in
+    (next.0, next.1, (next.0, next.2, refl))
+
+-- a session that takes some steps runs their commands
+pub steps_are_run : (N : ℕ) → StepsAreRun N
+steps_are_run N old new [] steps before a = (before, rw steps a, refl)
+steps_are_run N old new (call ∷ calls) steps before a =
+    let next = simulates N old steps.0 before call.0 call.1 a steps.1 in
+    let rest = steps_are_run N steps.0 new calls steps.2 next.0 next.1 in
+    (rest.0, rest.1, (next.0, next.2, rest.2))
 
 -- a session that has run the first i commands and takes a step by the next one has run i + 1
 pub RunsOn-more : {N : ℕ} (old mid new : Machine) (commands : List (Command N)) (i : ℕ) (d : Command N) (had : List (Reply N)) (reply : Reply N)

@@ -1,8 +1,10 @@
 //! Laws of the abstract machine of `specs/Machine.antt`, which describes every session.
 //!
 //! Each law is the contract of a function with an empty body. A proof uses a law by calling its function.
+//! `Session::numbers_rise` is a law too: the kept numbers of every session rise.
 
-ghost use Rattle.bitmap_session.specs.Laws.{NumbersRise, Rewinding, RunsJoin};
+ghost use Rattle.bitmap_session.specs.Machine.{first_machine};
+ghost use Rattle.bitmap_session.specs.Laws.{HasRisingNumbers, LatestIsGreatest, NoCommitsRise, NumbersRise, NumbersRiseOn, Rewinding, RunsJoin, StepIsRun, StepsAreRun};
 
 /// States that consecutive runs are one run.
 ///
@@ -14,19 +16,39 @@ pub fn consecutive_runs_join<const N: usize>()
     ensures { RunsJoin N }
 {}
 
-/// States that the kept commit numbers are strictly ascending, in every machine that a run reaches.
+/// States that a step is a run of one command.
 ///
-/// The latest number is the greatest of them, and none is above the last number, which was committed or rewound to.
+/// Each method of `Session` that runs a command promises one step, and so does `Session::serve`. By the clause `one` that step
+/// is a run of one command, with one reply. By the clause `many` consecutive steps are one run of all their commands.
+/// With `consecutive_runs_join`, all calls of a session, by methods, `serve` and `run`, are one run.
+///
+/// Does not allocate; constant time.
+pub fn a_step_is_a_run<const N: usize>()
+    ensures one { StepIsRun N }
+    ensures many { StepsAreRun N }
+{}
+
+/// States that the kept commit numbers stay strictly ascending, and that none is above the last number.
+///
+/// The last number was committed or rewound to. By the clauses `first` and `none` the numbers rise in the first machine and in
+/// each machine without commits, such as that of a session from `Session::read`. By the clause `run` they rise after every run
+/// from a machine in which they rise, and by the clause `calls` after every run of a session. By the clause `greatest` the
+/// latest number is the greatest.
 ///
 /// Does not allocate; constant time.
 pub fn kept_numbers_rise<const N: usize>()
-    ensures { NumbersRise N }
+    ensures first { HasRisingNumbers first_machine.state }
+    ensures none { NoCommitsRise }
+    ensures run { NumbersRise N }
+    ensures calls { NumbersRiseOn N }
+    ensures greatest { LatestIsGreatest }
 {}
 
 /// States that a rewind to a commit restores the bitmap of that commit.
 ///
-/// The commit is followed by a run during which its number stays kept, and then by an accepted `Rewind` to it. Afterwards the
-/// current bitmap is that of the commit, and the history is the one after the commit, less the commits dropped before the rewind.
+/// The numbers rise before the commit, as they do in every session. The commit is followed by a run during which its number
+/// stays kept, and then by an accepted `Rewind` to it. Afterwards the current bitmap is that of the commit, and the history is
+/// the one after the commit, less the commits dropped before the rewind.
 ///
 /// Does not allocate; constant time.
 pub fn rewinding_restores<const N: usize>()

@@ -13,6 +13,7 @@ ghost use Rattle.historical_bitmap.specs.Changes.{changed_between};
 ghost use Rattle.historical_bitmap.specs.History.{at_least, kept_under};
 ghost use Rattle.bitmap_session.specs.Machine.{Agrees, StepTo, RunsOn, first_machine, is_dirty};
 ghost use Rattle.bitmap_session.specs.Abstraction.{machine_of, value_of};
+ghost use Rattle.bitmap_session.specs.Laws.{HasRisingNumbers};
 
 use crate::command::Command;
 use crate::reply::{Refusal, Reply};
@@ -59,6 +60,7 @@ pub struct Session<const N: usize> {
 impl<const N: usize> Model for Session<N> {
     ghost use Rattle.bitmap_bytes.specs.Chunk.{IsWidth};
     ghost use Rattle.bitmap_session.specs.Machine.{Machine};
+    ghost use Rattle.bitmap_session.specs.Laws.{HasRisingNumbers};
 
     ghost Value = { Machine };
 
@@ -66,7 +68,7 @@ impl<const N: usize> Model for Session<N> {
 
     ghost view = { λ s. machine_of s.state };
 
-    ghost invariant = { λ s. IsWidth N };
+    ghost invariant = { λ s. IsWidth N × HasRisingNumbers (machine_of s.state).state };
 }
 
 // Returns a copy of a state.
@@ -158,6 +160,24 @@ impl<const N: usize> Session<N> {
             state: State::Clean(CleanBitMap::from_bitmap(alloc, bitmap)),
             alloc,
         })
+    }
+
+    /// States that the kept commit numbers of this session are strictly ascending, and that none is above the last number.
+    ///
+    /// It holds of every session: from `new`, from `read`, cloned, and after any calls. So the laws `kept_numbers_rise` and
+    /// `rewinding_restores` of `laws` apply to it.
+    ///
+    /// # Memory
+    ///
+    /// Does not allocate.
+    ///
+    /// # Complexity
+    ///
+    /// Constant.
+    pub fn numbers_rise(&self)
+        ensures { HasRisingNumbers self.now.state }
+    {
+        let _ = &self.state;
     }
 
     /// Runs one command, and returns its reply.

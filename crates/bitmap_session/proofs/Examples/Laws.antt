@@ -5,10 +5,13 @@ use Rattle.std.proofs.Common.{refl, ap, sym, subst, inl, inr, arith}
 use Rattle.std.proofs.lemmas.Bool.{cases_eq, false≢true}
 use Rattle.bitmap_core.specs.PrunedBits.{PrunedBits}
 use Rattle.historical_bitmap.specs.History.{kept_under}
+use Rattle.bitmap_session.specs.declared.command.Command.{Command}
 use Rattle.bitmap_session.specs.declared.command.Command.TheVariants.{Begin, Commit, DropBefore, Len}
+use Rattle.bitmap_session.specs.Replies.{ReplyValue}
 use Rattle.bitmap_session.specs.Replies.ReplyValue.{Done, Number}
-use Rattle.bitmap_session.specs.Machine.{Machine, first_machine}
-use Rattle.bitmap_session.specs.Laws.{IsGreatestOf, HasRisingNumbers, IsReached, RunKeeping, IsRewoundTo}
+use Rattle.bitmap_session.specs.Machine.{Machine, Agrees, Run, first_machine}
+use Rattle.bitmap_session.specs.Laws.{IsGreatestOf, HasRisingNumbers, StepsOn, RunKeeping, IsRewoundTo}
+use Rattle.bitmap_session.proofs.KeptNumbers.{no_commits_rise, numbers_rise}
 
 -- one bit, and two bits
 abbrev one : PrunedBits
@@ -41,32 +44,61 @@ none_is_not_greatest is_greatest = omega (arith, ap length is_greatest)
 -- 1 and 3 are ascending, up to the last number 3
 rising : HasRisingNumbers both.state
 unfolding IsStrictlySortedBy
-rising = record { rise = ((refl, tt), (tt, tt)); greatest = up_to_three; last = up_to_three }
+rising = record { rise = ((refl, tt), (tt, tt)); last = up_to_three }
   where
     up_to_three : IsGreatestOf (Some 3) (1 ∷ 3 ∷ [])
     up_to_three k d h = elim (cases_eq k 0) [ inl a ↦ rw a omega arith | inr b ↦ let e : k ≡ 1 = omega (arith, h, b) in rw e omega arith ]
 
--- not if the last number is below a kept one, nor if a number is kept twice
+-- they may end below the last number, as after a drop of the latest commit, and there may be none of them
+below_the_last : HasRisingNumbers (clean two ((1, one) ∷ []) (Some 3)).state
+unfolding IsStrictlySortedBy
+below_the_last = record { rise = (tt, tt); last = λ k d h. let e : k ≡ 0 = omega (arith, h) in rw e omega arith }
+
+all_dropped : HasRisingNumbers (clean two [] (Some 3)).state
+unfolding IsStrictlySortedBy
+all_dropped = record { rise = tt; last = λ k d h. omega (arith, h) }
+
+-- not if the last number is below a kept one or is absent, nor if a number is kept twice or after a greater one
 past_the_last : HasRisingNumbers (clean two ((1, one) ∷ (3, two) ∷ []) (Some 2)).state → ⊥
 past_the_last has = omega (arith, has.last 1 0 (omega arith))
+
+no_last : HasRisingNumbers (clean one ((1, one) ∷ []) None).state → ⊥
+no_last has = omega (arith, ap length has.last)
 
 kept_twice : HasRisingNumbers (clean two ((3, one) ∷ (3, two) ∷ []) (Some 3)).state → ⊥
 unfolding IsStrictlySortedBy
 kept_twice has = let first = has.rise.0.0 in absurd cc
 
--- the empty run reaches the first machine
-reached : IsReached 1 first_machine
-reached = ([], ([], refl))
+kept_in_disorder : HasRisingNumbers (clean two ((3, one) ∷ (1, two) ∷ []) (Some 3)).state → ⊥
+unfolding IsStrictlySortedBy
+kept_in_disorder has = let first = has.rise.0.0 in absurd cc
 
--- a begin reaches the batch on the empty bitmap
+-- they rise in each machine that a run reaches from the first machine, and from a bitmap that was read
+after_the_first : (N : ℕ) (m : Machine) (commands : List (Command N)) (replies : List ReplyValue) → Run N first_machine commands replies m → HasRisingNumbers m.state
+after_the_first N m commands replies run = numbers_rise N first_machine m commands replies (no_commits_rise first_machine.state refl) run
+
+after_a_read : (N : ℕ) (bitmap : PrunedBits) (m : Machine) (commands : List (Command N)) (replies : List ReplyValue) → Run N (clean bitmap [] None) commands replies m → HasRisingNumbers m.state
+after_a_read N bitmap m commands replies run = numbers_rise N (clean bitmap [] None) m commands replies (no_commits_rise (clean bitmap [] None).state refl) run
+
+-- two steps: a begin, and the length of the empty bitmap; there is none to another length
 abbrev empty : PrunedBits
 empty = record { pruned = 0; bits = [] }
 
 abbrev first_batch : Machine
 first_batch = record { state = record { current = empty; pending = Some empty; history = []; costs = []; last = None }; touched = [] }
 
-begun : IsReached 1 first_batch
-begun = (Begin ∷ [], (Done ∷ [], (first_batch, inl (refl, (0, omega arith, refl)), refl)))
+itself : (m : Machine) → Agrees m m
+itself m = record { same = refl; within = λ q h. h }
+
+begun : StepsOn 1 first_machine ((Begin, Done) ∷ (Len, Number 0) ∷ []) first_batch
+begun = (first_batch, inl (refl, (0, omega arith, itself first_batch)), (first_batch, inl (refl, (0, omega arith, itself first_batch)), refl))
+
+no_step : StepsOn 1 first_machine [] first_machine
+no_step = refl
+
+other_length : StepsOn 1 first_machine ((Len, Number 1) ∷ []) first_machine → ⊥
+other_length (mid, inl step, rest) = let e = step.0 in cc
+other_length (mid, inr step, rest) = false≢true step.0
 
 -- a read keeps the number 1; a run that drops the commits before 3 does not
 reads : RunKeeping 1 1 both (Len ∷ []) (Number 2 ∷ []) both

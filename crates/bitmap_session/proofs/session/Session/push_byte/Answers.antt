@@ -2,6 +2,7 @@ use Rattle.std.proofs.Common.{ap, ◌∙◌, refl, sym}
 use Rattle.bitmap_session.specs.declared.command.Command.TheVariants.{PushByte}
 use Rattle.bitmap_session.specs.Replies.Refusal.{WrongMode}
 use Rattle.bitmap_session.specs.Abstraction.{clean, machine_of, value_of}
+use Rattle.bitmap_session.proofs.KeptNumbers.{still_rises}
 use Rattle.bitmap_session.proofs.Simulates.{step_between}
 use Rattle.bitmap_session.proofs.Steps.{refused}
 use Rattle.bitmap_session.proofs.session.Session.push_byte.Goals as goal
@@ -12,3 +13,7 @@ returns g c = elim c.match-self.branch [
   | in-Dirty w ↦ step_between g.row.N _ _ (PushByte c.args.byte) _ _ _ _ (ap (λ s. machine_of s) (sym w.in-Dirty.is) ∙ c.self.view_is) (ap (λ r. value_of r) w.result-is) (ap (λ i. machine_of i.state) w.self-inside-is) w.push_byte.ensures
   | in-Clean w ↦ step_between g.row.N _ _ (PushByte c.args.byte) _ _ _ _ (ap (λ s. machine_of s) (sym w.in-Clean.is) ∙ c.self.view_is) (ap (λ r. value_of r) w.result-is) (ap (λ i. machine_of i.state) w.self-inside-is ∙ ap (λ s. machine_of s) w.in-Clean.is) (refused g.row.N (clean g.row.N w.in-Clean.field-0) (PushByte c.args.byte) WrongMode refl)
 ]
+
+pub invariant_of-self : goal.invariant_of-self
+invariant_of-self g c =
+    (c.self.invariant.0, still_rises g.row.N _ c.args.self.now _ (PushByte c.args.byte) _ c.self.view_is c.self.invariant.1 (returns g c))
