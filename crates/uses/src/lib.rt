@@ -57,6 +57,8 @@ mod restored;
 #[cfg(test)]
 mod session;
 #[cfg(test)]
+mod session_calls;
+#[cfg(test)]
 mod strangers;
 #[cfg(test)]
 mod taken_slots;
