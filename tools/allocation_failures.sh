@@ -2,6 +2,7 @@
 # Runs the scenarios of failed allocations: the tests in the module `allocation_failures` of each crate that has one.
 #
 # A scenario runs once for each of its allocations, with that allocation failing, and once more with all from it on failing.
+# Each run has to free what it allocates.
 # With no failure it makes as many allocations as tools/allocations.txt says.
 # The tests are built first, which proves what has changed. With --built they are those that `rt ci` has just built.
 set -euo pipefail
@@ -62,7 +63,7 @@ build() {
 run() {
     timeout 20 env LD_PRELOAD="$folder/fail_allocations.so" "$2=$3" "$tests" "$1" >"$folder/output" 2>&1 || return 1
     made=$(sed -n 's/^allocations: //p' "$folder/output")
-    [[ -n $made ]]
+    [[ -n $made ]] && grep -q '^blocks: .* made, 0 left, ' "$folder/output"
 }
 
 # Runs scenario $1 with variable $2 set to 1, 2, 3 and so on, up to the first run in which no allocation fails.

@@ -11,7 +11,7 @@ usage: check_bindings.py                  builds the library and installs it twi
 - Two packages of one build are the same byte for byte.
 - The header compiles as C99 and as C++11 without a warning. The C example prints what it should, with the static and with the shared library.
 - The C tests pass with sanitizers, under valgrind, and with failing allocations. The tests of the Rust crate and of the Python package pass.
-- Random scripts through the C interface give what the reference model gives.
+- Random scripts through the C interface give what the reference model gives, and free what they allocate (tools/check_frees.py).
 
 A run without valgrind, a C++ compiler or clippy leaves out what needs it, and says so.
 """
@@ -29,15 +29,14 @@ from typing import NamedTuple
 
 import agreements
 import declarations
-import interface_runs
 from declarations import HEADER, PREFIX, TOP
 from replay import report
 
 TOOLS = ("cc", "cargo", "python3", "pkg-config", "nm")
-SCRIPTS = 2000
 SECONDS = 3600  # the most that one command may take
 WARNINGS = ("-Wall", "-Wextra", "-Wpedantic", "-Werror")
 SANITIZERS = ("-g", "-fsanitize=address,undefined", "-fno-sanitize-recover=all")
+LEAKS = ("env", "ASAN_OPTIONS=detect_leaks=1")
 C_TESTS = {"calls": "checks", "allocation_failures": "runs"}
 
 # What the libraries may need of the C library.
@@ -199,7 +198,7 @@ def c_test_cases(place):
     valgrind = ["valgrind", "--quiet", "--error-exitcode=9", "--leak-check=full", "--errors-for-leak-kinds=all"]
     has_valgrind = is_there("valgrind")
     yield c_test(place, "calls", "with the shared library", is_shared=True)
-    yield c_test(place, "calls", "with sanitizers", SANITIZERS)
+    yield c_test(place, "calls", "with sanitizers", SANITIZERS, LEAKS)
     if has_valgrind:
         yield c_test(place, "calls", "under valgrind", ["-g"], valgrind)
     yield c_test(place, "allocation_failures", "with the static library")
@@ -234,10 +233,8 @@ def python_cases(place):
 
 
 def script_cases(place):
-    """The random scripts: one case, and one for each failure."""
-    cases = interface_runs.all_cases(place.shared, SCRIPTS)
-    failed = [case for case in cases if case[1]]
-    return failed or [(f"{SCRIPTS} random scripts", None)]
+    """The random scripts."""
+    yield "random scripts", failure_of([sys.executable, TOP / "tools/check_frees.py", "--library", place.shared], wanted="none leaked$")
 
 
 def library_cases(place):

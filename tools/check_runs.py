@@ -8,14 +8,14 @@ usage: check_runs.py random COUNT               COUNT random scripts, at each of
        check_runs.py allocation_failures COUNT  the examples and COUNT random scripts, at each of the five widths that
                                                 their chunks fit. In each run some allocations fail: the K-th alone, the
                                                 K-th and the next one, or all from the K-th on, for each K. Each command
-                                                that allocates has to reply at least once that it is out of memory
+                                                that allocates has to reply at least once that it is out of memory, and
+                                                each run has to free what it allocates
 
 The program is the one that the gate has built. Random scripts have fixed seeds.
 """
 
 import itertools
 import random
-import subprocess
 import sys
 import tempfile
 from collections import Counter
@@ -23,6 +23,7 @@ from concurrent.futures import ProcessPoolExecutor
 from functools import partial
 from pathlib import Path
 
+from counter import preloaded, take_report
 from model import LAST, Bitmap, Model, State
 from replay import NO_MEMORY, TOP, WIDTHS, commands_of, difference, first_difference, report, run
 
@@ -343,26 +344,26 @@ def check_batches(folder, width, start):
 
 
 def check_failure(width, path, lines, environment):
-    """One run in which allocations fail: what is wrong with it, the number of its allocations, and the commands that ran out of memory."""
+    """One run in which allocations fail: what is wrong with it, its blocks, and the commands that ran out of memory."""
     status, printed, errors = run([str(width), path], environment)
-    allocations = int(errors.pop().removeprefix("allocations: "))
+    blocks = take_report(errors)
     if status == 3:
         is_right = not printed and errors == ["replay: out of memory"]
-        return None if is_right else f"{errors}, {len(printed)} lines printed", allocations, set()
+        return None if is_right else f"{errors}, {len(printed)} lines printed", blocks, set()
     failed = {words[0] for words, line in zip(commands_of(lines), printed) if line == NO_MEMORY}
     failure = difference(width, lines, printed, may_fail=True) if status == 0 and not errors else f"status {status}: {errors}"
-    return failure, allocations, failed
+    return failure, blocks, failed
 
 
-def check_failures(library, width, path):
+def check_failures(counter, width, path):
     """All runs of a script in which allocations fail, as cases, and the commands that ran out of memory in one of them."""
     lines, cases, failed = path.read_text().split("\n"), [], set()
     for mode in ("FAIL_AT", "FAIL_TWO", "FAIL_FROM"):
         for at in itertools.count(1):
-            failure, allocations, commands = check_failure(width, path, lines, {"LD_PRELOAD": library, mode: str(at)})
-            cases.append((f"{path.name} at width {width}, {mode}={at}", failure))
+            failure, blocks, commands = check_failure(width, path, lines, {**counter, mode: str(at)})
+            cases.append((f"{path.name} at width {width}, {mode}={at}", failure or blocks.leak))
             failed |= commands
-            if allocations < at:
+            if blocks.allocations < at:
                 break
     return cases, failed
 
@@ -404,9 +405,7 @@ def check_all_batches(folder, pool):
 
 
 def check_all_failures(folder, pool, count):
-    library = f"{folder}/fail_allocations.so"
-    subprocess.run(["cc", "-O2", "-shared", "-fPIC", "-o", library, TOP / "tools/fail_allocations.c", "-ldl"], check=True)
-    checked = list(pool.map(partial(check_failures, library), *zip(*scripts(folder, count))))
+    checked = list(pool.map(partial(check_failures, preloaded(folder)), *zip(*scripts(folder, count))))
     never = ALLOCATE.difference(*(failed for _, failed in checked))
     return [case for cases, _ in checked for case in cases] + [(command, f"never replies {NO_MEMORY}") for command in sorted(never)]
 

@@ -5,7 +5,8 @@ usage: interface_runs.py LIBRARY COUNT   COUNT random scripts on the shared libr
                                          there are, and fails if a function never succeeds or a status is never returned: 2000 scripts suffice
 
 The scripts are those of tools/check_runs.py, with fixed seeds. After each step come reads of the current bitmap, of a past one and of the commits, whose
-values are computed from the model's lists, and calls with wrong arguments.
+values are computed from the model's lists, and calls with wrong arguments. At the end of a script the library has freed all its blocks. They are counted
+by tools/fail_allocations.c, which tools/check_frees.py preloads.
 """
 
 import sys
@@ -15,6 +16,7 @@ from concurrent.futures.process import BrokenProcessPool
 from functools import lru_cache, partial
 
 from check_runs import RandomScript
+from counter import blocks_now
 from library import Handle, Library, Overrun, outcome
 from model import LAST, Bitmap, bytes_of
 from replay import report
@@ -365,15 +367,26 @@ def loaded(path):
 
 
 def check_script(path, number):
-    """Runs a random script: the counts of its calls, and its case."""
+    """Runs a random script: the counts of its calls, the blocks that it makes and those that are left, and its case."""
     width = WIDTHS[number % len(WIDTHS)]
-    script = InterfaceScript(loaded(path), number, width)
+    script, before = InterfaceScript(loaded(path), number, width), blocks_now()
     try:
         script.run(20 + number % 80)
         failure = None
     except (Difference, Overrun) as difference:
         failure = f"{script.shown()}: {difference}"
-    return script.calls, (f"script {number} at width {width}", failure)
+    made, left = (now - then for now, then in zip(blocks_now(), before))
+    blocks = Counter(made=made, left=left)
+    return script.calls, blocks, (f"script {number} at width {width}", failure or (f"{left} of {made} blocks are not freed" if left else None))
+
+
+def check_forgotten(library):
+    """Whether a bitmap that is not freed is noticed."""
+    handle, before = Handle(), blocks_now()
+    library.call("new", handle, 8)
+    made, left = (now - then for now, then in zip(blocks_now(), before))
+    library.call("free", handle)
+    return "a bitmap that is not freed", None if made and left == made and blocks_now()[1] == before[1] else f"{left} of {made} blocks are left"
 
 
 def text_cases(library):
@@ -398,16 +411,18 @@ def coverage_cases(library, calls):
 
 def all_cases(path, count):
     """All runs, as cases."""
-    library, calls = Library(path), Counter()
+    library, calls, blocks = Library(path), Counter(), Counter()
     try:
         with ProcessPoolExecutor() as pool:
             checked = list(pool.map(partial(check_script, str(path)), range(count), chunksize=10))
     except BrokenProcessPool:
         return [("the random scripts", "a call has ended its process")]
-    for found, _ in checked:
+    for found, counted, _ in checked:
         calls += found
+        blocks += counted
     print(f"calls: {sum(calls.values())} of {len({name for name, _ in calls})} functions")
-    return [*text_cases(library), *coverage_cases(library, calls), *[case for _, case in checked]]
+    print(f"blocks: {blocks['made']} made, {blocks['left']} left")
+    return [*text_cases(library), check_forgotten(library), *coverage_cases(library, calls), *[case for _, _, case in checked]]
 
 
 def main():

@@ -1,5 +1,6 @@
 #!/usr/bin/env bash
 # Runs the program and the tests that the gate has built on random scripts, with failing allocations and on wrong input.
+# Each run has to free what it allocates (tools/check_frees.py).
 # Fails if a run does, or if there are fewer runs than the least that is given here.
 set -euo pipefail
 cd "$(dirname "$0")/.."
@@ -34,3 +35,4 @@ tools/allocation_failures.sh --built | tee "$output"
 scenarios conformance 40
 scenarios conformance_history 30
 scenarios conformance_session 1
+tools/check_frees.py

@@ -109,8 +109,8 @@ mortarpink_status mortarpink_new(mortarpink_bitmap *bitmap, uint32_t width);
 mortarpink_status mortarpink_read(mortarpink_bitmap *bitmap, uint32_t width, uint64_t least, uint64_t most,
                                   const uint8_t *bytes, size_t len, size_t *used, uint64_t *length);
 
-/* Frees the bitmap and its commits; the handle is empty afterwards. Returns MORTARPINK_EMPTY_HANDLE if it was empty.
- * Linear in what is freed. */
+/* Frees the bitmap and its commits, with every block that the bitmap's calls allocated; the handle is empty afterwards.
+ * Returns MORTARPINK_EMPTY_HANDLE if it was empty. Linear in what is freed. */
 mortarpink_status mortarpink_free(mortarpink_bitmap *bitmap);
 
 /* Copies the bitmap, its commits and its batch into the empty handle `copy`. Linear in what is copied; allocates. */

@@ -2,7 +2,7 @@
  *
  * A scenario is a list of calls. A run makes one of them after those before it, with one of its allocations failing, or
  * with all from that one on failing. It expects MORTARPINK_NO_MEMORY and the same state and output as before, and that
- * the same call then succeeds. In the last run of a call no allocation fails.
+ * the same call then succeeds. In the last run of a call no allocation fails. At the end of a run every block is freed.
  *
  * The malloc of this program takes effect under valgrind with --soname-synonyms=somalloc=nouserintercepts. */
 #include "../../../tools/fail_allocations.c"
@@ -241,8 +241,9 @@ static struct description after_steps(size_t count) {
     return description;
 }
 
-/* Counts a run, which has failed if a check since then has. */
+/* Counts a run, which has failed if a check since then has, or if a block is not freed. */
 static void count_run(unsigned long failures_before) {
+    check_equal(blocks_left(), 0);
     runs++;
     if (failures != failures_before) failed_runs++;
 }
