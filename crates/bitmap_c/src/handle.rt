@@ -13,9 +13,8 @@ use std::mem;
 
 /// A handle: a null pointer if it is empty, and otherwise the place of its session.
 ///
-/// Dropping a handle frees nothing. This crate drops only empty ones.
+/// Only an empty handle may be dropped, which frees nothing.
 #[repr(C)]
-#[derive(Drop)]
 pub struct Handle {
     session: *mut u8,
     alloc: Global,
@@ -24,6 +23,17 @@ pub struct Handle {
 
 impl Model for Handle {
     ghost also_owns = { λ h. owned the_row h.alloc h.session h.value };
+}
+
+impl Drop for Handle {
+    fn drop(self)
+        requires empty { self.value ≡ None }
+    {
+        let Handle {
+            session: _,
+            alloc: _,
+        } = self;
+    }
 }
 
 impl Handle {
