@@ -46,7 +46,7 @@ static void find(const char *name, void *next) {
 /* ---- The program's own blocks ---- */
 
 /* The live ones, in a hash table: each is at the first place from its home on that was free. A place without a block is free. */
-enum { PLACE_BITS = 18, PLACES = 1 << PLACE_BITS };
+enum { PLACE_BITS = 20, PLACES = 1 << PLACE_BITS };
 
 static struct {
     void *block;
