@@ -120,6 +120,8 @@ def runs(folder):
     """Each run: its name, and its command."""
     for crate in TESTED:
         tests = TOP / f"crates/{crate}/out/{crate}_tests"
+        if not tests.exists():
+            raise FileNotFoundError(f"{tests} is missing: the gate builds it")
         for test in re.findall(r"^(\S+): test$", ended([tests, "--list"], {}).stdout.decode(), re.MULTILINE):
             yield f"{crate} {test}", [tests, test]
     rows = [(file.stem, *rows_of(file)) for file in sorted((TOP / "rows").glob("*.rows"))]
