@@ -14,6 +14,7 @@
 -- NextMarked: the next marked chunk.
 -- Writes: the writes of the code to chunks, as edits of the pending edits.
 -- BatchEdits: the edits of a batch, from those of its pending edits.
+-- EditedAfter: which chunks are edited after each edit.
 pub mod Touched
 pub mod Edits
 pub mod Ends
@@ -29,3 +30,4 @@ pub mod Ranges
 pub mod NextMarked
 pub mod Writes
 pub mod BatchEdits
+pub mod EditedAfter

@@ -19,6 +19,10 @@ pushes values = map (λ value. Push value) values
 abbrev pub from_to : ℕ → ℕ → List ℕ
 from_to lo hi = range_with_len lo (hi - lo)
 
+-- chunk i has one of the positions from lo up to, but not including, hi
+abbrev pub IsReached : ℕ → ℕ → ℕ → ℕ → Type 0
+IsReached n lo hi i = (k : ℕ) × (lo ≤ k) × (k < hi) × (k / (8 * n) ≡ i)
+
 -- the edits that set each position from lo up to, but not including, hi, in ascending order
 abbrev pub sets : ℕ → ℕ → Bool → List Edit
 sets lo hi value = map (λ position. Set position value) (from_to lo hi)

@@ -1,9 +1,9 @@
 -- A historical bitmap, clean or with pending edits, as contracts describe it. A chunk has n bytes.
-use Rattle.std.specs.Prelude.{⊤, ◌≡◌, ℕ, ◌-◌, ◌*◌, ◌/◌, ◌^◌, ◌++◌, List, Option, Some, None, IsSome, nat_le, ◌==◌, if◌then◌else◌}
-use Rattle.bitmap_core.specs.PrunedBits.{PrunedBits}
+use Rattle.std.specs.Prelude.{⊤, ◌≡◌, ℕ, ◌-◌, ◌*◌, ◌/◌, ◌^◌, ◌<◌, ◌≤◌, ◌⊎◌, ◌++◌, List, Option, Some, None, IsSome, nat_le, ◌==◌, if◌then◌else◌}
+use Rattle.bitmap_core.specs.PrunedBits.{PrunedBits, bit_len}
 use Rattle.historical_bitmap.specs.declared.bitmap.historical.error.Error.{Error}
 use Rattle.historical_bitmap.specs.declared.bitmap.historical.error.Error.TheVariants.{NonMonotonicCommit, ReservedCommitNumber}
-use Rattle.historical_bitmap.specs.Edits.{Edit, IsWithin, after, after_all, touches, touched}
+use Rattle.historical_bitmap.specs.Edits.{Edit, IsReached, IsWithin, after, after_all, touches, touched}
 use Rattle.historical_bitmap.specs.History.{snapshots, costs}
 use Rattle.historical_bitmap.specs.Pending.{PendingEdits, edited_chunk, pending_bits, marked_chunks}
 use Rattle.historical_bitmap.specs.Record.{ReverseRecord}
@@ -38,6 +38,16 @@ IsEditedAt n v position = IsSome (edited_chunk v.state (position / (8 * n)))
 -- every edited chunk of the old batch is edited in the new one, and so is the chunk of a position
 abbrev pub KeepsEdited : ℕ → View PendingEdits → ℕ → View PendingEdits → Type 0
 KeepsEdited n old position new = IsEditedAt n new position × ((other : ℕ) → IsEditedAt n old other → IsEditedAt n new other)
+
+-- the chunk of a position was edited, and starts before the new pending length: it has not lost all of its bits
+abbrev pub StaysEditedAt : ℕ → View PendingEdits → View PendingEdits → ℕ → Type 0
+StaysEditedAt n old new position = IsEditedAt n old position × (8 * n * (position / (8 * n)) < bit_len n (pending_of n new))
+
+-- the edited chunks of a batch are those of the positions that meet a condition, those of the positions from lo up to, but not including, hi, and no others
+pub record LeavesEdited (n : ℕ) (Meets : ℕ → Type 0) (lo hi : ℕ) (v : View PendingEdits) : Type 0 where
+  pub kept : (position : ℕ) → Meets position → IsEditedAt n v position
+  pub written : (position : ℕ) → lo ≤ position → position < hi → IsEditedAt n v position
+  pub only : (position : ℕ) → IsEditedAt n v position → Meets position ⊎ IsReached n lo hi (position / (8 * n))
 
 -- new is old after an edit: the pending bitmap is edited, and each marked chunk was marked in old or is touched by the edit
 pub record IsEditOf (n : ℕ) (old : View PendingEdits) (edit : Edit) (new : View PendingEdits) : Type 0 where

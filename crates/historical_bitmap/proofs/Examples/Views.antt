@@ -1,15 +1,17 @@
 -- The views of bitmaps that contracts use. Each chunk has one byte.
-use Rattle.std.specs.Prelude.{◌≡◌, ◌^◌, ◌-◌, ◌/◌, length, unwrap_or, true, false, ℕ, [], ◌∷◌, ◌++◌, Some, None, ⊤, replicate, nat_eq}
+use Rattle.std.specs.Prelude.{◌≡◌, List, ◌^◌, ◌-◌, ◌*◌, ◌/◌, ◌<◌, ◌≤◌, length, unwrap_or, true, false, ℕ, [], ◌∷◌, ◌++◌, Some, None, ⊤, replicate, nat_eq}
 use Rattle.std.specs.Set.{is_member}
-use Rattle.std.proofs.Common.{refl, ap, arith}
+use Rattle.std.proofs.Common.{refl, ap, arith, subst, sym}
+use Rattle.std.proofs.Math.Nat.{mul-div-le}
 use Rattle.std.proofs.lemmas.Bool.{cases_eq, false≢true, ne_eqb}
-use mathlib.Core.Logic.{inl, inr}
+use mathlib.Core.Logic.{inl, inr, ◌⊎◌}
 use Rattle.historical_bitmap.specs.declared.bitmap.historical.error.Error.TheVariants.{NonMonotonicCommit, ReservedCommitNumber}
 use Rattle.bitmap_core.specs.PrunedBits.{PrunedBits}
 use Rattle.historical_bitmap.specs.Cost.{popped_to_chunks, most_cost}
+use Rattle.historical_bitmap.specs.Edits.{IsReached}
 use Rattle.historical_bitmap.specs.Edits.Edit.{Pop, Set}
 use Rattle.historical_bitmap.specs.Pending.{PendingEdits}
-use Rattle.historical_bitmap.specs.View.{View, history_of, costs_of, pending_of, marked_of, IsEditedAt, KeepsEdited, IsEditOf, IsRunOf, IsBatchOn, commit_error}
+use Rattle.historical_bitmap.specs.View.{View, history_of, costs_of, pending_of, marked_of, IsEditedAt, KeepsEdited, LeavesEdited, StaysEditedAt, IsEditOf, IsRunOf, IsBatchOn, commit_error}
 use Rattle.historical_bitmap.proofs.Examples.Histories.{current, commits}
 
 -- a clean bitmap with three commits, the last of them 3
@@ -135,6 +137,47 @@ holds_the_position_too holds = false≢true holds.0
 
 holds_the_old_ones_too : KeepsEdited 1 cleared_twice 0 cleared → ⊥
 holds_the_old_ones_too holds = false≢true (holds.1 8 refl)
+
+-- so that edit leaves both chunks edited, and no other
+leaves_both : LeavesEdited 1 (IsEditedAt 1 cleared) 11 12 cleared_twice
+leaves_both = record { kept = holds_more.1; written = λ q low high. written q low high; only = λ q edited. only q edited }
+  where
+    written : (q : ℕ) → 11 ≤ q → q < 12 → IsEditedAt 1 cleared_twice q
+    written q low high = let e : 11 ≡ q = omega (arith, low, high) in subst (IsEditedAt 1 cleared_twice) e refl
+
+    only : (q : ℕ) → IsEditedAt 1 cleared_twice q → IsEditedAt 1 cleared q ⊎ IsReached 1 11 12 (q / 8)
+    only q edited = elim (cases_eq (q / 8) 0) [
+      | inl a ↦ inl (rw a refl)
+      | inr b ↦ elim (cases_eq (q / 8) 1) [ inl c ↦ inr (11, omega arith, omega arith, sym c) | inr d ↦ let e = rw (ne_eqb (q / 8) 0 b, ne_eqb (q / 8) 1 d) at edited in cc ]
+    ]
+
+leaves_the_written_one : LeavesEdited 1 (IsEditedAt 1 cleared) 11 12 cleared → ⊥
+leaves_the_written_one leaves = false≢true (leaves.written 11 (omega arith) (omega arith))
+
+leaves_no_third : LeavesEdited 1 (IsEditedAt 1 cleared) 7 8 cleared_twice → ⊥
+leaves_no_third leaves = elim (leaves.only 8 refl) [ inl edited ↦ false≢true edited | inr r ↦ absurd (omega (arith, r.2, mul-div-le r.0 8, r.3)) ]
+
+-- a batch with nine pending bits that has edited both chunks: a pop leaves only the first one edited, since the second has no more bits
+abbrev nine : View PendingEdits
+nine = record { current = record { pruned = 0; bits = replicate 12 true }; commits = []; last = None; state = record { len = 9; pruned = 0; edited = (0, 254 ∷ []) ∷ (1, 1 ∷ []) ∷ []; captured = [] } }
+
+abbrev eight : List (ℕ × List ℕ) → View PendingEdits
+eight edited = record { current = record { pruned = 0; bits = replicate 12 true }; commits = []; last = None; state = record { len = 8; pruned = 0; edited = edited; captured = [] } }
+
+pop_leaves_the_first : LeavesEdited 1 (StaysEditedAt 1 nine (eight ((0, 254 ∷ []) ∷ []))) 0 0 (eight ((0, 254 ∷ []) ∷ []))
+pop_leaves_the_first = record { kept = λ q stays. kept q stays.1; written = λ q low high. absurd (omega (arith, high)); only = λ q edited. only q edited }
+  where
+    kept : (q : ℕ) → 8 * (q / 8) < 8 → IsEditedAt 1 (eight ((0, 254 ∷ []) ∷ [])) q
+    kept q below = let e : q / 8 ≡ 0 = omega (arith, below) in rw e refl
+
+    only : (q : ℕ) → IsEditedAt 1 (eight ((0, 254 ∷ []) ∷ [])) q → StaysEditedAt 1 nine (eight ((0, 254 ∷ []) ∷ [])) q ⊎ IsReached 1 0 0 (q / 8)
+    only q edited = elim (cases_eq (q / 8) 0) [ inl a ↦ inl (rw a refl, rw a (omega arith)) | inr b ↦ let e = rw (ne_eqb (q / 8) 0 b) at edited in cc ]
+
+pop_forgets_no_chunk : LeavesEdited 1 (StaysEditedAt 1 nine (eight [])) 0 0 (eight []) → ⊥
+pop_forgets_no_chunk leaves = false≢true (leaves.kept 0 (refl, omega arith))
+
+pop_leaves_no_empty_chunk : LeavesEdited 1 (StaysEditedAt 1 nine (eight ((1, 1 ∷ []) ∷ []))) 0 0 (eight ((1, 1 ∷ []) ∷ [])) → ⊥
+pop_leaves_no_empty_chunk leaves = elim (leaves.only 8 refl) [ inl stays ↦ absurd (omega (arith, stays.1)) | inr r ↦ absurd (omega (arith, r.2)) ]
 
 -- the second batch is the first after an edit of bit 11; the first chunk was marked before, and still is
 cleared_once_more : IsEditOf 1 cleared (Set 11 false) cleared_twice

@@ -107,7 +107,7 @@ tried_holds (Ok x) n b l m k total value w =
       ],
     )
 
-taken_some : (P : List ℕ → Type 0) (o : Option (List ℕ)) → MatchOption o ⊥ P → IsSome o
+pub taken_some : (P : List ℕ → Type 0) (o : Option (List ℕ)) → MatchOption o ⊥ P → IsSome o
 taken_some P None h = absurd h
 taken_some P (Some bytes) h = refl
 

@@ -12,7 +12,7 @@ use Rattle.bitmap_core.specs.Ranges.{is_between}
 use Rattle.bitmap_core.proofs.Lists.Ranges.{between_in, between_below, between_above}
 use Rattle.bitmap_core.proofs.Pruned.Edits.{bit_set}
 use Rattle.bitmap_core.proofs.Pruned.Positions.{place}
-use Rattle.historical_bitmap.specs.Edits.{Edit, IsWithin, after_all, sets, touched}
+use Rattle.historical_bitmap.specs.Edits.{Edit, IsReached, IsWithin, after_all, sets, touched}
 use Rattle.historical_bitmap.specs.Edits.Edit.{Set}
 use Rattle.historical_bitmap.specs.Record.{bit_or_else}
 use Rattle.historical_bitmap.specs.Pending.{PendingEdits, PendingFits, IsEdited, IsRangeSet, SetsChunks, SetsRange, edited_chunk, marked_chunks, pending_bit, pending_bits, pending_chunk}
@@ -31,10 +31,6 @@ not_between lo hi k out = elim (cases_lt k lo) [
     | inr t ↦ between_above lo hi k s t
   ]
 ]
-
--- chunk i has a position of the range
-abbrev pub IsReached : ℕ → ℕ → ℕ → ℕ → Type 0
-IsReached n lo hi i = (k : ℕ) × (lo ≤ k) × (k < hi) × (k / (8 * n) ≡ i)
 
 -- chunk i has no position of the range
 abbrev pub IsMissed : ℕ → ℕ → ℕ → ℕ → Type 0

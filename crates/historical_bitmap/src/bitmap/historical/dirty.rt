@@ -1,4 +1,7 @@
 //! A bitmap with pending edits: reads, edits, commit and abort.
+//!
+//! An edit makes each chunk that it writes to an edited chunk. The chunk stays edited until `pop` removes its first bit, or the batch ends.
+//! A further write to it does not allocate, and so succeeds.
 
 ghost use Rattle.std.specs.Prelude.{◌≡◌, ℕ, ◌+◌, ◌*◌, ◌/◌, ◌%◌, ◌^◌, ◌<◌, ◌≤◌, ◌==◌, [], ◌∷◌, ◌++◌, length, None, Some, IfErr, IfOk, IsOk, OnErr, OnOk, unwrap_or, alloc_error};
 ghost use Rattle.std.specs.List.{All};
@@ -11,7 +14,7 @@ ghost use Rattle.historical_bitmap.specs.Cost.{most_cost};
 ghost use Rattle.historical_bitmap.specs.Edits.Edit.{Pop, Prune, Push, Set};
 ghost use Rattle.historical_bitmap.specs.Edits.{pushes, sets};
 ghost use Rattle.historical_bitmap.specs.History.{before_latest};
-ghost use Rattle.historical_bitmap.specs.View.{costs_of, history_of, KeepsEdited, IsEditedAt, IsEditOf, IsRunOf, marked_of, pending_of, commit_error};
+ghost use Rattle.historical_bitmap.specs.View.{costs_of, history_of, KeepsEdited, IsEditedAt, IsEditOf, IsRunOf, LeavesEdited, marked_of, pending_of, StaysEditedAt, commit_error};
 
 use crate::bitmap::historical::apply::{grow, overwrite, shrink_back};
 use crate::bitmap::historical::commit_list::CommitList;
@@ -143,6 +146,7 @@ impl<const N: usize> BitMap<N, Dirty<N>> {
         ensures ok { OnOk result (IsEditOf N self.old (Set bit value) self.new) }
         ensures err { OnErr result (self.new ≡ self.old) }
         ensures holds { OnOk result (KeepsEdited N self.old bit self.new) }
+        ensures keeps { OnOk result (LeavesEdited N (IsEditedAt N self.old) bit (bit + 1) self.new) }
         ensures edited { IsEditedAt N self.old bit → IsOk result }
     {
         let _ = self.current.len();
@@ -170,6 +174,7 @@ impl<const N: usize> BitMap<N, Dirty<N>> {
         ensures ok { OnOk result (IsRunOf N self.old (sets range.start range.end value) self.new) }
         ensures err { OnErr result (self.new ≡ self.old) }
         ensures holds { OnOk result ((bit : ℕ) → range.start ≤ bit → bit < range.end → KeepsEdited N self.old bit self.new) }
+        ensures keeps { OnOk result (LeavesEdited N (IsEditedAt N self.old) range.start range.end self.new) }
         ensures edited { ((bit : ℕ) → range.start ≤ bit → bit < range.end → IsEditedAt N self.old bit) → IsOk result }
     {
         let _ = self.current.len();
@@ -198,6 +203,7 @@ impl<const N: usize> BitMap<N, Dirty<N>> {
         ensures ok { OnOk result (IsEditOf N self.old (Push value) self.new) }
         ensures err { OnErr result (self.new ≡ self.old) }
         ensures holds { OnOk result (KeepsEdited N self.old (bit_len N (pending_of N self.old)) self.new) }
+        ensures keeps { OnOk result (LeavesEdited N (IsEditedAt N self.old) (bit_len N (pending_of N self.old)) (bit_len N (pending_of N self.old) + 1) self.new) }
         ensures edited { IsEditedAt N self.old (bit_len N (pending_of N self.old)) → IsOk result }
     {
         let _ = self.current.len();
@@ -224,6 +230,7 @@ impl<const N: usize> BitMap<N, Dirty<N>> {
         ensures ok { OnOk result (IsRunOf N self.old (pushes (byte_bits byte)) self.new) }
         ensures err { OnErr result (self.new ≡ self.old) }
         ensures holds { OnOk result (KeepsEdited N self.old (bit_len N (pending_of N self.old)) self.new) }
+        ensures keeps { OnOk result (LeavesEdited N (IsEditedAt N self.old) (bit_len N (pending_of N self.old)) (bit_len N (pending_of N self.old) + 8) self.new) }
         ensures edited { IsEditedAt N self.old (bit_len N (pending_of N self.old)) → bit_len N (pending_of N self.old) % (8 * N) + 8 ≤ 8 * N → IsOk result }
     {
         let _ = self.current.len();
@@ -250,6 +257,7 @@ impl<const N: usize> BitMap<N, Dirty<N>> {
         ensures ok { OnOk result (IsRunOf N self.old (pushes (chunk_bits N chunk.now)) self.new) }
         ensures err { OnErr result (self.new ≡ self.old) }
         ensures holds { OnOk result (KeepsEdited N self.old (bit_len N (pending_of N self.old)) self.new) }
+        ensures keeps { OnOk result (LeavesEdited N (IsEditedAt N self.old) (bit_len N (pending_of N self.old)) (bit_len N (pending_of N self.old) + 8 * N) self.new) }
     {
         let _ = self.current.len();
         self.state.push_chunk(&self.current, chunk)
@@ -275,6 +283,7 @@ impl<const N: usize> BitMap<N, Dirty<N>> {
         requires { bit ≤ bit_len N (pending_of N self.old) }
         ensures ok { OnOk result (IsEditOf N self.old (Prune bit) self.new) }
         ensures err { OnErr result (self.new ≡ self.old) }
+        ensures keeps { OnOk result (LeavesEdited N (IsEditedAt N self.old) 0 0 self.new) }
         ensures nothing { bit / (8 * N) ≤ (pending_of N self.old).pruned → IsOk result }
     {
         let _ = self.current.len();
@@ -295,6 +304,7 @@ impl<const N: usize> BitMap<N, Dirty<N>> {
         requires { 0 < length (pending_of N self.old).bits }
         ensures value { result ≡ last_bit (pending_of N self.old) }
         ensures edit { IsEditOf N self.old Pop self.new }
+        ensures keeps { LeavesEdited N (StaysEditedAt N self.old self.new) 0 0 self.new }
     {
         let _ = self.current.len();
         match self.state.pop_cached() {
@@ -309,6 +319,7 @@ impl<const N: usize> BitMap<N, Dirty<N>> {
         requires { 0 < length (pending_of N self.old).bits }
         ensures value { result ≡ last_bit (pending_of N self.old) }
         ensures edit { IsEditOf N self.old Pop self.new }
+        ensures keeps { LeavesEdited N (StaysEditedAt N self.old self.new) 0 0 self.new }
     {
         let last = self.state.len() - 1;
         if self.state.pop_unedited() {
@@ -324,6 +335,7 @@ impl<const N: usize> BitMap<N, Dirty<N>> {
         requires { 0 < length (pending_of N self.old).bits }
         ensures value { result ≡ last_bit (pending_of N self.old) }
         ensures edit { IsEditOf N self.old Pop self.new }
+        ensures keeps { LeavesEdited N (StaysEditedAt N self.old self.new) 0 0 self.new }
     {
         let _ = self.current.len();
         let last = self.state.len() - 1;
@@ -468,6 +480,7 @@ impl<const N: usize> BitMap<N, Dirty<N>> {
         ensures same_reference { IfOk result (IsOf self.entry) }
         ensures ok { IfOk result (λ e. IsEditOf N self.old (Set bit value) e.on.now) }
         ensures holds { IfOk result (λ e. KeepsEdited N self.old bit e.on.now) }
+        ensures keeps { IfOk result (λ e. LeavesEdited N (IsEditedAt N self.old) bit (bit + 1) e.on.now) }
         ensures edited { IsEditedAt N self.old bit → IsOk result }
     {
         self.try_set_bit(bit, value)?;
@@ -498,6 +511,7 @@ impl<const N: usize> BitMap<N, Dirty<N>> {
         ensures same_reference { IfOk result (IsOf self.entry) }
         ensures ok { IfOk result (λ e. IsRunOf N self.old (sets range.start range.end value) e.on.now) }
         ensures holds { IfOk result (λ e. (bit : ℕ) → range.start ≤ bit → bit < range.end → KeepsEdited N self.old bit e.on.now) }
+        ensures keeps { IfOk result (λ e. LeavesEdited N (IsEditedAt N self.old) range.start range.end e.on.now) }
         ensures edited { ((bit : ℕ) → range.start ≤ bit → bit < range.end → IsEditedAt N self.old bit) → IsOk result }
     {
         self.try_set_range(range, value)?;
@@ -525,6 +539,7 @@ impl<const N: usize> BitMap<N, Dirty<N>> {
         ensures same_reference { IfOk result (IsOf self.entry) }
         ensures ok { IfOk result (λ e. IsEditOf N self.old (Push value) e.on.now) }
         ensures holds { IfOk result (λ e. KeepsEdited N self.old (bit_len N (pending_of N self.old)) e.on.now) }
+        ensures keeps { IfOk result (λ e. LeavesEdited N (IsEditedAt N self.old) (bit_len N (pending_of N self.old)) (bit_len N (pending_of N self.old) + 1) e.on.now) }
         ensures edited { IsEditedAt N self.old (bit_len N (pending_of N self.old)) → IsOk result }
     {
         self.try_push(value)?;
@@ -551,6 +566,7 @@ impl<const N: usize> BitMap<N, Dirty<N>> {
         ensures same_reference { IfOk result (IsOf self.entry) }
         ensures ok { IfOk result (λ e. IsRunOf N self.old (pushes (byte_bits byte)) e.on.now) }
         ensures holds { IfOk result (λ e. KeepsEdited N self.old (bit_len N (pending_of N self.old)) e.on.now) }
+        ensures keeps { IfOk result (λ e. LeavesEdited N (IsEditedAt N self.old) (bit_len N (pending_of N self.old)) (bit_len N (pending_of N self.old) + 8) e.on.now) }
         ensures edited { IsEditedAt N self.old (bit_len N (pending_of N self.old)) → bit_len N (pending_of N self.old) % (8 * N) + 8 ≤ 8 * N → IsOk result }
     {
         self.try_push_byte(byte)?;
@@ -576,6 +592,7 @@ impl<const N: usize> BitMap<N, Dirty<N>> {
         ensures same_reference { IfOk result (IsOf self.entry) }
         ensures ok { IfOk result (λ e. IsRunOf N self.old (pushes (chunk_bits N chunk.now)) e.on.now) }
         ensures holds { IfOk result (λ e. KeepsEdited N self.old (bit_len N (pending_of N self.old)) e.on.now) }
+        ensures keeps { IfOk result (λ e. LeavesEdited N (IsEditedAt N self.old) (bit_len N (pending_of N self.old)) (bit_len N (pending_of N self.old) + 8 * N) e.on.now) }
     {
         self.try_push_chunk(chunk)?;
         Ok(Lent::new(self))
@@ -601,6 +618,7 @@ impl<const N: usize> BitMap<N, Dirty<N>> {
         ensures* refused { sem 𝓛 (rests_if_refused N.row self.entry result) }
         ensures same_reference { IfOk result (IsOf self.entry) }
         ensures ok { IfOk result (λ e. IsEditOf N self.old (Prune bit) e.on.now) }
+        ensures keeps { IfOk result (λ e. LeavesEdited N (IsEditedAt N self.old) 0 0 e.on.now) }
         ensures nothing { bit / (8 * N) ≤ (pending_of N self.old).pruned → IsOk result }
     {
         self.try_prune_to_bit(bit)?;

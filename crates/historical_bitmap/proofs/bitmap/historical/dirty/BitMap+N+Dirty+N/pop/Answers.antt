@@ -4,6 +4,7 @@ use Rattle.bitmap_core.specs.PrunedBits.{last_bit}
 use Rattle.historical_bitmap.specs.Edits.Edit.{Pop}
 use Rattle.historical_bitmap.specs.Pending.{edited_chunk, pending_bit, pending_bits}
 use Rattle.historical_bitmap.proofs.Pending.BatchEdits.{edit_fits, edit_of, last_pending, popped_some}
+use Rattle.historical_bitmap.proofs.Pending.EditedAfter.{pop_leaves}
 use Rattle.historical_bitmap.proofs.bitmap.historical.dirty.BitMap+N+Dirty+N.pop.Goals as goal
 
 pub invariant_of-self : goal.invariant_of-self
@@ -22,3 +23,8 @@ pub returns-in-Some-clause-edit : goal.returns-in-Some-clause-edit
 returns-in-Some-clause-edit g c =
     let some : 0 < length (pending_bits g.row.N c.self.inside.current c.self.inside.state).bits = rw (sym c.self.view_is) at c.requires in
     rw (← c.self.view_is) (edit_of g.row.N c.self.inside.current c.self.inside.commits c.self.inside.last c.self.inside.state c.pop_cached.new.self c.len.ensures.width.positive c.self.invariant.0 Pop some c.in-Some.ensures.pops)
+
+pub returns-in-Some-clause-keeps : goal.returns-in-Some-clause-keeps
+returns-in-Some-clause-keeps g c =
+    let some : 0 < length (pending_bits g.row.N c.self.inside.current c.self.inside.state).bits = rw (sym c.self.view_is) at c.requires in
+    rw (← c.self.view_is) (pop_leaves g.row.N c.self.inside.current c.self.inside.commits c.self.inside.last c.self.inside.state c.pop_cached.new.self c.len.ensures.width.positive (edit_fits g.row.N c.self.inside.current c.self.inside.state c.pop_cached.new.self c.len.ensures.width.positive c.self.invariant.0 Pop some c.in-Some.ensures.pops) c.in-Some.ensures.pops)

@@ -6,6 +6,7 @@ use Rattle.historical_bitmap.proofs.Pending.Ends.{has_last, not_edited}
 use Rattle.historical_bitmap.specs.Edits.Edit.{Pop}
 use Rattle.historical_bitmap.specs.Pending.{edited_chunk, pending_bit, pending_bits}
 use Rattle.historical_bitmap.proofs.Pending.BatchEdits.{edit_fits, edit_of, last_pending, popped_none, popped_some}
+use Rattle.historical_bitmap.proofs.Pending.EditedAfter.{pop_leaves}
 use Rattle.historical_bitmap.proofs.bitmap.historical.dirty.BitMap+N+Dirty+N.pop_other.Goals as goal
 use Rattle.historical_bitmap.proofs.bitmap.historical.dirty.BitMap+N+Dirty+N.pop_other.Goals.{in-Some, in-None}
 
@@ -35,3 +36,8 @@ get_bit-requires g c =
     let none : edited_chunk c.self.inside.state ((c.self.inside.state.len - 1) / (8 * g.row.N)) ≡ None = not_edited (λ bytes. chunk_bit g.row.N bytes (c.self.inside.state.len - 1)) (edited_chunk c.self.inside.state ((c.self.inside.state.len - 1) / (8 * g.row.N))) c.in-None.ensures.bit in
     let h = has_last g.row.N c.self.inside.current c.self.inside.state c.len-last.ensures.width.positive c.self.invariant.0 some none in
     (omega arith, (omega (arith, h.0, c.len-last-2.ensures.value), omega (arith, h.1, c.len-last-2.ensures.value)))
+
+pub returns-clause-keeps : goal.returns-clause-keeps
+returns-clause-keeps g c =
+    let some : 0 < length (pending_bits g.row.N c.self.inside.current c.self.inside.state).bits = rw (sym c.self.view_is) at c.requires in
+    rw (← c.self.view_is) (pop_leaves g.row.N c.self.inside.current c.self.inside.commits c.self.inside.last c.self.inside.state c.pop.new.self c.len-last.ensures.width.positive (edit_fits g.row.N c.self.inside.current c.self.inside.state c.pop.new.self c.len-last.ensures.width.positive c.self.invariant.0 Pop some c.pop.ensures.pops) c.pop.ensures.pops)

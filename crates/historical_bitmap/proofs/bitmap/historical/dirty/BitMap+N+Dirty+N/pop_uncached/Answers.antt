@@ -7,6 +7,7 @@ use Rattle.historical_bitmap.specs.Edits.Edit.{Pop}
 use Rattle.historical_bitmap.specs.Pending.{edited_chunk, pending_bit, pending_bits}
 use Rattle.historical_bitmap.proofs.Pending.BatchEdits.{edit_fits, edit_of, last_pending, popped_none}
 use Rattle.historical_bitmap.proofs.Pending.Ends.{has_last}
+use Rattle.historical_bitmap.proofs.Pending.EditedAfter.{pop_leaves}
 use Rattle.historical_bitmap.proofs.bitmap.historical.dirty.BitMap+N+Dirty+N.pop_uncached.Goals as goal
 
 pub invariant_of-self : goal.invariant_of-self
@@ -32,3 +33,8 @@ get_bit-requires g c =
     let some : 0 < length (pending_bits g.row.N c.self.inside.current c.self.inside.state).bits = rw (sym c.self.view_is) at c.requires in
     let h = has_last g.row.N c.self.inside.current c.self.inside.state c.len-last.ensures.width.positive c.self.invariant.0 some (c.if-pop_unedited.ensures.unedited refl) in
     (omega arith, (omega (arith, h.0, c.len-last.ensures.value), omega (arith, h.1, c.len-last.ensures.value)))
+
+pub returns-then-pop_unedited-clause-keeps : goal.returns-then-pop_unedited-clause-keeps
+returns-then-pop_unedited-clause-keeps g c =
+    let some : 0 < length (pending_bits g.row.N c.self.inside.current c.self.inside.state).bits = rw (sym c.self.view_is) at c.requires in
+    rw (← c.self.view_is) (pop_leaves g.row.N c.self.inside.current c.self.inside.commits c.self.inside.last c.self.inside.state c.pop_unedited.new.self c.len-last.ensures.width.positive (edit_fits g.row.N c.self.inside.current c.self.inside.state c.pop_unedited.new.self c.len-last.ensures.width.positive c.self.invariant.0 Pop some (c.if-pop_unedited.ensures.pops refl)) (c.if-pop_unedited.ensures.pops refl))

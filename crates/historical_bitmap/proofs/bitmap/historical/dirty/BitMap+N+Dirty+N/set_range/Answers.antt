@@ -10,6 +10,7 @@ returns g c =
         same_reference = c.new.ensures.same;
         ok = rw c.new.ensures.value tried.ok;
         holds = rw c.new.ensures.value tried.holds;
+        keeps = rw c.new.ensures.value tried.keeps;
         edited = λ all. refl;
       },
     )

@@ -6,6 +6,7 @@ use Rattle.historical_bitmap.specs.Pending.{pending_bits}
 use Rattle.historical_bitmap.proofs.Pending.BatchEdits.{past_prefix, tried_edit, tried_fits, tried_holds}
 use Rattle.historical_bitmap.proofs.Pending.Edits.{pending_len}
 use Rattle.historical_bitmap.proofs.Pending.Ends.{none_at_len, zero_at_len}
+use Rattle.historical_bitmap.proofs.Pending.EditedAfter.{tried_write_leaves}
 use Rattle.historical_bitmap.proofs.bitmap.historical.dirty.BitMap+N+Dirty+N.try_push.Goals as goal
 
 pub invariant_of-self : goal.invariant_of-self
@@ -43,3 +44,7 @@ returns-clause-edited g c = rw (← c.self.view_is, pending_len g.row.N c.self.i
 pub returns-clause-holds : goal.returns-clause-holds
 returns-clause-holds g c =
     rw (← c.self.view_is, pending_len g.row.N c.self.inside.current c.self.inside.state c.len.ensures.width.positive c.self.invariant.0) (tried_holds c.push.result g.row.N c.self.inside.current c.self.inside.state c.push.new.self c.self.inside.state.len (c.self.inside.state.len + 1) c.args.value c.push.ensures.ok)
+
+pub returns-clause-keeps : goal.returns-clause-keeps
+returns-clause-keeps g c =
+    rw (← c.self.view_is, pending_len g.row.N c.self.inside.current c.self.inside.state c.len.ensures.width.positive c.self.invariant.0) (tried_write_leaves g.row.N c.self.inside.current c.self.inside.commits c.self.inside.last c.self.inside.state c.push.new.self c.len.ensures.width.positive c.push.result c.self.inside.state.len (c.self.inside.state.len + 1) c.args.value c.push.ensures.ok)

@@ -1,9 +1,10 @@
-use Rattle.std.proofs.Common.{◌+◌, ◌^◌, ◌<◌, arith, sym}
+use Rattle.std.proofs.Common.{◌+◌, ◌^◌, ◌<◌, arith, refl, sym}
 use Rattle.bitmap_bytes.specs.Chunk.{byte_bits}
 use Rattle.bitmap_core.specs.PrunedBits.{bit_len}
 use Rattle.historical_bitmap.specs.Pending.{pending_bits}
 use Rattle.historical_bitmap.proofs.Pending.BatchEdits.{tried_run, tried_run_fits, tried_run_holds}
 use Rattle.historical_bitmap.proofs.Pending.Edits.{pending_len}
+use Rattle.historical_bitmap.proofs.Pending.EditedAfter.{tried_run_leaves}
 use Rattle.historical_bitmap.proofs.bitmap.historical.dirty.BitMap+N+Dirty+N.try_push_byte.Goals as goal
 
 pub push_byte-requires : goal.push_byte-requires
@@ -24,3 +25,7 @@ returns-clause-edited g c = rw (← c.self.view_is, pending_len g.row.N c.self.i
 pub returns-clause-holds : goal.returns-clause-holds
 returns-clause-holds g c =
     rw (← c.self.view_is, pending_len g.row.N c.self.inside.current c.self.inside.state c.len.ensures.width.positive c.self.invariant.0) (tried_run_holds c.push_byte.result g.row.N c.self.inside.current c.self.inside.state c.push_byte.new.self (byte_bits c.args.byte) c.len.ensures.width.positive (omega arith) c.push_byte.ensures.ok)
+
+pub returns-clause-keeps : goal.returns-clause-keeps
+returns-clause-keeps g c =
+    rw (← c.self.view_is, pending_len g.row.N c.self.inside.current c.self.inside.state c.len.ensures.width.positive c.self.invariant.0) (tried_run_leaves g.row.N c.self.inside.current c.self.inside.commits c.self.inside.last c.self.inside.state c.push_byte.new.self c.len.ensures.width.positive c.push_byte.result (byte_bits c.args.byte) 8 refl (omega arith) c.push_byte.ensures.ok)

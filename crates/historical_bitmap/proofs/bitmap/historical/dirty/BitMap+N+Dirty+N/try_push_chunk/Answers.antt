@@ -5,6 +5,7 @@ use Rattle.bitmap_core.specs.PrunedBits.{bit_len}
 use Rattle.historical_bitmap.specs.Pending.{pending_bits}
 use Rattle.historical_bitmap.proofs.Pending.BatchEdits.{tried_run, tried_run_fits, tried_run_holds}
 use Rattle.historical_bitmap.proofs.Pending.Edits.{pending_len}
+use Rattle.historical_bitmap.proofs.Pending.EditedAfter.{tried_run_leaves}
 use Rattle.historical_bitmap.proofs.bitmap.historical.dirty.BitMap+N+Dirty+N.try_push_chunk.Goals as goal
 
 pub push_chunk-requires : goal.push_chunk-requires
@@ -22,3 +23,7 @@ returns-clause-ok g c =
 pub returns-clause-holds : goal.returns-clause-holds
 returns-clause-holds g c =
     rw (← c.self.view_is, pending_len g.row.N c.self.inside.current c.self.inside.state c.len.ensures.width.positive c.self.invariant.0) (tried_run_holds c.push_chunk.result g.row.N c.self.inside.current c.self.inside.state c.push_chunk.new.self (chunk_bits g.row.N c.args.chunk.now) c.len.ensures.width.positive (omega (arith, length-map-range_with_len (chunk_bit g.row.N c.args.chunk.now) 0 (8 * g.row.N), c.len.ensures.width.positive)) c.push_chunk.ensures.ok)
+
+pub returns-clause-keeps : goal.returns-clause-keeps
+returns-clause-keeps g c =
+    rw (← c.self.view_is, pending_len g.row.N c.self.inside.current c.self.inside.state c.len.ensures.width.positive c.self.invariant.0) (tried_run_leaves g.row.N c.self.inside.current c.self.inside.commits c.self.inside.last c.self.inside.state c.push_chunk.new.self c.len.ensures.width.positive c.push_chunk.result (chunk_bits g.row.N c.args.chunk.now) (8 * g.row.N) (length-map-range_with_len (chunk_bit g.row.N c.args.chunk.now) 0 (8 * g.row.N)) (omega (arith, c.len.ensures.width.positive)) c.push_chunk.ensures.ok)

@@ -3,6 +3,7 @@ use Rattle.historical_bitmap.specs.Edits.{IsAccepted}
 use Rattle.historical_bitmap.specs.Edits.Edit.{Set}
 use Rattle.historical_bitmap.specs.Pending.{pending_bits}
 use Rattle.historical_bitmap.proofs.Pending.BatchEdits.{tried_edit, tried_fits, tried_holds}
+use Rattle.historical_bitmap.proofs.Pending.EditedAfter.{tried_write_leaves}
 use Rattle.historical_bitmap.proofs.bitmap.historical.dirty.BitMap+N+Dirty+N.try_set_bit.Goals as goal
 
 pub invariant_of-self : goal.invariant_of-self
@@ -18,3 +19,7 @@ returns-clause-ok g c =
 pub returns-clause-holds : goal.returns-clause-holds
 returns-clause-holds g c =
     rw (← c.self.view_is) (tried_holds c.write.result g.row.N c.self.inside.current c.self.inside.state c.write.new.self c.args.bit c.self.inside.state.len c.args.value c.write.ensures.ok)
+
+pub returns-clause-keeps : goal.returns-clause-keeps
+returns-clause-keeps g c =
+    rw (← c.self.view_is) (tried_write_leaves g.row.N c.self.inside.current c.self.inside.commits c.self.inside.last c.self.inside.state c.write.new.self c.len.ensures.width.positive c.write.result c.args.bit c.self.inside.state.len c.args.value c.write.ensures.ok)
