@@ -30,7 +30,7 @@ scenarios() {
 runs 3000 tools/check_runs.py random 3000
 runs 12 tools/check_runs.py exhaustive
 runs 23000 tools/check_runs.py allocation_failures 28
-runs 112 tools/check_errors.py
+runs 550 tools/check_errors.py
 tools/allocation_failures.sh --built | tee "$output"
 scenarios conformance 40
 scenarios conformance_history 30

@@ -1,6 +1,7 @@
 //! Runs a script of commands on a bitmap and prints the replies.
 #![tactic(auto)]
 
+mod error;
 mod output;
 mod print;
 mod program;
@@ -18,13 +19,13 @@ fn read_words(rt: &HostRuntime) -> Result<Vec<String>, io::Error> {
 }
 
 // Returns the exit status if the arguments cannot be read. Arguments that are not UTF-8 count as wrong arguments.
-fn end_without_words(rt: &HostRuntime, error: io::Error) -> ExitCode {
-    if error.kind() == io::ErrorKind::OutOfMemory {
-        let _ = rt.eprintln(program::OUT_OF_MEMORY);
-        return ExitCode::from(program::FAILED);
+fn end_without_words(rt: &HostRuntime, cause: io::Error) -> ExitCode {
+    if cause.kind() == io::ErrorKind::OutOfMemory {
+        let _ = rt.eprintln(error::OUT_OF_MEMORY);
+        return ExitCode::from(error::FAILED);
     }
     let _ = rt.eprintln(program::USAGE);
-    ExitCode::from(program::WRONG_INPUT)
+    ExitCode::from(error::WRONG_INPUT)
 }
 
 fn main(rt: HostRuntime) -> ExitCode {
@@ -32,15 +33,20 @@ fn main(rt: HostRuntime) -> ExitCode {
         Ok(words) => words,
         Err(error) => return end_without_words(&rt, error),
     };
-    let Some(width) = program::read_width(words.as_slice()) else {
+    let after = program::after_option(words.as_slice());
+    let args = after.unwrap_or(words.as_slice());
+    let Some(width) = program::read_width(args) else {
         let _ = rt.eprintln(program::USAGE);
-        return ExitCode::from(program::WRONG_INPUT);
+        return ExitCode::from(error::WRONG_INPUT);
     };
-    let script = File::open(&rt, words[1].as_str());
+    let path = args[1].as_str();
+    let explained = after.is_some().then_some(path);
+    let script = File::open(&rt, path);
     let status = program::run_script(
         rt.alloc(),
         width,
         script,
+        explained,
         &mut rt.stdout(),
         &mut rt.stderr(),
     );

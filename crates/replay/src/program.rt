@@ -1,9 +1,11 @@
 //! The program: reads a script, checks it, runs it and prints the replies, or reports an error.
 
-ghost use Rattle.std.specs.Prelude.{◌≡◌, length, map, string_bytes, IfSome, OnSome};
+ghost use Rattle.std.specs.Prelude.{◌≡◌, drop, length, map, string_bytes, is_some, IfSome, OnSome};
 ghost use Rattle.bitmap_bytes.specs.Chunk.{IsWidth};
+ghost use Rattle.replay.specs.Explanations.{asks_explanations};
 ghost use Rattle.replay.specs.Width.{IsOfferedWidth, offered_width};
 
+use crate::error::{ProgramError, read_error, report, write_error};
 use crate::output::Output;
 use crate::print::write_reply;
 use crate::script;
@@ -15,46 +17,22 @@ use std::alloc::{AllocError, Global};
 use std::io;
 use std::io::{Read, Write};
 
+// The option that asks for explanations of errors.
+const EXPLAIN: &str = "--explain";
+
 /// The message for wrong arguments.
 pub const USAGE: &str = "replay: usage: replay WIDTH SCRIPT, WIDTH one of 1, 3, 4, 8, 32";
 
-/// The message for a failed allocation outside a command.
-pub const OUT_OF_MEMORY: &str = "replay: out of memory";
-
-/// The exit status if the arguments are wrong or a line is not a command.
-pub const WRONG_INPUT: u8 = 2;
-
-/// The exit status if a file cannot be read or written, or an allocation outside a command fails.
-pub const FAILED: u8 = 3;
-
-// Why a script was not run, or its replies were not printed.
-enum ProgramError {
-    CannotRead,
-    // The index of the line, counted from 0.
-    NotACommand(usize),
-    OutOfMemory,
-    CannotWrite,
-}
-
-impl From<AllocError> for ProgramError {
-    fn from(_error: AllocError) -> ProgramError {
-        ProgramError::OutOfMemory
-    }
-}
-
-// Converts an error of the reader or of the buffer that is read into.
-fn read_error(error: io::Error) -> ProgramError {
-    match error.kind() {
-        io::ErrorKind::OutOfMemory => ProgramError::OutOfMemory,
-        _ => ProgramError::CannotRead,
-    }
-}
-
-// Converts an error of the writer or of its buffer.
-fn write_error(error: io::Error) -> ProgramError {
-    match error.kind() {
-        io::ErrorKind::OutOfMemory => ProgramError::OutOfMemory,
-        _ => ProgramError::CannotWrite,
+/// Returns the arguments after the option `--explain`, or `None` if the first argument is not that option.
+///
+/// Does not allocate; constant time.
+pub fn after_option(args: &[String]) -> Option<&[String]>
+    ensures option { is_some result ≡ asks_explanations (map string_bytes args.now) }
+    ensures others { IfSome result (λ others. others.now ≡ drop 1 args.now) }
+{
+    match args {
+        [first, others @ ..] if first.as_str() == EXPLAIN => Some(others),
+        _ => None,
     }
 }
 
@@ -84,7 +62,7 @@ pub fn read_width(args: &[String]) -> Option<u8>
 fn read_all<R: Read + Drop>(
     alloc: Global,
     script: Result<R, io::Error>,
-) -> Result<Vec<u8>, ProgramError> {
+) -> Result<Vec<u8>, ProgramError<'static>> {
     let mut text = Vec::new(alloc);
     let mut reader = script.map_err(read_error)?;
     reader.read_to_end(&mut text).map_err(read_error)?;
@@ -92,12 +70,18 @@ fn read_all<R: Read + Drop>(
 }
 
 // Fails with the first line that is not a command. Does not allocate.
-fn check_lines<const N: usize>(text: &[u8]) -> Result<(), ProgramError>
+fn check_lines<const N: usize>(text: &[u8]) -> Result<(), ProgramError<'_>>
     requires width { IsWidth N }
 {
     for (index, line) in text.split(|byte| *byte == b'\n').enumerate() {
-        if !script::is_skipped(line) && Line::<N>::parse(line).is_none() {
-            return Err(ProgramError::NotACommand(index));
+        if !script::is_skipped(line)
+            && let Err(reason) = Line::<N>::parse(line)
+        {
+            return Err(ProgramError::NotACommand {
+                index,
+                line,
+                reason,
+            });
         }
     }
     Ok(())
@@ -112,7 +96,7 @@ fn run_part<const N: usize>(
     commands: &mut Vec<Command<N>>,
     replies: &mut Vec<Reply<N>>,
     output: &mut Output,
-) -> Result<(), ProgramError> {
+) -> Result<(), ProgramError<'static>> {
     session.run(commands.as_slice(), replies)?;
     commands.clear();
     for reply in replies.drain(..) {
@@ -122,7 +106,7 @@ fn run_part<const N: usize>(
 }
 
 // Runs the commands of a script, and returns the printed replies. Holds the commands and replies of one part at a time.
-fn run_commands<const N: usize>(alloc: Global, text: &[u8]) -> Result<Output, ProgramError>
+fn run_commands<const N: usize>(alloc: Global, text: &[u8]) -> Result<Output, ProgramError<'static>>
     requires width { IsWidth N }
 {
     let mut session = Session::<N>::new(alloc);
@@ -131,7 +115,7 @@ fn run_commands<const N: usize>(alloc: Global, text: &[u8]) -> Result<Output, Pr
     let mut output = Output::new(alloc);
     for line in text.split(|byte| *byte == b'\n') {
         if !script::is_skipped(line)
-            && let Some(line) = Line::<N>::parse(line)
+            && let Ok(line) = Line::<N>::parse(line)
         {
             let command = line.into_command(alloc)?;
             commands.push(command).map_err(AllocError::from)?;
@@ -144,11 +128,11 @@ fn run_commands<const N: usize>(alloc: Global, text: &[u8]) -> Result<Output, Pr
     Ok(output)
 }
 
-fn run_at<const N: usize, W: Write>(
+fn run_at<'a, const N: usize, W: Write>(
     alloc: Global,
-    text: &[u8],
+    text: &'a [u8],
     out: &mut W,
-) -> Result<(), ProgramError>
+) -> Result<(), ProgramError<'a>>
     requires width { IsWidth N }
 {
     check_lines::<N>(text)?;
@@ -156,52 +140,29 @@ fn run_at<const N: usize, W: Write>(
     output.print(out).map_err(write_error)
 }
 
-fn run_width<R: Read + Drop, W: Write>(
+fn run_width<'a, W: Write>(
     alloc: Global,
     width: u8,
-    script: Result<R, io::Error>,
+    text: &'a [u8],
     out: &mut W,
-) -> Result<(), ProgramError>
+) -> Result<(), ProgramError<'a>>
     requires offered { IsOfferedWidth width }
 {
-    let text = read_all(alloc, script)?;
     match width {
-        1 => run_at::<1, W>(alloc, text.as_slice(), out),
-        3 => run_at::<3, W>(alloc, text.as_slice(), out),
-        4 => run_at::<4, W>(alloc, text.as_slice(), out),
-        8 => run_at::<8, W>(alloc, text.as_slice(), out),
-        32 => run_at::<32, W>(alloc, text.as_slice(), out),
+        1 => run_at::<1, W>(alloc, text, out),
+        3 => run_at::<3, W>(alloc, text, out),
+        4 => run_at::<4, W>(alloc, text, out),
+        8 => run_at::<8, W>(alloc, text, out),
+        32 => run_at::<32, W>(alloc, text, out),
         _ => unreachable!(),
-    }
-}
-
-// Prints the error, and returns the exit status.
-fn report<E: Write>(error: ProgramError, err: &mut E) -> u8 {
-    match error {
-        ProgramError::CannotRead => {
-            let _ = writeln!(err, "replay: cannot read the script");
-            FAILED
-        }
-        ProgramError::NotACommand(index) => {
-            let line = index as u128 + 1;
-            let _ = writeln!(err, "replay: line {line} is not a command");
-            WRONG_INPUT
-        }
-        ProgramError::OutOfMemory => {
-            let _ = writeln!(err, "{OUT_OF_MEMORY}");
-            FAILED
-        }
-        ProgramError::CannotWrite => {
-            let _ = writeln!(err, "replay: cannot write");
-            FAILED
-        }
     }
 }
 
 /// Runs a script with chunks of `width` bytes, and returns the exit status.
 ///
 /// `width` is one of the five widths. `script` is the opened script, or the error of opening it. The replies are printed to
-/// `out`. An error is printed to `err`, on one line.
+/// `out`. An error is printed to `err`, on one line. `explained` is the path of the script if further lines say what caused the
+/// error.
 ///
 /// | Status | Meaning |
 /// |---|---|
@@ -223,13 +184,18 @@ pub fn run_script<R: Read + Drop, W: Write, E: Write>(
     alloc: Global,
     width: u8,
     script: Result<R, io::Error>,
+    explained: Option<&str>,
     out: &mut W,
     err: &mut E,
 ) -> u8
     requires offered { IsOfferedWidth width }
 {
-    match run_width(alloc, width, script, out) {
+    let text = match read_all(alloc, script) {
+        Ok(text) => text,
+        Err(error) => return report(error, explained, err),
+    };
+    match run_width(alloc, width, text.as_slice(), out) {
         Ok(()) => 0,
-        Err(error) => report(error, err),
+        Err(error) => report(error, explained, err),
     }
 }

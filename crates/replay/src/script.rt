@@ -2,9 +2,20 @@
 
 ghost use Rattle.std.specs.Prelude.{◌<◌, IfSome};
 
+mod error;
+
 use bitmap_core::bitmap::codec::RangeCfg;
 use bitmap_session::command::Command;
+pub use error::{ArgumentError, LineError};
 use std::alloc::{AllocError, Global};
+
+// Adds the index of an argument, counted from 1, to its error.
+fn argument<T>(index: usize, parsed: Result<T, ArgumentError>) -> Result<T, LineError> {
+    match parsed {
+        Ok(value) => Ok(value),
+        Err(error) => Err(LineError::Argument { index, error }),
+    }
+}
 
 // Returns the value of a decimal digit.
 fn decimal_digit(byte: u8) -> Option<u8>
@@ -16,8 +27,8 @@ fn decimal_digit(byte: u8) -> Option<u8>
     }
 }
 
-// Parses a decimal number without a sign or leading zeros.
-fn decimal(word: &[u8]) -> Option<u64> {
+// Returns the value of a decimal number without a sign or leading zeros.
+fn decimal_value(word: &[u8]) -> Option<u64> {
     if word.is_empty() || (word.len() > 1 && word[0] == b'0') {
         return None;
     }
@@ -27,6 +38,16 @@ fn decimal(word: &[u8]) -> Option<u64> {
         value = value.checked_mul(10)?.checked_add(u64::from(digit))?;
     }
     Some(value)
+}
+
+// Returns a word as text.
+fn text(word: Option<&[u8]>) -> Option<&str> {
+    str::from_utf8(word?).ok()
+}
+
+// Parses a decimal number.
+fn decimal(word: &[u8]) -> Result<u64, ArgumentError> {
+    decimal_value(word).ok_or(ArgumentError::NotANumber)
 }
 
 // Returns the value of a hexadecimal digit of either case.
@@ -47,71 +68,74 @@ fn hex_byte(digits: &[u8; 2]) -> Option<u8> {
 }
 
 // Splits a word into pairs of hexadecimal digits, one pair per byte. `-` is the empty sequence.
-fn hex_bytes(word: &[u8]) -> Option<&[[u8; 2]]> {
+fn hex_bytes(word: &[u8]) -> Result<&[[u8; 2]], ArgumentError> {
     if word == b"-".as_slice() {
-        return Some(&[]);
+        return Ok(&[]);
     }
-    let (bytes, rest) = word.as_chunks::<2>();
-    if bytes.is_empty() || !rest.is_empty() || bytes.iter().any(|it| hex_byte(it).is_none()) {
-        return None;
+    if word.is_empty() || word.iter().any(|it| hex_digit(*it).is_none()) {
+        return Err(ArgumentError::NotHexadecimal);
     }
-    Some(bytes)
+    match word.as_chunks::<2>() {
+        (bytes, []) => Ok(bytes),
+        _ => Err(ArgumentError::OddDigits),
+    }
 }
 
 // Parses a number of chunks.
-fn count(word: &[u8]) -> Option<usize> {
-    usize::try_from(decimal(word)?).ok()
+fn count(word: &[u8]) -> Result<usize, ArgumentError> {
+    match usize::try_from(decimal(word)?) {
+        Ok(count) => Ok(count),
+        Err(_) => Err(ArgumentError::NotANumber),
+    }
 }
 
 // Parses `0` or `1`.
-fn bit(word: &[u8]) -> Option<bool> {
+fn bit(word: &[u8]) -> Result<bool, ArgumentError> {
     match word {
-        b"0" => Some(false),
-        b"1" => Some(true),
-        _ => None,
+        b"0" => Ok(false),
+        b"1" => Ok(true),
+        _ => Err(ArgumentError::NotABit),
     }
 }
 
-// Parses one byte of two hexadecimal digits.
-fn byte(word: &[u8]) -> Option<u8> {
-    match word {
-        [high, low] => hex_byte(&[*high, *low]),
-        _ => None,
-    }
-}
-
-// Parses the bytes of a chunk, two hexadecimal digits each.
-fn chunk<const N: usize>(word: &[u8]) -> Option<[u8; N]> {
+// Parses `N` bytes, two hexadecimal digits each.
+fn bytes<const N: usize>(word: &[u8]) -> Result<[u8; N], ArgumentError> {
     let pairs = hex_bytes(word)?;
-    if pairs.len() != N {
-        return None;
+    let found = pairs.len();
+    if found != N {
+        return Err(ArgumentError::WrongLength { wanted: N, found });
     }
     let mut bytes = [0; N];
     for (index, pair) in pairs.iter().enumerate() {
-        bytes[index] = hex_byte(pair)?;
+        bytes[index] = hex_byte(pair).ok_or(ArgumentError::NotHexadecimal)?;
     }
-    Some(bytes)
+    Ok(bytes)
 }
 
-// Parses a range of lengths, whose parts are separated by colons.
-fn range(word: &[u8]) -> Option<RangeCfg> {
+// Returns the value of a range of lengths, whose parts are separated by colons.
+fn range_value(word: &[u8]) -> Option<RangeCfg> {
     let mut parts = word.split(|byte| *byte == b':');
-    let name = str::from_utf8(parts.next()?).ok()?;
+    let name = text(parts.next())?;
     match (name, parts.next(), parts.next(), parts.next()) {
         ("any", None, ..) => Some(RangeCfg::any()),
-        ("exact", Some(len), None, _) => Some(RangeCfg::exact(decimal(len)?)),
-        ("least", Some(least), None, _) => Some(RangeCfg::at_least(decimal(least)?)),
-        ("most", Some(most), None, _) => Some(RangeCfg::at_most(decimal(most)?)),
+        ("exact", Some(len), None, _) => Some(RangeCfg::exact(decimal_value(len)?)),
+        ("least", Some(least), None, _) => Some(RangeCfg::at_least(decimal_value(least)?)),
+        ("most", Some(most), None, _) => Some(RangeCfg::at_most(decimal_value(most)?)),
         ("between", Some(least), Some(most), None) => {
-            Some(RangeCfg::between(decimal(least)?, decimal(most)?))
+            Some(RangeCfg::between(decimal_value(least)?, decimal_value(most)?))
         }
         _ => None,
     }
 }
 
+// Parses a range of lengths.
+fn range(word: &[u8]) -> Result<RangeCfg, ArgumentError> {
+    range_value(word).ok_or(ArgumentError::NotARange)
+}
+
 // Returns the command of a name without arguments.
-fn alone<const N: usize>(name: &str) -> Option<Command<N>> {
-    Some(match name {
+fn alone<const N: usize>(name: &str) -> Result<Command<N>, LineError> {
+    Ok(match name {
         "begin" => Command::Begin,
         "pop" => Command::Pop,
         "abort" => Command::Abort,
@@ -123,44 +147,106 @@ fn alone<const N: usize>(name: &str) -> Option<Command<N>> {
         "earliest" => Command::Earliest,
         "clear" => Command::Clear,
         "entries" => Command::Entries,
-        _ => return None,
+        _ => return Err(LineError::UnknownName),
     })
 }
 
 // Returns the command of a name and a decimal number.
-fn with_number<const N: usize>(name: &str, number: u64) -> Option<Command<N>> {
-    Some(match name {
-        "prune" => Command::Prune(number),
-        "commit" => Command::Commit(number),
-        "rewind" => Command::Rewind(number),
-        "get" => Command::Get(number),
-        "chunk" => Command::Chunk(number),
-        "at" => Command::At(number),
-        "encode-at" => Command::EncodeAt(number),
-        "exists" => Command::Exists(number),
-        "drop-before" => Command::DropBefore(number),
-        _ => return None,
+fn with_number<const N: usize>(name: &str, word: &[u8]) -> Result<Command<N>, LineError> {
+    let number = argument(1, decimal(word));
+    Ok(match name {
+        "prune" => Command::Prune(number?),
+        "commit" => Command::Commit(number?),
+        "rewind" => Command::Rewind(number?),
+        "get" => Command::Get(number?),
+        "chunk" => Command::Chunk(number?),
+        "at" => Command::At(number?),
+        "encode-at" => Command::EncodeAt(number?),
+        "exists" => Command::Exists(number?),
+        "drop-before" => Command::DropBefore(number?),
+        _ => return Err(LineError::UnknownName),
     })
 }
 
 // Returns the command of a name and one argument.
-fn with_one<const N: usize>(name: &str, word: &[u8]) -> Option<Command<N>> {
+fn with_one<const N: usize>(name: &str, word: &[u8]) -> Result<Command<N>, LineError> {
+    Ok(match name {
+        "start" => Command::Start(argument(1, count(word))?),
+        "push" => Command::Push(argument(1, bit(word))?),
+        "push-byte" => {
+            let [byte] = argument(1, bytes::<1>(word))?;
+            Command::PushByte(byte)
+        }
+        "push-chunk" => Command::PushChunk(argument(1, bytes(word))?),
+        _ => return with_number(name, word),
+    })
+}
+
+// Returns the command of a name and two arguments.
+fn with_two<'a, const N: usize>(
+    name: &str,
+    first: &'a [u8],
+    second: &[u8],
+) -> Result<Line<'a, N>, LineError> {
+    Ok(match name {
+        "set" => Line::Plain(Command::Set(argument(1, decimal(first))?, argument(2, bit(second))?)),
+        "ones" => Line::Plain(Command::Ones(
+            argument(1, decimal(first))?,
+            argument(2, decimal(second))?,
+        )),
+        "decode" => Line::Decode(argument(1, hex_bytes(first))?, argument(2, range(second))?),
+        _ => return Err(LineError::UnknownName),
+    })
+}
+
+// Returns the command of a name and three arguments.
+fn with_three<const N: usize>(name: &str, words: [&[u8]; 3]) -> Result<Command<N>, LineError> {
     match name {
-        "start" => Some(Command::Start(count(word)?)),
-        "push" => Some(Command::Push(bit(word)?)),
-        "push-byte" => Some(Command::PushByte(byte(word)?)),
-        "push-chunk" => Some(Command::PushChunk(chunk(word)?)),
-        _ => with_number(name, decimal(word)?),
+        "ones-at" => Ok(Command::OnesAt(
+            argument(1, decimal(words[0]))?,
+            argument(2, decimal(words[1]))?,
+            argument(3, decimal(words[2]))?,
+        )),
+        _ => Err(LineError::UnknownName),
     }
 }
 
-// Returns the command of a name and two arguments, other than `decode`.
-fn with_two<const N: usize>(name: &str, first: &[u8], second: &[u8]) -> Option<Command<N>> {
-    Some(match name {
-        "set" => Command::Set(decimal(first)?, bit(second)?),
-        "ones" => Command::Ones(decimal(first)?, decimal(second)?),
-        _ => return None,
-    })
+// Returns whether a command has the name that was looked up.
+fn is_known<T>(found: &Result<T, LineError>) -> bool {
+    !matches!(found, Err(LineError::UnknownName))
+}
+
+// Returns how many arguments the command of a name takes.
+fn count_of_arguments(name: &str) -> Option<usize> {
+    if is_known(&alone::<1>(name)) {
+        Some(0)
+    } else if is_known(&with_one::<1>(name, b"")) {
+        Some(1)
+    } else if is_known(&with_two::<1>(name, b"", b"")) {
+        Some(2)
+    } else if is_known(&with_three::<1>(name, [b"", b"", b""])) {
+        Some(3)
+    } else {
+        None
+    }
+}
+
+// Returns why a line is not a command, from the error of parsing its words.
+fn reason(line: &[u8], error: LineError) -> LineError {
+    if line.ends_with(b"\r") {
+        return LineError::CarriageReturn;
+    }
+    let mut words = line.split(|byte| *byte == b' ');
+    if words.any(|word| word.is_empty()) {
+        return LineError::ExtraSpace;
+    }
+    let mut words = line.split(|byte| *byte == b' ');
+    let wanted = text(words.next()).and_then(count_of_arguments);
+    let found = words.count();
+    match wanted {
+        Some(wanted) if wanted != found => LineError::WrongCount { wanted, found },
+        _ => error,
+    }
 }
 
 /// A line that is a command.
@@ -173,7 +259,29 @@ pub enum Line<'a, const N: usize> {
 }
 
 impl<'a, const N: usize> Line<'a, N> {
-    /// Parses a line, whose words are separated by one space each. Returns `None` if it is not a command.
+    // Parses a line. An error says `UnknownName` also if the number of arguments is wrong.
+    fn parse_words(line: &'a [u8]) -> Result<Self, LineError> {
+        let mut words = line.split(|byte| *byte == b' ');
+        let Some(name) = text(words.next()) else {
+            return Err(LineError::UnknownName);
+        };
+        let command = match (words.next(), words.next(), words.next(), words.next()) {
+            (None, ..) => alone(name)?,
+            (Some(word), None, ..) => with_one(name, word)?,
+            (Some(first), Some(second), None, _) => return with_two(name, first, second),
+            (Some(first), Some(second), Some(third), None) => {
+                with_three(name, [first, second, third])?
+            }
+            _ => return Err(LineError::UnknownName),
+        };
+        Ok(Line::Plain(command))
+    }
+
+    /// Parses a line, whose words are separated by one space each.
+    ///
+    /// # Errors
+    ///
+    /// Returns why the line is not a command.
     ///
     /// # Memory
     ///
@@ -182,22 +290,11 @@ impl<'a, const N: usize> Line<'a, N> {
     /// # Complexity
     ///
     /// Linear in the bytes of the line.
-    pub fn parse(line: &'a [u8]) -> Option<Self> {
-        let mut words = line.split(|byte| *byte == b' ');
-        let name = str::from_utf8(words.next()?).ok()?;
-        let command = match (name, words.next(), words.next(), words.next(), words.next()) {
-            (_, None, ..) => alone(name)?,
-            (_, Some(word), None, ..) => with_one(name, word)?,
-            ("decode", Some(digits), Some(admitted), None, _) => {
-                return Some(Line::Decode(hex_bytes(digits)?, range(admitted)?));
-            }
-            (_, Some(first), Some(second), None, _) => with_two(name, first, second)?,
-            ("ones-at", Some(number), Some(start), Some(end), None) => {
-                Command::OnesAt(decimal(number)?, decimal(start)?, decimal(end)?)
-            }
-            _ => return None,
-        };
-        Some(Line::Plain(command))
+    pub fn parse(line: &'a [u8]) -> Result<Self, LineError> {
+        match Line::parse_words(line) {
+            Ok(parsed) => Ok(parsed),
+            Err(error) => Err(reason(line, error)),
+        }
     }
 
     /// Converts the line into its command.

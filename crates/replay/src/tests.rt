@@ -53,7 +53,7 @@ fn check_run<R: Read + Drop, W: Write>(
     line: &[u8],
 ) {
     let mut err = Vec::new(alloc);
-    let returned = run_script(alloc, 4, script, out, &mut err);
+    let returned = run_script(alloc, 4, script, None, out, &mut err);
     assert_eq!(rt; returned, status);
     assert!(rt; err.as_slice() == line);
 }
