@@ -3,6 +3,7 @@
 
 usage: check_bindings.py                  builds the library and installs it twice by tools/package.sh, in a temporary folder
        check_bindings.py --after-gate     the same, over the libraries that `rt ci` has just left
+       check_bindings.py --built          the same, with the library that is built, if it is newer than its sources
        check_bindings.py --prefix DIR     takes the library that is installed in DIR
        check_bindings.py --declarations   compares the declarations alone
 
@@ -101,7 +102,8 @@ def is_there(tool, *words):
 
 def made_packages(folder, options):
     """Installs the library twice from one build with some options. The prefix of the first, and the cases."""
-    print("building the library: this proves bitmap_c, and what has changed of the crates below it", flush=True)
+    if "--built" not in options:
+        print("building the library: this proves bitmap_c, and what has changed of the crates below it", flush=True)
     prefixes = [folder / name / "mortarpink" for name in ("first", "second")]
     for prefix, words in zip(prefixes, (options, ["--built"])):
         prefix.mkdir(parents=True)
@@ -252,7 +254,7 @@ def all_cases(given):
         return
     with tempfile.TemporaryDirectory() as name:
         folder = Path(name)
-        options = ["--after-gate"] if given.after_gate else []
+        options = ["--after-gate"] if given.after_gate else ["--built"] if given.built else []
         prefix, cases = (Path(given.prefix).resolve(), []) if given.prefix else made_packages(folder, options)
         yield from cases
         if prefix:
@@ -263,6 +265,7 @@ def main():
     parser = argparse.ArgumentParser(usage=__doc__.split("usage: ")[1].split("\n\n")[0])
     parser.add_argument("--prefix")
     parser.add_argument("--after-gate", action="store_true")
+    parser.add_argument("--built", action="store_true")
     parser.add_argument("--declarations", action="store_true")
     given = parser.parse_args()
     missing = [tool for tool in TOOLS if not shutil.which(tool)]

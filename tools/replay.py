@@ -1,6 +1,6 @@
 """What the checks of the program share: how a script is run, and how its lines are compared with the reference model.
 
-The program is the one that the gate has built.
+The program is the one that the gate has built, or the one that the environment variable REPLAY_PROGRAM names.
 """
 
 import os
@@ -13,9 +13,11 @@ from typing import NamedTuple
 from model import Model, State
 
 TOP = Path(__file__).resolve().parent.parent
-PROGRAM = TOP / "crates/replay/out/replay"
+PROVED = TOP / "crates/replay/out/replay"
+PROGRAM = Path(os.environ.get("REPLAY_PROGRAM", PROVED)).resolve()
 WIDTHS = (1, 3, 4, 8, 32)
 NO_MEMORY = "refused no-memory"
+SECONDS = 600  # the most that one run may take, on a busy machine
 
 
 class Run(NamedTuple):
@@ -34,7 +36,7 @@ def run(arguments, environment=None, output=subprocess.PIPE, megabytes=None):
     """Runs the program, in an address space of so many megabytes if that is given."""
     limit = megabytes and (lambda: resource.setrlimit(resource.RLIMIT_AS, (megabytes << 20, megabytes << 20)))
     ended = subprocess.run([PROGRAM, *arguments], env={**os.environ, **(environment or {})}, stdout=output, stderr=subprocess.PIPE,
-                           timeout=60, preexec_fn=limit)
+                           timeout=SECONDS, preexec_fn=limit)
     return Run(ended.returncode, lines_of(ended.stdout or b""), lines_of(ended.stderr))
 
 
