@@ -17,7 +17,7 @@ use Rattle.chunk_map.specs.Next.{AreBelow, IsNextPlace}
 use Rattle.chunk_map.specs.Trie.{AreApart, IsAbsent, IsAt, without_place}
 
 -- ---- one entry more
-cmp_less : (a b : ℕ) → a < b → nat_cmp a b ≡ Less
+pub cmp_less : (a b : ℕ) → a < b → nat_cmp a b ≡ Less
 cmp_less a b h = rw (lt-ltb a b h) refl
 
 cmp_equal : (a b : ℕ) → a ≡ b → nat_cmp a b ≡ Equal
@@ -65,7 +65,7 @@ all_insert (e ∷ es) k v x h a = elim (cases_order k e.0) [
   | inr (inr l) ↦ rw (insert_greater e es k v l) (a.0, all_insert es k v x h a.1)
 ]
 
-less_below : (a b : ℕ) → nat_cmp a b ≡ Less → a < b
+pub less_below : (a b : ℕ) → nat_cmp a b ≡ Less → a < b
 less_below a b e = elim (cases_order a b) [
   | inl f ↦ let g = cmp_equal a b f in cc
   | inr (inl l) ↦ l
@@ -195,7 +195,7 @@ puts_push ks cs k c was a s q =
 pub member_is : (ks : List ℕ) (cs : List (List ℕ)) (j : ℕ) → is_member nat_eq (keys_of (entries_of ks cs)) j ≡ is_some (lookup (nat_eq j) (entries_of ks cs))
 member_is ks cs j = sym (is_some-lookup (nat_eq j) (entries_of ks cs))
 
-member_at : (ks : List ℕ) (q p : ℕ) → p < length ks → slice_index ks p ≡ q → is_member nat_eq ks q ≡ true
+pub member_at : (ks : List ℕ) (q p : ℕ) → p < length ks → slice_index ks p ≡ q → is_member nat_eq ks q ≡ true
 member_at [] q p w e = absurd (omega (arith, w))
 member_at (k ∷ ks) q zero w e = rw (eq-eqb q k (sym e)) refl
 member_at (k ∷ ks) q (suc p) w e = rw (member_at ks q p (omega (arith, w)) e) (or_true (nat_eq q k))
@@ -204,7 +204,7 @@ member_at (k ∷ ks) q (suc p) w e = rw (member_at ks q p (omega (arith, w)) e) 
     or_true true = refl
     or_true false = refl
 
-not_member : (ks : List ℕ) (q : ℕ) → IsAbsent ks q → is_member nat_eq ks q ≡ false
+pub not_member : (ks : List ℕ) (q : ℕ) → IsAbsent ks q → is_member nat_eq ks q ≡ false
 not_member [] q h = refl
 not_member (k ∷ ks) q h = rw (ne_eqb q k (λ e. h 0 (omega arith) (sym e))) (not_member ks q (λ place w. h (suc place) (omega (arith, w))))
 

@@ -18,7 +18,7 @@ pub div_mono : (a b s : ℕ) → a ≤ b → a / 2 ^ s ≤ b / 2 ^ s
 div_mono a b s h = le-div (a / 2 ^ s) b (2 ^ s) (pow_pos s) (omega (arith, h, div-mul-le_self a (2 ^ s)))
 
 -- a number with digits below those of another from a shift on is less
-below_by_digits : (a b s : ℕ) → a / 2 ^ s < b / 2 ^ s → a < b
+pub below_by_digits : (a b s : ℕ) → a / 2 ^ s < b / 2 ^ s → a < b
 below_by_digits a b s h = elim (cases_lt a b) [ inl l ↦ l | inr l ↦ absurd (omega (arith, h, div_mono b a s l)) ]
 
 -- the first number with some digits
@@ -97,7 +97,7 @@ pub finds_some : (nodes : List Node) (keys : List ℕ) (key place link : ℕ) �
 finds_some nodes keys key place link (zero, f) = λ e. let g = f.1 in absurd (omega (arith, g, e))
 finds_some nodes keys key place link (suc steps, f) = λ e. let o = f.0.odd in absurd (omega (arith, o, e))
 
-finds_holds : (nodes : List Node) (keys : List ℕ) (key place link : ℕ) → link % 2 ≡ 1 → Finds nodes keys key place link → Holds (node_at nodes (link / 2)) key
+pub finds_holds : (nodes : List Node) (keys : List ℕ) (key place link : ℕ) → link % 2 ≡ 1 → Finds nodes keys key place link → Holds (node_at nodes (link / 2)) key
 finds_holds nodes keys key place link odd (zero, f) = let e = f.1 in absurd (omega (arith, odd, e))
 finds_holds nodes keys key place link odd (suc steps, f) = f.1
 

@@ -6,6 +6,7 @@ pub mod EntryLists
 pub mod Following
 pub mod Growth
 pub mod Marks
+pub mod Ordered
 pub mod Paths
 pub mod Relinked
 pub mod Removed

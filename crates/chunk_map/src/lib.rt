@@ -3,6 +3,7 @@
 //! [`map::ChunkMap`] holds the edited chunks of a batch. Its indices may come from a stranger: no choice of them makes a call slow.
 #![tactic(auto)]
 
+mod ascending;
 pub mod map;
 mod next;
 mod places;

@@ -294,6 +294,25 @@ impl<const N: usize> ChunkMap<N> {
         }
     }
 
+    /// Returns the indices of the chunks, ascending.
+    ///
+    /// # Errors
+    ///
+    /// Returns an error if allocation fails.
+    ///
+    /// # Memory
+    ///
+    /// Allocates once, for the indices. Does not allocate if there is no chunk.
+    ///
+    /// # Complexity
+    ///
+    /// Linear in the chunks and nodes. Visits each node once.
+    pub fn ascending_indices(&self, alloc: Global) -> Result<Vec<usize>, AllocError>
+        ensures { IfOk result (λ indices. indices.items ≡ keys_of self.now.entries) }
+    {
+        self.places.ascending(alloc)
+    }
+
     /// Does nothing. Its contract states that the indices of the entries ascend, and that each has a place.
     ///
     /// # Memory

@@ -35,7 +35,7 @@ fn skip(at: usize, span: u32) -> Option<usize>
 
 // Returns the first digit at or above `from` for which a node has a link, or 16 if there is none.
 #[inline]
-fn next_digit(node: &Node, from: usize) -> usize
+pub(crate) fn next_digit(node: &Node, from: usize) -> usize
     requires used { AreMarked node.now.links node.now.used }
     requires from { from ≤ 16 }
     ensures from { from ≤ result }

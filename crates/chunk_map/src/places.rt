@@ -1,9 +1,11 @@
 //! Keys by place: a list of distinct keys in which a key is found by a trie.
 
 ghost use Rattle.std.specs.Prelude.{◌≡◌, ℕ, ◌+◌, ◌<◌, ◌^◌, ◌++◌, [], ◌∷◌, List, length, MatchOption, slice_index, IfOk, OnOk, OnErr};
+ghost use Rattle.chunk_map.specs.Ascending.{IsAscendingOf};
 ghost use Rattle.chunk_map.specs.Next.{AreBelow, IsNextPlace};
 ghost use Rattle.chunk_map.specs.Trie.{AreApart, IsAbsent, IsAt, without_place};
 
+use crate::ascending::append_keys;
 use crate::next;
 use crate::trie::{self, Node};
 use std::alloc::{AllocError, Global};
@@ -86,6 +88,15 @@ impl Places {
         ensures { MatchOption result (AreBelow self.now from) (IsNextPlace self.now from) }
     {
         next::next_from(&self.nodes, &self.keys, self.root, from)
+    }
+
+    // Returns the keys, ascending. Allocates for them.
+    pub(crate) fn ascending(&self, alloc: Global) -> Result<Vec<usize>, AllocError>
+        ensures { IfOk result (λ keys. IsAscendingOf self.now keys.items) }
+    {
+        let mut keys = Vec::with_capacity(alloc, self.keys.len())?;
+        append_keys(&self.nodes, &self.keys, self.root, &mut keys)?;
+        Ok(keys)
     }
 
     // States that the keys are distinct.
