@@ -130,38 +130,27 @@ fn record_range<const N: usize>(
     Ok(())
 }
 
-// Returns the indices from index `from` up to `to` of the chunks that a map has, in the order of their places.
-fn indices_by_place<const N: usize>(
-    alloc: Global,
-    chunks: &ChunkMap<N>,
+// Appends the entry of a chunk, if its index is from `from` up to `to`.
+#[inline]
+fn record_between<const N: usize>(
+    record: &mut CommitDiff<N>,
+    edits: &Dirty<N>,
+    current: &Prunable<N>,
+    index: usize,
     from: usize,
     to: usize,
-) -> Result<Vec<usize>, AllocError>
-    ensures { IfOk result (λ indices. indices.items ≡ picked_between chunks.now.indices from to) }
+) -> Result<(), AllocError>
+    requires low { current.now.pruned ≤ from }
+    requires count { length edits.now.captured ≡ edits.now.pruned - current.now.pruned }
+    requires fits { (i : ℕ) → i < to → 8 * N * i < 2 ^ 64 }
+    ensures { OnOk result (AddsEntries N current.now edits.now (picked_between (index ∷ []) from to) record.old record.new) }
 {
-    let mut indices = Vec::with_capacity(alloc, chunks.len())?;
-    for place in 0..chunks.len() {
-        let index = chunks.index_at(place);
-        if from <= index && index < to {
-            indices.push(index)?;
-        }
+    let _ = current.len();
+    if from <= index && index < to {
+        let diff = edits.diff(current, index);
+        record.push(index, diff)?;
     }
-    Ok(indices)
-}
-
-// Returns the indices from index `from` up to `to` of the chunks that a map has, ascending. Allocates once, for them.
-fn indices_between<const N: usize>(
-    alloc: Global,
-    chunks: &ChunkMap<N>,
-    from: usize,
-    to: usize,
-) -> Result<Vec<usize>, AllocError>
-    ensures { IfOk result (λ indices. indices.items ≡ members_between (keys_of chunks.now.entries) from to) }
-{
-    chunks.order();
-    let mut indices = indices_by_place(alloc, chunks, from, to)?;
-    indices.sort_unstable();
-    Ok(indices)
+    Ok(())
 }
 
 // Returns whether the indices of a map's chunks ascend in the order of their places.
@@ -194,11 +183,7 @@ fn record_places<const N: usize>(
 {
     let _ = current.len();
     for place in 0..chunks.len() {
-        let index = chunks.index_at(place);
-        if from <= index && index < to {
-            let diff = edits.diff(current, index);
-            record.push(index, diff)?;
-        }
+        record_between(record, edits, current, chunks.index_at(place), from, to)?;
     }
     Ok(())
 }
@@ -212,17 +197,16 @@ fn record_sorted<const N: usize>(
     from: usize,
     to: usize,
 ) -> Result<(), AllocError>
-    requires order { from ≤ to }
     requires low { current.now.pruned ≤ from }
     requires count { length edits.now.captured ≡ edits.now.pruned - current.now.pruned }
     requires fits { (i : ℕ) → i < to → 8 * N * i < 2 ^ 64 }
     ensures { OnOk result (AddsEntries N current.now edits.now (members_between (keys_of chunks.now.entries) from to) record.old record.new) }
 {
     let _ = current.len();
-    let indices = indices_between(edits.allocator(), chunks, from, to)?;
+    chunks.order();
+    let indices = chunks.ascending_indices(edits.allocator())?;
     for index in indices.as_slice() {
-        let diff = edits.diff(current, *index);
-        record.push(*index, diff)?;
+        record_between(record, edits, current, *index, from, to)?;
     }
     Ok(())
 }
