@@ -153,8 +153,7 @@ mortarpink_status mortarpink_prune(mortarpink_bitmap *bitmap, uint64_t position)
 /* Ends the batch: the pending bitmap becomes the current one, and is kept under the number. The number is above the
  * last one that was committed or rewound to, even if that commit was dropped since. With
  * MORTARPINK_NON_MONOTONIC_COMMIT, *previous becomes that last number. After any status but MORTARPINK_DONE the batch
- * goes on. Amortized linear in the chunks that the batch edited, pruned or removed, plus a sort of the indices of the
- * edited ones; allocates. */
+ * goes on. Amortized linear in the chunks that the batch edited, pruned or removed; allocates. */
 mortarpink_status mortarpink_commit(mortarpink_bitmap *bitmap, uint64_t number, uint64_t *previous);
 
 /* Ends the batch and drops its edits. Linear in the chunks that the batch edited or pruned. */

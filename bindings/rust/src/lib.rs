@@ -44,7 +44,7 @@
 //! | [`Batch::push_bytes`] | linear in the bytes |
 //! | [`Batch::pop`], [`Batch::get`], [`Batch::chunk`] | constant |
 //! | [`Batch::prune`] | amortized linear in the chunks pruned |
-//! | [`Batch::commit`], [`Batch::try_commit`] | amortized linear in the chunks that the batch edited, pruned or removed, plus a sort of the indices of the edited ones |
+//! | [`Batch::commit`], [`Batch::try_commit`] | amortized linear in the chunks that the batch edited, pruned or removed |
 //! | [`Batch::abort`] | linear in the chunks that the batch edited or pruned |
 //! | [`Bitmap::get`], [`Bitmap::chunk`], [`Bitmap::len`], [`Bitmap::latest`], [`Bitmap::earliest`] | constant |
 //! | searches and counts of a [`Bitmap`] | linear in the chunks that are read |

@@ -387,7 +387,8 @@ impl<const N: usize> BitMap<N, Dirty<N>> {
     /// # Complexity
     ///
     /// Per entry of the record, and per edited chunk. Amortized, since the current bitmap and the list of commits may have to reallocate to grow.
-    /// Unless the edited chunks outside the appended run were first edited in ascending order, also sorts their indices.
+    /// Unless the edited chunks outside the appended run were first edited in ascending order, also one pass over the nodes of the trie that finds them.
+    /// A `set_range` that ran out of memory leaves the nodes of the chunks that it had inserted, which are visited too.
     /// Independent of the bitmap's length and of the number of kept commits.
     #[inline(always)]
     pub fn commit(mut self, number: u64) -> Result<CleanBitMap<N>, (DirtyBitMap<N>, Error)>
