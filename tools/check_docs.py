@@ -22,6 +22,9 @@ DOCUMENTS = [
     "docs/SCRIPT.md", "docs/BENCHMARKS.md",
 ]
 
+# The files of `bindings` that are tested, by the word of a fence.
+TESTED = [("c", "c", ["**/*.c"]), ("rs", "rust", ["README.md", "tests/*.rs"]), ("python", "python", ["README.md", "tests/*.py"])]
+
 
 class Example(NamedTuple):
     place: str
@@ -95,8 +98,8 @@ def example_errors(example, callers):
 
 def foreign_errors():
     """The examples of the documents that are in no tested file of `bindings`. A fence of Rust has the word `rs`."""
-    for word, folder, pattern in [("c", "c", "*.c"), ("rs", "rust", "README.md"), ("python", "python", "README.md")]:
-        callers = [lines_of(path) for path in sorted((TOP / "bindings" / folder).rglob(pattern))]
+    for word, folder, names in TESTED:
+        callers = [lines_of(path) for name in names for path in sorted((TOP / "bindings" / folder).glob(name))]
         for path in documents():
             for example in examples(path, word):
                 yield from difference(example, callers, f"bindings/{folder}")
