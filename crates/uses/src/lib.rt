@@ -55,6 +55,8 @@ mod recent_log;
 #[cfg(test)]
 mod restored;
 #[cfg(test)]
+mod saved_version;
+#[cfg(test)]
 mod session;
 #[cfg(test)]
 mod session_calls;
