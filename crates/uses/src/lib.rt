@@ -53,6 +53,8 @@ mod quick_start;
 #[cfg(test)]
 mod recent_log;
 #[cfg(test)]
+mod replica;
+#[cfg(test)]
 mod restored;
 #[cfg(test)]
 mod saved_version;
