@@ -415,6 +415,55 @@ fn chunks_removed_and_pruned_committed(rt: HostRuntime) {
     }
 }
 
+// A batch on `committed` that edits the last chunk, and then the one before it.
+fn edited_in_descending_order(
+    rt: &impl Abort,
+    alloc: Global,
+) -> Option<(DirtyBitMap<1>, CleanBitMap<1>)> {
+    let before = committed(rt, alloc)?;
+    let mut map = before.clone().ok()?.into_dirty();
+    try_set_bit(rt, &mut map, 16, false).ok()?;
+    try_set_bit(rt, &mut map, 8, true).ok()?;
+    Some((map, before))
+}
+
+// The pending bits of `edited_in_descending_order`, after one pruned chunk.
+const DESCENDING: &[u8] = b"1111010101110000";
+
+// The bitmap after that batch is committed at 3.
+fn check_descending(rt: &impl Abort, map: &CleanBitMap<1>) {
+    expect(
+        rt,
+        keeps(map, &[1, 2, 3]) && has_bits(map.current(), 1, DESCENDING),
+    );
+    expect(rt, had_bits_if_allocated(map, 1, 0, b"1011001001110101"));
+    expect(rt, had_bits_if_allocated(map, 2, 1, b"0111010111110000"));
+    expect(rt, had_bits_if_allocated(map, 3, 1, DESCENDING));
+}
+
+// A failed commit of chunks that were not first edited in ascending order leaves the batch unchanged. Such a commit allocates for their indices.
+#[test]
+fn chunks_edited_in_descending_order_committed(rt: HostRuntime) {
+    let Some((map, before)) = edited_in_descending_order(&rt, rt.alloc()) else {
+        return;
+    };
+    match map.commit(3) {
+        Ok(map) => check_descending(&rt, &map),
+        Err((map, why)) => {
+            expect(&rt, why == Error::Memory(AllocError));
+            expect(&rt, has_pending_bits(&rt, &map, 1, DESCENDING));
+            match map.commit(3) {
+                Ok(map) => check_descending(&rt, &map),
+                Err((map, why)) => {
+                    expect(&rt, why == Error::Memory(AllocError));
+                    expect(&rt, has_pending_bits(&rt, &map, 1, DESCENDING));
+                    use_further(&rt, map, &before);
+                }
+            }
+        }
+    }
+}
+
 // The pending bitmap of `batch_begun` after each of the edits below: its pruned chunks and its bits.
 const FURTHER: [(usize, &[u8]); 6] = [
     (1, b"111101011111000"),
