@@ -37,7 +37,7 @@ polyline.indexed { stroke: #8f5fd0; fill: none }
 # The class of a program in a curve, and the outline of its mark.
 SERIES = {
     "this project": ("ours", "M-5,0a5,5 0 1,0 10,0a5,5 0 1,0 -10,0z"),
-    "at_indexed": ("indexed", "M0,-6l6,6l-6,6l-6,-6z"),
+    "at with an index": ("indexed", "M0,-6l6,6l-6,6l-6,-6z"),
     "the original": ("other", "M-4.5,-4.5h9v9h-9z"),
 }
 TIMES = ["10 ns", "0.1 µs", "1 µs", "10 µs", "100 µs", "1 ms", "10 ms", "100 ms", "1 s", "10 s"]
@@ -187,12 +187,12 @@ def growth():
     parts += [*panels(calls[:3], 118), *panels(calls[3:], 380)]
     notes = [
         "Width 8, 2^20 bits, one set per commit. Both axes are logarithmic; times are of several runs.",
-        "One bit and set positions: this project by at, or by at_indexed with an index made once.",
+        "One bit and set positions: this project by at, without an index and with one made once.",
         "The original has no at and no rewind_to: it calls get_at_commit, here once per 100 single bits.",
         *measured(rows, "program"),
     ]
     title = "Up to 100,000 kept commits, a commit or a rewind takes less than 1 µs"
-    subtitle = "Reads of the oldest commit grow. Of these, reads in place without an index take the longest."
+    subtitle = "Reads of the oldest commit grow: set positions in place take 55 to 836 times as long without an index."
     return picture(730, title, subtitle, rows, [*parts, *texts(634, notes)])
 
 
