@@ -93,7 +93,9 @@ def ways_in(folder):
     sanitizer = ended(["cc", "-print-file-name=liblsan.so"], {}).stdout.decode().strip()
     if "/" not in sanitizer:
         raise FileNotFoundError("this C compiler (cc) has no LeakSanitizer (liblsan.so)")
-    return Ways(preloaded(folder), {"LD_PRELOAD": sanitizer, "LSAN_OPTIONS": f"exitcode={LEAK_STATUS}"})
+    # An allocation that is too large fails, as without LeakSanitizer, which by itself would end the run.
+    options = f"exitcode={LEAK_STATUS}:allocator_may_return_null=1"
+    return Ways(preloaded(folder), {"LD_PRELOAD": sanitizer, "LSAN_OPTIONS": options})
 
 
 def self_test(folder, ways):
