@@ -133,10 +133,10 @@ def runs(folder):
         yield f"replay at width {width} on {path.name}", [PROGRAM, str(width), path]
     for name, arguments, *_ in wrong_arguments(TOP / "examples/first.script", folder):
         yield f"replay with {name}", [PROGRAM, *arguments]
-    for at, (name, data, _) in enumerate(broken_scripts()):
+    for at, (name, data, *_) in enumerate(broken_scripts()):
         path = Path(folder) / f"broken_{at}.script"
         path.write_bytes(data)
-        yield f"replay on {name}", [PROGRAM, "8", path]
+        yield f"replay on {name}", [PROGRAM, "--explain", "8", path]
 
 
 def all_runs(folder, ways):
