@@ -683,14 +683,20 @@ fn same_in_place(map: &CleanBitMap<1>, other: &CleanBitMap<1>) -> bool {
     true
 }
 
+// An indexed copy of a bitmap, or `None` if an allocation fails.
+fn indexed_copy(map: &CleanBitMap<1>) -> Option<CleanBitMap<1>> {
+    let copy = map.clone().ok()?;
+    match copy.indexed() {
+        Ok(indexed) => Some(indexed),
+        Err(_) => None,
+    }
+}
+
 // `committed` and an indexed copy of it, or `None` if an allocation fails.
 fn with_indexed_copy(rt: &impl Abort, alloc: Global) -> Option<(CleanBitMap<1>, CleanBitMap<1>)> {
     let plain = committed(rt, alloc)?;
-    let copy = plain.clone().ok()?;
-    match copy.indexed() {
-        Ok(indexed) => Some((plain, indexed)),
-        Err(_) => None,
-    }
+    let indexed = indexed_copy(&plain)?;
+    Some((plain, indexed))
 }
 
 // The index of all commits is made, on the second try if the first one fails.
@@ -731,24 +737,60 @@ fn indexed_batch(
     Some((bit_cleared(rt, indexed)?, plain, more))
 }
 
-// The index has the new commit. After a failed commit it is that of the commits before, and the batch can be committed again.
-#[test]
-fn commit_added_to_an_index(rt: HostRuntime) {
-    let Some((batch, plain, more)) = indexed_batch(&rt, rt.alloc()) else {
-        return;
-    };
+// Commits the batch of `indexed_batch` at 3. The index has the new commit. After a failed commit it is that of the commits before, and the
+// batch can be committed again.
+fn commit_to_index(
+    rt: &impl Abort,
+    batch: DirtyBitMap<1>,
+    plain: &CleanBitMap<1>,
+    more: &CleanBitMap<1>,
+) {
     match batch.commit(3) {
-        Ok(map) => expect(&rt, same_in_place(&map, &more)),
+        Ok(map) => expect(rt, same_in_place(&map, more)),
         Err((batch, why)) => {
-            expect(&rt, why == Error::Memory(AllocError));
+            expect(rt, why == Error::Memory(AllocError));
             match batch.commit(3) {
-                Ok(map) => expect(&rt, same_in_place(&map, &more)),
+                Ok(map) => expect(rt, same_in_place(&map, more)),
                 Err((batch, why)) => {
-                    expect(&rt, why == Error::Memory(AllocError));
-                    expect(&rt, same_in_place(&batch.abort(), &plain));
+                    expect(rt, why == Error::Memory(AllocError));
+                    expect(rt, same_in_place(&batch.abort(), plain));
                 }
             }
         }
+    }
+}
+
+#[test]
+fn commit_added_to_an_index(rt: HostRuntime) {
+    if let Some((batch, plain, more)) = indexed_batch(&rt, rt.alloc()) {
+        commit_to_index(&rt, batch, &plain, &more);
+    }
+}
+
+// A batch that clears a bit of each of two chunks of a bitmap, or `None` if an allocation fails.
+fn two_bits_cleared(rt: &impl Abort, map: CleanBitMap<1>) -> Option<DirtyBitMap<1>> {
+    let mut batch = bit_cleared(rt, map)?;
+    try_set_bit(rt, &mut batch, 17, false).ok()?;
+    Some(batch)
+}
+
+// As `indexed_batch`. The index has 14 entries, and its only node has space for 15. So the second of the batch's two entries allocates.
+fn batch_past_a_node(
+    rt: &impl Abort,
+    alloc: Global,
+) -> Option<(DirtyBitMap<1>, CleanBitMap<1>, CleanBitMap<1>)> {
+    let plain = try_commit(rt, edited(rt, alloc, 13)?, 2).ok()?;
+    let indexed = indexed_copy(&plain)?;
+    let copy = plain.clone().ok()?;
+    let more = try_commit(rt, two_bits_cleared(rt, copy)?, 3).ok()?;
+    Some((two_bits_cleared(rt, indexed)?, plain, more))
+}
+
+// If an allocation for the index fails, the commit that was appended before it is removed.
+#[test]
+fn commit_added_past_a_node_of_an_index(rt: HostRuntime) {
+    if let Some((batch, plain, more)) = batch_past_a_node(&rt, rt.alloc()) {
+        commit_to_index(&rt, batch, &plain, &more);
     }
 }
 
