@@ -6,7 +6,6 @@
 - Each relative link of a document leads to a file, and to a heading if it names one.
 - Each file that a document names exists.
 - Each mutant that a table names exists, and each clause that a table names is the label of a clause.
-- Each mutant of the second tier can be applied, and has a name of its own.
 - Each document exists.
 """
 
@@ -178,24 +177,6 @@ def name_errors(path, mutants, labels):
             yield from (f"{place}: there is no clause {name}" for name in names if name not in labels)
 
 
-def second_tier_errors(mutant):
-    """What keeps a mutant of the second tier, which few runs try, from being tried: each old text is once in its file."""
-    crate, place = mutant.parent.parent, mutant.relative_to(TOP)
-    if (crate / "must-fail" / mutant.name).exists():
-        yield f"{place}: must-fail has a mutant of this name"
-    text = old = ""
-    for line in lines_of(mutant):
-        word, _, rest = line.partition(": ")
-        if word == "file":
-            text = (crate / rest).read_text()
-        elif word == "old":
-            old = rest
-            if text.count(old) != 1:
-                yield f"{place}: an old text is {text.count(old)} times in its file"
-        elif word == "new":
-            text = text.replace(old, rest)
-
-
 def known_labels():
     """The labels of clauses, and the names of the public functions: a law is named by its function."""
     texts = [path.read_text() for path in sources(TOP / "crates")]
@@ -210,15 +191,13 @@ def main():
     all_examples = [example for path in texts for example in rattle_examples(path)]
     all_links = [(path, link) for path in [*documents(), *sorted(TOP.glob("bindings/**/README.md"))] for link in links(path)]
     files = [str(path.relative_to(TOP)) for path in TOP.rglob("*") if path.is_file() and "out" not in path.relative_to(TOP).parts]
-    second_tier = sorted(TOP.glob("crates/*/mutants/*.edit"))
-    mutants = {path.stem for path in [*TOP.glob("crates/*/must-fail/*.edit"), *second_tier]}
+    mutants = {path.stem for folder in ("must-fail", "mutants") for path in TOP.glob(f"crates/*/{folder}/*.edit")}
     labels = known_labels()
     errors = [error for example in all_examples for error in example_errors(example, callers)]
     errors += foreign_errors()
     errors += [error for path, link in all_links for error in link_errors(path, link)]
     errors += [error for path in documents() for error in file_errors(path, files)]
     errors += [error for path in documents() for error in name_errors(path, mutants, labels)]
-    errors += [error for mutant in second_tier for error in second_tier_errors(mutant)]
     errors += [f"{name}: missing" for name in DOCUMENTS if not (TOP / name).exists()]
     for error in errors:
         print(error)
