@@ -208,7 +208,8 @@ mortarpink_status mortarpink_encode(mortarpink_bitmap *bitmap, uint8_t *out, siz
 /* ---- Reading a past state in place; not in a batch ----
  *
  * As the calls without `_at`, on the bitmap committed under `number`. They return MORTARPINK_NO_SUCH_COMMIT if that
- * commit is not kept, and mortarpink_encode_at returns MORTARPINK_NONE. Each call searches the commits for `number`.
+ * commit is not kept. Only mortarpink_encode_at returns MORTARPINK_NONE then, and leaves *size and `out` unchanged. Each
+ * call searches the commits for `number`.
  * Then each chunk that is read costs a search of each commit after `number`. Only mortarpink_encode_at allocates. It is
  * linear in the current bitmap, plus the commits after `number` and the chunks that they changed. */
 mortarpink_status mortarpink_len_at(mortarpink_bitmap *bitmap, uint64_t number, uint64_t *len);

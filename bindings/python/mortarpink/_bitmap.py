@@ -111,7 +111,10 @@ class _Reads(_Bits):
         return self._found("select_one", u64(k))
 
     def __bytes__(self) -> bytes:
-        """Returns the encoding, which has no commits, no width and no checksum. Raises NoMemoryError."""
+        """Returns the encoding, which has no commits, no width and no checksum.
+
+        Raises NoMemoryError. Of a Version, raises NoSuchCommitError if its commit is not kept any more.
+        """
         return self._encoding("encode")
 
 
@@ -141,8 +144,9 @@ class Version(_Reads):
 class Batch(_Bits):
     """A batch of edits on a bitmap. `Bitmap.batch` begins it. Its reads are of the pending bitmap.
 
-    At the end of a `with` block the batch is committed if it has a number, and aborted otherwise.
-    If the block or the commit raises an exception, the batch is aborted. So is an open batch without references.
+    At the end of a `with` block the batch is committed if `Bitmap.batch` was given a number. Otherwise the batch is
+    aborted, which drops its edits, unless the block has called `commit`. If the block or the commit raises an
+    exception, the batch is aborted. So is an open batch without references.
     """
 
     _open = False
@@ -157,7 +161,7 @@ class Batch(_Bits):
         """Calls a function unless the batch has ended. Another batch may be open then."""
         with self._session.lock:
             if not self._open:
-                raise WrongModeError("the batch has ended")
+                raise WrongModeError("the batch has ended: Bitmap.batch begins another one")
             return self._session.status(name, *arguments)
 
     def _end(self, name: str, *arguments: object) -> int:
@@ -347,6 +351,9 @@ class Bitmap(_Reads):
     def batch(self, commit: Optional[int] = None) -> Batch:
         """Begins a batch of edits. In a `with` block it ends by a commit under the number, if there is one.
 
+        Without a number, the end of the block aborts the batch and drops its edits, unless the block has called
+        `Batch.commit`.
+
         Raises WrongModeError if there is a batch already.
         """
         return Batch(self._session, None if commit is None else u64(commit))
@@ -392,13 +399,19 @@ class Bitmap(_Reads):
     def changed_chunks(self, older: int, newer: int) -> Iterator[int]:
         """Returns an iterator over the indices of the chunks that differ between two commits, ascending.
 
-        A chunk that only one of the versions retains differs. The iterator reads in pages, as `ones`. A page takes
-        time linear in its changed chunks, with a search of each commit after `older` per chunk.
+        The older number comes first: `changed_chunks(1, 2)`, and not `changed_chunks(2, 1)`. A chunk that only one of
+        the versions retains differs. The iterator reads in pages, as `ones`. A page takes time linear in its changed
+        chunks, with a search of each commit after `older` per chunk.
 
         Raises NoSuchCommitError unless both commits are kept and `older` is at most `newer`.
         """
-        commits = u64(older), u64(newer)
-        return ascending(lambda least: self._page("changed_chunks", *commits, least), 0)
+        older, newer = u64(older), u64(newer)
+        try:
+            return ascending(lambda least: self._page("changed_chunks", older, newer, least), 0)
+        except NoSuchCommitError:
+            if older > newer:
+                raise NoSuchCommitError(f"the older number comes first, and {older} is above {newer}") from None
+            raise
 
     def rewind_to(self, number: int) -> None:
         """Makes the bitmap at a commit current again, and drops the commits after it.

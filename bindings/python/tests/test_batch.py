@@ -270,7 +270,8 @@ class Blocks(unittest.TestCase):
         )
         with self.bitmap.batch(2) as batch:
             for call in calls:
-                self.assertRaises(WrongModeError, call)
+                with self.assertRaisesRegex(WrongModeError, "^the batch has ended: Bitmap.batch begins another one$"):
+                    call()
             self.assertEqual(len(batch), 2)
 
     def test_no_other_call_in_a_batch(self):
@@ -287,7 +288,8 @@ class Blocks(unittest.TestCase):
         )
         with bitmap.batch():
             for call in calls:
-                self.assertRaises(WrongModeError, call)
+                with self.assertRaisesRegex(WrongModeError, "^the bitmap is in a batch: Batch.commit, Batch.abort or "):
+                    call()
         self.unchanged()
 
     def test_a_batch_begins_between_pages(self):

@@ -143,6 +143,11 @@ class ChangedChunks(unittest.TestCase):
         for commits in (2, 1), (1, 3), (0, 1), (4, 5), (MAX, MAX):
             self.assertRaises(NoSuchCommitError, self.bitmap.changed_chunks, *commits)
 
+    def test_the_older_commit_comes_first(self):
+        with self.assertRaises(NoSuchCommitError) as caught:
+            self.bitmap.changed_chunks(2, 1)
+        self.assertEqual(str(caught.exception), "there is no such commit: the older number comes first, and 2 is above 1")
+
     def test_changed_chunks_in_several_pages(self):
         bitmap = Bitmap(1)
         for number, byte in (1, b"\x00"), (2, b"\x01"):
