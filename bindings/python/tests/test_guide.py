@@ -1,99 +1,33 @@
-"""The callers of `docs/GUIDE.md`. `tools/check_docs.py` fails if one of them and the guide differ."""
+"""Tests of the callers in `docs/GUIDE.md`, which are in the folder `guide`. `tools/check_docs.py` fails if one of them and the guide differ."""
 
+import tempfile
 import threading
 import unittest
+from pathlib import Path
 
-from mortarpink import Bitmap, InvalidError, NoMemoryError, OutOfBoundsError
+from guide.all_or_none import set_all
+from guide.any_bits import next_around
+from guide.files import load, save
+from guide.last_versions import commit_set
+from guide.log import append
+from guide.replicas import apply_update, update_between
+from guide.restarts import restored, saved
+from guide.slots import new_slots, take_slot
+from guide.threads import add_flag
+from guide.versions import bit_then
+from mortarpink import Bitmap, InvalidError, InvalidLengthError, NoMemoryError, OutOfBoundsError
 from support import bitmap_of, failing
-
-
-def take_slot(slots, number):
-    """Takes the first free slot, and commits that. Returns None if all slots are taken."""
-    slot = slots.next_zero(0)
-    if slot is not None:
-        with slots.batch(commit=number) as batch:
-            batch[slot] = True
-    return slot
-
-
-def append(log, event, number):
-    """Appends an event, prunes the chunks that end before the last 1,024 bits, and commits. Keeps at most 11 versions."""
-    with log.batch(commit=number) as batch:
-        batch.push(event)
-        batch.prune(max(len(batch) - 1024, 0))
-    log.drop_before(max(number - 10, 0))
-
-
-def bit_then(versions, number, position):
-    """Returns the bit at a position of a version, or None if the version is not kept or does not retain the position."""
-    try:
-        return versions.at(number).get(position)
-    except LookupError:
-        return None
-
-
-def update_between(versions, older, newer):
-    """Returns the number of the newer version, its length, its number of pruned chunks, and its changed chunks by index."""
-    version, width = versions.at(newer), 8 * versions.width
-    changed = list(versions.changed_chunks(older, newer))
-    kept = [index for index in changed if version.pruned_chunks <= index and index * width < version.length]
-    return newer, version.length, version.pruned_chunks, {index: version.chunk(index * width) for index in kept}
-
-
-def apply_update(replica, update):
-    """Brings a replica of the older version to the newer one, and commits it. If a call raises, the replica is unchanged."""
-    number, length, pruned_chunks, chunks = update
-    width = 8 * replica.width
-    with replica.batch(commit=number) as batch:
-        while batch.length > length:
-            batch.pop()
-        while batch.length < length:
-            batch.push(False)
-        for index, data in chunks.items():
-            for bit in range(min(width, length - index * width)):
-                batch[index * width + bit] = data[bit // 8] >> bit % 8 & 1
-        batch.prune(pruned_chunks * width)
-
-
-def saved(versions):
-    """Returns the encoding of each kept version by its number. A history itself has no encoding."""
-    return {number: bytes(versions.at(number)) for number in versions.commits()}
-
-
-def restored(number, data, width=8):
-    """Makes a bitmap of a saved version of at most 4,096 retained bits, and commits it under its number."""
-    bitmap = Bitmap.from_bytes(data, width, most=4096)
-    bitmap.batch().commit(number)
-    return bitmap
-
-
-def next_around(bits, start):
-    """Returns the first set position from `start` on, or the first of all. Takes a Bitmap or a Version."""
-    found = bits.next_one(start)
-    return bits.next_one(0) if found is None else found
-
-
-def set_all(flags, positions, number):
-    """Sets some bits in one batch: all of them, or none if memory runs out. Returns whether it has set them."""
-    try:
-        with flags.batch(commit=number) as batch:
-            for position in positions:
-                batch[position] = True
-    except NoMemoryError:
-        return False
-    return True
-
-
-def add_flag(flags, lock):
-    """Appends a flag under the next number. A batch is several calls, so the threads share a lock for it."""
-    with lock, flags.batch(commit=(flags.latest or 0) + 1) as batch:
-        batch.push(True)
 
 
 class Tasks(unittest.TestCase):
     def test_slots(self):
-        slots = bitmap_of("10111")
-        self.assertEqual([take_slot(slots, 2), take_slot(slots, 3), slots.latest], [1, None, 2])
+        slots = new_slots(2)
+        self.assertEqual([take_slot(slots, number) for number in (1, 2, 3)], [0, 1, None])
+        self.assertEqual((len(slots), list(slots.commits())), (2, [0, 1, 2]))
+        with slots.batch(commit=4) as batch:
+            batch[0] = False
+        self.assertEqual((take_slot(slots, 5), slots.latest), (0, 5))
+        self.assertIsNone(take_slot(new_slots(0), 1))
 
     def test_log(self):
         log = Bitmap(1)
@@ -107,6 +41,15 @@ class Tasks(unittest.TestCase):
             batch[9] = False
             batch.prune(8)
         self.assertEqual([bit_then(versions, *place) for place in ((1, 9), (2, 9), (2, 0), (1, 10), (3, 9))], [True, False, None, None, None])
+
+    def test_last_versions(self):
+        versions = bitmap_of("0" * 300)
+        for number in range(2, 252):
+            commit_set(versions, [number], number)
+        self.assertEqual(list(versions.commits()), list(range(152, 252)))
+        self.assertEqual([bit_then(versions, *place) for place in ((152, 152), (152, 153), (151, 151))], [True, False, None])
+        commit_set(versions, [], 300, most=1)
+        self.assertEqual(list(versions.commits()), [300])
 
     def test_readable(self):
         bitmap = bitmap_of("0100")
@@ -154,10 +97,28 @@ class Replicas(unittest.TestCase):
     def test_replica(self):
         for width in 1, 8, 32, 64:
             versions = self.versions(width)
-            for older, newer in (1, 2), (2, 3), (3, 4), (1, 3), (1, 4), (2, 4), (2, 2):
-                replica = restored(0, bytes(versions.at(older)), width)
+            for older, newer in (1, 2), (2, 3), (3, 4), (1, 3), (1, 4), (2, 4):
+                replica = restored(older, bytes(versions.at(older)), width)
                 apply_update(replica, update_between(versions, older, newer))
                 self.assertEqual((bytes(replica), replica.latest), (bytes(versions.at(newer)), newer))
+
+    def refuse(self, replica, update, reason):
+        """Asserts that a replica raises ValueError for a reason, and is unchanged."""
+        before = bytes(replica), list(replica.commits())
+        with self.assertRaises(ValueError) as caught:
+            apply_update(replica, update)
+        self.assertEqual(str(caught.exception), reason)
+        self.assertEqual((bytes(replica), list(replica.commits())), before)
+
+    def test_an_update_for_another_replica(self):
+        versions = self.versions(1)
+        update = update_between(versions, 2, 3)
+        first = restored(1, bytes(versions.at(1)), 1)
+        self.refuse(first, update, "the update is for version 2, and the replica is at 1")
+        self.refuse(versions, update, "the update is for version 2, and the replica is at 4")
+        self.refuse(Bitmap(1), update, "the update is for version 2, and the replica is at None")
+        self.refuse(restored(2, bytes(16)), update, "the update has chunks of 1 bytes, and the replica of 8")
+        self.refuse(first, update_between(versions, 1, 1), "the update makes version 1, which is not later than 1")
 
     def test_a_replica_that_fails_is_unchanged(self):
         versions = self.versions(1)
@@ -173,3 +134,26 @@ class Replicas(unittest.TestCase):
             bitmap = restored(number, data)
             self.assertEqual((list(bitmap.ones()), list(bitmap.commits())), (list(versions.at(number).ones()), [number]))
             self.assertRaises(InvalidError, restored, number, data + b"\0")
+            retained = len(bitmap) - 64 * bitmap.pruned_chunks
+            self.assertEqual(len(restored(number, data, most=retained)), len(bitmap))
+            self.assertRaises(InvalidLengthError, restored, number, data, most=retained - 1)
+
+    def test_files(self):
+        with tempfile.TemporaryDirectory() as folder:
+            for width in 1, 64:
+                versions, path = self.versions(width), Path(folder, "bitmap")
+                for bits in versions, versions.at(1), Bitmap(width):
+                    save(bits, path)
+                    self.assertEqual((bytes(load(path)), load(path).width), (bytes(bits), width))
+
+    def test_a_damaged_file(self):
+        with tempfile.TemporaryDirectory() as folder:
+            path = Path(folder, "bitmap")
+            save(self.versions(1), path)
+            content = path.read_bytes()
+            other = bytes([content[20] ^ 1])
+            for damaged in b"", bytes(40), content[:-1], content + b"0", content[1:], content[:20] + other + content[21:]:
+                path.write_bytes(damaged)
+                with self.assertRaises(ValueError) as caught:
+                    load(path)
+                self.assertEqual(str(caught.exception), f"{path} is damaged")
