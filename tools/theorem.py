@@ -4,7 +4,7 @@
 A line `<!-- FILE: NAME, NAME -->` is before each fenced block: the block has those definitions of that file, in that order, each under
 its comment, and in the modules with parameters or the `impl` that it is in. `Model for T` names the value and the view of a type's model.
 Every definition of the specs that one on the page depends on has to be on the page too. A name that has several meanings on the page has
-to be in its table of such names.
+to be in its table of such names. A word of std that a definition uses has to be in the first column of a table of the section HOW.
 """
 
 import re
@@ -15,6 +15,7 @@ from pathlib import Path
 TOP = Path(__file__).resolve().parent.parent
 DOCUMENT = TOP / "docs/THEOREM.md"
 BLOCK = re.compile(r"<!-- (\S+): ([^\n]+) -->\n```\n(?:[^`\n][^\n]*\n|\n)*```\n")
+HOW = "## How to read it"
 MODULE = re.compile(r" *module _ .* where")
 SHARED = re.compile(r"^\| `([^`|]+)` \|", re.MULTILINE)
 DEFINED = re.compile(r"(?: *(?:abbrev|unfoldable) pub | *pub (?:record|data|fn) |pub )(\w+)")
@@ -94,9 +95,13 @@ def indentation(line):
     return len(line) - len(line.lstrip())
 
 
+def without_comments(file, name):
+    return "\n".join(re.sub("--.*", "", line) for line in definition(file, name))
+
+
 def depends(file, name):
     """The spec definitions that a definition depends on."""
-    text = "\n".join(re.sub("--.*", "", line) for line in definition(file, name))
+    text = without_comments(file, name)
     text = re.sub(r"^ *pub \w+ :|\w+ = ", "", text, flags=re.MULTILINE)  # without the names of fields
     found = {meaning(file, word) for word in re.findall(r"[^\s()\[\]{};,]+", text)}
     return found - {None, (file, name)}
@@ -127,7 +132,7 @@ def fields(file, name):
 
 def std_names(file):
     """The names that a file imports from std."""
-    lists = re.findall(r"^use Rattle\.std\.[\w.]+\.\{([^}]*)\}", "\n".join(lines_of(file)), re.MULTILINE)
+    lists = re.findall(r"^ *(?:ghost )?use Rattle\.std\.[\w.]+\.\{([^}]*)\}", "\n".join(lines_of(file)), re.MULTILINE)
     return {name.strip() for listed in lists for name in listed.split(",") if " as " not in name}
 
 
@@ -143,6 +148,20 @@ def several_meanings(named):
     return twice | (set(defined) & (record_fields | of_std))
 
 
+def words_of_std(file, name):
+    """The words of std that a definition uses. An operator such as `if◌then◌else◌` is its words."""
+    tokens = set(re.findall(r"[^\s()\[\]{};,]+", without_comments(file, name)))
+    operators = [set(re.findall("[^◌]+", name)) for name in std_names(file)]
+    return {word for words in operators if words <= tokens for word in words}
+
+
+def explained_words(page):
+    """The words in the first columns of the tables that say how to read the page."""
+    section = page.partition(f"\n{HOW}\n")[2].partition("\n## ")[0]
+    codes = re.findall(r"`([^`]+)`", " ".join(re.findall(r"^\| (.*?) \|", section, re.MULTILINE)))
+    return {word for code in codes for word in re.findall(r"[^\s().,]+", code)}
+
+
 def errors_of(page):
     """The definitions that a page names and that do not exist; if there are none, those that are missing on the page."""
     named = [(found[1], name) for found in BLOCK.finditer(page) for name in found[2].split(", ")]
@@ -150,8 +169,11 @@ def errors_of(page):
     if unknown:
         return unknown
     unlisted = [f"{name} has several meanings and is not in the table of such names" for name in several_meanings(named) - set(SHARED.findall(page))]
-    return sorted({f"{name} of {file} depends on {other} of {source}, which is not on the page"
-                   for file, name in named for source, other in depends(file, name) if (source, other) not in named} | set(unlisted))
+    missing = {f"{name} of {file} depends on {other} of {source}, which is not on the page"
+               for file, name in named for source, other in depends(file, name) if (source, other) not in named}
+    used = {word for each in named for word in words_of_std(*each)}
+    unexplained = {f"{word} is a word of std and is in no table of the section that says how to read the page" for word in used - explained_words(page)}
+    return sorted(missing | unexplained | set(unlisted))
 
 
 def main():
