@@ -441,7 +441,7 @@ impl Bitmap {
     /// # Complexity
     ///
     /// The indices are read in pages of 64. A page examines the chunks after the previous page, up
-    /// to its last one, that a commit after `from` and up to `to` touched. Each costs a search of
+    /// to its last one, that a commit after `from` and up to `to` changed. Each costs a search of
     /// each commit after `from`.
     ///
     /// # Examples
