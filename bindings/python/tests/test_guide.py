@@ -10,10 +10,11 @@ from guide.any_bits import next_around
 from guide.files import load, save
 from guide.last_versions import commit_set
 from guide.log import append
-from guide.replicas import apply_update, update_between
+from guide.replicas import apply_update
 from guide.restarts import restored, saved
 from guide.slots import new_slots, take_slot
 from guide.threads import add_flag
+from guide.updates import update_between
 from guide.versions import bit_then
 from mortarpink import Bitmap, InvalidError, InvalidLengthError, NoMemoryError, OutOfBoundsError
 from support import bitmap_of, failing

@@ -10,6 +10,7 @@ mod replicas;
 mod restarts;
 mod slots;
 mod threads;
+mod updates;
 mod versions;
 
 use std::sync::Mutex;
@@ -19,10 +20,11 @@ use common::{WIDTHS, bitmap_of, commit};
 use last_versions::commit_set;
 use log::append;
 use mortarpink::{Bitmap, Error, Width};
-use replicas::{UpdateError, apply_update, update_between};
+use replicas::{UpdateError, apply_update};
 use restarts::{restored, saved};
 use slots::{new_slots, take_slot};
 use threads::count_and_append;
+use updates::{Update, update_between};
 use versions::bit_then;
 
 #[test]
@@ -129,7 +131,7 @@ fn a_replica_that_fails_is_unchanged() {
 }
 
 /// Asserts that a replica fails with an error, and is unchanged.
-fn refuse(mut replica: Bitmap, update: &replicas::Update, error: UpdateError) {
+fn refuse(mut replica: Bitmap, update: &Update, error: UpdateError) {
     let before = (replica.to_bytes().unwrap(), replica.latest());
     assert_eq!(apply_update(&mut replica, update), Err(error));
     assert_eq!((replica.to_bytes().unwrap(), replica.latest()), before);

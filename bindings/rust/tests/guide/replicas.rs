@@ -1,15 +1,5 @@
-use mortarpink::{Bitmap, Chunk, Error, Width};
-
-/// What a replica of the older version receives: both numbers, the width, the length of the newer
-/// version in bits, its number of pruned chunks, and the bytes of changed chunks by index.
-pub struct Update {
-    pub older: u64,
-    pub newer: u64,
-    pub width: Width,
-    pub len: u64,
-    pub pruned_chunks: u64,
-    pub chunks: Vec<(u64, Chunk)>,
-}
+use crate::updates::Update;
+use mortarpink::{Bitmap, Error, Width};
 
 /// Why a replica does not apply an update.
 #[derive(Debug, PartialEq)]
@@ -28,21 +18,6 @@ impl From<Error> for UpdateError {
     fn from(error: Error) -> UpdateError {
         UpdateError::Failed(error)
     }
-}
-
-/// Makes the update from one version to a later one. A changed chunk that the later version does
-/// not retain is left out: it is pruned or past the length there.
-pub fn update_between(versions: &Bitmap, older: u64, newer: u64) -> Result<Update, Error> {
-    let version = versions.at(newer)?;
-    let bits = versions.width().bits();
-    let mut chunks = Vec::new();
-    for index in versions.changed_chunks(older, newer)? {
-        if version.pruned_chunks() <= index && index * bits < version.len() {
-            chunks.push((index, version.chunk(index * bits)?));
-        }
-    }
-    let (width, len, pruned_chunks) = (versions.width(), version.len(), version.pruned_chunks());
-    Ok(Update { older, newer, width, len, pruned_chunks, chunks })
 }
 
 /// Fails if an update is not for this replica: for its latest version and width, and to a later
