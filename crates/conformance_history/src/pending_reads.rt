@@ -128,6 +128,27 @@ fn batch_without_edits(rt: HostRuntime) {
     check_lists(&rt, &map);
 }
 
+// Copies of chunks by their index, of the pending bitmap and of the current one. A chunk past the end has no bytes.
+#[test]
+fn bytes_by_index(rt: HostRuntime) {
+    let map = edited(&rt, rt.alloc());
+    equal(&rt, map.newly_pruned_chunks(), 1);
+    equal(&rt, map.retained_bytes(1), Some([0xef, 0x02]));
+    equal(&rt, map.retained_bytes(2), Some([0xe1, 0xff]));
+    equal(&rt, map.retained_bytes(3), Some([0x01, 0]));
+    for chunk in [0, 4, usize::MAX] {
+        equal(&rt, map.retained_bytes(chunk), None);
+    }
+    let map = map.abort();
+    equal(&rt, map.retained_bytes(0), Some([0x0f, 0]));
+    equal(&rt, map.retained_bytes(1), Some([0xff, 0]));
+    equal(&rt, map.retained_bytes(2), Some([0x01, 0]));
+    for chunk in [3, usize::MAX] {
+        equal(&rt, map.retained_bytes(chunk), None);
+    }
+    equal(&rt, map.into_dirty().newly_pruned_chunks(), 0);
+}
+
 // Whether two bitmaps have the same bits, and the same lists of positions.
 fn same_reads<A: Readable<N>, B: Readable<N>, const N: usize>(map: &A, other: &B) -> bool {
     // The prover learns the bounds of `N` from this call.

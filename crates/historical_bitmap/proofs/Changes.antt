@@ -2,8 +2,10 @@
 -- Unnamed: a chunk without an entry in a record between two states is the same in both.
 -- Next: the next chunk that differs, searched for among the chunks with entries.
 -- Pending: a chunk that is not marked is the same in the current and the pending bitmap.
+-- PastEnd: a chunk past the end has no bytes.
 -- Patched: the laws of the chunks that differ.
 pub mod Unnamed
 pub mod Next
 pub mod Pending
+pub mod PastEnd
 pub mod Patched

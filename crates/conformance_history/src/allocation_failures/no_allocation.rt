@@ -141,6 +141,11 @@ fn current_bitmap_read(rt: HostRuntime) {
     );
     expect(&rt, current_bit(&rt, &map, 9) && !current_bit(&rt, &map, 8));
     equal(&rt, current_chunk(&rt, &map, 23), [0x0f]);
+    equal(
+        &rt,
+        (map.retained_bytes(0), map.retained_bytes(1)),
+        (None, Some([0xae])),
+    );
     expect(&rt, has_bits(map.current(), 1, b"0111010111110000"));
 }
 
@@ -155,6 +160,11 @@ fn pending_bitmap_read(rt: HostRuntime) {
     );
     expect(&rt, pending_bit(&rt, &map, 9) && !pending_bit(&rt, &map, 8));
     equal(&rt, pending_chunk(&rt, &map, 22), [0x0f]);
+    equal(
+        &rt,
+        (map.newly_pruned_chunks(), map.retained_bytes(1)),
+        (0, Some([0xae])),
+    );
     expect(&rt, keeps(&map.abort(), &[1, 2]));
 }
 

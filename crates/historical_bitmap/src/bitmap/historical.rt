@@ -58,6 +58,7 @@ mod rewind;
 mod state;
 mod tail;
 mod undo;
+mod whole_chunks;
 mod word;
 
 pub use crate::bitmap::historical::at::AtCommit;

@@ -47,7 +47,7 @@ impl<'a, const N: usize> Model for PendingChanges<'a, N> {
 }
 
 // Returns the bytes of a chunk of the current bitmap, if it is retained.
-fn current_bytes<const N: usize>(current: &Prunable<N>, chunk: usize) -> Option<[u8; N]>
+pub(crate) fn current_bytes<const N: usize>(current: &Prunable<N>, chunk: usize) -> Option<[u8; N]>
     requires { 8 * N * chunk < 2 ^ 64 }
     ensures { result ≡ retained_bytes_of N current.now chunk }
 {
@@ -60,7 +60,7 @@ fn current_bytes<const N: usize>(current: &Prunable<N>, chunk: usize) -> Option<
 }
 
 // Returns the bytes of a chunk of the pending bitmap, if it is retained.
-fn pending_bytes<const N: usize>(
+pub(crate) fn pending_bytes<const N: usize>(
     current: &Prunable<N>,
     edits: &Dirty<N>,
     chunk: usize,
