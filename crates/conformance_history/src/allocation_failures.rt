@@ -9,7 +9,7 @@ mod no_allocation;
 use crate::checked_calls::{
     failed_commit, has_pending_bits, keeps, pending_pruned_bits, pop, pop_run, try_commit,
     try_had_bits, try_prune_to_bit, try_push, try_push_byte, try_push_chunk, try_push_run,
-    try_set_bit, try_set_range,
+    try_set_bit, try_set_chunk, try_set_range,
 };
 use crate::checks::{equal, expect};
 use historical_bitmap::bitmap::historical::{CleanBitMap, DirtyBitMap, Error, RewindError};
@@ -105,6 +105,21 @@ fn range_set(rt: HostRuntime) {
             try_set_range(&rt, &mut map, 10..18, false).is_err()
         };
     let after: &[u8] = if failed { PENDING } else { b"010000000011000" };
+    expect(&rt, has_pending_bits(&rt, &map, 1, after));
+    use_further(&rt, map, &before);
+}
+
+#[test]
+fn chunk_replaced(rt: HostRuntime) {
+    let Some((mut map, before)) = batch_begun(&rt, rt.alloc()) else {
+        return;
+    };
+    let failed = try_set_chunk(&rt, &mut map, 2, &[0x8d]).is_err()
+        && {
+            expect(&rt, has_pending_bits(&rt, &map, 1, PENDING));
+            try_set_chunk(&rt, &mut map, 2, &[0x8d]).is_err()
+        };
+    let after: &[u8] = if failed { PENDING } else { b"011101011011000" };
     expect(&rt, has_pending_bits(&rt, &map, 1, after));
     use_further(&rt, map, &before);
 }
@@ -465,16 +480,17 @@ fn chunks_edited_in_descending_order_committed(rt: HostRuntime) {
 }
 
 // The pending bitmap of `batch_begun` after each of the edits below: its pruned chunks and its bits.
-const FURTHER: [(usize, &[u8]); 6] = [
+const FURTHER: [(usize, &[u8]); 7] = [
     (1, b"111101011111000"),
     (1, b"0111010111110001"),
     (1, b"01110101111100010110010"),
     (1, b"01110101111100010110010"),
     (1, b"010000000011000"),
+    (1, b"011101011011000"),
     (2, b"1111000"),
 ];
 
-// Makes one of six edits in a chain, after an edit that prunes nothing and does not allocate.
+// Makes one of seven edits in a chain, after an edit that prunes nothing and does not allocate.
 fn edit_further(rt: &impl Abort, map: &mut DirtyBitMap<1>, which: usize) -> Result<(), AllocError> {
     expect(
         rt,
@@ -487,6 +503,7 @@ fn edit_further(rt: &impl Abort, map: &mut DirtyBitMap<1>, which: usize) -> Resu
         2 => edit.push_byte(0x4d)?,
         3 => edit.push_chunk(&[0x4d])?,
         4 => edit.set_range(10..18, false)?,
+        5 => edit.set_chunk(2, &[0x8d])?,
         _ => edit.prune_to_bit(16)?,
     };
     Ok(())
@@ -501,7 +518,7 @@ fn check_further(rt: &impl Abort, alloc: Global, which: usize) {
             expect(rt, has_pending_bits(rt, &map, 1, PENDING));
             edit_further(rt, &mut map, which).is_err()
         };
-    expect(rt, which < 6);
+    expect(rt, which < 7);
     let (pruned_chunks, digits) = if failed { (1, PENDING) } else { FURTHER[which] };
     expect(rt, has_pending_bits(rt, &map, pruned_chunks, digits));
     use_further(rt, map, &before);
@@ -509,7 +526,7 @@ fn check_further(rt: &impl Abort, alloc: Global, which: usize) {
 
 #[test]
 fn edits_in_a_chain(rt: HostRuntime) {
-    for which in 0..6 {
+    for which in 0..7 {
         check_further(&rt, rt.alloc(), which);
     }
 }

@@ -88,6 +88,32 @@ pub fn set_range<const N: usize>(
     ok(rt, try_set_range(rt, map, range, value));
 }
 
+/// Replaces the bits of a chunk of which the pending bitmap retains a bit.
+pub fn try_set_chunk<const N: usize>(
+    rt: &impl Abort,
+    map: &mut DirtyBitMap<N>,
+    index: usize,
+    chunk: &[u8; N],
+) -> Result<(), AllocError> {
+    // The prover learns the bounds of `N` from this call.
+    let _ = map.len();
+    let start = (8 * N as u64).checked_mul(index as u64);
+    assert!(rt; start.is_some());
+    assert!(rt; map.pruned_chunks() <= index && start.unwrap_or(0) < map.len());
+    map.set_chunk(index, chunk)?;
+    Ok(())
+}
+
+/// The same, but fails the test if an allocation fails.
+pub fn set_chunk<const N: usize>(
+    rt: &impl Abort,
+    map: &mut DirtyBitMap<N>,
+    index: usize,
+    chunk: &[u8; N],
+) {
+    ok(rt, try_set_chunk(rt, map, index, chunk));
+}
+
 /// Appends a bit.
 pub fn try_push<const N: usize>(
     rt: &impl Abort,

@@ -34,4 +34,6 @@ mod records;
 #[cfg(test)]
 mod rewound;
 #[cfg(test)]
+mod set_chunks;
+#[cfg(test)]
 mod starts;

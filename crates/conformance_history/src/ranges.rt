@@ -47,8 +47,8 @@ pub fn grow<const N: usize>(rt: &impl Abort, map: &mut DirtyBitMap<N>, to: u64) 
     equal(rt, map.len(), to);
 }
 
-// Five chunks and five bits of the pattern, committed at 1.
-fn committed<const N: usize>(rt: &impl Abort, alloc: Global, width: u64) -> CleanBitMap<N>
+/// Returns five chunks and five bits of the pattern, committed at 1.
+pub fn committed<const N: usize>(rt: &impl Abort, alloc: Global, width: u64) -> CleanBitMap<N>
     requires { IsWidth N }
 {
     let mut map = CleanBitMap::<N>::new(alloc).into_dirty();
@@ -56,8 +56,8 @@ fn committed<const N: usize>(rt: &impl Abort, alloc: Global, width: u64) -> Clea
     commit(rt, map, 1)
 }
 
-// A batch on it that prunes chunk 0, edits chunk 2, and appends up to bit 3 of chunk 7. All bits are still those of the pattern.
-fn begun<const N: usize>(rt: &impl Abort, map: CleanBitMap<N>, width: u64) -> DirtyBitMap<N> {
+/// Returns a batch on it that prunes chunk 0, edits chunk 2, and appends up to bit 3 of chunk 7. All bits are still those of the pattern.
+pub fn begun<const N: usize>(rt: &impl Abort, map: CleanBitMap<N>, width: u64) -> DirtyBitMap<N> {
     let mut map = map.into_dirty();
     prune_to_bit(rt, &mut map, width);
     let edited = width.saturating_mul(2);

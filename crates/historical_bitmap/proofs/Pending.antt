@@ -11,6 +11,7 @@
 -- AppliedRun: so they do if the appended run is applied after the other chunks.
 -- Appends: several bits appended at once.
 -- Ranges: the bits of a range set at once.
+-- WholeChunks: the bits of a chunk replaced at once.
 -- NextMarked: the next marked chunk.
 -- Writes: the writes of the code to chunks, as edits of the pending edits.
 -- BatchEdits: the edits of a batch, from those of its pending edits.
@@ -27,6 +28,7 @@ pub mod AppliedInAnyOrder
 pub mod AppliedRun
 pub mod Appends
 pub mod Ranges
+pub mod WholeChunks
 pub mod NextMarked
 pub mod Writes
 pub mod BatchEdits

@@ -1,7 +1,8 @@
 -- The edits of a batch. Positions are absolute and count bits. A chunk has n bytes.
-use Rattle.std.specs.Prelude.{◌≡◌, ℕ, ◌+◌, ◌-◌, ◌*◌, ◌/◌, ◌^◌, ◌<◌, ◌≤◌, Bool, true, List, [], ◌∷◌, ◌++◌, length, map, nat_eq}
+use Rattle.std.specs.Prelude.{◌≡◌, ℕ, ◌+◌, ◌-◌, ◌*◌, ◌/◌, ◌^◌, ◌<◌, ◌≤◌, min, Bool, true, List, [], ◌∷◌, ◌++◌, length, map, nat_eq}
 use Rattle.std.specs.List.{range_with_len}
 use Rattle.std.specs.Set.{is_member}
+use Rattle.bitmap_bytes.specs.Chunk.{chunk_bit}
 use Rattle.bitmap_core.specs.PrunedBits.{PrunedBits, bit_len, IsRetained, pushed, popped, set_at, pruned_to}
 
 -- one edit: append a bit, drop the last bit, replace the bit at a position, or prune the chunks before the chunk of a position
@@ -26,6 +27,14 @@ IsReached n lo hi i = (k : ℕ) × (lo ≤ k) × (k < hi) × (k / (8 * n) ≡ i)
 -- the edits that set each position from lo up to, but not including, hi, in ascending order
 abbrev pub sets : ℕ → ℕ → Bool → List Edit
 sets lo hi value = map (λ position. Set position value) (from_to lo hi)
+
+-- the edits that set each position from lo up to, but not including, hi to the bit that some bytes have there, in ascending order
+abbrev pub sets_of : ℕ → List ℕ → ℕ → ℕ → List Edit
+sets_of n bytes lo hi = map (λ position. Set position (chunk_bit n bytes position)) (from_to lo hi)
+
+-- the end of chunk i: the first position past it, or the length if that is less
+abbrev pub chunk_end : ℕ → PrunedBits → ℕ → ℕ
+chunk_end n b i = min (8 * n * i + 8 * n) (bit_len n b)
 
 -- the bitmap after an edit
 abbrev pub after : ℕ → PrunedBits → Edit → PrunedBits

@@ -199,6 +199,20 @@ pub record SetsRange (n : ℕ) (b : PrunedBits) (l : PendingEdits) (lo hi : ℕ)
   pub set : (k : ℕ) → lo ≤ k → k < hi → MatchOption (edited_chunk m (k / (8 * n))) ⊥ (IsRangeSet n (pending_chunk n b l (k / (8 * n))) lo hi value (k / (8 * n)))
   pub others : (i : ℕ) → ((k : ℕ) → lo ≤ k → k < hi → k / (8 * n) ≡ i → ⊥) → edited_chunk m i ≡ edited_chunk l i
 
+-- the n bytes of chunk i with the bits of a chunk below position `len`, and zeros from there on
+pub record IsCut (n : ℕ) (chunk : List ℕ) (len i : ℕ) (bytes : List ℕ) : Type 0 where
+  pub size : length bytes ≡ n
+  pub bits : (k : ℕ) → k / (8 * n) ≡ i → chunk_bit n bytes k ≡ (if nat_lt k len then chunk_bit n chunk k else false)
+
+-- m is l with the bits of chunk i replaced by those of `chunk` below the length: chunk i is edited, and no other that was not
+pub record SetsChunk (n : ℕ) (l : PendingEdits) (i : ℕ) (chunk : List ℕ) (m : PendingEdits) : Type 0 where
+  pub len : m.len ≡ l.len
+  pub pruned : m.pruned ≡ l.pruned
+  pub captured : m.captured ≡ l.captured
+  pub bytes : List ℕ
+  pub cut : IsCut n chunk l.len i bytes
+  pub edited : Puts l.edited m.edited i (Some bytes)
+
 -- the entry of a marked chunk in the record of a commit: what the commit does to the chunk, with its old bytes
 abbrev pub diff_of : ℕ → PrunedBits → PendingEdits → ℕ → ChunkDiff
 diff_of n b l i =

@@ -6,7 +6,7 @@ use crate::allocation_failures::{
 use crate::checked_calls::{
     current_bit, current_chunk, failed_commit, failed_rewind, has_pending_bits, keeps, pending_bit,
     pending_chunk, pop, pop_run, read_bit, try_commit, try_prune_to_bit, try_push, try_push_byte,
-    try_push_run, try_set_bit, try_set_range,
+    try_push_run, try_set_bit, try_set_chunk, try_set_range,
 };
 use crate::checks::{equal, expect, expect_at};
 use historical_bitmap::bitmap::Readable;
@@ -56,6 +56,19 @@ fn edited_chunk_set(rt: HostRuntime) {
         expect_at(&rt, bit, try_set_bit(&rt, &mut map, bit, false).is_ok());
     }
     equal(&rt, pending_chunk(&rt, &map, 31), [0; 4]);
+}
+
+#[test]
+fn edited_chunk_replaced(rt: HostRuntime) {
+    let Some(mut map) = one_chunk(&rt, rt.alloc()) else {
+        return;
+    };
+    if try_set_bit(&rt, &mut map, 0, false).is_err() {
+        return;
+    }
+    let chunk = [0x4d, 0xae, 0x0f, 0xf1];
+    expect(&rt, try_set_chunk(&rt, &mut map, 0, &chunk).is_ok());
+    equal(&rt, pending_chunk(&rt, &map, 31), chunk);
 }
 
 // A range of an edited chunk, and one without a position.

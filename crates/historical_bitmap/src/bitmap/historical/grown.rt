@@ -302,6 +302,20 @@ impl<const N: usize> GrownChunks<N> {
         self.open(index, chunk)
     }
 
+    // As `write`, for a chunk that need not be appended: a new one never goes into the run.
+    pub(crate) fn replace(&mut self, index: usize, chunk: [u8; N]) -> Result<(), AllocError>
+        ensures ok { OnOk result (Puts self.old self.new index (Some chunk.entry)) }
+        ensures err { OnErr result (self.new ≡ self.old) }
+        ensures edited { IsSome (lookup (nat_eq index) self.old) → IsOk result }
+    {
+        if is_in(self.from, self.run.len(), index) {
+            let place = index - self.from;
+            self.run[place] = chunk;
+            return Ok(());
+        }
+        self.others.write(index, chunk)
+    }
+
     // Inserts or replaces the chunk at an index, and inserts one at the next. There is no chunk past the index.
     // After an error nothing is changed.
     pub(crate) fn write_two(

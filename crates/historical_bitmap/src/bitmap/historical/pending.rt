@@ -11,12 +11,12 @@ ghost use Rattle.bitmap_bytes.specs.Chunk.{bytes_bit, byte_bits, chunk_bit, chun
 ghost use Rattle.bitmap_core.specs.PrunedBits.{PrunedBits, bit_at, bit_len, chunk, IsRetained, pruned_bits, truncated};
 ghost use Rattle.chunk_map.specs.Entries.{IsNextMember};
 ghost use Rattle.historical_bitmap.specs.Edits.{from_to};
-ghost use Rattle.historical_bitmap.specs.Pending.{AddsEntries, Appends, diff_of, edited_chunk, first_cut_of, IsClearFrom, marked_chunks, members_between, PendingFits, picked_between, old_chunk, pending_bits, pending_chunk, Pops, Prunes, IsRecordOf, run_bits, SetsRange, unedited, Writes};
+ghost use Rattle.historical_bitmap.specs.Pending.{AddsEntries, Appends, diff_of, edited_chunk, first_cut_of, IsClearFrom, marked_chunks, members_between, PendingFits, picked_between, old_chunk, pending_bits, pending_chunk, Pops, Prunes, IsRecordOf, run_bits, SetsChunk, SetsRange, unedited, Writes};
 ghost use Rattle.historical_bitmap.specs.Record.{LeadsBack};
 ghost use Rattle.historical_bitmap.specs.Stored.{diff_value};
 ghost use Rattle.historical_bitmap.specs.Undo.{CanUndo};
 
-use crate::bitmap::historical::edited::first_chunk;
+use crate::bitmap::historical::edited::{cut, first_chunk};
 use crate::bitmap::historical::grown::GrownChunks;
 use crate::bitmap::historical::record::{ChunkDiff, CommitDiff};
 use crate::bitmap::historical::tail::TailChunks;
@@ -456,6 +456,22 @@ impl<const N: usize> Dirty<N> {
         }
         self.edited
             .set_range(current, len, from, to, value, self.alloc)?;
+        Ok(())
+    }
+
+    // Replaces the bits of the chunk at an index, which starts before the length. Bits past the length become zero.
+    // After an error nothing is changed. Does not allocate, and succeeds, if the chunk is edited.
+    pub(crate) fn set_chunk(&mut self, index: usize, chunk: &[u8; N]) -> Result<(), AllocError>
+        requires starts { 8 * N * index < self.old.len }
+        ensures ok { OnOk result (SetsChunk N self.old index chunk.now self.new) }
+        ensures err { OnErr result (self.new ≡ self.old) }
+        ensures edited { IsSome (edited_chunk self.old index) → IsOk result }
+    {
+        let len = self.len();
+        let start = chunk_width::<N>() * index as u64;
+        let mut bytes = *chunk;
+        cut(&mut bytes, len - start);
+        self.edited.replace(index, bytes)?;
         Ok(())
     }
 

@@ -460,6 +460,16 @@ impl<const N: usize> TailChunks<N> {
         self.chunks.write(index, chunk)
     }
 
+    // As `write`, for a chunk that need not be appended: a new one never goes into the appended run.
+    pub(crate) fn replace(&mut self, index: usize, chunk: [u8; N]) -> Result<(), AllocError>
+        ensures ok { OnOk result (Puts self.old self.new index (Some chunk.entry)) }
+        ensures err { OnErr result (self.new ≡ self.old) }
+        ensures edited { IsSome (lookup (nat_eq index) self.old) → IsOk result }
+    {
+        settle(&mut self.chunks, &mut self.tail);
+        self.chunks.replace(index, chunk)
+    }
+
     // Inserts or replaces the chunk at an index, and inserts one at the next. There is no chunk past the index.
     // After an error nothing is changed.
     pub(crate) fn write_two(
