@@ -168,6 +168,12 @@ pub fn pop<const N: usize>(rt: &impl Abort, map: &mut DirtyBitMap<N>) -> bool {
     map.pop()
 }
 
+/// Shortens the pending bitmap to `n` bits, which is at least its pruned bits and at most its length.
+pub fn truncate<const N: usize>(rt: &impl Abort, map: &mut DirtyBitMap<N>, n: u64) {
+    assert!(rt; pending_pruned_bits(rt, map) <= n && n <= map.len());
+    map.truncate(n);
+}
+
 /// Prunes each chunk before the one that contains `bit`, which is at most the pending length.
 pub fn try_prune_to_bit<const N: usize>(
     rt: &impl Abort,

@@ -22,6 +22,8 @@ mod in_place;
 #[cfg(test)]
 mod indexed;
 #[cfg(test)]
+mod lengths;
+#[cfg(test)]
 mod long_batches;
 #[cfg(test)]
 mod pending_reads;

@@ -47,7 +47,7 @@ pub fn grow<const N: usize>(rt: &impl Abort, map: &mut DirtyBitMap<N>, to: u64) 
     equal(rt, map.len(), to);
 }
 
-/// Returns five chunks and five bits of the pattern, committed at 1.
+/// Returns a bitmap of five chunks and five bits of the pattern, committed at 1.
 pub fn committed<const N: usize>(rt: &impl Abort, alloc: Global, width: u64) -> CleanBitMap<N>
     requires { IsWidth N }
 {

@@ -5,9 +5,11 @@
 -- OpenedChunk: the first bit of a new chunk.
 -- ManyChunks: many chunks inserted, removed again, and set in a range of their bits.
 -- CachedWord: entries with a cached word.
+-- CutChunks: entries that are cut at an index or at a position.
 pub mod ReplacedChunk
 pub mod WrittenBits
 pub mod AppendedRun
 pub mod CachedWord
 pub mod OpenedChunk
 pub mod ManyChunks
+pub mod CutChunks

@@ -16,6 +16,7 @@
 -- Writes: the writes of the code to chunks, as edits of the pending edits.
 -- BatchEdits: the edits of a batch, from those of its pending edits.
 -- EditedAfter: which chunks are edited after each edit.
+-- Truncates: many bits removed at once.
 pub mod Touched
 pub mod Edits
 pub mod Ends
@@ -33,3 +34,4 @@ pub mod NextMarked
 pub mod Writes
 pub mod BatchEdits
 pub mod EditedAfter
+pub mod Truncates

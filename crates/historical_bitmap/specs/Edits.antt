@@ -1,5 +1,5 @@
 -- The edits of a batch. Positions are absolute and count bits. A chunk has n bytes.
-use Rattle.std.specs.Prelude.{◌≡◌, ℕ, ◌+◌, ◌-◌, ◌*◌, ◌/◌, ◌^◌, ◌<◌, ◌≤◌, min, Bool, true, List, [], ◌∷◌, ◌++◌, length, map, nat_eq}
+use Rattle.std.specs.Prelude.{◌≡◌, ℕ, ◌+◌, ◌-◌, ◌*◌, ◌/◌, ◌^◌, ◌<◌, ◌≤◌, min, Bool, true, List, [], ◌∷◌, ◌++◌, length, map, nat_eq, replicate}
 use Rattle.std.specs.List.{range_with_len}
 use Rattle.std.specs.Set.{is_member}
 use Rattle.bitmap_bytes.specs.Chunk.{chunk_bit}
@@ -15,6 +15,10 @@ pub data Edit : Type 0 where
 -- the edits that append some bits, in order
 abbrev pub pushes : List Bool → List Edit
 pushes values = map (λ value. Push value) values
+
+-- the edits that drop a number of bits, the last one first
+abbrev pub pops : ℕ → List Edit
+pops count = replicate count Pop
 
 -- the numbers from lo up to, but not including, hi
 abbrev pub from_to : ℕ → ℕ → List ℕ

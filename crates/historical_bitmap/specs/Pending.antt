@@ -200,7 +200,7 @@ pub record SetsRange (n : ℕ) (b : PrunedBits) (l : PendingEdits) (lo hi : ℕ)
   pub others : (i : ℕ) → ((k : ℕ) → lo ≤ k → k < hi → k / (8 * n) ≡ i → ⊥) → edited_chunk m i ≡ edited_chunk l i
 
 -- the n bytes of chunk i with the bits of a chunk below position `len`, and zeros from there on
-pub record IsCut (n : ℕ) (chunk : List ℕ) (len i : ℕ) (bytes : List ℕ) : Type 0 where
+pub record IsTrimmed (n : ℕ) (chunk : List ℕ) (len i : ℕ) (bytes : List ℕ) : Type 0 where
   pub size : length bytes ≡ n
   pub bits : (k : ℕ) → k / (8 * n) ≡ i → chunk_bit n bytes k ≡ (if nat_lt k len then chunk_bit n chunk k else false)
 
@@ -210,8 +210,29 @@ pub record SetsChunk (n : ℕ) (l : PendingEdits) (i : ℕ) (chunk : List ℕ) (
   pub pruned : m.pruned ≡ l.pruned
   pub captured : m.captured ≡ l.captured
   pub bytes : List ℕ
-  pub cut : IsCut n chunk l.len i bytes
+  pub cut : IsTrimmed n chunk l.len i bytes
   pub edited : Puts l.edited m.edited i (Some bytes)
+
+-- the new entries have the old values under the keys below `from`, and none under the others
+abbrev pub DropsFrom : {X : Type 0} → List (ℕ × X) → List (ℕ × X) → ℕ → Type 0
+DropsFrom old new from = (q : ℕ) → lookup (nat_eq q) new ≡ (if nat_lt q from then lookup (nat_eq q) old else None)
+
+-- an edited chunk after the bits from bit `from` on, counted from its start, are cleared; it is not edited if it was not
+abbrev pub IsCut : ℕ → ℕ → Option (List ℕ) → Option (List ℕ) → Type 0
+IsCut n from old new = MatchOption old (new ≡ None) (λ chunk. MatchOption new ⊥ (λ bytes. IsPartSet n chunk bytes from (8 * n) false))
+
+-- the new entries are the old ones cut to `total` bits: without the chunks that start there or later, and with zeros from there on in the chunk that starts before
+pub record CutsChunks (n : ℕ) (old new : List (ℕ × List ℕ)) (total : ℕ) : Type 0 where
+  pub dropped : (i : ℕ) → total ≤ 8 * n * i → lookup (nat_eq i) new ≡ None
+  pub cut : (i : ℕ) → 8 * n * i < total → total < 8 * n * i + 8 * n → IsCut n (total % (8 * n)) (lookup (nat_eq i) old) (lookup (nat_eq i) new)
+  pub kept : (i : ℕ) → 8 * n * i + 8 * n ≤ total → lookup (nat_eq i) new ≡ lookup (nat_eq i) old
+
+-- m is l shortened to `total` bits
+pub record Truncates (n : ℕ) (l : PendingEdits) (total : ℕ) (m : PendingEdits) : Type 0 where
+  pub len : m.len ≡ total
+  pub pruned : m.pruned ≡ l.pruned
+  pub captured : m.captured ≡ l.captured
+  pub edited : CutsChunks n l.edited m.edited total
 
 -- the entry of a marked chunk in the record of a commit: what the commit does to the chunk, with its old bytes
 abbrev pub diff_of : ℕ → PrunedBits → PendingEdits → ℕ → ChunkDiff

@@ -5,8 +5,8 @@ use crate::allocation_failures::{
 };
 use crate::checked_calls::{
     current_bit, current_chunk, failed_commit, failed_rewind, has_pending_bits, keeps, pending_bit,
-    pending_chunk, pop, pop_run, read_bit, try_commit, try_prune_to_bit, try_push, try_push_byte,
-    try_push_run, try_set_bit, try_set_chunk, try_set_range,
+    pending_chunk, pop, pop_run, read_bit, truncate, try_commit, try_prune_to_bit, try_push,
+    try_push_byte, try_push_run, try_set_bit, try_set_chunk, try_set_range,
 };
 use crate::checks::{equal, expect, expect_at};
 use historical_bitmap::bitmap::Readable;
@@ -41,6 +41,34 @@ fn edited_chunk_popped(rt: HostRuntime) {
     }
     pop_run(&rt, &mut map, 31, true);
     pop_run(&rt, &mut map, 1, false);
+    equal(&rt, map.len(), 0);
+}
+
+#[test]
+fn chunk_truncated(rt: HostRuntime) {
+    let Some(mut map) = one_chunk(&rt, rt.alloc()) else {
+        return;
+    };
+    truncate(&rt, &mut map, 13);
+    equal(&rt, pending_chunk(&rt, &map, 12), [0xff, 0x1f, 0x00, 0x00]);
+    truncate(&rt, &mut map, 0);
+    equal(&rt, map.len(), 0);
+}
+
+#[test]
+fn edited_chunk_truncated(rt: HostRuntime) {
+    let Some(mut map) = one_chunk(&rt, rt.alloc()) else {
+        return;
+    };
+    if try_set_bit(&rt, &mut map, 0, false).is_err() {
+        return;
+    }
+    truncate(&rt, &mut map, 13);
+    equal(&rt, pending_chunk(&rt, &map, 12), [0xfe, 0x1f, 0x00, 0x00]);
+    expect(&rt, try_push(&rt, &mut map, false).is_ok());
+    expect(&rt, try_push(&rt, &mut map, true).is_ok());
+    equal(&rt, pending_chunk(&rt, &map, 12), [0xfe, 0x5f, 0x00, 0x00]);
+    truncate(&rt, &mut map, 0);
     equal(&rt, map.len(), 0);
 }
 

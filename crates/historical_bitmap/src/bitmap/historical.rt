@@ -49,6 +49,7 @@ mod edited;
 pub mod error;
 mod grown;
 mod index;
+mod lengths;
 mod pending;
 mod pending_changes;
 mod pending_reads;

@@ -1,6 +1,6 @@
 //! A bitmap with pending edits: reads, edits, commit and abort.
 //!
-//! An edit makes each chunk that it writes to an edited chunk. The chunk stays edited until `pop` removes its first bit, or the batch ends.
+//! An edit makes each chunk that it writes to an edited chunk. The chunk stays edited until `pop` or `truncate` removes its first bit, or the batch ends.
 //! A further write to it does not allocate, and so succeeds.
 
 ghost use Rattle.std.specs.Prelude.{◌≡◌, ℕ, ◌+◌, ◌*◌, ◌/◌, ◌%◌, ◌^◌, ◌<◌, ◌≤◌, ◌==◌, [], ◌∷◌, ◌++◌, length, None, Some, IfErr, IfOk, IsOk, OnErr, OnOk, unwrap_or, alloc_error};

@@ -11,7 +11,7 @@ ghost use Rattle.bitmap_bytes.specs.Chunk.{chunk_bit, IsChunk, IsWidth};
 ghost use Rattle.bitmap_core.specs.PrunedBits.{chunk, truncated};
 ghost use Rattle.chunk_map.specs.Entries.{IsNextMember, Puts};
 ghost use Rattle.chunk_map.specs.Trie.{IsAt};
-ghost use Rattle.historical_bitmap.specs.Pending.{IsByteSetIn, IsPartSetIn, IsSetIn, IsWritten, PutsEach, PutsTwo, SetsIn};
+ghost use Rattle.historical_bitmap.specs.Pending.{DropsFrom, IsByteSetIn, IsPartSetIn, IsSetIn, IsWritten, PutsEach, PutsTwo, SetsIn};
 
 use bitmap_core::bitmap::prunable::Prunable;
 use bitmap_core::chunk::facts::known;
@@ -147,6 +147,16 @@ fn replace_bit_at<const N: usize>(
     let byte = with_bit(bytes[at], bit, value);
     chunks.set_byte_at(place, at, byte);
     old
+}
+
+// Removes the chunks of a map from index `from` on. Does not allocate.
+fn remove_from<const N: usize>(chunks: &mut ChunkMap<N>, from: usize)
+    requires width { IsWidth N }
+    ensures { DropsFrom chunks.old.entries chunks.new.entries from }
+{
+    while let Some(index) = chunks.next_from(from) {
+        let _ = chunks.remove(index);
+    }
 }
 
 impl<const N: usize> EditedChunks<N> {
@@ -320,6 +330,15 @@ impl<const N: usize> EditedChunks<N> {
         ensures sorted { IsStrictlySortedBy nat_cmp (keys_of self.new) }
     {
         self.chunks.remove(index)
+    }
+
+    // Removes the chunks from index `from` on. Does not allocate.
+    pub(crate) fn drop_from(&mut self, from: usize)
+        ensures dropped { DropsFrom self.old self.new from }
+        ensures sorted { IsStrictlySortedBy nat_cmp (keys_of self.new) }
+    {
+        remove_from(&mut self.chunks, from);
+        self.chunks.order();
     }
 
     // Returns the map of the chunks.

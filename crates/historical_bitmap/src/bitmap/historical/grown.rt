@@ -1,6 +1,6 @@
 //! The edited chunks of a batch by index, with the appended ones in a contiguous run.
 
-ghost use Rattle.std.specs.Prelude.{◌≡◌, ℕ, ◌+◌, ◌*◌, ◌/◌, ◌%◌, ◌^◌, ◌<◌, ◌≤◌, ◌&&◌, [], List, length, replicate, Option, Some, None, IfOk, IfSome, OnOk, OnErr, IsOk, IsSome, nat_eq, nat_le, nat_lt, true, false, ◌++◌};
+ghost use Rattle.std.specs.Prelude.{◌≡◌, ℕ, ◌+◌, ◌*◌, ◌/◌, ◌%◌, ◌^◌, ◌<◌, ◌≤◌, ◌≢◌, ◌&&◌, [], List, length, replicate, Option, Some, None, IfOk, IfSome, OnOk, OnErr, IsOk, IsSome, nat_eq, nat_le, nat_lt, true, false, ◌++◌};
 ghost use Rattle.std.specs.List.Sorted.{IsStrictlySortedBy};
 ghost use Rattle.std.specs.Map.{keys_of, lookup};
 ghost use Rattle.std.specs.Option.{option_copied, option_map};
@@ -10,7 +10,7 @@ ghost use Rattle.bitmap_bytes.specs.Chunk.{chunk_bit, IsWidth};
 ghost use Rattle.bitmap_core.specs.PrunedBits.{chunk, truncated};
 ghost use Rattle.chunk_map.specs.Entries.{IsNextMember, Puts};
 ghost use Rattle.historical_bitmap.specs.Edits.{from_to};
-ghost use Rattle.historical_bitmap.specs.Pending.{IsByteSetIn, IsPartSetIn, IsSetIn, IsWritten, PutsEach, PutsTwo, SetsIn, members_between};
+ghost use Rattle.historical_bitmap.specs.Pending.{DropsFrom, IsByteSetIn, IsCut, IsPartSetIn, IsSetIn, IsWritten, PutsEach, PutsTwo, SetsIn, members_between};
 ghost use Rattle.historical_bitmap.specs.Run.{with_run};
 ghost use Rattle.historical_bitmap.specs.Tail.{IsTail, with_word};
 
@@ -367,6 +367,26 @@ impl<const N: usize> GrownChunks<N> {
             return self.run.pop();
         }
         self.others.remove(index)
+    }
+
+    // Removes the chunks from index `from` on. Does not allocate.
+    pub(crate) fn drop_from(&mut self, from: usize)
+        ensures dropped { DropsFrom self.old self.new from }
+        ensures sorted { IsStrictlySortedBy nat_cmp (keys_of self.new) }
+    {
+        self.others.drop_from(from);
+        self.run.truncate(from.saturating_sub(self.from));
+    }
+
+    // Clears the bits of the chunk at an index from bit `from` on, counted from its start, if there is a chunk. Does not allocate.
+    pub(crate) fn cut(&mut self, index: usize, from: u64)
+        requires width { IsWidth N }
+        ensures here { IsCut N from (lookup (nat_eq index) self.old) (lookup (nat_eq index) self.new) }
+        ensures others { (q : ℕ) → q ≢ index → lookup (nat_eq q) self.new ≡ lookup (nat_eq q) self.old }
+    {
+        if self.get(index).is_some() {
+            self.set_in(index, from, chunk_width::<N>(), false);
+        }
     }
 
     // Returns the map of the other chunks, and the part of the run from index `from` up to `to`: its first index, and the one past its last.

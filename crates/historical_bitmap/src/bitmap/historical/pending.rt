@@ -11,7 +11,7 @@ ghost use Rattle.bitmap_bytes.specs.Chunk.{bytes_bit, byte_bits, chunk_bit, chun
 ghost use Rattle.bitmap_core.specs.PrunedBits.{PrunedBits, bit_at, bit_len, chunk, IsRetained, pruned_bits, truncated};
 ghost use Rattle.chunk_map.specs.Entries.{IsNextMember};
 ghost use Rattle.historical_bitmap.specs.Edits.{from_to};
-ghost use Rattle.historical_bitmap.specs.Pending.{AddsEntries, Appends, diff_of, edited_chunk, first_cut_of, IsClearFrom, marked_chunks, members_between, PendingFits, picked_between, old_chunk, pending_bits, pending_chunk, Pops, Prunes, IsRecordOf, run_bits, SetsChunk, SetsRange, unedited, Writes};
+ghost use Rattle.historical_bitmap.specs.Pending.{AddsEntries, Appends, diff_of, edited_chunk, first_cut_of, IsClearFrom, marked_chunks, members_between, PendingFits, picked_between, old_chunk, pending_bits, pending_chunk, Pops, Prunes, IsRecordOf, run_bits, SetsRange, Truncates, unedited, Writes, SetsChunk};
 ghost use Rattle.historical_bitmap.specs.Record.{LeadsBack};
 ghost use Rattle.historical_bitmap.specs.Stored.{diff_value};
 ghost use Rattle.historical_bitmap.specs.Undo.{CanUndo};
@@ -434,6 +434,14 @@ impl<const N: usize> Dirty<N> {
             return Some(get_bit(&bytes, last));
         }
         self.edited.clear_bit(last)
+    }
+
+    // Shortens the pending bitmap to `total` bits. Does not allocate.
+    pub(crate) fn truncate(&mut self, total: u64)
+        ensures { Truncates N self.old total self.new }
+    {
+        self.edited.truncate(total);
+        self.len = total;
     }
 
     // Sets the bits at the positions from `from` up to `to`. After an error nothing is changed.

@@ -11,7 +11,7 @@ ghost use Rattle.bitmap_bytes.specs.Words.{next_word};
 ghost use Rattle.bitmap_core.specs.PrunedBits.{chunk, truncated};
 ghost use Rattle.chunk_map.specs.Entries.{IsNextMember, Puts};
 ghost use Rattle.historical_bitmap.specs.Edits.{from_to};
-ghost use Rattle.historical_bitmap.specs.Pending.{IsByteSetIn, IsClearFrom, IsSetIn, PutsTwo, SetsChunks, SetsIn, members_between};
+ghost use Rattle.historical_bitmap.specs.Pending.{CutsChunks, IsByteSetIn, IsClearFrom, IsSetIn, PutsTwo, SetsChunks, SetsIn, members_between};
 ghost use Rattle.historical_bitmap.specs.Tail.{IsTail, is_cached_at, with_word};
 
 use crate::bitmap::historical::grown::GrownChunks;
@@ -516,6 +516,23 @@ impl<const N: usize> TailChunks<N> {
     {
         settle(&mut self.chunks, &mut self.tail);
         self.chunks.remove(index)
+    }
+
+    // Removes the chunks that start at position `total` or later, and clears the bits from there on of the chunk that starts before.
+    // Does not allocate.
+    pub(crate) fn truncate(&mut self, total: u64)
+        requires width { IsWidth N }
+        ensures { CutsChunks N self.old self.new total }
+    {
+        settle(&mut self.chunks, &mut self.tail);
+        let index = chunk_index::<N>(total);
+        let kept = total % chunk_width::<N>();
+        if kept == 0 {
+            self.chunks.drop_from(index);
+        } else {
+            self.chunks.drop_from(index + 1);
+            self.chunks.cut(index, kept);
+        }
     }
 
     // Caches the word of a bit, if its chunk is edited. Does not allocate.
