@@ -4,7 +4,7 @@ use mathlib.Core.Logic.{inl, inr, ◌≢◌}
 use Rattle.std.proofs.lemmas.List.{length-set}
 use Rattle.std.proofs.lemmas.Bool.{cases_lt, cases_eq, eq-eqb, ne_eqb, lt-ltb, le-ltb, or_left, or_right}
 use Rattle.std.proofs.lemmas.Nat.{mul-le}
-use Rattle.std.specs.Prelude.{◌==◌, nat_eq, nat_lt, map, Option, Some, None, MatchOption, IsSome, OnOk, OnErr, is_some}
+use Rattle.std.specs.Prelude.{◌==◌, nat_eq, nat_lt, map, Option, Some, None, MatchOption, OnOk, OnErr, is_some}
 use Rattle.std.specs.List.{range_with_len}
 use Rattle.std.specs.Set.{is_member}
 use Rattle.bitmap_bytes.specs.Chunk.{chunk_bit, IsChunk}

@@ -1,4 +1,4 @@
-use Rattle.std.proofs.Common.{◌≡◌, ◌-◌, ap, arith, ◌∙◌}
+use Rattle.std.proofs.Common.{◌≡◌, ap, arith, ◌∙◌}
 use Rattle.historical_bitmap.specs.History.{before_latest}
 use Rattle.historical_bitmap.proofs.History.Positions.{before_pushed, popped_again, rise_push}
 use Rattle.historical_bitmap.proofs.Index.Latest.{latest_rises}

@@ -1,6 +1,6 @@
 use Rattle.std.proofs.Common.{Some, ap, sym, ◌∙◌}
 use Rattle.std.specs.Prelude.{is_some}
-use Rattle.historical_bitmap.proofs.EditedChunks.AppendedRun.{in_run, look_beside, ok_map, out_run, put_keeps, puts_in, puts_other}
+use Rattle.historical_bitmap.proofs.EditedChunks.AppendedRun.{in_run, look_beside, ok_map, out_run, puts_in, puts_other}
 use Rattle.historical_bitmap.proofs.bitmap.historical.grown.GrownChunks.replace.Goals as goal
 
 pub returns-then-is_in-clause-ok : goal.returns-then-is_in-clause-ok

@@ -1,4 +1,4 @@
-use Rattle.std.proofs.Common.{Some, ap, refl, subst}
+use Rattle.std.proofs.Common.{Some, ap, subst}
 use Rattle.chunk_map.specs.Entries.{Puts}
 use Rattle.historical_bitmap.proofs.Pending.WholeChunks.{chunk_of_write}
 use Rattle.historical_bitmap.proofs.bitmap.historical.pending.Dirty.set_chunk.Goals as goal

@@ -1,6 +1,5 @@
 use Rattle.std.proofs.Common.{◌≡◌, ◌*◌, arith}
 use Rattle.std.specs.Int.{div_ceil}
-use Rattle.bitmap_core.proofs.Pruned.Positions.{index_below_ceil}
 use Rattle.bitmap_core.specs.PrunedBits.{bit_len}
 use Rattle.historical_bitmap.proofs.Changes.PastEnd.{bytes_past}
 use Rattle.historical_bitmap.proofs.bitmap.historical.whole_chunks.BitMap+N+Clean.retained_bytes.Goals as goal

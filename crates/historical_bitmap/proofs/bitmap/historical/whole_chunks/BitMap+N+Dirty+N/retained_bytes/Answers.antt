@@ -1,6 +1,5 @@
 use Rattle.std.proofs.Common.{◌≡◌, ◌*◌, arith, sym}
 use Rattle.std.specs.Int.{div_ceil}
-use Rattle.bitmap_core.proofs.Pruned.Positions.{index_below_ceil}
 use Rattle.bitmap_core.specs.PrunedBits.{bit_len}
 use Rattle.historical_bitmap.specs.Pending.{pending_bits}
 use Rattle.historical_bitmap.proofs.Pending.Edits.{pending_len}
