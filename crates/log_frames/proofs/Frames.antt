@@ -1,0 +1,316 @@
+-- A frame that is written is read again, a frame that is cut off is torn, and bytes have one reading as frames.
+use Rattle.std.proofs.Common.{◌≡◌, ℕ, zero, suc, ◌+◌, ◌-◌, ◌^◌, ◌<◌, ◌≤◌, Bool, true, false, cond, not, ◌&&◌, ◌||◌, ltb, eqb, leb, ◌⊎◌, List, [], ◌∷◌, ◌++◌, length, take, drop, Result, Ok, Err, IfOk, refl, sym, ap, ◌∙◌, append_assoc, arith, inl, inr}
+use Rattle.std.proofs.Math.Dec.{eqb-suc-zero}
+use Rattle.std.proofs.Math.Seq.{take-append-add, drop-append-add}
+use Rattle.std.proofs.lemmas.Bool.{cases_lt, lt-leb, le-leb, ltb-false, le-ltb, lt-ltb, eq-eqb, ne_eqb, eqb-true}
+use Rattle.std.proofs.lemmas.List.{take_at, drop_at, drop-drop, take-append-drop, take-append-le, take_rest, length-append, length-take, length-drop}
+use Rattle.std.specs.List.{AllByRecursion, IsSplitAt}
+use Rattle.log_frames.specs.declared.frame.Place.{Place}
+use Rattle.log_frames.specs.declared.frame.Frame.{Frame}
+use Rattle.log_frames.specs.declared.frame.Stop.{Stop}
+use Rattle.log_frames.specs.declared.frame.Stop.TheVariants.{Torn, BadHead, BadDigest}
+use Rattle.log_frames.specs.Digest.{digest}
+use Rattle.log_frames.specs.Frames.{be64, number_at, head_check, chained, frame, frames, next, place_after, body_at, head_at, frame_at, view, Gives, IsBody, Splits, whole_in}
+use Rattle.log_frames.proofs.Numbers.{IsBytes, IsBytes-drop, number-again, number-lt, number-takes}
+use Rattle.log_frames.proofs.DigestRange.{digest-lt}
+
+abbrev pub done : {A : Type 0} → A → Result A Stop
+done x = Ok x
+
+-- the number of bytes of a frame
+pub length-frame : (place : Place) (body : List ℕ) → length (frame place body) ≡ 24 + length body
+unfolding frame
+length-frame place body = omega (arith, length-append body (be64 (chained place body)))
+
+-- a frame, and what follows it, as a head and the bytes behind it
+head_first : (place : Place) (body rest : List ℕ)
+    → frame place body ++ rest ≡ be64 (length body) ++ (be64 (head_check place (length body)) ++ (body ++ (be64 (chained place body) ++ rest)))
+unfolding frame
+head_first place body rest =
+    append_assoc (be64 (length body)) (be64 (head_check place (length body)) ++ (body ++ be64 (chained place body))) rest
+    ∙ ap (λ (x : List ℕ). be64 (length body) ++ x)
+    (append_assoc (be64 (head_check place (length body))) (body ++ be64 (chained place body)) rest
+    ∙ ap (λ (x : List ℕ). be64 (head_check place (length body)) ++ x) (append_assoc body (be64 (chained place body)) rest))
+
+is_zero-false : (n : ℕ) → 0 < n → eqb n 0 ≡ false
+is_zero-false zero h = absurd (omega arith)
+is_zero-false (suc n) h = eqb-suc-zero n
+
+-- bytes that begin with two numbers are read by them
+pub head-again : (place : Place) (size check : ℕ) (rest : List ℕ) → size < 2 ^ 64 → check < 2 ^ 64
+    → frame_at place (be64 size ++ (be64 check ++ rest)) ≡ head_at place size check rest
+unfolding frame_at
+head-again place size check rest h k =
+    let bytes : List ℕ = be64 size ++ (be64 check ++ rest) in
+    let long : ltb (length bytes) 16 ≡ false = le-ltb _ _ (omega arith) in
+    rw (long, number-again [] size (be64 check ++ rest) 0 refl h, number-again (be64 size) check rest 8 refl k) refl
+
+-- a head that was written for a place is read there
+pub head-passes : (place : Place) (size : ℕ) (rest : List ℕ) → 0 < size → head_at place size (head_check place size) rest ≡ body_at place size rest
+head-passes place size rest h = rw (is_zero-false size h, eq-eqb (head_check place size) (head_check place size) refl) refl
+
+-- a body that was written for a place is read there
+pub body-again : (place : Place) (body rest : List ℕ) → body_at place (length body) (body ++ (be64 (chained place body) ++ rest)) ≡ done (body, rest)
+body-again place body rest =
+    let end : List ℕ = be64 (chained place body) ++ rest in
+    let long : ltb (length (body ++ end)) (length body + 8) ≡ false = le-ltb _ _ (omega (arith, length-append body end)) in
+    let number : number_at (length body) (body ++ end) ≡ chained place body = number-again body (chained place body) rest (length body) refl (digest-lt (be64 place.digest ++ body)) in
+    rw (long, number, take_at body end (length body) refl, eq-eqb (chained place body) (chained place body) refl, drop-append-add body end 8) refl
+
+-- what is framed is read again, whatever follows
+pub frame-again : (place : Place) (body rest : List ℕ) → IsBody body → frame_at place (frame place body ++ rest) ≡ done (body, rest)
+frame-again place body rest h =
+    let size : ℕ = length body in
+    let behind : List ℕ = body ++ (be64 (chained place body) ++ rest) in
+    ap (frame_at place) (head_first place body rest)
+    ∙ head-again place size (head_check place size) behind h.fits (digest-lt (be64 place.at ++ be64 size))
+    ∙ head-passes place size behind h.some
+    ∙ body-again place body rest
+
+-- bytes behind a head that end before the body and its digest do
+pub body-short : (place : Place) (size : ℕ) (rest : List ℕ) → length rest < size + 8 → body_at place size rest ≡ Err Torn
+body-short place size rest h = let short : ltb (length rest) (size + 8) ≡ true = lt-ltb _ _ h in rw short refl
+
+-- a frame that is cut off is torn
+pub frame-torn : (place : Place) (body : List ℕ) (m : ℕ) → IsBody body → m < length (frame place body) → frame_at place (take m (frame place body)) ≡ Err Torn
+unfolding frame_at frame
+frame-torn place body m h lt =
+    elim (cases_lt m 16) [
+      | inl few ↦
+          let short : ltb (length (take m (frame place body))) 16 ≡ true = lt-ltb _ _ (omega (arith, length-take m (frame place body))) in
+          rw short refl
+      | inr enough ↦
+          let size : ℕ = length body in
+          let check : ℕ = head_check place size in
+          let k : ℕ = m - 16 in
+          let behind : List ℕ = body ++ be64 (chained place body) in
+          let is : m ≡ 16 + k = omega arith in
+          let cut : take m (frame place body) ≡ be64 size ++ (be64 check ++ take k behind) = ap (λ (x : ℕ). take x (frame place body)) is ∙ take-append-add (be64 size ++ be64 check) behind k in
+          let short : length (take k behind) < size + 8 = omega (arith, length-take k behind, length-frame place body) in
+          ap (frame_at place) cut
+          ∙ head-again place size check (take k behind) h.fits (digest-lt (be64 place.at ++ be64 size))
+          ∙ head-passes place size (take k behind) h.some
+          ∙ body-short place size (take k behind) short
+    ]
+
+-- ---- reading, step by step
+
+-- a body and its digest are read by the parts of what follows a head
+pub body-reads : (place : Place) (size : ℕ) (rest body after : List ℕ) → IsSplitAt rest size body after → 8 ≤ length after → number_at 0 after ≡ chained place body
+    → body_at place size rest ≡ done (body, take (length after - 8) (drop 8 after))
+body-reads place size rest body after s enough digest-is =
+    let long : ltb (length rest) (size + 8) ≡ false = le-ltb _ _ (omega (arith, s.4)) in
+    let same : number_at size rest ≡ chained place (take size rest) =
+    ap (number_at 0) (sym s.2) ∙ digest-is ∙ ap (chained place) s.1 in
+    let passes : eqb (number_at size rest) (chained place (take size rest)) ≡ true = eq-eqb _ _ same in
+    let tail : drop (size + 8) rest ≡ take (length after - 8) (drop 8 after) = sym (take_rest after 8 ∙ ap (drop 8) s.2 ∙ drop-drop 8 size rest) in
+    rw (long, passes) (ap done (ap (λ (x : List ℕ). (x, drop (size + 8) rest)) (sym s.1) ∙ ap (λ (x : List ℕ). (body, x)) tail))
+
+-- a frame is read by what follows its head, if the head passes its check
+pub frame-reads : (place : Place) (bytes : List ℕ) (size check : ℕ) → 16 ≤ length bytes → size ≡ number_at 0 bytes → check ≡ number_at 8 bytes → (size ≡ 0 → ⊥) → check ≡ head_check place size
+    → body_at place size (take (length bytes - 16) (drop 16 bytes)) ≡ frame_at place bytes
+unfolding frame_at
+frame-reads place bytes size check long size-is check-is some passes =
+    let enough : ltb (length bytes) 16 ≡ false = le-ltb _ _ long in
+    let test : eqb check (head_check place size) ≡ true = eq-eqb _ _ passes in
+    rw (enough, sym size-is, sym check-is, ne_eqb size 0 some, test) (ap (body_at place size) (take_rest bytes 16))
+
+-- ---- what is read was framed
+
+-- what is read from bytes is a frame at their start
+pub record Takes (place : Place) (bytes body rest : List ℕ) : Type 0 where
+  pub parts : bytes ≡ frame place body ++ rest
+  pub is_body : IsBody body
+
+-- a test that did not end the read
+guard_ok : {A : Type 0} (b : Bool) (d : Stop) (r : Result A Stop) (y : A) → cond b (Err d) r ≡ done y → (b ≡ false) × (r ≡ done y)
+guard_ok true d r y e = absurd cc
+guard_ok false d r y e = (refl, e)
+
+pub ok_is : {A : Type 0} (x y : A) → done x ≡ done y → x ≡ y
+ok_is x y e = cc
+
+positive : (n : ℕ) (b : Bool) → eqb n 0 || b ≡ false → 0 < n
+positive zero b e = absurd cc
+positive (suc n) b e = omega arith
+
+matching : (a b : Bool) → a || not b ≡ false → b ≡ true
+matching true b e = absurd cc
+matching false true e = refl
+matching false false e = absurd cc
+
+is_true : (b : Bool) → not b ≡ false → b ≡ true
+is_true true e = refl
+is_true false e = absurd cc
+
+pub frame-takes : (place : Place) (bytes body rest : List ℕ) → IsBytes bytes → length bytes < 2 ^ 64 → frame_at place bytes ≡ done (body, rest) → Takes place bytes body rest
+unfolding frame_at
+frame-takes place bytes body rest fits whole e =
+    let size : ℕ = number_at 0 bytes in
+    let check : ℕ = number_at 8 bytes in
+    let after : List ℕ = drop 16 bytes in
+    let a = guard_ok (ltb (length bytes) 16) Torn (head_at place size check after) (body, rest) e in
+    let b = guard_ok (eqb size 0 && eqb check 0) Torn (cond (eqb size 0 || not (eqb check (head_check place size))) (Err BadHead) (body_at place size after)) (body, rest) a.1 in
+    let c = guard_ok (eqb size 0 || not (eqb check (head_check place size))) BadHead (body_at place size after) (body, rest) b.1 in
+    let read : Result (List ℕ × List ℕ) Stop = Ok (take size after, drop (size + 8) after) in
+    let d = guard_ok (ltb (length after) (size + 8)) Torn (cond (not (eqb (number_at size after) (chained place (take size after)))) (Err BadDigest) read) (body, rest) c.1 in
+    let f = guard_ok (not (eqb (number_at size after) (chained place (take size after)))) BadDigest read (body, rest) d.1 in
+    let long : 16 ≤ length bytes = ltb-false _ _ a.0 in
+    let enough : size + 8 ≤ length after = ltb-false _ _ d.0 in
+    let some : 0 < size = positive size (not (eqb check (head_check place size))) c.0 in
+    let check-is : check ≡ head_check place size = eqb-true _ _ (matching (eqb size 0) (eqb check (head_check place size)) c.0) in
+    let digest-is : number_at size after ≡ chained place (take size after) = eqb-true _ _ (is_true (eqb (number_at size after) (chained place (take size after))) f.0) in
+    let pair : (take size after, drop (size + 8) after) ≡ (body, rest) = ok_is (take size after, drop (size + 8) after) (body, rest) f.1 in
+    let body-is : take size after ≡ body = ap (λ (p : List ℕ × List ℕ). p.0) pair in
+    let rest-is : drop (size + 8) after ≡ rest = ap (λ (p : List ℕ × List ℕ). p.1) pair in
+    let size-is : length (take size after) ≡ size = omega (arith, length-take size after) in
+    let end : drop size after ≡ be64 (number_at size after) ++ drop (size + 8) after = number-takes size after (IsBytes-drop 16 bytes fits) enough in
+    let tail : after ≡ take size after ++ (be64 (chained place (take size after)) ++ drop (size + 8) after) =
+    sym (take-append-drop size after) ∙ ap (λ (x : List ℕ). take size after ++ x) (end ∙ ap (λ (n : ℕ). be64 n ++ drop (size + 8) after) digest-is) in
+    let head : bytes ≡ be64 size ++ (be64 check ++ after) =
+    number-takes 0 bytes fits (omega arith) ∙ ap (λ (x : List ℕ). be64 size ++ x) (number-takes 8 bytes fits (omega arith)) in
+    let found : List ℕ = take size after in
+    let all : bytes ≡ frame place found ++ drop (size + 8) after =
+    head
+    ∙ ap (λ (n : ℕ). be64 size ++ (be64 n ++ after)) check-is
+    ∙ ap (λ (x : List ℕ). be64 size ++ (be64 (head_check place size) ++ x)) tail
+    ∙ ap (λ (n : ℕ). be64 n ++ (be64 (head_check place n) ++ (found ++ (be64 (chained place found) ++ drop (size + 8) after)))) (sym size-is)
+    ∙ sym (head_first place found (drop (size + 8) after)) in
+    record {
+      parts = all ∙ ap (λ (p : List ℕ × List ℕ). frame place p.0 ++ p.1) pair;
+      is_body = record { some = omega (arith, size-is, ap length body-is); fits = omega (arith, size-is, ap length body-is, length-drop 16 bytes) };
+    }
+
+-- what a reading function returned was framed
+pub has_parts : (place : Place) (bytes : List ℕ) (r : Result Frame Stop) → IsBytes bytes → length bytes < 2 ^ 64 → Gives view r (frame_at place bytes)
+    → IfOk r (λ found. bytes ≡ frame place found.body.now ++ found.rest.now)
+has_parts place bytes (Ok found) fits whole e = (frame-takes place bytes found.body.now found.rest.now fits whole e).parts
+has_parts place bytes (Err why) fits whole e = tt
+
+pub has_body : (place : Place) (bytes : List ℕ) (r : Result Frame Stop) → IsBytes bytes → length bytes < 2 ^ 64 → Gives view r (frame_at place bytes)
+    → IfOk r (λ found. IsBody found.body.now)
+has_body place bytes (Ok found) fits whole e = (frame-takes place bytes found.body.now found.rest.now fits whole e).is_body
+has_body place bytes (Err why) fits whole e = tt
+
+-- ---- the torn tail
+
+-- no frame begins no bytes
+pub nothing-torn : (place : Place) → frame_at place [] ≡ Err Torn
+unfolding frame_at
+nothing-torn place = refl
+
+abbrev cut_at : Place → ℕ → List (List ℕ) → Type 0
+cut_at place m bodies = Splits place (take m (frames place bodies)) (take (whole_in m bodies) bodies) (drop (length (frames place (take (whole_in m bodies) bodies))) (take m (frames place bodies))) Torn
+
+-- a cut in or before the first frame
+cut_first : (place : Place) (body : List ℕ) (bodies : List (List ℕ)) (m : ℕ) → IsBody body → m < length (frame place body)
+    → Splits place (take m (frames place (body ∷ bodies))) [] (take m (frames place (body ∷ bodies))) Torn
+cut_first place body bodies m h lt =
+    let start : take m (frames place (body ∷ bodies)) ≡ take m (frame place body) = take-append-le m (frame place body) (frames (next place body) bodies) (omega arith) in
+    record { whole = refl; each = tt; stop = ap (frame_at place) start ∙ frame-torn place body m h lt }
+
+-- one more frame before others
+more_first : (place : Place) (body bytes : List ℕ) (bodies : List (List ℕ)) (rest : List ℕ) (why : Stop) → IsBody body → Splits (next place body) bytes bodies rest why
+    → Splits place (frame place body ++ bytes) (body ∷ bodies) rest why
+more_first place body bytes bodies rest why h s = record {
+  whole = ap (λ (x : List ℕ). frame place body ++ x) s.whole ∙ sym (append_assoc (frame place body) (frames (next place body) bodies) rest);
+  each = (h, s.each);
+  stop = s.stop;
+}
+
+-- of no frames nothing is cut
+cut_none : (m : ℕ) → take m (frames (record { at = 0; digest = 0 }) []) ≡ []
+cut_none zero = refl
+cut_none (suc m) = refl
+
+-- a cut past the first frame
+cut_later : (place : Place) (body : List ℕ) (bodies : List (List ℕ)) (m : ℕ) → IsBody body → 24 + length body ≤ m → cut_at (next place body) (m - (24 + length body)) bodies
+    → Splits place (take m (frames place (body ∷ bodies))) (body ∷ take (whole_in (m - (24 + length body)) bodies) bodies)
+    (drop (length (frames place (body ∷ take (whole_in (m - (24 + length body)) bodies) bodies))) (take m (frames place (body ∷ bodies)))) Torn
+cut_later place body bodies m h le s =
+    let first : List ℕ = frame place body in
+    let after : Place = next place body in
+    let k : ℕ = m - (24 + length body) in
+    let got : List (List ℕ) = take (whole_in k bodies) bodies in
+    let is : m ≡ length first + k = omega (arith, length-frame place body) in
+    let start : take m (frames place (body ∷ bodies)) ≡ first ++ take k (frames after bodies) =
+    ap (λ (x : ℕ). take x (first ++ frames after bodies)) is ∙ take-append-add first (frames after bodies) k in
+    let size : length (frames place (body ∷ got)) ≡ length first + length (frames after got) = length-append first (frames after got) in
+    let rest : drop (length (frames place (body ∷ got))) (take m (frames place (body ∷ bodies))) ≡ drop (length (frames after got)) (take k (frames after bodies)) =
+    ap (λ (x : ℕ). drop x (take m (frames place (body ∷ bodies)))) size
+    ∙ ap (drop (length first + length (frames after got))) start
+    ∙ drop-append-add first (take k (frames after bodies)) (length (frames after got)) in
+    rw (rest, start) (more_first place body (take k (frames after bodies)) got (drop (length (frames after got)) (take k (frames after bodies))) Torn h s)
+
+pub cut : (place : Place) (bodies : List (List ℕ)) (m : ℕ) → AllByRecursion IsBody bodies → m ≤ length (frames place bodies) → cut_at place m bodies
+cut place [] m h le = rw (cut_none m) (record { whole = refl; each = tt; stop = nothing-torn place })
+cut place (body ∷ bodies) m h le =
+    elim (cases_lt m (24 + length body)) [
+      | inl few ↦ rw (lt-leb (24 + length body) m few) (cut_first place body bodies m h.0 (omega (arith, length-frame place body)))
+      | inr enough ↦
+          let some : m - (24 + length body) ≤ length (frames (next place body) bodies) = omega (arith, length-frame place body, length-append (frame place body) (frames (next place body) bodies)) in
+          rw (le-leb (24 + length body) m enough) (cut_later place body bodies m h.0 enough (cut (next place body) bodies (m - (24 + length body)) h.1 some))
+    ]
+
+-- ---- one reading
+
+-- the first of some frames is read
+pub first : (place : Place) (body : List ℕ) (bodies : List (List ℕ)) (rest : List ℕ) → IsBody body
+    → frame_at place (frames place (body ∷ bodies) ++ rest) ≡ done (body, frames (next place body) bodies ++ rest)
+first place body bodies rest h =
+    ap (frame_at place) (append_assoc (frame place body) (frames (next place body) bodies) rest) ∙ frame-again place body (frames (next place body) bodies ++ rest) h
+
+not_both : {A : Type 0} (x : A) (why : Stop) → done x ≡ Err why → ⊥
+not_both x why e = absurd cc
+
+error_is : {A : Type 0} (r : Result A Stop) (why other : Stop) → r ≡ Err why → r ≡ Err other → why ≡ other
+error_is r why other e f = cc
+
+pub once : (place : Place) (bodies others : List (List ℕ)) (rest after : List ℕ) (why other : Stop) → AllByRecursion IsBody bodies → AllByRecursion IsBody others
+    → frame_at (place_after place bodies) rest ≡ Err why → frame_at (place_after place others) after ≡ Err other → frames place bodies ++ rest ≡ frames place others ++ after
+    → (bodies ≡ others) × (rest ≡ after) × (why ≡ other)
+once place [] [] rest after why other h k s t e = (refl, e, error_is (frame_at place rest) why other s (ap (frame_at place) e ∙ t))
+once place (body ∷ bodies) [] rest after why other h k s t e =
+    absurd (not_both (body, frames (next place body) bodies ++ rest) other (sym (first place body bodies rest h.0) ∙ ap (frame_at place) e ∙ t))
+once place [] (one ∷ others) rest after why other h k s t e =
+    absurd (not_both (one, frames (next place one) others ++ after) why (sym (first place one others after k.0) ∙ ap (frame_at place) (sym e) ∙ s))
+once place (body ∷ bodies) (one ∷ others) rest after why other h k s t e =
+    let same : (body, frames (next place body) bodies ++ rest) ≡ (one, frames (next place one) others ++ after) =
+    ok_is (body, frames (next place body) bodies ++ rest) (one, frames (next place one) others ++ after) (sym (first place body bodies rest h.0) ∙ ap (frame_at place) e ∙ first place one others after k.0) in
+    let heads : one ≡ body = ap (λ (p : List ℕ × List ℕ). p.0) (sym same) in
+    let t' : frame_at (place_after (next place body) others) after ≡ Err other = ap (λ (b : List ℕ). frame_at (place_after (next place b) others) after) (sym heads) ∙ t in
+    let e' : frames (next place body) bodies ++ rest ≡ frames (next place body) others ++ after = ap (λ (p : List ℕ × List ℕ). p.1) same ∙ ap (λ (b : List ℕ). frames (next place b) others ++ after) heads in
+    let tails = once (next place body) bodies others rest after why other h.1 k.1 s t' e' in
+    (rw (heads, tails.0) refl, tails.1, tails.2)
+
+pub one_reading : (place : Place) (bytes : List ℕ) (bodies others : List (List ℕ)) (rest after : List ℕ) (why other : Stop)
+    → Splits place bytes bodies rest why → Splits place bytes others after other → (bodies ≡ others) × (rest ≡ after) × (why ≡ other)
+one_reading place bytes bodies others rest after why other s t = once place bodies others rest after why other s.each t.each s.stop t.stop (sym s.whole ∙ t.whole)
+
+-- ---- frames one after another
+
+pub frames-append : (place : Place) (bodies others : List (List ℕ)) → frames place (bodies ++ others) ≡ frames place bodies ++ frames (place_after place bodies) others
+frames-append place [] others = refl
+frames-append place (body ∷ bodies) others =
+    ap (λ (x : List ℕ). frame place body ++ x) (frames-append (next place body) bodies others)
+    ∙ sym (append_assoc (frame place body) (frames (next place body) bodies) (frames (place_after (next place body) bodies) others))
+
+pub place_after-append : (place : Place) (bodies others : List (List ℕ)) → place_after place (bodies ++ others) ≡ place_after (place_after place bodies) others
+place_after-append place [] others = refl
+place_after-append place (body ∷ bodies) others = place_after-append (next place body) bodies others
+
+pub at-counts : (place : Place) (bodies : List (List ℕ)) → (place_after place bodies).at ≡ place.at + length (frames place bodies)
+at-counts place [] = omega arith
+at-counts place (body ∷ bodies) =
+    omega (arith, at-counts (next place body) bodies, length-append (frame place body) (frames (next place body) bodies), length-frame place body)
+
+-- ---- writing
+
+-- four parts that were appended one by one
+pub four : (start x0 x1 x2 x3 x4 a b c d : List ℕ) → x0 ≡ start → x1 ≡ x0 ++ a → x2 ≡ x1 ++ b → x3 ≡ x2 ++ c → x4 ≡ x3 ++ d → x4 ≡ start ++ (a ++ (b ++ (c ++ d)))
+four start x0 x1 x2 x3 x4 a b c d e0 e1 e2 e3 e4 =
+    e4
+    ∙ ap (λ (x : List ℕ). x ++ d) (e3 ∙ ap (λ (x : List ℕ). x ++ c) (e2 ∙ ap (λ (x : List ℕ). x ++ b) (e1 ∙ ap (λ (x : List ℕ). x ++ a) e0)))
+    ∙ append_assoc (start ++ a ++ b) c d
+    ∙ append_assoc (start ++ a) b (c ++ d)
+    ∙ append_assoc start a (b ++ (c ++ d))

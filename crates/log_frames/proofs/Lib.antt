@@ -1,0 +1,4 @@
+pub mod DigestRange
+pub mod Frames
+pub mod Headers
+pub mod Numbers
