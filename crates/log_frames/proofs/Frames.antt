@@ -1,17 +1,17 @@
 -- A frame that is written is read again, a frame that is cut off is torn, and bytes have one reading as frames.
-use Rattle.std.proofs.Common.{◌≡◌, ℕ, zero, suc, ◌+◌, ◌-◌, ◌^◌, ◌<◌, ◌≤◌, Bool, true, false, cond, not, ◌&&◌, ◌||◌, ltb, eqb, leb, ◌⊎◌, List, [], ◌∷◌, ◌++◌, length, take, drop, Result, Ok, Err, IfOk, refl, sym, ap, ◌∙◌, append_assoc, arith, inl, inr}
+use Rattle.std.proofs.Common.{◌≡◌, ℕ, zero, suc, ◌+◌, ◌-◌, ◌^◌, ◌<◌, ◌≤◌, Bool, true, false, cond, not, ◌&&◌, ◌||◌, ltb, eqb, List, [], ◌∷◌, ◌++◌, length, take, drop, Result, Ok, Err, IfOk, refl, sym, ap, subst, ◌∙◌, append_assoc, arith, inl, inr}
 use Rattle.std.proofs.Math.Dec.{eqb-suc-zero}
 use Rattle.std.proofs.Math.Seq.{take-append-add, drop-append-add}
-use Rattle.std.proofs.lemmas.Bool.{cases_lt, lt-leb, le-leb, ltb-false, le-ltb, lt-ltb, eq-eqb, ne_eqb, eqb-true}
-use Rattle.std.proofs.lemmas.List.{take_at, drop_at, drop-drop, take-append-drop, take-append-le, take_rest, length-append, length-take, length-drop}
+use Rattle.std.proofs.lemmas.Bool.{cases_lt, lt-leb, le-leb, ltb-false, le-ltb, lt-ltb, eq-eqb, eqb-true}
+use Rattle.std.proofs.lemmas.List.{take_at, drop-drop, take-append-drop, take-append-le, take_rest, length-append, length-take, length-drop}
 use Rattle.std.specs.List.{AllByRecursion, IsSplitAt}
 use Rattle.log_frames.specs.declared.frame.Place.{Place}
 use Rattle.log_frames.specs.declared.frame.Frame.{Frame}
 use Rattle.log_frames.specs.declared.frame.Stop.{Stop}
 use Rattle.log_frames.specs.declared.frame.Stop.TheVariants.{Torn, BadHead, BadDigest}
-use Rattle.log_frames.specs.Digest.{digest}
-use Rattle.log_frames.specs.Frames.{be64, number_at, head_check, chained, frame, frames, next, place_after, body_at, head_at, frame_at, view, Gives, IsBody, Splits, whole_in}
-use Rattle.log_frames.proofs.Numbers.{IsBytes, IsBytes-drop, number-again, number-lt, number-takes}
+use Rattle.log_frames.specs.Cuts.{CutsAtAFrame}
+use Rattle.log_frames.specs.Frames.{be64, number_at, head_check, head_fails, chained, frame, frames, next, place_after, body_at, head_at, frame_at, view, Gives, IsBody, Splits, whole_in}
+use Rattle.log_frames.proofs.Numbers.{IsBytes, IsBytes-drop, number-again, number-takes}
 use Rattle.log_frames.proofs.DigestRange.{digest-lt}
 
 abbrev pub done : {A : Type 0} → A → Result A Stop
@@ -106,14 +106,21 @@ body-reads place size rest body after s enough digest-is =
     let tail : drop (size + 8) rest ≡ take (length after - 8) (drop 8 after) = sym (take_rest after 8 ∙ ap (drop 8) s.2 ∙ drop-drop 8 size rest) in
     rw (long, passes) (ap done (ap (λ (x : List ℕ). (x, drop (size + 8) rest)) (sym s.1) ∙ ap (λ (x : List ℕ). (body, x)) tail))
 
--- a frame is read by what follows its head, if the head passes its check
-pub frame-reads : (place : Place) (bytes : List ℕ) (size check : ℕ) → 16 ≤ length bytes → size ≡ number_at 0 bytes → check ≡ number_at 8 bytes → (size ≡ 0 → ⊥) → check ≡ head_check place size
+either_fails : (a b d : Bool) → a || b ≡ false → a && d ≡ false
+either_fails true b d e = absurd cc
+either_fails false b d e = refl
+
+-- a frame is read by what follows its head, if the head passes
+pub frame-reads : (place : Place) (bytes : List ℕ) (size check : ℕ) → 16 ≤ length bytes → size ≡ number_at 0 bytes → check ≡ number_at 8 bytes → head_fails place size check ≡ false
     → body_at place size (take (length bytes - 16) (drop 16 bytes)) ≡ frame_at place bytes
 unfolding frame_at
-frame-reads place bytes size check long size-is check-is some passes =
+frame-reads place bytes size check long size-is check-is passes =
     let enough : ltb (length bytes) 16 ≡ false = le-ltb _ _ long in
-    let test : eqb check (head_check place size) ≡ true = eq-eqb _ _ passes in
-    rw (enough, sym size-is, sym check-is, ne_eqb size 0 some, test) (ap (body_at place size) (take_rest bytes 16))
+    let written : eqb size 0 && eqb check 0 ≡ false = either_fails (eqb size 0) (not (eqb check (head_check place size))) (eqb check 0) passes in
+    rw (enough, sym size-is, sym check-is, written, passes) (ap (body_at place size) (take_rest bytes 16))
+
+-- for `read_body`
+pub ruleset body_steps = body-reads
 
 -- ---- what is read was framed
 
@@ -143,43 +150,45 @@ is_true : (b : Bool) → not b ≡ false → b ≡ true
 is_true true e = refl
 is_true false e = absurd cc
 
+-- bytes whose head and digest pass are a frame and what is after it
+takes_parts : (place : Place) (bytes : List ℕ) (size check : ℕ) → IsBytes bytes → length bytes < 2 ^ 64 → 16 ≤ length bytes → size + 8 ≤ length (drop 16 bytes)
+    → size ≡ number_at 0 bytes → check ≡ number_at 8 bytes → 0 < size → check ≡ head_check place size → number_at size (drop 16 bytes) ≡ chained place (take size (drop 16 bytes))
+    → Takes place bytes (take size (drop 16 bytes)) (drop (size + 8) (drop 16 bytes))
+takes_parts place bytes size check fits small long enough size-is check-is some head-is digest-is =
+    let after : List ℕ = drop 16 bytes in
+    let body : List ℕ = take size after in
+    let rest : List ℕ = drop (size + 8) after in
+    let body-size : length body ≡ size = omega (arith, length-take size after) in
+    let end : drop size after ≡ be64 (chained place body) ++ rest = number-takes size after (IsBytes-drop 16 bytes fits) enough ∙ ap (λ (n : ℕ). be64 n ++ rest) digest-is in
+    let tail : after ≡ body ++ (be64 (chained place body) ++ rest) = sym (take-append-drop size after) ∙ ap (λ (x : List ℕ). body ++ x) end in
+    let second : drop 8 bytes ≡ be64 (head_check place size) ++ after = number-takes 8 bytes fits (omega arith) ∙ ap (λ (n : ℕ). be64 n ++ after) (sym check-is ∙ head-is) in
+    let first : bytes ≡ be64 size ++ drop 8 bytes = number-takes 0 bytes fits (omega arith) ∙ ap (λ (n : ℕ). be64 n ++ drop 8 bytes) (sym size-is) in
+    let all : bytes ≡ frame place body ++ rest =
+    first
+    ∙ ap (λ (x : List ℕ). be64 size ++ x) (second ∙ ap (λ (x : List ℕ). be64 (head_check place size) ++ x) tail)
+    ∙ ap (λ (n : ℕ). be64 n ++ (be64 (head_check place n) ++ (body ++ (be64 (chained place body) ++ rest)))) (sym body-size)
+    ∙ sym (head_first place body rest) in
+    record { parts = all; is_body = record { some = omega (arith, body-size); fits = omega (arith, body-size, length-drop 16 bytes) } }
+
 pub frame-takes : (place : Place) (bytes body rest : List ℕ) → IsBytes bytes → length bytes < 2 ^ 64 → frame_at place bytes ≡ done (body, rest) → Takes place bytes body rest
 unfolding frame_at
-frame-takes place bytes body rest fits whole e =
+frame-takes place bytes body rest fits small e =
     let size : ℕ = number_at 0 bytes in
     let check : ℕ = number_at 8 bytes in
     let after : List ℕ = drop 16 bytes in
-    let a = guard_ok (ltb (length bytes) 16) Torn (head_at place size check after) (body, rest) e in
-    let b = guard_ok (eqb size 0 && eqb check 0) Torn (cond (eqb size 0 || not (eqb check (head_check place size))) (Err BadHead) (body_at place size after)) (body, rest) a.1 in
-    let c = guard_ok (eqb size 0 || not (eqb check (head_check place size))) BadHead (body_at place size after) (body, rest) b.1 in
+    let head-fails : Bool = head_fails place size check in
+    let digest-passes : Bool = eqb (number_at size after) (chained place (take size after)) in
     let read : Result (List ℕ × List ℕ) Stop = Ok (take size after, drop (size + 8) after) in
-    let d = guard_ok (ltb (length after) (size + 8)) Torn (cond (not (eqb (number_at size after) (chained place (take size after)))) (Err BadDigest) read) (body, rest) c.1 in
-    let f = guard_ok (not (eqb (number_at size after) (chained place (take size after)))) BadDigest read (body, rest) d.1 in
-    let long : 16 ≤ length bytes = ltb-false _ _ a.0 in
-    let enough : size + 8 ≤ length after = ltb-false _ _ d.0 in
+    let a = guard_ok (ltb (length bytes) 16) Torn (head_at place size check after) (body, rest) e in
+    let b = guard_ok (eqb size 0 && eqb check 0) Torn (cond head-fails (Err BadHead) (body_at place size after)) (body, rest) a.1 in
+    let c = guard_ok head-fails BadHead (body_at place size after) (body, rest) b.1 in
+    let d = guard_ok (ltb (length after) (size + 8)) Torn (cond (not digest-passes) (Err BadDigest) read) (body, rest) c.1 in
+    let f = guard_ok (not digest-passes) BadDigest read (body, rest) d.1 in
     let some : 0 < size = positive size (not (eqb check (head_check place size))) c.0 in
-    let check-is : check ≡ head_check place size = eqb-true _ _ (matching (eqb size 0) (eqb check (head_check place size)) c.0) in
-    let digest-is : number_at size after ≡ chained place (take size after) = eqb-true _ _ (is_true (eqb (number_at size after) (chained place (take size after))) f.0) in
-    let pair : (take size after, drop (size + 8) after) ≡ (body, rest) = ok_is (take size after, drop (size + 8) after) (body, rest) f.1 in
-    let body-is : take size after ≡ body = ap (λ (p : List ℕ × List ℕ). p.0) pair in
-    let rest-is : drop (size + 8) after ≡ rest = ap (λ (p : List ℕ × List ℕ). p.1) pair in
-    let size-is : length (take size after) ≡ size = omega (arith, length-take size after) in
-    let end : drop size after ≡ be64 (number_at size after) ++ drop (size + 8) after = number-takes size after (IsBytes-drop 16 bytes fits) enough in
-    let tail : after ≡ take size after ++ (be64 (chained place (take size after)) ++ drop (size + 8) after) =
-    sym (take-append-drop size after) ∙ ap (λ (x : List ℕ). take size after ++ x) (end ∙ ap (λ (n : ℕ). be64 n ++ drop (size + 8) after) digest-is) in
-    let head : bytes ≡ be64 size ++ (be64 check ++ after) =
-    number-takes 0 bytes fits (omega arith) ∙ ap (λ (x : List ℕ). be64 size ++ x) (number-takes 8 bytes fits (omega arith)) in
-    let found : List ℕ = take size after in
-    let all : bytes ≡ frame place found ++ drop (size + 8) after =
-    head
-    ∙ ap (λ (n : ℕ). be64 size ++ (be64 n ++ after)) check-is
-    ∙ ap (λ (x : List ℕ). be64 size ++ (be64 (head_check place size) ++ x)) tail
-    ∙ ap (λ (n : ℕ). be64 n ++ (be64 (head_check place n) ++ (found ++ (be64 (chained place found) ++ drop (size + 8) after)))) (sym size-is)
-    ∙ sym (head_first place found (drop (size + 8) after)) in
-    record {
-      parts = all ∙ ap (λ (p : List ℕ × List ℕ). frame place p.0 ++ p.1) pair;
-      is_body = record { some = omega (arith, size-is, ap length body-is); fits = omega (arith, size-is, ap length body-is, length-drop 16 bytes) };
-    }
+    let head-is : check ≡ head_check place size = eqb-true _ _ (matching (eqb size 0) (eqb check (head_check place size)) c.0) in
+    let digest-is : number_at size after ≡ chained place (take size after) = eqb-true _ _ (is_true digest-passes f.0) in
+    subst (λ (p : List ℕ × List ℕ). Takes place bytes p.0 p.1) (ok_is (take size after, drop (size + 8) after) (body, rest) f.1)
+    (takes_parts place bytes size check fits small (ltb-false _ _ a.0) (ltb-false _ _ d.0) refl refl some head-is digest-is)
 
 -- what a reading function returned was framed
 pub has_parts : (place : Place) (bytes : List ℕ) (r : Result Frame Stop) → IsBytes bytes → length bytes < 2 ^ 64 → Gives view r (frame_at place bytes)
@@ -198,9 +207,6 @@ has_body place bytes (Err why) fits whole e = tt
 pub nothing-torn : (place : Place) → frame_at place [] ≡ Err Torn
 unfolding frame_at
 nothing-torn place = refl
-
-abbrev cut_at : Place → ℕ → List (List ℕ) → Type 0
-cut_at place m bodies = Splits place (take m (frames place bodies)) (take (whole_in m bodies) bodies) (drop (length (frames place (take (whole_in m bodies) bodies))) (take m (frames place bodies))) Torn
 
 -- a cut in or before the first frame
 cut_first : (place : Place) (body : List ℕ) (bodies : List (List ℕ)) (m : ℕ) → IsBody body → m < length (frame place body)
@@ -224,7 +230,7 @@ cut_none zero = refl
 cut_none (suc m) = refl
 
 -- a cut past the first frame
-cut_later : (place : Place) (body : List ℕ) (bodies : List (List ℕ)) (m : ℕ) → IsBody body → 24 + length body ≤ m → cut_at (next place body) (m - (24 + length body)) bodies
+cut_later : (place : Place) (body : List ℕ) (bodies : List (List ℕ)) (m : ℕ) → IsBody body → 24 + length body ≤ m → CutsAtAFrame (next place body) bodies (m - (24 + length body))
     → Splits place (take m (frames place (body ∷ bodies))) (body ∷ take (whole_in (m - (24 + length body)) bodies) bodies)
     (drop (length (frames place (body ∷ take (whole_in (m - (24 + length body)) bodies) bodies))) (take m (frames place (body ∷ bodies)))) Torn
 cut_later place body bodies m h le s =
@@ -242,7 +248,7 @@ cut_later place body bodies m h le s =
     ∙ drop-append-add first (take k (frames after bodies)) (length (frames after got)) in
     rw (rest, start) (more_first place body (take k (frames after bodies)) got (drop (length (frames after got)) (take k (frames after bodies))) Torn h s)
 
-pub cut : (place : Place) (bodies : List (List ℕ)) (m : ℕ) → AllByRecursion IsBody bodies → m ≤ length (frames place bodies) → cut_at place m bodies
+pub cut : (place : Place) (bodies : List (List ℕ)) (m : ℕ) → AllByRecursion IsBody bodies → m ≤ length (frames place bodies) → CutsAtAFrame place bodies m
 cut place [] m h le = rw (cut_none m) (record { whole = refl; each = tt; stop = nothing-torn place })
 cut place (body ∷ bodies) m h le =
     elim (cases_lt m (24 + length body)) [

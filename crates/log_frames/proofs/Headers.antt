@@ -1,7 +1,7 @@
 -- A header that is written is read again, and what is read was written.
-use Rattle.std.proofs.Common.{◌≡◌, ℕ, ◌+◌, ◌-◌, ◌^◌, ◌<◌, ◌≤◌, Bool, true, false, cond, not, ltb, eqb, List, ◌++◌, length, take, drop, Result, Ok, Err, IfOk, nat_eq, refl, sym, ap, ◌∙◌, append_assoc, arith}
+use Rattle.std.proofs.Common.{◌≡◌, ℕ, ◌-◌, ◌^◌, ◌<◌, ◌≤◌, Bool, true, false, cond, not, ltb, eqb, List, ◌++◌, length, take, drop, Result, Ok, Err, IfOk, nat_eq, refl, sym, ap, ◌∙◌, append_assoc, arith}
 use Rattle.std.proofs.lemmas.Bool.{ltb-false, le-ltb, eq-eqb, eqb-true}
-use Rattle.std.proofs.lemmas.List.{take_at, drop_at, take-append-drop, take_rest, length-append}
+use Rattle.std.proofs.lemmas.List.{take_at, take-append-drop, take_rest}
 use Rattle.std.specs.List.{starts_with}
 use Rattle.std.specs.Cmp.Lexicographic.{same_text}
 use Rattle.std.specs.Borrow.{Bor}
@@ -107,3 +107,6 @@ header-reads width bytes long begins version-is check-is width-is =
     let check : eqb (number_at 24 bytes) (digest (take 24 bytes)) ≡ true = eq-eqb _ _ check-is in
     let same : eqb (number_at 16 bytes) width ≡ true = eq-eqb _ _ width-is in
     rw (enough, begins, version, check, same) (ap done (sym (take_rest bytes 32)))
+
+-- for `check_header`
+pub ruleset header_steps = header-reads

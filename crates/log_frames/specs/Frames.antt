@@ -1,5 +1,5 @@
 -- Frames: bodies one after another, each behind its length and a check, and before a digest that is chained over all frames before it.
-use Rattle.std.specs.Prelude.{◌≡◌, ℕ, zero, suc, ◌+◌, ◌-◌, ◌^◌, ◌<◌, List, [], ◌∷◌, ◌++◌, length, take, drop, Result, Ok, Err, nat_lt, nat_le, ◌==◌, ◌&&◌, ◌||◌, not, if◌then◌else◌}
+use Rattle.std.specs.Prelude.{◌≡◌, ℕ, Bool, suc, ◌+◌, ◌-◌, ◌^◌, ◌<◌, List, [], ◌∷◌, ◌++◌, length, take, drop, Result, Ok, Err, nat_lt, nat_le, ◌==◌, ◌&&◌, ◌||◌, not, if◌then◌else◌}
 use Rattle.std.specs.Int.{w64, to_be_bytes, from_be_bytes}
 use Rattle.std.specs.List.{AllByRecursion}
 use Rattle.log_frames.specs.Digest.{digest}
@@ -54,11 +54,15 @@ body_at place size rest =
     else if not (number_at size rest == chained place (take size rest)) then Err BadDigest
     else Ok (take size rest, drop (size + 8) rest)
 
+-- whether a head that has this length and this check was not written for the place
+abbrev pub head_fails : Place → ℕ → ℕ → Bool
+head_fails place size check = size == 0 || not (check == head_check place size)
+
 -- bytes behind a head that has this length and this check are read as: the body and the bytes after the frame, or why there is no frame
 abbrev pub head_at : Place → ℕ → ℕ → List ℕ → Result (List ℕ × List ℕ) Stop
 head_at place size check rest =
     if size == 0 && check == 0 then Err Torn
-    else if size == 0 || not (check == head_check place size) then Err BadHead
+    else if head_fails place size check then Err BadHead
     else body_at place size rest
 
 -- the body of the frame that bytes begin with at the place, and the bytes after the frame, or why they begin with no whole frame

@@ -1,3 +1,4 @@
+pub mod Cuts
 pub mod Digest
 pub mod Frames
 pub mod Header

@@ -1,7 +1,7 @@
 //! Writing a frame, and reading one.
 
 ghost use Rattle.std.specs.Prelude.{◌≡◌, ℕ, ◌+◌, ◌^◌, ◌<◌, ◌≤◌, ◌++◌, List, Ok, length, is_ok, vec_len, vec_capacity, IfOk, IsOk, if◌then◌else◌};
-ghost use Rattle.log_frames.specs.Frames.{frame, frame_at, head_check as head_check_of, chained as chained_of, body_at, next, view, IsBody, Gives};
+ghost use Rattle.log_frames.specs.Frames.{frame, frame_at, head_check as head_check_of, head_fails as fails, chained as chained_of, body_at, next, view, IsBody, Gives};
 
 use crate::bytes::{append, append_number, number_at};
 use crate::digest::digest_of_both;
@@ -53,6 +53,13 @@ fn head_check(place: Place, size: u64) -> u64
     digest_of_both(&place.at.to_be_bytes(), &size.to_be_bytes())
 }
 
+// Returns whether a head that has this length and this check was not written for the place.
+fn head_fails(place: Place, size: u64, check: u64) -> bool
+    ensures { result ≡ fails place size check }
+{
+    size == 0 || check != head_check(place, size)
+}
+
 // Returns the digest of a frame at the place with the body.
 fn chained(place: Place, body: &[u8]) -> u64
     ensures { result ≡ chained_of place body.now }
@@ -82,7 +89,7 @@ pub fn push_frame(out: &mut Vec<u8>, place: Place, body: &[u8]) -> Result<Place,
     requires { 0 < length body.now }
     ensures items { out.new.items
         ≡ (if is_ok result then out.old.items ++ frame place body.now else out.old.items) }
-    ensures place { IfOk result (λ after. after ≡ next place body.now) }
+    ensures next { IfOk result (λ after. after ≡ next place body.now) }
     ensures has_capacity { vec_len out.old + 24 + length body.now ≤ vec_capacity out.old
         → place.at + 24 + length body.now < 2 ^ 64 → IsOk result }
 {
@@ -100,6 +107,7 @@ pub fn push_frame(out: &mut Vec<u8>, place: Place, body: &[u8]) -> Result<Place,
 }
 
 // Reads what follows the head of a frame at the place, whose body has `size` bytes.
+#[tactic(auto, using(crate::proofs::Frames::body_steps))]
 fn read_body(place: Place, size: u64, rest: &[u8]) -> Result<Frame<'_>, Stop>
     requires { place.at + 16 + length rest.now < 2 ^ 64 }
     ensures exact { Gives view result (body_at place size rest.now) }
@@ -140,7 +148,7 @@ fn read_frame(place: Place, bytes: &[u8]) -> Result<Frame<'_>, Stop>
     if size == 0 && check == 0 {
         return Err(Stop::Torn);
     }
-    if size == 0 || check != head_check(place, size) {
+    if head_fails(place, size, check) {
         return Err(Stop::BadHead);
     }
     read_body(place, size, &bytes[16..])
@@ -164,7 +172,8 @@ fn read_frame(place: Place, bytes: &[u8]) -> Result<Frame<'_>, Stop>
 pub fn next_frame(place: Place, bytes: &[u8]) -> Result<Frame<'_>, Stop>
     requires { place.at + length bytes.now < 2 ^ 64 }
     // What is read is a frame and the bytes after it.
-    ensures parts { IfOk result (λ found. bytes.now ≡ frame place found.body.now ++ found.rest.now) }
+    ensures parts { IfOk result (λ found.
+        bytes.now ≡ frame place found.body.now ++ found.rest.now) }
     ensures body { IfOk result (λ found. IsBody found.body.now) }
     ensures next { IfOk result (λ found. found.next ≡ next place found.body.now) }
 

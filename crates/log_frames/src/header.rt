@@ -80,7 +80,7 @@ pub fn push_header(out: &mut Vec<u8>, width: u64) -> Result<Place, AllocError>
 }
 
 // Reads the header that the bytes begin with.
-#[tactic(auto, unfolding(crate::specs::Header::header_at))]
+#[tactic(auto, using(crate::proofs::Headers::header_steps), unfolding(crate::specs::Header::header_at))]
 fn check_header(bytes: &[u8], width: u64) -> Result<(Place, &[u8]), HeaderError>
     ensures exact { Gives (λ found. found.1.now) result (header_at width bytes.now) }
     ensures at { IfOk result (λ found. found.0.at ≡ 32) }

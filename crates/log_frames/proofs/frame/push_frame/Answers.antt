@@ -1,5 +1,5 @@
 use Rattle.std.proofs.Common.{◌++◌, length, ap, ◌∙◌}
-use Rattle.log_frames.specs.Frames.{be64, head_check, chained, frame}
+use Rattle.log_frames.specs.Frames.{be64, head_check, frame}
 use Rattle.log_frames.proofs.Frames.{four}
 use Rattle.log_frames.proofs.frame.push_frame.Goals as goal
 

@@ -1,4 +1,4 @@
-use Rattle.std.proofs.Common.{subst, ◌∙◌, arith}
+use Rattle.std.proofs.Common.{subst, sym, ◌∙◌, arith}
 use Rattle.log_frames.specs.Frames.{Gives, view}
 use Rattle.log_frames.proofs.Frames.{frame-reads}
 use Rattle.log_frames.proofs.frame.read_frame.Goals as goal
@@ -6,5 +6,5 @@ use Rattle.log_frames.proofs.frame.read_frame.Goals as goal
 pub returns-clause-exact : goal.returns-clause-exact
 returns-clause-exact c =
     subst (λ r. Gives view c.read_body.result r)
-    (frame-reads c.args.place c.args.bytes.now c.number_at-size.result c.number_at-check.result (omega (arith, c.if-bytes-lt16.false)) c.number_at-size.ensures c.number_at-check.ensures c.if-size-eq0-2.false (c.if-check-head_check.false ∙ c.head_check.ensures))
+    (frame-reads c.args.place c.args.bytes.now c.number_at-size.result c.number_at-check.result (omega (arith, c.if-bytes-lt16.false)) c.number_at-size.ensures c.number_at-check.ensures (sym c.head_fails.ensures ∙ c.if-head_fails.false))
     c.read_body.ensures.exact

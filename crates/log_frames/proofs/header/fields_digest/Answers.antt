@@ -1,6 +1,5 @@
-use Rattle.std.proofs.Common.{◌++◌, ap, sym, ◌∙◌}
+use Rattle.std.proofs.Common.{ap, ◌∙◌}
 use Rattle.std.specs.Hash.DefaultHasher as sip
-use Rattle.std.proofs.lemmas.List.Sums.{fold-append}
 use Rattle.log_frames.specs.Digest.{digest}
 use Rattle.log_frames.specs.Frames.{be64}
 use Rattle.log_frames.specs.Header.{magic}
