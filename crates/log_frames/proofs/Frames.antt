@@ -201,6 +201,15 @@ pub has_body : (place : Place) (bytes : List ℕ) (r : Result Frame Stop) → Is
 has_body place bytes (Ok found) fits whole e = (frame-takes place bytes found.body.now found.rest.now fits whole e).is_body
 has_body place bytes (Err why) fits whole e = tt
 
+pub has_end : (place : Place) (bytes : List ℕ) (r : Result Frame Stop) → IsBytes bytes → length bytes < 2 ^ 64 → Gives view r (frame_at place bytes)
+    → IfOk r (λ found. found.next ≡ next place found.body.now) → IfOk r (λ found. found.next.at + length found.rest.now ≡ place.at + length bytes)
+has_end place bytes (Ok found) fits small e after =
+    let body : List ℕ = found.body.now in
+    let rest : List ℕ = found.rest.now in
+    let parts = (frame-takes place bytes body rest fits small e).parts in
+    omega (arith, ap (λ (p : Place). p.at) after, ap length parts, length-append (frame place body) rest, length-frame place body)
+has_end place bytes (Err why) fits small e after = tt
+
 -- ---- the torn tail
 
 -- no frame begins no bytes

@@ -1,7 +1,7 @@
 -- A header that is written is read again, and what is read was written.
-use Rattle.std.proofs.Common.{◌≡◌, ℕ, ◌-◌, ◌^◌, ◌<◌, ◌≤◌, Bool, true, false, cond, not, ltb, eqb, List, ◌++◌, length, take, drop, Result, Ok, Err, IfOk, nat_eq, refl, sym, ap, ◌∙◌, append_assoc, arith}
+use Rattle.std.proofs.Common.{◌≡◌, ℕ, ◌+◌, ◌-◌, ◌^◌, ◌<◌, ◌≤◌, Bool, true, false, cond, not, ltb, eqb, List, ◌++◌, length, take, drop, Result, Ok, Err, IfOk, nat_eq, refl, sym, ap, ◌∙◌, append_assoc, arith}
 use Rattle.std.proofs.lemmas.Bool.{ltb-false, le-ltb, eq-eqb, eqb-true}
-use Rattle.std.proofs.lemmas.List.{take_at, take-append-drop, take_rest}
+use Rattle.std.proofs.lemmas.List.{take_at, take-append-drop, take_rest, length-append}
 use Rattle.std.specs.List.{starts_with}
 use Rattle.std.specs.Cmp.Lexicographic.{same_text}
 use Rattle.std.specs.Borrow.{Bor}
@@ -96,6 +96,18 @@ pub has_place : (width : ℕ) (bytes : List ℕ) (r : Result (Place × Bor (List
     → IfOk r (λ found. found.0.at ≡ 32) → IfOk r (λ found. found.0.digest ≡ number_at 24 bytes) → IfOk r (λ found. found.0 ≡ first_place width)
 has_place width bytes (Ok found) fits e at-is digest-is = rw (sym (header-takes width bytes found.1.now fits e).check, sym at-is, sym digest-is) refl
 has_place width bytes (Err why) fits e at-is digest-is = tt
+
+-- the number of bytes of a header
+pub length-header : (width : ℕ) → length (header width) ≡ 32
+unfolding header
+length-header width = refl
+
+pub has_end : (width : ℕ) (bytes : List ℕ) (r : Result (Place × Bor (List ℕ)) HeaderError) → IsBytes bytes → Gives (λ found. found.1.now) r (header_at width bytes)
+    → IfOk r (λ found. found.0.at ≡ 32) → IfOk r (λ found. found.0.at + length found.1.now ≡ length bytes)
+has_end width bytes (Ok found) fits e at-is =
+    let rest : List ℕ = found.1.now in
+    omega (arith, at-is, ap length (header-takes width bytes rest fits e).parts, length-append (header width) rest, length-header width)
+has_end width bytes (Err why) fits e at-is = tt
 
 -- a header that passes the tests is read
 pub header-reads : (width : ℕ) (bytes : List ℕ) → 32 ≤ length bytes → starts_with nat_eq bytes magic ≡ true → number_at 8 bytes ≡ 1 → number_at 24 bytes ≡ digest (take 24 bytes) → number_at 16 bytes ≡ width

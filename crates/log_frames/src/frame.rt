@@ -177,6 +177,10 @@ pub fn next_frame(place: Place, bytes: &[u8]) -> Result<Frame<'_>, Stop>
     ensures body { IfOk result (λ found. IsBody found.body.now) }
     ensures next { IfOk result (λ found. found.next ≡ next place found.body.now) }
 
+    // The rest ends where the bytes end.
+    ensures end { IfOk result (λ found.
+        found.next.at + length found.rest.now ≡ place.at + length bytes.now) }
+
     // A frame that begins the bytes is read.
     ensures only { (body rest : List ℕ) → IsBody body → bytes.now ≡ frame place body ++ rest
         → Gives view result (Ok (body, rest)) }

@@ -126,6 +126,9 @@ pub fn read_header(bytes: &[u8], width: u64) -> Result<(Place, &[u8]), HeaderErr
     ensures parts { IfOk result (λ found. bytes.now ≡ header width ++ found.1.now) }
     ensures place { IfOk result (λ found. found.0 ≡ first_place width) }
 
+    // The rest ends where the bytes end.
+    ensures end { IfOk result (λ found. found.0.at + length found.1.now ≡ length bytes.now) }
+
     // A header that begins the bytes is read.
     ensures only { (rest : List ℕ) → bytes.now ≡ header width ++ rest
         → Gives (λ found. found.1.now) result (Ok rest) }
