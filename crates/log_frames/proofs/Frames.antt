@@ -1,8 +1,8 @@
 -- A frame that is written is read again, a frame that is cut off is torn, and bytes have one reading as frames.
-use Rattle.std.proofs.Common.{◌≡◌, ℕ, zero, suc, ◌+◌, ◌-◌, ◌^◌, ◌<◌, ◌≤◌, Bool, true, false, cond, not, ◌&&◌, ◌||◌, ltb, eqb, List, [], ◌∷◌, ◌++◌, length, take, drop, Result, Ok, Err, IfOk, refl, sym, ap, subst, ◌∙◌, append_assoc, arith, inl, inr}
+use Rattle.std.proofs.Common.{◌≡◌, ℕ, zero, suc, ◌+◌, ◌-◌, ◌^◌, ◌<◌, ◌≤◌, Bool, true, false, cond, not, ltb, eqb, List, [], ◌∷◌, ◌++◌, length, take, drop, Result, Ok, Err, IfOk, refl, sym, ap, subst, ◌∙◌, append_assoc, arith, inl, inr}
 use Rattle.std.proofs.Math.Dec.{eqb-suc-zero}
 use Rattle.std.proofs.Math.Seq.{take-append-add, drop-append-add}
-use Rattle.std.proofs.lemmas.Bool.{cases_lt, lt-leb, le-leb, ltb-false, le-ltb, lt-ltb, eq-eqb, eqb-true}
+use Rattle.std.proofs.lemmas.Bool.{cases_lt, lt-leb, le-leb, ltb-false, le-ltb, lt-ltb, eq-eqb, eqb-true, not-false, or_parts}
 use Rattle.std.proofs.lemmas.List.{take_at, drop-drop, take-append-drop, take-append-le, take_rest, length-append, length-take, length-drop}
 use Rattle.std.specs.List.{AllByRecursion, IsSplitAt}
 use Rattle.log_frames.specs.declared.frame.Place.{Place}
@@ -10,8 +10,8 @@ use Rattle.log_frames.specs.declared.frame.Frame.{Frame}
 use Rattle.log_frames.specs.declared.frame.Stop.{Stop}
 use Rattle.log_frames.specs.declared.frame.Stop.TheVariants.{Torn, BadHead, BadDigest}
 use Rattle.log_frames.specs.Cuts.{CutsAtAFrame}
-use Rattle.log_frames.specs.Frames.{be64, number_at, head_check, head_fails, chained, frame, frames, next, place_after, body_at, head_at, frame_at, view, Gives, IsBody, Splits, whole_in}
-use Rattle.log_frames.proofs.Numbers.{IsBytes, IsBytes-drop, number-again, number-takes}
+use Rattle.log_frames.specs.Frames.{be64, number_at, head_check, head_fails, chained, frame, frames, next, place_after, are_zero, body_at, frame_at, view, Gives, IsBody, Splits, whole_in}
+use Rattle.log_frames.proofs.Numbers.{IsBytes, IsBytes-drop, number-again, number-takes, not-are_zero}
 use Rattle.log_frames.proofs.DigestRange.{digest-lt}
 
 abbrev pub done : {A : Type 0} → A → Result A Stop
@@ -36,18 +36,18 @@ is_zero-false : (n : ℕ) → 0 < n → eqb n 0 ≡ false
 is_zero-false zero h = absurd (omega arith)
 is_zero-false (suc n) h = eqb-suc-zero n
 
--- bytes that begin with two numbers are read by them
-pub head-again : (place : Place) (size check : ℕ) (rest : List ℕ) → size < 2 ^ 64 → check < 2 ^ 64
-    → frame_at place (be64 size ++ (be64 check ++ rest)) ≡ head_at place size check rest
+-- a head that was written for a place is read there
+pub head-again : (place : Place) (size : ℕ) (rest : List ℕ) → 0 < size → size < 2 ^ 64
+    → frame_at place (be64 size ++ (be64 (head_check place size) ++ rest)) ≡ body_at place size rest
 unfolding frame_at
-head-again place size check rest h k =
+head-again place size rest some h =
+    let check : ℕ = head_check place size in
     let bytes : List ℕ = be64 size ++ (be64 check ++ rest) in
     let long : ltb (length bytes) 16 ≡ false = le-ltb _ _ (omega arith) in
-    rw (long, number-again [] size (be64 check ++ rest) 0 refl h, number-again (be64 size) check rest 8 refl k) refl
-
--- a head that was written for a place is read there
-pub head-passes : (place : Place) (size : ℕ) (rest : List ℕ) → 0 < size → head_at place size (head_check place size) rest ≡ body_at place size rest
-head-passes place size rest h = rw (is_zero-false size h, eq-eqb (head_check place size) (head_check place size) refl) refl
+    let size-is : number_at 0 bytes ≡ size = number-again [] size (be64 check ++ rest) 0 refl h in
+    let check-is : number_at 8 bytes ≡ check = number-again (be64 size) check rest 8 refl (digest-lt (be64 place.at ++ be64 size)) in
+    let written : are_zero bytes ≡ false = not-are_zero bytes (omega (arith, size-is, some)) in
+    rw (long, written, size-is, check-is, is_zero-false size some, eq-eqb check check refl) refl
 
 -- a body that was written for a place is read there
 pub body-again : (place : Place) (body rest : List ℕ) → body_at place (length body) (body ++ (be64 (chained place body) ++ rest)) ≡ done (body, rest)
@@ -63,8 +63,7 @@ frame-again place body rest h =
     let size : ℕ = length body in
     let behind : List ℕ = body ++ (be64 (chained place body) ++ rest) in
     ap (frame_at place) (head_first place body rest)
-    ∙ head-again place size (head_check place size) behind h.fits (digest-lt (be64 place.at ++ be64 size))
-    ∙ head-passes place size behind h.some
+    ∙ head-again place size behind h.some h.fits
     ∙ body-again place body rest
 
 -- bytes behind a head that end before the body and its digest do
@@ -88,8 +87,7 @@ frame-torn place body m h lt =
           let cut : take m (frame place body) ≡ be64 size ++ (be64 check ++ take k behind) = ap (λ (x : ℕ). take x (frame place body)) is ∙ take-append-add (be64 size ++ be64 check) behind k in
           let short : length (take k behind) < size + 8 = omega (arith, length-take k behind, length-frame place body) in
           ap (frame_at place) cut
-          ∙ head-again place size check (take k behind) h.fits (digest-lt (be64 place.at ++ be64 size))
-          ∙ head-passes place size (take k behind) h.some
+          ∙ head-again place size (take k behind) h.some h.fits
           ∙ body-short place size (take k behind) short
     ]
 
@@ -106,18 +104,21 @@ body-reads place size rest body after s enough digest-is =
     let tail : drop (size + 8) rest ≡ take (length after - 8) (drop 8 after) = sym (take_rest after 8 ∙ ap (drop 8) s.2 ∙ drop-drop 8 size rest) in
     rw (long, passes) (ap done (ap (λ (x : List ℕ). (x, drop (size + 8) rest)) (sym s.1) ∙ ap (λ (x : List ℕ). (body, x)) tail))
 
-either_fails : (a b d : Bool) → a || b ≡ false → a && d ≡ false
-either_fails true b d e = absurd cc
-either_fails false b d e = refl
+-- a head that fails is found
+pub frame-fails : (place : Place) (bytes : List ℕ) (size check : ℕ) → 16 ≤ length bytes → are_zero bytes ≡ false → size ≡ number_at 0 bytes → check ≡ number_at 8 bytes
+    → head_fails place size check ≡ true → frame_at place bytes ≡ Err BadHead
+unfolding frame_at
+frame-fails place bytes size check enough written size-is check-is fails =
+    let long : ltb (length bytes) 16 ≡ false = le-ltb _ _ enough in
+    rw (long, written, sym size-is, sym check-is, fails) refl
 
 -- a frame is read by what follows its head, if the head passes
-pub frame-reads : (place : Place) (bytes : List ℕ) (size check : ℕ) → 16 ≤ length bytes → size ≡ number_at 0 bytes → check ≡ number_at 8 bytes → head_fails place size check ≡ false
-    → body_at place size (take (length bytes - 16) (drop 16 bytes)) ≡ frame_at place bytes
+pub frame-reads : (place : Place) (bytes : List ℕ) (size check : ℕ) → 16 ≤ length bytes → are_zero bytes ≡ false → size ≡ number_at 0 bytes → check ≡ number_at 8 bytes
+    → head_fails place size check ≡ false → body_at place size (take (length bytes - 16) (drop 16 bytes)) ≡ frame_at place bytes
 unfolding frame_at
-frame-reads place bytes size check long size-is check-is passes =
-    let enough : ltb (length bytes) 16 ≡ false = le-ltb _ _ long in
-    let written : eqb size 0 && eqb check 0 ≡ false = either_fails (eqb size 0) (not (eqb check (head_check place size))) (eqb check 0) passes in
-    rw (enough, sym size-is, sym check-is, written, passes) (ap (body_at place size) (take_rest bytes 16))
+frame-reads place bytes size check enough written size-is check-is passes =
+    let long : ltb (length bytes) 16 ≡ false = le-ltb _ _ enough in
+    rw (long, written, sym size-is, sym check-is, passes) (ap (body_at place size) (take_rest bytes 16))
 
 -- for `read_body`
 pub ruleset body_steps = body-reads
@@ -137,18 +138,9 @@ guard_ok false d r y e = (refl, e)
 pub ok_is : {A : Type 0} (x y : A) → done x ≡ done y → x ≡ y
 ok_is x y e = cc
 
-positive : (n : ℕ) (b : Bool) → eqb n 0 || b ≡ false → 0 < n
-positive zero b e = absurd cc
-positive (suc n) b e = omega arith
-
-matching : (a b : Bool) → a || not b ≡ false → b ≡ true
-matching true b e = absurd cc
-matching false true e = refl
-matching false false e = absurd cc
-
-is_true : (b : Bool) → not b ≡ false → b ≡ true
-is_true true e = refl
-is_true false e = absurd cc
+positive : (n : ℕ) → eqb n 0 ≡ false → 0 < n
+positive zero e = absurd cc
+positive (suc n) e = omega arith
 
 -- bytes whose head and digest pass are a frame and what is after it
 takes_parts : (place : Place) (bytes : List ℕ) (size check : ℕ) → IsBytes bytes → length bytes < 2 ^ 64 → 16 ≤ length bytes → size + 8 ≤ length (drop 16 bytes)
@@ -179,14 +171,16 @@ frame-takes place bytes body rest fits small e =
     let head-fails : Bool = head_fails place size check in
     let digest-passes : Bool = eqb (number_at size after) (chained place (take size after)) in
     let read : Result (List ℕ × List ℕ) Stop = Ok (take size after, drop (size + 8) after) in
-    let a = guard_ok (ltb (length bytes) 16) Torn (head_at place size check after) (body, rest) e in
-    let b = guard_ok (eqb size 0 && eqb check 0) Torn (cond head-fails (Err BadHead) (body_at place size after)) (body, rest) a.1 in
+    let behind : Result (List ℕ × List ℕ) Stop = cond head-fails (Err BadHead) (body_at place size after) in
+    let a = guard_ok (ltb (length bytes) 16) Torn (cond (are_zero bytes) (Err Torn) behind) (body, rest) e in
+    let b = guard_ok (are_zero bytes) Torn behind (body, rest) a.1 in
     let c = guard_ok head-fails BadHead (body_at place size after) (body, rest) b.1 in
     let d = guard_ok (ltb (length after) (size + 8)) Torn (cond (not digest-passes) (Err BadDigest) read) (body, rest) c.1 in
     let f = guard_ok (not digest-passes) BadDigest read (body, rest) d.1 in
-    let some : 0 < size = positive size (not (eqb check (head_check place size))) c.0 in
-    let head-is : check ≡ head_check place size = eqb-true _ _ (matching (eqb size 0) (eqb check (head_check place size)) c.0) in
-    let digest-is : number_at size after ≡ chained place (take size after) = eqb-true _ _ (is_true digest-passes f.0) in
+    let head = or_parts (eqb size 0) (not (eqb check (head_check place size))) c.0 in
+    let some : 0 < size = positive size head.0 in
+    let head-is : check ≡ head_check place size = eqb-true _ _ (not-false (eqb check (head_check place size)) head.1) in
+    let digest-is : number_at size after ≡ chained place (take size after) = eqb-true _ _ (not-false digest-passes f.0) in
     subst (λ (p : List ℕ × List ℕ). Takes place bytes p.0 p.1) (ok_is (take size after, drop (size + 8) after) (body, rest) f.1)
     (takes_parts place bytes size check fits small (ltb-false _ _ a.0) (ltb-false _ _ d.0) refl refl some head-is digest-is)
 

@@ -1,10 +1,10 @@
 -- Numbers that are written in eight bytes are read again.
-use Rattle.std.proofs.Common.{◌≡◌, ℕ, ◌+◌, ◌^◌, ◌<◌, ◌≤◌, List, ◌++◌, length, get_or, take, drop, refl, sym, ap, ◌∙◌, arith, inl, inr}
+use Rattle.std.proofs.Common.{◌≡◌, ℕ, zero, suc, ◌+◌, ◌^◌, ◌<◌, ◌≤◌, true, false, eqb, List, [], ◌∷◌, ◌++◌, length, get_or, take, drop, refl, sym, ap, ◌∙◌, arith, inl, inr}
 use Rattle.std.specs.Int.{w64, from_be_bytes}
-use Rattle.std.proofs.lemmas.Bool.{cases_lt}
+use Rattle.std.proofs.lemmas.Bool.{cases_lt, eqb-true, and_parts, false_from_ne_true}
 use Rattle.std.proofs.lemmas.List.{take_at, drop_at, drop-drop, take-append-drop, length-take, length-drop, get_or-drop, get_or-take, get_or_past}
 use Rattle.std.proofs.lemmas.Nat.{be_bytes_8, from_be_bytes-to_be_bytes_8}
-use Rattle.log_frames.specs.Frames.{be64, number_at}
+use Rattle.log_frames.specs.Frames.{be64, number_at, are_zero}
 
 -- each item is a byte
 abbrev pub IsBytes : List ℕ → Type 0
@@ -39,3 +39,19 @@ number-takes start bytes fits long =
     let eight : length (take 8 from) ≡ 8 = omega (arith, length-take 8 from, length-drop start bytes) in
     let is : be64 (number_at start bytes) ≡ take 8 from = be_bytes_8 (take 8 from) (number_at start bytes) eight (IsBytes-take 8 from (IsBytes-drop start bytes fits)) refl in
     sym (take-append-drop 8 from) ∙ ap (λ (x : List ℕ). x ++ drop 8 from) (sym is) ∙ ap (λ (x : List ℕ). be64 (number_at start bytes) ++ x) (drop-drop 8 start bytes)
+
+-- each item of zero bytes is zero
+zero_byte : (bytes : List ℕ) (i : ℕ) → are_zero bytes ≡ true → get_or bytes i 0 ≡ 0
+zero_byte [] i e = refl
+zero_byte (byte ∷ bytes) zero e = eqb-true byte 0 (and_parts (eqb byte 0) (are_zero bytes) e).0
+zero_byte (byte ∷ bytes) (suc i) e = zero_byte bytes i (and_parts (eqb byte 0) (are_zero bytes) e).1
+
+-- zero bytes begin with the number zero
+zero_number : (bytes : List ℕ) → are_zero bytes ≡ true → number_at 0 bytes ≡ 0
+zero_number bytes e =
+    let f = (λ (i : ℕ) (lt : i < 8). get_or-take 8 bytes i 0 lt ∙ zero_byte bytes i e) in
+    omega (arith, f 0 (omega arith), f 1 (omega arith), f 2 (omega arith), f 3 (omega arith), f 4 (omega arith), f 5 (omega arith), f 6 (omega arith), f 7 (omega arith))
+
+-- bytes that begin with another number are not all zero
+pub not-are_zero : (bytes : List ℕ) → 0 < number_at 0 bytes → are_zero bytes ≡ false
+not-are_zero bytes some = false_from_ne_true (are_zero bytes) (λ e. absurd (omega (arith, some, zero_number bytes e)))

@@ -1,7 +1,7 @@
 -- Frames: bodies one after another, each behind its length and a check, and before a digest that is chained over all frames before it.
-use Rattle.std.specs.Prelude.{◌≡◌, ℕ, Bool, suc, ◌+◌, ◌-◌, ◌^◌, ◌<◌, List, [], ◌∷◌, ◌++◌, length, take, drop, Result, Ok, Err, nat_lt, nat_le, ◌==◌, ◌&&◌, ◌||◌, not, if◌then◌else◌}
+use Rattle.std.specs.Prelude.{◌≡◌, ℕ, Bool, suc, ◌+◌, ◌-◌, ◌^◌, ◌<◌, List, [], ◌∷◌, ◌++◌, length, take, drop, Result, Ok, Err, nat_lt, nat_le, ◌==◌, ◌||◌, not, if◌then◌else◌}
 use Rattle.std.specs.Int.{w64, to_be_bytes, from_be_bytes}
-use Rattle.std.specs.List.{AllByRecursion}
+use Rattle.std.specs.List.{AllByRecursion, list_all}
 use Rattle.log_frames.specs.Digest.{digest}
 use Rattle.log_frames.specs.declared.frame.Place.{Place}
 use Rattle.log_frames.specs.declared.frame.Frame.{Frame}
@@ -58,18 +58,17 @@ body_at place size rest =
 abbrev pub head_fails : Place → ℕ → ℕ → Bool
 head_fails place size check = size == 0 || not (check == head_check place size)
 
--- bytes behind a head that has this length and this check are read as: the body and the bytes after the frame, or why there is no frame
-abbrev pub head_at : Place → ℕ → ℕ → List ℕ → Result (List ℕ × List ℕ) Stop
-head_at place size check rest =
-    if size == 0 && check == 0 then Err Torn
-    else if head_fails place size check then Err BadHead
-    else body_at place size rest
+-- whether all of the bytes are zero
+abbrev pub are_zero : List ℕ → Bool
+are_zero bytes = list_all (λ byte. byte == 0) bytes
 
 -- the body of the frame that bytes begin with at the place, and the bytes after the frame, or why they begin with no whole frame
 unfoldable pub frame_at : Place → List ℕ → Result (List ℕ × List ℕ) Stop
 frame_at place bytes =
     if nat_lt (length bytes) 16 then Err Torn
-    else head_at place (number_at 0 bytes) (number_at 8 bytes) (drop 16 bytes)
+    else if are_zero bytes then Err Torn
+    else if head_fails place (number_at 0 bytes) (number_at 8 bytes) then Err BadHead
+    else body_at place (number_at 0 bytes) (drop 16 bytes)
 
 -- what a function returned, seen by view, is what reading gives
 abbrev pub Gives : {X Y E : Type 0} → (X → Y) → Result X E → Result Y E → Type 0

@@ -1,7 +1,7 @@
 //! Writing a frame, and reading one.
 
 ghost use Rattle.std.specs.Prelude.{◌≡◌, ℕ, ◌+◌, ◌^◌, ◌<◌, ◌≤◌, ◌++◌, List, Ok, length, is_ok, vec_len, vec_capacity, IfOk, IsOk, if◌then◌else◌};
-ghost use Rattle.log_frames.specs.Frames.{frame, frame_at, head_check as head_check_of, head_fails as fails, chained as chained_of, body_at, next, view, IsBody, Gives};
+ghost use Rattle.log_frames.specs.Frames.{frame, frame_at, head_check as head_check_of, head_fails as fails, chained as chained_of, are_zero as are_all_zero, body_at, next, view, IsBody, Gives};
 
 use crate::bytes::{append, append_number, number_at};
 use crate::digest::digest_of_both;
@@ -20,13 +20,13 @@ pub struct Place {
 /// Why bytes begin with no whole frame. If several reasons apply, the first one in this order is reported.
 #[derive(Clone, Copy, Debug, PartialEq, Eq)]
 pub enum Stop {
-    /// The bytes end before the frame does, or the length and the head check of the frame are both zero.
+    /// The bytes end before the frame does, or all bytes to the end are zero.
     ///
     /// Bytes that end where a frame would begin are torn too. A write that was cut off leaves a torn rest: either a prefix of a frame, or the
-    /// zeros of a file that grew before its bytes were written.
+    /// zeros of a file that had grown before its bytes were written.
     Torn,
 
-    /// The length is zero, or the head check is not that of this length at this position. Nothing after the head was read.
+    /// The length is zero, or the head check is not that of this length at this position. The body was not read.
     BadHead,
 
     /// The digest is not that of the digest before the frame and of the body.
@@ -58,6 +58,13 @@ fn head_fails(place: Place, size: u64, check: u64) -> bool
     ensures { result ≡ fails place size check }
 {
     size == 0 || check != head_check(place, size)
+}
+
+// Returns whether all of the bytes are zero. It stops at the first byte that is not.
+fn are_zero(bytes: &[u8]) -> bool
+    ensures { result ≡ are_all_zero bytes.now }
+{
+    bytes.iter().all(|byte| *byte == 0)
 }
 
 // Returns the digest of a frame at the place with the body.
@@ -140,15 +147,11 @@ fn read_frame(place: Place, bytes: &[u8]) -> Result<Frame<'_>, Stop>
     ensures exact { Gives view result (frame_at place bytes.now) }
     ensures next { IfOk result (λ found. found.next ≡ next place found.body.now) }
 {
-    if bytes.len() < 16 {
+    if bytes.len() < 16 || are_zero(bytes) {
         return Err(Stop::Torn);
     }
     let size = number_at(bytes, 0);
-    let check = number_at(bytes, 8);
-    if size == 0 && check == 0 {
-        return Err(Stop::Torn);
-    }
-    if head_fails(place, size, check) {
+    if head_fails(place, size, number_at(bytes, 8)) {
         return Err(Stop::BadHead);
     }
     read_body(place, size, &bytes[16..])
@@ -168,7 +171,8 @@ fn read_frame(place: Place, bytes: &[u8]) -> Result<Frame<'_>, Stop>
 ///
 /// # Complexity
 ///
-/// Linear in the bytes of the body; constant time if the result is `Torn` or `BadHead`.
+/// Linear in the zero bytes that `bytes` begin with and, if the result is neither `Torn` nor `BadHead`, in the bytes of the body. A frame begins
+/// with fewer than eight zero bytes.
 pub fn next_frame(place: Place, bytes: &[u8]) -> Result<Frame<'_>, Stop>
     requires { place.at + length bytes.now < 2 ^ 64 }
     // What is read is a frame and the bytes after it.

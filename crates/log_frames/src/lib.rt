@@ -36,6 +36,9 @@
 //! cut off leaves a prefix of the log, and such a prefix always ends in [`Stop::Torn`]: the law [`any_prefix_is_cut_at_a_frame`] says this. The
 //! head check is why a length that was damaged does not look like a write that was cut off.
 //!
+//! Zero bytes up to the end are torn too: a file that had grown before its bytes were written ends in them. If another byte comes after 16 zero
+//! bytes or more, they are damage.
+//!
 //! # Examples
 //!
 //! This function writes a log of two bodies, and reads the first one:
@@ -44,7 +47,8 @@
 //! use log_frames::{next_frame, push_frame, push_header, read_header};
 //! use std::alloc::{AllocError, Global};
 //!
-//! fn first_body_has_three_bytes(alloc: Global) -> Result<bool, AllocError> {
+//! /// Writes a log of two bodies, and returns whether the first one that is read has three bytes.
+//! pub fn first_body_has_three_bytes(alloc: Global) -> Result<bool, AllocError> {
 //!     let mut log = Vec::new(alloc);
 //!     let place = push_header(&mut log, 32)?;
 //!     let place = push_frame(&mut log, place, b"one")?;
