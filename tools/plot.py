@@ -38,8 +38,10 @@ polyline.indexed { stroke: #8f5fd0; fill: none }
 SERIES = {
     "this project": ("ours", "M-5,0a5,5 0 1,0 10,0a5,5 0 1,0 -10,0z"),
     "at with an index": ("indexed", "M0,-6l6,6l-6,6l-6,-6z"),
-    "the original": ("other", "M-4.5,-4.5h9v9h-9z"),
+    "commonware-utils": ("other", "M-4.5,-4.5h9v9h-9z"),
 }
+# The calls of growth.csv that read an old version, as the picture of ratios names them. By a call of `at` they are reads in place.
+READS = {"one bit of the oldest": "one bit by", "set positions of the oldest": "all set positions by"}
 TIMES = ["10 ns", "0.1 µs", "1 µs", "10 µs", "100 µs", "1 ms", "10 ms", "100 ms", "1 s", "10 s"]
 
 
@@ -139,7 +141,7 @@ def commits():
         parts += bars
     parts += axis(columns["microseconds"], range(0, 301, 100), y - 10, "time of one commit, microseconds")
     parts += axis(columns["megabytes"], range(0, 401, 100), y - 10, "peak memory of 1000 commits, megabytes")
-    parts += texts(y + 62, [" ".join(["Width 8, 2^20 bits, nothing beside.", *measured(rows, "batch")])])
+    parts += texts(y + 62, [" ".join(["Chunks of 8 bytes, 2^20 bits.", *measured(rows, "batch")])])
     title = "This project commits close sets and pushes fastest of four"
     subtitle = "The others are what a user would take instead. Random sets: second, in less than a fifth of their memory."
     return picture(y + 76, title, subtitle, rows, parts)
@@ -178,22 +180,49 @@ def panels(calls, top):
     return parts
 
 
+def by_program(rows):
+    """The microseconds of each program, by the number of kept commits."""
+    return {program: {row["commits"]: float(row["microseconds"]) for row in part} for program, part in groups(rows, "program").items()}
+
+
+def times_without_index(rows):
+    """The least and the greatest ratio of a read in place without an index to one with an index."""
+    pairs = []
+    for part in groups(rows, "call").values():
+        times = by_program(part)
+        indexed = times.get("at with an index", {})
+        pairs += [times["this project"][commits] / time for commits, time in indexed.items()]
+    return min(pairs), max(pairs)
+
+
 def growth():
     """The time of each call against the number of kept commits."""
     rows, parts = figures("growth"), []
     calls = list(groups(rows, "call").values())
     for number, program in enumerate(SERIES):
-        parts += [mark(98 + 140 * number, 73, program), text(110 + 140 * number, 78, program)]
+        parts += [mark(98 + 160 * number, 73, program), text(110 + 160 * number, 78, program)]
     parts += [*panels(calls[:3], 118), *panels(calls[3:], 380)]
     notes = [
-        "Width 8, 2^20 bits, one set per commit. Both axes are logarithmic; times are of several runs.",
+        "Chunks of 8 bytes, 2^20 bits, one set per commit. Both axes are logarithmic.",
         "One bit and set positions: this project by at, without an index and with one made once.",
-        "The original has no at and no rewind_to: it calls get_at_commit, here once per 100 single bits.",
+        "commonware-utils has no at and no rewind_to: it calls get_at_commit, here once per 100 single bits.",
         *measured(rows, "program"),
     ]
-    title = "Up to 100,000 kept commits, a commit or a rewind takes less than 1 µs"
-    subtitle = "Reads of the oldest commit grow: set positions in place take 55 to 836 times as long without an index."
+    title = "Reads in place take {:.0f} to {:.0f} times as long without an index".format(*times_without_index(rows))
+    subtitle = "They read the oldest commit. A commit or a rewind takes less than 1 µs, with up to 100,000 kept commits."
     return picture(730, title, subtitle, rows, [*parts, *texts(634, notes)])
+
+
+def read_ratios(commits):
+    """The rows of ratios for reads of the oldest of some commits, from the figures of growth."""
+    rows = [row for row in figures("growth") if row["commits"] == commits and row["call"] in READS]
+    for part in groups(rows, "call").values():
+        original = by_program(part)["commonware-utils"][commits]
+        for row in [row for row in part if row["program"] != "commonware-utils"]:
+            how = "at" if row["program"] == "this project" else row["program"]
+            ratio = float(row["microseconds"]) / original
+            shown = f"{ratio:.3g}" if ratio >= 1 else f"{ratio:.2f}"
+            yield {**row, "bitmap": f"{int(commits):,} commits back in historical", "group": f"{READS[row['call']]} {how}", "ratio": shown}
 
 
 def ratio_bar(row, at, y):
@@ -212,16 +241,16 @@ def ratio_bars(rows, at, y):
 
 
 def ratios():
-    """The ratio to the original: a bar for each group of calls."""
-    rows, parts, y = figures("ratios"), [], 100
+    """The ratio to commonware-utils: a bar for each group of calls, and for reads of an old version."""
+    rows, parts, y = [*figures("ratios"), *read_ratios("1000")], [], 100
     at = logarithmic(-2, 3, 330, 730)
     for part in groups(rows, "bitmap").values():
         bars, y = ratio_bars(part, at, y)
         parts += bars
     parts += [text(at(1) - 8, 84, "faster", "end"), text(at(1) + 8, 84, "slower"), line(at(1), 72, at(1), y - 10)]
-    parts += axis(at, [10.0**power for power in range(-2, 4)], y - 10, "time divided by the original's (logarithmic)")
+    parts += axis(at, [10.0**power for power in range(-2, 4)], y - 10, "time divided by that of commonware-utils (logarithmic)")
     faster = sum(float(row["ratio"]) < 1 for row in rows)
-    title = f"{faster} of {len(rows)} groups of calls are faster than the original"
+    title = f"{faster} of {len(rows)} groups of calls are faster than in commonware-utils"
     subtitle = "Geometric means over calls, widths and sizes. Below 1, this project takes less time."
     return picture(y + 96, title, subtitle, rows, [*parts, *texts(y + 62, measured(rows, "bitmap"))])
 
