@@ -2,26 +2,45 @@
 
 ghost use Rattle.std.specs.Prelude.{◌*◌, ◌^◌, ◌<◌};
 
+use historical_bitmap::bitmap::Readable;
 use historical_bitmap::bitmap::historical::{CleanBitMap, DirtyBitMap};
 use std::alloc::{AllocError, Global};
 
-/// The number of edits in a batch that sets bits.
+/// The number of edits in a batch, unless it only appends.
 pub const SETS: u64 = 1000;
 
-// The number of edits in a batch that appends.
+// The number of edits in a batch that only appends.
 const PUSHES: u64 = 4096;
+
+// The number of chunks that a batch appends and prunes.
+const SLID: u64 = 100;
 
 // Lengths stay far below `u64::MAX`.
 const MOST_BITS: u64 = 1 << 40;
 
-/// The edits of a batch: it sets random bits, sets bits of one chunk, or appends bits, bytes or chunks.
+/// The edits of a batch.
 #[derive(Clone, Copy)]
 pub enum Edits {
+    /// No edit.
+    Nothing,
+    /// Random bits are set.
     SetFar,
+    /// Bits of the first chunk are set.
     SetNear,
+    /// Bits are appended.
     Push,
+    /// Bytes are appended.
     PushByte,
+    /// Chunks are appended.
     PushChunk,
+    /// The last bits are removed.
+    Pop,
+    /// Bits are appended, and then removed.
+    PushPop,
+    /// Bits are set, appended, removed and read, at random.
+    Mixed,
+    /// Chunks are appended, and as many are pruned.
+    Slide,
 }
 
 /// Pseudorandom positions.
@@ -56,6 +75,56 @@ pub fn set_one<const N: usize>(
         batch.set_bit(position, value)?;
     }
     Ok(())
+}
+
+// Returns a bit as a number, or 0 if the bit is not retained.
+fn read_one<const N: usize>(batch: &DirtyBitMap<N>, position: u64) -> u64 {
+    if batch.pruned_chunks() == 0 && position < batch.len() {
+        return u64::from(batch.get_bit(position));
+    }
+    0
+}
+
+/// Returns a random bit of a batch as a number, or 0 if the bit is not retained.
+pub fn read_random<const N: usize>(batch: &DirtyBitMap<N>, positions: &mut Positions) -> u64 {
+    let bits = batch.len().max(1);
+    read_one(batch, positions.step() % bits)
+}
+
+/// Returns the first byte of a random chunk of a batch, or 0 if the chunk is not retained.
+pub fn read_random_chunk<const N: usize>(batch: &DirtyBitMap<N>, positions: &mut Positions) -> u64 {
+    let bits = batch.len().max(1);
+    let position = positions.step() % bits;
+    if batch.pruned_chunks() == 0 && position < batch.len() {
+        return u64::from(batch.get_chunk(position)[0]);
+    }
+    0
+}
+
+/// Returns how many of `count` random bits of a bitmap are set.
+pub fn count_random<B: Readable<N>, const N: usize>(
+    found: &B,
+    positions: &mut Positions,
+    count: u64,
+) -> u64 {
+    let first = found.pruned_bits();
+    let bits = found.len();
+    let mut sum: u64 = 0;
+    for _ in 0..count {
+        let position = positions.step() % bits.max(1);
+        if position >= first && position < bits {
+            sum = sum.wrapping_add(u64::from(found.get_bit(position)));
+        }
+    }
+    sum
+}
+
+// Removes the last bit, if nothing is pruned, and returns it as a number.
+fn pop_one<const N: usize>(batch: &mut DirtyBitMap<N>) -> u64 {
+    if batch.pruned_chunks() == 0 && batch.len() > 0 {
+        return u64::from(batch.pop());
+    }
+    0
 }
 
 // Appends a bit, if there is space.
@@ -123,19 +192,85 @@ fn push_chunks<const N: usize>(batch: &mut DirtyBitMap<N>) -> Result<(), AllocEr
     Ok(())
 }
 
-/// Makes the edits of a batch.
+// Removes bits, one by one, and returns how many were set.
+fn pop_bits<const N: usize>(batch: &mut DirtyBitMap<N>) -> u64 {
+    let mut sum: u64 = 0;
+    for _ in 0..SETS {
+        sum = sum.wrapping_add(pop_one(batch));
+    }
+    sum
+}
+
+// Appends bits and removes as many, one by one, and returns how many of these were set.
+fn push_and_pop<const N: usize>(batch: &mut DirtyBitMap<N>) -> Result<u64, AllocError> {
+    for edit in 0..SETS {
+        push_one(batch, edit % 3 == 0)?;
+    }
+    Ok(pop_bits(batch))
+}
+
+// Makes a random edit, or reads a random bit. Returns the bit that it removes or reads as a number.
+fn edit_or_read<const N: usize>(batch: &mut DirtyBitMap<N>, drawn: u64) -> Result<u64, AllocError> {
+    let kind = drawn % 8;
+    let value = drawn & 8 == 8;
+    let position = drawn / 16 % batch.len().max(1);
+    if kind < 3 {
+        set_one(batch, position, value)?;
+    } else if kind < 5 {
+        push_one(batch, value)?;
+    } else if kind < 7 {
+        return Ok(pop_one(batch));
+    } else {
+        return Ok(read_one(batch, position));
+    }
+    Ok(0)
+}
+
+// Sets, appends, removes and reads bits at random, and returns how many of the bits that it removes or reads are set.
+fn mix<const N: usize>(
+    batch: &mut DirtyBitMap<N>,
+    positions: &mut Positions,
+) -> Result<u64, AllocError> {
+    let mut sum: u64 = 0;
+    for _ in 0..SETS {
+        sum = sum.wrapping_add(edit_or_read(batch, positions.step())?);
+    }
+    Ok(sum)
+}
+
+// Appends chunks, and prunes as many.
+fn slide<const N: usize>(batch: &mut DirtyBitMap<N>) -> Result<(), AllocError> {
+    for _ in 0..SLID {
+        push_one_chunk(batch)?;
+    }
+    let bits = batch.len();
+    let chunks = (batch.pruned_chunks() as u64).wrapping_add(SLID);
+    let end = chunks.wrapping_mul(8 * N as u64);
+    if end <= bits {
+        batch.prune_to_bit(end)?;
+    }
+    Ok(())
+}
+
+/// Makes the edits of a batch, and returns how many of the bits that they remove or read are set.
 pub fn edit<const N: usize>(
     batch: &mut DirtyBitMap<N>,
     edits: Edits,
     positions: &mut Positions,
-) -> Result<(), AllocError> {
+) -> Result<u64, AllocError> {
     match edits {
-        Edits::SetFar => set_far(batch, positions),
-        Edits::SetNear => set_near(batch),
-        Edits::Push => push_bits(batch),
-        Edits::PushByte => push_bytes(batch),
-        Edits::PushChunk => push_chunks(batch),
+        Edits::Nothing => {}
+        Edits::SetFar => set_far(batch, positions)?,
+        Edits::SetNear => set_near(batch)?,
+        Edits::Push => push_bits(batch)?,
+        Edits::PushByte => push_bytes(batch)?,
+        Edits::PushChunk => push_chunks(batch)?,
+        Edits::Pop => return Ok(pop_bits(batch)),
+        Edits::PushPop => return push_and_pop(batch),
+        Edits::Mixed => return mix(batch, positions),
+        Edits::Slide => slide(batch)?,
     }
+    Ok(0)
 }
 
 /// Returns a bitmap with one commit, of the whole chunks that `bytes` bytes fill.

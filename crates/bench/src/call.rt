@@ -31,6 +31,7 @@ pub enum Call {
     Write,
     Read,
     PrunablePush,
+    PrunablePop,
     PushByte,
     PushChunk,
     Prune,
@@ -39,7 +40,7 @@ pub enum Call {
     SetBit,
 }
 
-const NAMES: [(&str, Call); 34] = [
+const NAMES: [(&str, Call); 35] = [
     ("copy", Call::Copy),
     ("push", Call::Push),
     ("pop", Call::Pop),
@@ -68,6 +69,7 @@ const NAMES: [(&str, Call); 34] = [
     ("write", Call::Write),
     ("read", Call::Read),
     ("prunable_push", Call::PrunablePush),
+    ("prunable_pop", Call::PrunablePop),
     ("push_byte", Call::PushByte),
     ("push_chunk", Call::PushChunk),
     ("prune", Call::Prune),

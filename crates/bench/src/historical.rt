@@ -1,45 +1,61 @@
-//! Calls of historical bitmaps that can be timed, by name. Each runs many batches, or reads a bitmap with 1001 commits.
+//! Calls of historical bitmaps that can be timed, by name. Each runs many batches, reads in a batch, or reads a bitmap with 1001 commits.
 
 ghost use Rattle.std.specs.Prelude.{◌*◌, ◌^◌, ◌<◌};
 
-use crate::batches::{Edits, Positions, SETS, edit, filled};
-use bitmap_core::chunk::chunk_count;
-use historical_bitmap::bitmap::Readable;
-use historical_bitmap::bitmap::historical::{AtCommit, CleanBitMap};
+use crate::batches::{
+    Edits, Positions, SETS, count_random, edit, filled, read_random, read_random_chunk,
+};
+use crate::past::{self, LAST, read_in_place};
+use historical_bitmap::bitmap::historical::CleanBitMap;
 use std::alloc::{AllocError, Global};
 
-/// A call that is run many times: a batch that is aborted or committed, or a call of a bitmap with 1001 commits.
+/// A call that is run many times: a batch that is aborted or committed, a read in a batch, or a call of a bitmap with 1001 commits.
 #[derive(Clone, Copy)]
 pub enum Call {
     Abort(Edits),
     Commit(Edits),
-    ReadOldest,
-    ReadNewest,
-    InPlaceOldest,
-    InPlaceNewest,
-    ChangedChunks,
-    ComparedChunks,
-    Clone,
+    Keep(Edits),
+    PendingBits,
+    PendingChunks,
+    Past(past::Call),
 }
 
-const NAMES: [(&str, Call); 17] = [
+const NAMES: [(&str, Call); 35] = [
+    ("batch_nothing", Call::Abort(Edits::Nothing)),
     ("batch_set_far", Call::Abort(Edits::SetFar)),
     ("batch_set_near", Call::Abort(Edits::SetNear)),
     ("batch_push", Call::Abort(Edits::Push)),
     ("batch_push_byte", Call::Abort(Edits::PushByte)),
     ("batch_push_chunk", Call::Abort(Edits::PushChunk)),
+    ("batch_pop", Call::Abort(Edits::Pop)),
+    ("batch_push_pop", Call::Abort(Edits::PushPop)),
+    ("batch_mixed", Call::Abort(Edits::Mixed)),
+    ("batch_slide", Call::Abort(Edits::Slide)),
+    ("commit_nothing", Call::Commit(Edits::Nothing)),
     ("commit_set_far", Call::Commit(Edits::SetFar)),
     ("commit_set_near", Call::Commit(Edits::SetNear)),
     ("commit_push", Call::Commit(Edits::Push)),
     ("commit_push_byte", Call::Commit(Edits::PushByte)),
     ("commit_push_chunk", Call::Commit(Edits::PushChunk)),
-    ("read_oldest", Call::ReadOldest),
-    ("read_newest", Call::ReadNewest),
-    ("in_place_oldest", Call::InPlaceOldest),
-    ("in_place_newest", Call::InPlaceNewest),
-    ("changed_chunks", Call::ChangedChunks),
-    ("compared_chunks", Call::ComparedChunks),
-    ("clone_commits", Call::Clone),
+    ("commit_pop", Call::Commit(Edits::Pop)),
+    ("commit_push_pop", Call::Commit(Edits::PushPop)),
+    ("commit_mixed", Call::Commit(Edits::Mixed)),
+    ("commit_slide", Call::Commit(Edits::Slide)),
+    ("keep_set_far", Call::Keep(Edits::SetFar)),
+    ("keep_set_near", Call::Keep(Edits::SetNear)),
+    ("keep_push", Call::Keep(Edits::Push)),
+    ("pending_bits", Call::PendingBits),
+    ("pending_chunks", Call::PendingChunks),
+    ("read_oldest", Call::Past(past::Call::Oldest)),
+    ("read_middle", Call::Past(past::Call::Middle)),
+    ("read_newest", Call::Past(past::Call::Newest)),
+    ("in_place_oldest", Call::Past(past::Call::InPlaceOldest)),
+    ("in_place_newest", Call::Past(past::Call::InPlaceNewest)),
+    ("changed_chunks", Call::Past(past::Call::ChangedChunks)),
+    ("compared_chunks", Call::Past(past::Call::ComparedChunks)),
+    ("clone_commits", Call::Past(past::Call::Clone)),
+    ("commit_exists", Call::Past(past::Call::Exists)),
+    ("commit_numbers", Call::Past(past::Call::Numbers)),
 ];
 
 /// Returns the call that `name` names, if there is one.
@@ -50,10 +66,7 @@ pub fn named(name: &str) -> Option<Call> {
         .map(|entry| entry.1)
 }
 
-// The number of the last commit of the bitmap whose past states are read.
-const LAST: u64 = 1000;
-
-// Edits a batch and aborts it, `times` times.
+// Edits a batch, reads one of its bits and aborts it, `times` times.
 fn abort_each<const N: usize>(
     mut bitmap: CleanBitMap<N>,
     edits: Edits,
@@ -63,7 +76,8 @@ fn abort_each<const N: usize>(
     let mut sum: u64 = 0;
     for _ in 0..times {
         let mut batch = bitmap.into_dirty();
-        edit(&mut batch, edits, &mut positions)?;
+        sum = sum.wrapping_add(edit(&mut batch, edits, &mut positions)?);
+        sum = sum.wrapping_add(read_random(&batch, &mut positions));
         sum = sum.wrapping_add(batch.len());
         bitmap = batch.abort();
     }
@@ -77,106 +91,68 @@ fn commit_each<const N: usize>(
     times: u64,
 ) -> Result<u64, AllocError> {
     let mut positions = Positions::from_seed(times);
+    let mut sum: u64 = 0;
     for round in 0..times {
         let mut batch = bitmap.into_dirty();
-        edit(&mut batch, edits, &mut positions)?;
+        sum = sum.wrapping_add(edit(&mut batch, edits, &mut positions)?);
         bitmap = batch.commit(round + 1).map_err(|_| AllocError)?;
         let _ = bitmap.prune_commits_before(round + 1);
     }
-    Ok(bitmap.len())
+    let read = count_random(bitmap.current(), &mut positions, SETS);
+    Ok(sum.wrapping_add(bitmap.len()).wrapping_add(read))
 }
 
-// Adds the commits 1 to `LAST`, each of which sets random bits.
-fn with_commits<const N: usize>(mut bitmap: CleanBitMap<N>) -> Result<CleanBitMap<N>, AllocError> {
-    let mut positions = Positions::from_seed(LAST);
-    for number in 0..LAST {
+// Edits a batch and commits it, `times` times. All commits are kept.
+fn with_commits<const N: usize>(
+    mut bitmap: CleanBitMap<N>,
+    edits: Edits,
+    times: u64,
+) -> Result<CleanBitMap<N>, AllocError> {
+    let mut positions = Positions::from_seed(times);
+    for round in 0..times {
         let mut batch = bitmap.into_dirty();
-        edit(&mut batch, Edits::SetFar, &mut positions)?;
-        bitmap = batch.commit(number + 1).map_err(|_| AllocError)?;
+        let _ = edit(&mut batch, edits, &mut positions)?;
+        bitmap = batch.commit(round + 1).map_err(|_| AllocError)?;
     }
     Ok(bitmap)
 }
 
-// Rebuilds a past state as a bitmap.
-fn read_owned<const N: usize>(
-    bitmap: &CleanBitMap<N>,
-    number: u64,
+// Edits and commits, `times` times, with all commits kept. Then reads random bits of the newest commit, and of the one before it.
+fn keep_each<const N: usize>(
+    bitmap: CleanBitMap<N>,
+    edits: Edits,
     times: u64,
 ) -> Result<u64, AllocError> {
-    let mut sum: u64 = 0;
+    let bitmap = with_commits(bitmap, edits, times)?;
+    let newest = read_in_place(&bitmap, times, 1);
+    let earlier = read_in_place(&bitmap, times.saturating_sub(1), 1);
+    Ok(newest.wrapping_add(earlier).wrapping_add(bitmap.len()))
+}
+
+// Reads random bits of a batch that has set random bits.
+fn read_pending_bits<const N: usize>(
+    bitmap: CleanBitMap<N>,
+    times: u64,
+) -> Result<u64, AllocError> {
+    let mut positions = Positions::from_seed(times);
+    let mut batch = bitmap.into_dirty();
+    let mut sum = edit(&mut batch, Edits::SetFar, &mut positions)?;
     for _ in 0..times {
-        if let Some(found) = bitmap.get_at_commit(number)? {
-            sum = sum.wrapping_add(found.len());
-        }
+        sum = sum.wrapping_add(read_random(&batch, &mut positions));
     }
     Ok(sum)
 }
 
-// Returns how many of some random bits are set.
-fn count_far<const N: usize>(found: &AtCommit<'_, N>, positions: &mut Positions) -> u64 {
-    let first = found.pruned_bits();
-    let bits = found.len();
-    let mut sum: u64 = 0;
-    for _ in 0..SETS {
-        let position = positions.step() % bits.max(1);
-        if position >= first && position < bits {
-            sum = sum.wrapping_add(u64::from(found.get_bit(position)));
-        }
-    }
-    sum
-}
-
-// Reads random bits of a past state in place.
-fn read_in_place<const N: usize>(bitmap: &CleanBitMap<N>, number: u64, times: u64) -> u64 {
+// Reads random chunks of a batch that has set random bits.
+fn read_pending_chunks<const N: usize>(
+    bitmap: CleanBitMap<N>,
+    times: u64,
+) -> Result<u64, AllocError> {
     let mut positions = Positions::from_seed(times);
-    let mut sum: u64 = 0;
+    let mut batch = bitmap.into_dirty();
+    let mut sum = edit(&mut batch, Edits::SetFar, &mut positions)?;
     for _ in 0..times {
-        if let Some(found) = bitmap.at(number) {
-            sum = sum.wrapping_add(count_far(&found, &mut positions));
-        }
-    }
-    sum
-}
-
-// Lists the chunks that differ between two consecutive commits, in the middle of the commits.
-fn list_changes<const N: usize>(bitmap: &CleanBitMap<N>, times: u64) -> u64 {
-    let mut sum: u64 = 0;
-    for round in 0..times {
-        let number = LAST / 2 + round % 8;
-        if let Some(changes) = bitmap.changed_chunks(number, number + 1) {
-            sum = sum.wrapping_add(changes.count() as u64);
-        }
-    }
-    sum
-}
-
-// Returns the number of the chunks that differ between two past states. Each chunk is compared.
-fn count_differences<const N: usize>(older: &AtCommit<'_, N>, newer: &AtCommit<'_, N>) -> u64 {
-    let mut sum: u64 = 0;
-    for chunk in 0..chunk_count::<N>(newer.len()) {
-        let differs = older.retained_bytes(chunk) != newer.retained_bytes(chunk);
-        sum = sum.wrapping_add(u64::from(differs));
-    }
-    sum
-}
-
-// The same by a comparison of all chunks.
-fn compare_chunks<const N: usize>(bitmap: &CleanBitMap<N>, times: u64) -> u64 {
-    let mut sum: u64 = 0;
-    for round in 0..times {
-        let number = LAST / 2 + round % 8;
-        if let (Some(older), Some(newer)) = (bitmap.at(number), bitmap.at(number + 1)) {
-            sum = sum.wrapping_add(count_differences(&older, &newer));
-        }
-    }
-    sum
-}
-
-// Clones the bitmap with its history.
-fn clone_each<const N: usize>(bitmap: &CleanBitMap<N>, times: u64) -> Result<u64, AllocError> {
-    let mut sum: u64 = 0;
-    for _ in 0..times {
-        sum = sum.wrapping_add(bitmap.clone()?.len());
+        sum = sum.wrapping_add(read_random_chunk(&batch, &mut positions));
     }
     Ok(sum)
 }
@@ -195,12 +171,9 @@ pub fn run<const N: usize>(
     match call {
         Call::Abort(edits) => abort_each(bitmap, edits, times),
         Call::Commit(edits) => commit_each(bitmap, edits, times),
-        Call::ReadOldest => read_owned(&with_commits(bitmap)?, 0, times),
-        Call::ReadNewest => read_owned(&with_commits(bitmap)?, LAST, times),
-        Call::InPlaceOldest => Ok(read_in_place(&with_commits(bitmap)?, 0, times)),
-        Call::InPlaceNewest => Ok(read_in_place(&with_commits(bitmap)?, LAST - 1, times)),
-        Call::ChangedChunks => Ok(list_changes(&with_commits(bitmap)?, times)),
-        Call::ComparedChunks => Ok(compare_chunks(&with_commits(bitmap)?, times)),
-        Call::Clone => clone_each(&with_commits(bitmap)?, times),
+        Call::Keep(edits) => keep_each(bitmap, edits, times),
+        Call::PendingBits => read_pending_bits(bitmap, times),
+        Call::PendingChunks => read_pending_chunks(bitmap, times),
+        Call::Past(call) => past::run(call, &with_commits(bitmap, Edits::SetFar, LAST)?, times),
     }
 }

@@ -2,7 +2,7 @@
 
 ghost use Rattle.std.specs.Prelude.{◌*◌, ◌^◌, ◌<◌};
 
-use crate::batches::{Positions, filled, set_one};
+use crate::batches::{Positions, count_random, filled, set_one};
 use historical_bitmap::bitmap::Readable;
 use historical_bitmap::bitmap::historical::CleanBitMap;
 use std::alloc::{AllocError, Global};
@@ -107,24 +107,6 @@ fn rebuild_each<const N: usize>(bitmap: &CleanBitMap<N>, times: u64) -> Result<u
     Ok(sum)
 }
 
-// Reads `times` random bits of a bitmap.
-fn get_each<B: Readable<N>, const N: usize>(
-    found: &B,
-    positions: &mut Positions,
-    times: u64,
-) -> u64 {
-    let first = found.pruned_bits();
-    let bits = found.len();
-    let mut sum: u64 = 0;
-    for _ in 0..times {
-        let position = positions.step() % bits.max(1);
-        if position >= first && position < bits {
-            sum = sum.wrapping_add(u64::from(found.get_bit(position)));
-        }
-    }
-    sum
-}
-
 // Lists all set positions of a bitmap, `times` times.
 fn scan_each<B: Readable<N>, const N: usize>(found: &B, times: u64) -> u64 {
     // The prover learns the bounds of `N` from this call.
@@ -145,7 +127,7 @@ fn read_oldest<const N: usize>(
 ) -> u64 {
     match bitmap.at(0) {
         Some(oldest) if scans => scan_each(&oldest, times),
-        Some(oldest) => get_each(&oldest, positions, times),
+        Some(oldest) => count_random(&oldest, positions, times),
         None => 0,
     }
 }

@@ -1,4 +1,4 @@
-//! Runs one call of a bitmap many times, so that another program can time it. `tools/bench.sh` makes a table of all calls.
+//! Runs one call of a bitmap many times, so that another program can time it. `bench/run` makes tables of all calls.
 #![tactic(auto)]
 
 mod batches;
@@ -7,6 +7,7 @@ mod edits;
 mod growth;
 mod historical;
 mod kept;
+mod past;
 mod program;
 mod pruned;
 mod reads;

@@ -20,7 +20,7 @@ impl RunError {
     pub fn text(&self) -> &'static str {
         match self {
             RunError::Usage => {
-                "usage: bench CALL WIDTH BYTES TIMES [COMMITS] (WIDTH is 1, 3, 8 or 32 bytes per chunk; BYTES is at most 2^32)"
+                "usage: bench CALL WIDTH BYTES TIMES [COMMITS] (WIDTH is 1, 3, 4, 8 or 32 bytes per chunk; BYTES is at most 2^32)"
             }
             RunError::OutOfMemory => "bench: out of memory",
             RunError::CannotWrite => "bench: cannot write to standard output",
@@ -107,6 +107,7 @@ fn run_at<const N: usize, const M: usize>(
         Call::Write => growth::write(alloc, &map, times),
         Call::Read => growth::read(alloc, &map, times),
         Call::PrunablePush => pruned::push(alloc, &map, times),
+        Call::PrunablePop => pruned::pop(alloc, &map, times),
         Call::PushByte => pruned::push_byte(alloc, &map, times),
         Call::PushChunk => pruned::push_chunk(alloc, &map, times),
         Call::Prune => pruned::prune(alloc, &map, times),
@@ -123,6 +124,7 @@ fn run_call(alloc: Global, call: Call, width: &str, bytes: u64, times: u64) -> R
     match width.as_bytes() {
         b"1" => Ok(run_at::<1, 8>(alloc, call, bytes, times)?),
         b"3" => Ok(run_at::<3, 8>(alloc, call, bytes, times)?),
+        b"4" => Ok(run_at::<4, 8>(alloc, call, bytes, times)?),
         b"8" => Ok(run_at::<8, 3>(alloc, call, bytes, times)?),
         b"32" => Ok(run_at::<32, 8>(alloc, call, bytes, times)?),
         _ => Err(RunError::Usage),
@@ -142,6 +144,7 @@ fn run_search(
     match width.as_bytes() {
         b"1" => Ok(searches::run(call, filled::<1>(alloc, bytes)?, times)?),
         b"3" => Ok(searches::run(call, filled::<3>(alloc, bytes)?, times)?),
+        b"4" => Ok(searches::run(call, filled::<4>(alloc, bytes)?, times)?),
         b"8" => Ok(searches::run(call, filled::<8>(alloc, bytes)?, times)?),
         b"32" => Ok(searches::run(call, filled::<32>(alloc, bytes)?, times)?),
         _ => Err(RunError::Usage),
@@ -159,6 +162,7 @@ fn run_historical(
     match width.as_bytes() {
         b"1" => Ok(historical::run::<1>(alloc, call, bytes, times)?),
         b"3" => Ok(historical::run::<3>(alloc, call, bytes, times)?),
+        b"4" => Ok(historical::run::<4>(alloc, call, bytes, times)?),
         b"8" => Ok(historical::run::<8>(alloc, call, bytes, times)?),
         b"32" => Ok(historical::run::<32>(alloc, call, bytes, times)?),
         _ => Err(RunError::Usage),
@@ -177,6 +181,7 @@ fn run_kept(
     match width.as_bytes() {
         b"1" => Ok(kept::run::<1>(alloc, call, bytes, commits, times)?),
         b"3" => Ok(kept::run::<3>(alloc, call, bytes, commits, times)?),
+        b"4" => Ok(kept::run::<4>(alloc, call, bytes, commits, times)?),
         b"8" => Ok(kept::run::<8>(alloc, call, bytes, commits, times)?),
         b"32" => Ok(kept::run::<32>(alloc, call, bytes, commits, times)?),
         _ => Err(RunError::Usage),

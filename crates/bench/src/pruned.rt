@@ -28,6 +28,27 @@ pub fn push<const N: usize>(alloc: Global, map: &BitMap<N>, times: u64) -> Resul
     Ok(log.len())
 }
 
+// Removes the retained bits, one by one, and returns how many were set.
+fn pop_each<const N: usize>(log: &mut Prunable<N>) -> u64 {
+    let mut sum: u64 = 0;
+    while log.len() > log.pruned_bits() {
+        sum = sum.wrapping_add(u64::from(log.pop()));
+    }
+    sum
+}
+
+/// Removes all bits, one by one. Each later round first appends zeros, all at once.
+pub fn pop<const N: usize>(alloc: Global, map: &BitMap<N>, times: u64) -> Result<u64, AllocError> {
+    let mut log = copied(alloc, map)?;
+    let bits = log.len();
+    let mut sum: u64 = 0;
+    for _ in 0..times {
+        log.extend_to(bits)?;
+        sum = sum.wrapping_add(pop_each(&mut log));
+    }
+    Ok(sum)
+}
+
 // A bitmap with the same bits, nothing pruned.
 fn copied<const N: usize>(alloc: Global, map: &BitMap<N>) -> Result<Prunable<N>, AllocError>
     ensures { IfOk result (λ log. log ≡ plain_bits map.now) }

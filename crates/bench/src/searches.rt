@@ -2,8 +2,13 @@
 //! Each function returns a number that depends on all results, so that the compiler keeps the calls.
 //! Each search begins or ends at one of eight positions, so that no result can be reused.
 
+use crate::batches::Positions;
+use crate::reads::ones_iter;
 use bitmap_core::bitmap::{BitMap, Readable};
 use std::alloc::AllocError;
+
+// One bit in so many is set in a sparse bitmap.
+const SPARSE: u64 = 1000;
 
 /// A call that is run many times.
 #[derive(Clone, Copy)]
@@ -14,18 +19,20 @@ pub enum Call {
     CountOnesRange,
     SelectOne,
     ZerosIter,
+    SparseOnesIter,
     SetRange,
     AndNot,
     IsSubset,
 }
 
-const NAMES: [(&str, Call); 9] = [
+const NAMES: [(&str, Call); 10] = [
     ("next_one", Call::NextOne),
     ("next_zero", Call::NextZero),
     ("prev_one", Call::PrevOne),
     ("count_ones_range", Call::CountOnesRange),
     ("select_one", Call::SelectOne),
     ("zeros_iter", Call::ZerosIter),
+    ("sparse_ones_iter", Call::SparseOnesIter),
     ("set_range", Call::SetRange),
     ("and_not", Call::AndNot),
     ("is_subset", Call::IsSubset),
@@ -106,6 +113,24 @@ fn zeros_iter<const N: usize>(map: &BitMap<N>, times: u64) -> u64 {
     sum
 }
 
+// Clears all bits but about one in `SPARSE`, which are at random positions.
+fn thin<const N: usize>(map: &mut BitMap<N>) {
+    map.set_all(false);
+    let mut positions = Positions::from_seed(SPARSE);
+    for _ in 0..map.len() / SPARSE {
+        let position = positions.step() % map.len().max(1);
+        if position < map.len() {
+            map.set(position, true);
+        }
+    }
+}
+
+// Iterates over the set positions of a bitmap that has few.
+fn sparse_ones_iter<const N: usize>(map: &mut BitMap<N>, times: u64) -> u64 {
+    thin(map);
+    ones_iter(map, times)
+}
+
 // Sets and clears a range that leaves out at most seven bits, in turn.
 fn set_range<const N: usize>(map: &mut BitMap<N>, times: u64) -> u64 {
     for round in 0..times {
@@ -150,6 +175,7 @@ pub fn run<const N: usize>(call: Call, mut map: BitMap<N>, times: u64) -> Result
         Call::CountOnesRange => Ok(count_ones_range(&map, times)),
         Call::SelectOne => Ok(select_one(&map, times)),
         Call::ZerosIter => Ok(zeros_iter(&map, times)),
+        Call::SparseOnesIter => Ok(sparse_ones_iter(&mut map, times)),
         Call::SetRange => Ok(set_range(&mut map, times)),
         Call::AndNot => and_not(&mut map, times),
         Call::IsSubset => is_subset(&mut map, times),

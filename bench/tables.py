@@ -1,0 +1,277 @@
+"""The tables of docs/BENCHMARKS.md: which calls each measures, and how it prints them.
+
+A table is a function. It takes a `Session`, prints its lines as soon as it has them, and returns the rows of figures for docs/benchmarks.
+"""
+
+from itertools import product
+from math import exp, log
+from typing import Callable, NamedTuple
+
+from measure import Call, costs, ratio
+from programs import COPIES, FIXED, ORIGINAL, OURS, PERSISTENT, ROARING
+
+LARGE, SMALL = 64 << 20, 1 << 20  # bytes of dense bitmaps
+HISTORICAL = 1 << 17  # bytes of historical bitmaps, which are 2^20 bits
+WIDTHS = (1, 3, 8, 32)
+COMMITS = (1000, 10_000, 100_000)
+
+# Calls that take about a nanosecond per bit, and calls that work on whole words: how often a run calls them on 64 MB.
+SLOW = """push pop get set iter ones_iter zeros_iter to_bools from_bools hash prunable_push prunable_pop push_byte get_bit set_bit""".split()
+FAST = """copy flip_all set_all and or xor equal count_ones is_unset extend_same extend_same_shifted extend_other extend_other_shifted extend_to
+    truncate clone write read push_chunk prune unprune next_one next_zero prev_one count_ones_range select_one set_range and_not is_subset
+    sparse_ones_iter""".split()
+TIMES = {**dict.fromkeys(SLOW, 1), **dict.fromkeys(FAST, 16)}
+
+# The edits of a batch: what they are, how often an aborted and a committed batch is run, and the edits per batch.
+EDITS = {
+    "set_far": ("set at random", 2000, 2000, 1000),
+    "set_near": ("set within one chunk", 20_000, 20_000, 1000),
+    "push": ("push a bit", 5000, 2000, 4096),
+    "push_byte": ("push a byte", 2000, 300, 4096),
+    "push_chunk": ("push a chunk", 200, 20, 4096),
+    "push_pop": ("push bits, then pop them", 5000, 5000, 2000),
+    "pop": ("pop", 10_000, 900, 1000),
+    "mixed": ("sets, pushes, pops and reads at random", 5000, 5000, 1000),
+    "slide": ("push 100 chunks, prune as many", 5000, 5000, 100),
+    "nothing": ("no edit", 1_000_000, 200_000, 1),
+}
+PAST = [
+    Call("pending_bits", 1_000_000), Call("pending_chunks", 1_000_000), Call("read_oldest", 50), Call("read_middle", 50),
+    Call("read_newest", 20_000), Call("clone_commits", 20), Call("commit_exists", 2_000_000), Call("commit_numbers", 20_000),
+]
+ALONE = [Call("in_place_oldest", 200, 1000), Call("in_place_newest", 2000, 1000), Call("changed_chunks", 2000), Call("compared_chunks", 50)]
+KEPT = [Call("kept_commit", 20_000), Call("kept_window", 100_000), Call("kept_rewind", 100_000), Call("kept_rebuild", 500),
+        Call("kept_get", 2000), Call("kept_scan", 5)]
+INDEXED = [Call("indexed_get", 500_000), Call("indexed_scan", 100)]
+
+# The groups of calls whose ratios to commonware-utils are in ratios.csv.
+DENSE_GROUPS = {
+    "counts, bitwise calls, ==, clone, hash": "count_ones is_unset flip_all set_all and or xor equal clone hash",
+    "get, set, push, pop, iter": "get set push pop iter",
+    "from_bools, to_bools": "from_bools to_bools",
+    "ones_iter": "ones_iter sparse_ones_iter",
+    "extend_from_bitmap": "extend_same extend_same_shifted extend_other extend_other_shifted",
+    "write, read_cfg": "write read",
+    "Prunable, bit by bit": "get_bit set_bit prunable_push prunable_pop",
+}
+BATCH_GROUPS = {
+    "aborted batch: sets": "batch_set_far batch_set_near",
+    "aborted batch: pushes": "batch_push batch_push_byte batch_push_chunk batch_push_pop",
+    "aborted batch: pop, prune": "batch_pop batch_slide",
+    "aborted batch: sets, pushes, pops, reads": "batch_mixed",
+    "batch: get_bit, get_chunk": "pending_bits pending_chunks",
+    "committed batch: sets": "commit_set_far commit_set_near",
+    "committed batch: pushes": "commit_push commit_push_byte commit_push_chunk",
+    "committed batch: pop, prune": "commit_pop commit_slide",
+    "committed batch: sets, pushes, pops, reads": "commit_mixed",
+    "committed batch: no edits": "commit_nothing",
+    "abort without edits": "batch_nothing",
+    "get_at_commit": "read_oldest read_middle read_newest",
+    "clone with 1001 commits": "clone_commits",
+    "commit_exists, commits": "commit_exists commit_numbers",
+}
+# The calls of growth.csv by the names that the file gives them.
+GROWTH = {
+    "kept_commit": "one set and commit", "kept_window": "the same, oldest dropped", "kept_rewind": "commit, then rewind",
+    "kept_rebuild": "get_at_commit of the oldest", "kept_get": "one bit of the oldest", "kept_scan": "set positions of the oldest",
+    "indexed_get": "one bit of the oldest", "indexed_scan": "set positions of the oldest",
+}
+KEEPS = {"keep_set_far": "1000 sets at random", "keep_set_near": "1000 sets, close together", "keep_push": "4096 pushes"}
+
+
+class Session(NamedTuple):
+    programs: dict  # the programs by their names; one that cannot be built is not there
+    count: int  # how often each run is run
+    wanted: list  # the names of the calls to measure; all if it is empty
+    divisor: int  # a run makes so many times fewer calls than a table says
+
+    def chosen(self, calls):
+        """The calls that are to be measured."""
+        return [call for call in calls if not self.wanted or call.name in self.wanted]
+
+    def costs(self, names, call, width, size, commits=()):
+        """The costs of a call, for those of some programs that are there."""
+        fewer = call._replace(times=max(call.times // self.divisor, 1))
+        found = costs([self.programs[name] for name in names if name in self.programs], fewer, width, size, self.count, commits)
+        return {name: cost._replace(seconds=cost.seconds * call.times / fewer.times) for name, cost in found.items()}
+
+
+def say(*cells):
+    """Prints a row of a table."""
+    print(f"| {' | '.join(map(str, cells))} |", flush=True)
+
+
+def head(*cells):
+    """Prints the head of a table after an empty line."""
+    print()
+    say(*cells)
+    print("|---" * len(cells) + "|")
+
+
+def short(value):
+    """A number with three digits, or with more before the point, or what stands for a missing one."""
+    if value is None:
+        return "too short"
+    return f"{value:.0f}" if value >= 100 else f"{value:.3g}"
+
+
+def mean(values):
+    """The geometric mean of the values that are there, or None."""
+    logs = [log(value) for value in values if value is not None]
+    return exp(sum(logs) / len(logs)) if logs else None
+
+
+def dense_calls(names):
+    """Calls of dense and pruned bitmaps, each with how it is run on two sizes."""
+    return [(size, Call(name, TIMES[name] * (LARGE // size), 8 * size)) for name, size in product(names, (LARGE, SMALL))]
+
+
+def batch_calls(session):
+    """The aborted and the committed batches of some edits."""
+    for edits, (title, aborted, committed, units) in EDITS.items():
+        calls = [Call(f"batch_{edits}", aborted, units), Call(f"commit_{edits}", committed, units)]
+        if session.chosen(calls):
+            yield title, calls
+
+
+def grouped(groups, kind, ratios):
+    """The rows of ratios.csv: the mean of each group of calls. `ratios` has a list per call. A group without a measurement has no row."""
+    for group, names in groups.items():
+        values = [value for name in names.split() for value in ratios.get(name, []) if value is not None]
+        if values:
+            yield {"bitmap": kind, "group": group, "measurements": len(values), "ratio": f"{mean(values):.2f}"}
+
+
+def pair(session, call, width, size):
+    """The ratio of this project's cost to that of commonware-utils."""
+    found = session.costs([OURS, ORIGINAL], call, width, size)
+    return ratio(found[OURS], found[ORIGINAL])
+
+
+def dense(session):
+    """Ratios of dense and pruned bitmaps to commonware-utils."""
+    found = {}
+    head("Ratio of times, by width and size", *(f"{width}, {size >> 20} MB" for size in (LARGE, SMALL) for width in WIDTHS))
+    for name in [name for names in DENSE_GROUPS.values() for name in names.split()]:
+        calls = [(size, call) for size, call in dense_calls([name]) if session.chosen([call])]
+        if calls:
+            found[name] = [pair(session, call, width, size) for size, call in calls for width in WIDTHS]
+            say(f"`{name}`", *map(short, found[name]))
+    return print_groups(DENSE_GROUPS, "dense and pruned", found)
+
+
+def print_groups(groups, kind, ratios):
+    """Prints the mean of each group of calls, and returns the rows of ratios.csv."""
+    rows = list(grouped(groups, kind, ratios))
+    head("Calls", "Measurements", "Ratio of times")
+    for row in rows:
+        say(row["group"], row["measurements"], row["ratio"])
+    return {"ratios": rows}
+
+
+def batches(session):
+    """Ratios of historical bitmaps to commonware-utils: batches of edits, and other calls."""
+    found = {}
+    head("Edits", *(f"Batch {end}, width {width}" for end in ("aborted", "committed") for width in (32, 8, 4)))
+    for title, calls in batch_calls(session):
+        for call in session.chosen(calls):
+            found[call.name] = [pair(session, call, width, HISTORICAL) for width in (32, 8, 4)]
+        say(title, *(cell for call in calls for cell in (map(short, found[call.name]) if call.name in found else [""] * 3)))
+    head("Other calls", "Width 32", "8", "4")
+    for call in session.chosen(PAST):
+        found[call.name] = [pair(session, call, width, HISTORICAL) for width in (32, 8, 4)]
+        say(f"`{call.name}`", *map(short, found[call.name]))
+    return print_groups(BATCH_GROUPS, "historical", found)
+
+
+def microseconds(call, cost):
+    """The microseconds of one call, with three digits."""
+    return short(max(cost.seconds, 0) / call.times * 1e6)
+
+
+def growth(session):
+    """Times by the number of kept commits, of this project and of commonware-utils."""
+    rows = []
+    head("Microseconds, width 8, 2^20 bits", "Program", *(f"{kept:,} commits" for kept in COMMITS))
+    for call in session.chosen(KEPT + INDEXED):
+        names = [OURS] if call in INDEXED else [OURS, ORIGINAL]
+        found = {kept: session.costs(names, call, 8, HISTORICAL, [kept]) for kept in COMMITS}
+        for name in found[COMMITS[0]]:
+            program = "at with an index" if call in INDEXED else name
+            times = {kept: microseconds(call, found[kept][name]) for kept in COMMITS}
+            say(GROWTH[call.name], program, *times.values())
+            rows += [{"call": GROWTH[call.name], "program": program, "commits": kept, "microseconds": time} for kept, time in times.items()]
+    return {"growth": rows}
+
+
+def lengths(session):
+    """Times by the length of the bitmap, of this project, with 1,000 commits."""
+    head("Microseconds, width 8, 1,000 commits", "2^16 bits", "2^20", "2^26")
+    for call in session.chosen(KEPT + INDEXED):
+        found = [session.costs([OURS], call, 8, size, [1000])[OURS] for size in (1 << 13, 1 << 17, 1 << 23)]
+        say(f"`{call.name}`", *(microseconds(call, cost) for cost in found))
+    return {}
+
+
+def commits(session):
+    """Time and memory of 1000 kept commits, of this project and of other ways to keep versions."""
+    rows = []
+    head("Batch", "Program", "Microseconds per commit", "Peak memory of 1000 commits, MB")
+    for call in session.chosen([Call(name, 1000) for name in KEEPS]):
+        for name, cost in session.costs([OURS, COPIES, ROARING, PERSISTENT], call, 8, HISTORICAL).items():
+            row = {"batch": KEEPS[call.name], "program": name, "microseconds": f"{cost.seconds * 1e3:.1f}", "megabytes": f"{cost.megabytes:.1f}"}
+            say(*row.values())
+            rows.append(row)
+    return {"commits": rows}
+
+
+def peers(session):
+    """Ratios of dense calls to fixedbitset and CRoaring."""
+    calls = "count_ones flip_all and or xor equal clone get set ones_iter sparse_ones_iter".split()
+    head("Ratio of times, by width and size", "Peer", *(f"{width}, {size >> 20} MB" for size in (LARGE, SMALL) for width in (8, 32)))
+    for name in calls:
+        runs = [(size, call) for size, call in dense_calls([name]) if session.chosen([call])]
+        others = [FIXED, ROARING] if name.endswith("ones_iter") else [FIXED]
+        found = [session.costs([OURS, *others], call, width, size) for size, call in runs for width in (8, 32)]
+        for other in others if found else []:
+            say(f"`{name}`", other, *(short(ratio(each[OURS], each[other])) for each in found))
+    return {}
+
+
+def nanoseconds(session, call, width, size):
+    """The nanoseconds of this project per unit of a call."""
+    cost = session.costs([OURS], call, width, size)[OURS]
+    return f"{max(cost.seconds, 0) * 1e9 / call.times / call.units:.3f}"
+
+
+def alone(session):
+    """Times of this project alone: per bit of dense and pruned bitmaps, and per edit or read of historical ones.
+
+    `copy` copies as many bytes into memory that was used before: no call that writes as many bytes can be faster."""
+    head("Nanoseconds per bit, by width and size", *(f"{width}, {size >> 20} MB" for size in (LARGE, SMALL) for width in WIDTHS))
+    for name in FAST + SLOW:
+        runs = [(size, call) for size, call in dense_calls([name]) if session.chosen([call])]
+        if runs:
+            say(f"`{name}`", *(nanoseconds(session, call, width, size) for size, call in runs for width in WIDTHS))
+    head("Nanoseconds per edit, read or call, 2^20 bits", "Width 8", "32")
+    batch = [call for _, calls in batch_calls(session) for call in calls]
+    for call in session.chosen(batch + PAST + ALONE):
+        say(f"`{call.name}`", *(nanoseconds(session, call, width, HISTORICAL) for width in (8, 32)))
+    return {}
+
+
+class Table(NamedTuple):
+    measure: Callable
+    needs: list  # the programs that it cannot do without, besides this project's
+    takes: list  # the programs that it measures if they are there
+
+
+TABLES = {
+    "dense": Table(dense, [ORIGINAL], []),
+    "batches": Table(batches, [ORIGINAL], []),
+    "growth": Table(growth, [], [ORIGINAL]),
+    "lengths": Table(lengths, [], []),
+    "commits": Table(commits, [COPIES, ROARING, PERSISTENT], []),
+    "peers": Table(peers, [FIXED, ROARING], []),
+    "alone": Table(alone, [], []),
+}
