@@ -1,0 +1,4 @@
+pub mod Applied
+pub mod Canonical
+pub mod Entries
+pub mod Following

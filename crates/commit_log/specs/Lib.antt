@@ -1,0 +1,4 @@
+pub mod Accepted
+pub mod Entries
+pub mod Kept
+pub mod ListOfChanges
