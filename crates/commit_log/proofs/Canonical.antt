@@ -1,6 +1,7 @@
 -- A list of chunks is that of the chunks that differ exactly if it passes the test of one pass.
 use Rattle.std.proofs.Common.{◌≡◌, ℕ, zero, suc, ◌+◌, ◌-◌, ◌*◌, ◌/◌, ◌<◌, ◌≤◌, Bool, true, false, cond, not, List, [], ◌∷◌, Option, Some, None, refl, sym, ap, subst, ◌∙◌, arith, inl, inr}
 use Rattle.std.specs.Prelude.{nat_eq, max}
+use Rattle.std.specs.Bool.{Decides}
 use Rattle.std.specs.Map.{lookup}
 use Rattle.std.specs.List.{filter, range_with_len}
 use Rattle.std.proofs.lemmas.Bool.{cases_Bool, cases_lt, eq-eqb, ne_eqb, false≢true}
@@ -20,7 +21,7 @@ use Rattle.historical_bitmap.proofs.Records.Restores.{bit_in_chunk}
 use Rattle.commit_log.specs.Entries.{Change}
 use Rattle.commit_log.specs.Kept.{with_bytes, listed, applied}
 use Rattle.commit_log.specs.ListOfChanges.{IsZeroFrom, IsListed, IsLeftOut, ListsFrom, IsListOfChanges}
-use Rattle.commit_log.specs.Accepted.{IsCanonical}
+use Rattle.commit_log.specs.Accepted.{HasExtent, IsCanonical}
 
 -- ---- a list that is made of optional items, by index
 
@@ -264,3 +265,7 @@ module _ (n : ℕ) (old : PrunedBits) (c : Change) (pos : 0 < n) (covers : 8 * n
   canonical_is_list e =
       let same : made item 0 count ≡ c.chunks = sym (listed_made n new (differs n old new) 0 count) ∙ ap (λ (x : Change). x.chunks) e in
       back c.pruned c.chunks (omega arith) (later item 0 c.pruned c.chunks (omega arith) before_pruned (subst (ItemsFrom item 0) same (is_made item 0 count past_count)))
+
+-- what is decided of the list is decided of the change
+pub canonical_decided : (n : ℕ) (old : PrunedBits) (c : Change) (r : Bool) → 0 < n → HasExtent n old c → Decides r (IsListOfChanges n old c) → Decides r (IsCanonical n old c)
+canonical_decided n old c r pos extent d = ((λ e. list_is_canonical n old c pos extent.covers (d.0 e)), (λ f. d.1 (canonical_is_list n old c pos extent.covers f)))

@@ -1,4 +1,5 @@
 pub mod Applied
 pub mod Canonical
+pub mod Checks
 pub mod Entries
 pub mod Following

@@ -1,8 +1,10 @@
 -- The entries that a state accepts. A chunk has n bytes.
-use Rattle.std.specs.Prelude.{◌≡◌, ℕ, ◌*◌, ◌≤◌, List, [], ◌∷◌, None, IsSome}
+use Rattle.std.specs.Prelude.{◌≡◌, ℕ, ◌*◌, ◌≤◌, List, [], ◌∷◌, Option, None, IsSome}
 use Rattle.bitmap_core.specs.PrunedBits.{PrunedBits}
 use Rattle.historical_bitmap.specs.History.{kept_under}
 use Rattle.historical_bitmap.specs.View.{commit_error}
+use Rattle.commit_log.specs.declared.error.EntryError.{EntryError}
+use Rattle.commit_log.specs.declared.error.EntryError.TheVariants as errors
 use Rattle.commit_log.specs.Entries.{Change, Entry}
 use Rattle.commit_log.specs.Entries.Entry.{Commit, Rewind, DropBefore, Clear}
 use Rattle.commit_log.specs.Kept.{Kept, after, applied, change_to}
@@ -32,3 +34,11 @@ Accepts n s Clear = Unit {0}
 abbrev pub AcceptsAll : ℕ → Kept → List Entry → Type 0
 AcceptsAll n s [] = Unit {0}
 AcceptsAll n s (e ∷ es) = Accepts n s e × AcceptsAll n (after n s e) es
+
+-- why a change does not follow a bitmap with a last number: its number, else its extent, else its list of chunks
+abbrev pub IsChangeError : ℕ → PrunedBits → Option ℕ → Change → EntryError → Type 0
+IsChangeError n old last c errors.Number = commit_error last c.number ≡ None → ⊥
+IsChangeError n old last c errors.Length = (commit_error last c.number ≡ None) × (HasExtent n old c → ⊥)
+IsChangeError n old last c errors.Chunks = (commit_error last c.number ≡ None) × HasExtent n old c × (IsCanonical n old c → ⊥)
+IsChangeError n old last c errors.NoSuchCommit = ⊥
+IsChangeError n old last c (errors.Decode e) = ⊥

@@ -6,7 +6,8 @@ use Rattle.bitmap_core.specs.PrunedBits.{PrunedBits, bit_len, from_bits}
 use Rattle.historical_bitmap.specs.Changes.{changed, retained_bytes}
 use Rattle.historical_bitmap.specs.History.{kept_under, from_number, up_to_number}
 use Rattle.historical_bitmap.specs.Record.{bit_or_else}
-use Rattle.historical_bitmap.specs.View.{View, history_of}
+use Rattle.historical_bitmap.specs.Pending.{PendingEdits}
+use Rattle.historical_bitmap.specs.View.{View, history_of, pending_of}
 use Rattle.commit_log.specs.Entries.{Change, Entry}
 use Rattle.commit_log.specs.Entries.Entry.{Commit, Rewind, DropBefore, Clear}
 
@@ -44,6 +45,10 @@ after n s (Commit c) = record { current = applied n s.current c; history = s.his
 after n s (Rewind number) = record { current = unwrap_or (kept_under s.history number) s.current; history = up_to_number number s.history; last = Some number }
 after n s (DropBefore number) = record { current = s.current; history = from_number number s.history; last = s.last }
 after n s Clear = record { current = s.current; history = []; last = s.last }
+
+-- the entry of a commit of a batch under a number
+abbrev pub entry_of_commit : ℕ → View PendingEdits → ℕ → Entry
+entry_of_commit n batch number = Commit (change_to n number batch.current (pending_of n batch))
 
 -- what entries make of it, the first of them first
 abbrev pub after_all : ℕ → Kept → List Entry → Kept

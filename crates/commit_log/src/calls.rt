@@ -3,10 +3,10 @@
 ghost use Rattle.std.specs.Prelude.{◌≡◌, IfOk, IfErr, OnOk, None, is_some, alloc_error, if◌then◌else◌};
 ghost use Rattle.historical_bitmap.specs.declared.bitmap.historical.error.RewindError.TheVariants.{Memory, NoSuchCommit};
 ghost use Rattle.historical_bitmap.specs.History.{kept_under};
-ghost use Rattle.historical_bitmap.specs.View.{history_of, pending_of};
+ghost use Rattle.historical_bitmap.specs.View.{history_of};
 ghost use Rattle.commit_log.specs.Accepted.{Accepts};
-ghost use Rattle.commit_log.specs.Entries.Entry.{Clear, Commit, DropBefore, Rewind};
-ghost use Rattle.commit_log.specs.Kept.{after, change_to, kept_of};
+ghost use Rattle.commit_log.specs.Entries.Entry.{Clear, DropBefore, Rewind};
+ghost use Rattle.commit_log.specs.Kept.{after, entry_of_commit, kept_of};
 
 use historical_bitmap::bitmap::historical::{CleanBitMap, DirtyBitMap, Error, RewindError};
 
@@ -18,8 +18,10 @@ pub fn commit_is_an_entry<const N: usize>(
     batch: DirtyBitMap<N>,
     number: u64,
 ) -> Result<CleanBitMap<N>, (DirtyBitMap<N>, Error)>
-    ensures entry { IfOk result (λ b. kept_of N b ≡ after N (kept_of N batch.entry) (Commit (change_to N number batch.entry.current (pending_of N batch.entry)))) }
-    ensures accepted { OnOk result (Accepts N (kept_of N batch.entry) (Commit (change_to N number batch.entry.current (pending_of N batch.entry)))) }
+    ensures entry { IfOk result (λ b. kept_of N b
+        ≡ after N (kept_of N batch.entry) (entry_of_commit N batch.entry number)) }
+    ensures accepted { OnOk result (Accepts N (kept_of N batch.entry)
+        (entry_of_commit N batch.entry number)) }
     ensures unchanged { IfErr result (λ e. e.0 ≡ batch.entry) }
 {
     let _ = batch.len();
@@ -37,7 +39,9 @@ pub fn rewind_is_an_entry<const N: usize>(
 ) -> Result<CleanBitMap<N>, (CleanBitMap<N>, RewindError)>
     ensures entry { IfOk result (λ b. kept_of N b ≡ after N (kept_of N bitmap.entry) (Rewind number)) }
     ensures accepted { OnOk result (Accepts N (kept_of N bitmap.entry) (Rewind number)) }
-    ensures refused { IfErr result (λ e. e.1 ≡ (if is_some (kept_under (history_of N bitmap.entry) number) then Memory alloc_error else NoSuchCommit)) }
+    ensures refused { IfErr result (λ e. e.1
+        ≡ (if is_some (kept_under (history_of N bitmap.entry) number) then Memory alloc_error
+        else NoSuchCommit)) }
     ensures unchanged { IfErr result (λ e. e.0 ≡ bitmap.entry) }
 {
     bitmap.rewind_to(number)

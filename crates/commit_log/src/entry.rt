@@ -127,7 +127,8 @@ pub fn read_entry<const N: usize>(bytes: &[u8]) -> Result<Entry<'_>, DecodeError
     ensures encoded { IfOk result (λ e. bytes.now ≡ encode_entry (view_entry N e)) }
     ensures fits { IfOk result (λ e. FitsEntry N (view_entry N e)) }
     // Each entry is read from its encoding.
-    ensures only { (e : WrittenEntry) → FitsEntry N e → bytes.now ≡ encode_entry e → Gives (view_entry N) result (Ok e) }
+    ensures only { (e : WrittenEntry) → FitsEntry N e → bytes.now ≡ encode_entry e
+        → Gives (view_entry N) result (Ok e) }
     ensures exact { Gives (view_entry N) result (decode_entry N bytes.now) }
 {
     read_kind::<N>(bytes)
@@ -144,7 +145,8 @@ pub fn push_chunk<const N: usize>(
     bytes: &[u8; N],
 ) -> Result<(), AllocError>
     requires { 8 + N < 2 ^ 64 }
-    ensures { out.new.items ≡ (if is_ok result then out.old.items ++ encode_chunk (index, bytes.now) else out.old.items) }
+    ensures { out.new.items ≡ (if is_ok result
+        then out.old.items ++ encode_chunk (index, bytes.now) else out.old.items) }
 {
     out.reserve(8 + N)?;
     out.extend_from_slice(&index.to_be_bytes()).unwrap();

@@ -16,5 +16,6 @@ pub fn a_change_makes_the_newer_state()
 ///
 /// So no two changes under a number make one bitmap from another, and each new chunk is listed with its bytes.
 pub fn a_change_has_one_list()
-    ensures { (n : ℕ) (old : PrunedBits) (c : Change) → 0 < n → 8 * n * c.pruned ≤ c.len → IsListOfChanges n old c ↔ IsCanonical n old c }
+    ensures { (n : ℕ) (old : PrunedBits) (c : Change) → 0 < n → 8 * n * c.pruned ≤ c.len
+        → IsListOfChanges n old c ↔ IsCanonical n old c }
 {}

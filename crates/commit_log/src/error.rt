@@ -1,0 +1,28 @@
+//! Errors of entries.
+
+use crate::entry::DecodeError;
+use thiserror::Error as ErrorDerive;
+
+/// Why bytes are no entry that a bitmap accepts. Of several reasons, the first one in this order is the error.
+#[derive(Clone, Copy, Debug, PartialEq, Eq, ErrorDerive)]
+pub enum EntryError {
+    /// The bytes encode no entry.
+    #[error("the bytes encode no entry")]
+    Decode(DecodeError),
+
+    /// The number of a commit is reserved, or it is not above the last number.
+    #[error("the number of the commit is reserved, or not above the last number")]
+    Number,
+
+    /// The pruned count of a commit is below that of the bitmap, or its length does not cover its pruned bits.
+    #[error("the pruned count of the commit falls, or its length does not cover the pruned bits")]
+    Length,
+
+    /// The chunks of a commit are not those that differ, ascending, each once, with its new bytes and zeros past the length.
+    #[error("the chunks of the commit are not those that differ")]
+    Chunks,
+
+    /// No commit is kept under the number of a rewind.
+    #[error("no commit is kept under the number of the rewind")]
+    NoSuchCommit,
+}
