@@ -25,6 +25,8 @@ mod epochs;
 #[cfg(test)]
 mod exchange;
 #[cfg(test)]
+mod first_frame;
+#[cfg(test)]
 mod free_slots;
 #[cfg(test)]
 mod joint_bits;
