@@ -18,7 +18,7 @@ TOP = Path(__file__).resolve().parent.parent
 USES = TOP / "crates/uses"
 DOCUMENTS = [
     "README.md", "CONTRIBUTING.md", "docs/GUIDE.md", "docs/TRUST.md", "docs/ARCHITECTURE.md", "docs/DECISIONS.md", "docs/DIFFERENCES.md",
-    "docs/SCRIPT.md", "docs/FORMATS.md", "docs/BENCHMARKS.md",
+    "docs/SCRIPT.md", "docs/FORMATS.md", "docs/BENCHMARKS.md", "bench/README.md",
 ]
 
 # The files of `bindings` that are tested, by the word of a fence.
@@ -35,7 +35,7 @@ def sources(folder):
 
 
 def documents():
-    return sorted([*TOP.glob("*.md"), *TOP.glob("docs/*.md")])
+    return sorted([*TOP.glob("*.md"), *TOP.glob("docs/*.md"), *TOP.glob("bench/*.md")])
 
 
 def lines_of(path):
