@@ -1,0 +1,262 @@
+//! Historical bitmaps: constructors, past states, and the edits of a batch that chain.
+
+use crate::bitmap::Prunable;
+use crate::bitmap::historical::{BitMap, Clean, CleanBitMap, Dirty, DirtyBitMap, Error, State};
+use crate::support::alloc::{Global, expect_memory, out_of_memory};
+use crate::support::clone::TryClone;
+use core::ops::Range;
+
+/// Constructors. `N` has to be at least 1, and `8N` has to fit `u64`: otherwise they do not compile.
+impl<const N: usize> BitMap<N, Clean> {
+    /// Returns an empty bitmap: no bits, no pruned chunks and no commits. Does not allocate.
+    ///
+    /// ```
+    /// use mortarpink::bitmap::historical::CleanBitMap;
+    ///
+    /// let bitmap = CleanBitMap::<8>::new();
+    /// assert!(bitmap.is_empty() && bitmap.latest_commit().is_none());
+    /// ```
+    #[must_use]
+    pub fn new() -> Self {
+        CleanBitMap::new_within(Global)
+    }
+
+    /// Returns a bitmap with `pruned_chunks` pruned chunks, no retained bit and no commits. Does not allocate.
+    ///
+    /// # Errors
+    ///
+    /// Returns `PrunedChunksOverflow` if the number of pruned bits does not fit `u64`.
+    ///
+    /// ```
+    /// use mortarpink::bitmap::historical::CleanBitMap;
+    ///
+    /// assert_eq!(CleanBitMap::<4>::new_with_pruned_chunks(2).unwrap().len(), 64);
+    /// ```
+    pub fn new_with_pruned_chunks(pruned_chunks: usize) -> Result<Self, Error> {
+        CleanBitMap::new_with_pruned_chunks_within(Global, pruned_chunks)
+    }
+
+    /// Makes a historical bitmap of a bitmap, which becomes the current one. There are no commits. Does not allocate.
+    ///
+    /// ```
+    /// use mortarpink::bitmap::Prunable;
+    /// use mortarpink::bitmap::historical::CleanBitMap;
+    ///
+    /// let mut saved = Prunable::<8>::new();
+    /// saved.push(true);
+    /// assert!(CleanBitMap::from_bitmap(saved).get_bit(0));
+    /// ```
+    #[must_use]
+    pub fn from_bitmap(bitmap: Prunable<N>) -> Self {
+        CleanBitMap::from_bitmap_within(Global, bitmap)
+    }
+}
+
+/// Batches and past states.
+impl<const N: usize> BitMap<N, Clean> {
+    /// Edits the bitmap with a closure, and commits the result under a number.
+    ///
+    /// # Errors
+    ///
+    /// Returns the error of the commit. The bitmap is dropped then; `try_apply_batch` returns it.
+    ///
+    /// # Panics
+    ///
+    /// Panics if memory runs out.
+    ///
+    /// ```
+    /// use mortarpink::bitmap::historical::CleanBitMap;
+    ///
+    /// let bitmap = CleanBitMap::<4>::new();
+    /// let bitmap = bitmap.apply_batch(1, |batch| {
+    ///     batch.push(true).push(false);
+    /// })?;
+    /// assert_eq!(bitmap.len(), 2);
+    /// # Ok::<(), mortarpink::bitmap::historical::Error>(())
+    /// ```
+    pub fn apply_batch<F: FnOnce(&mut DirtyBitMap<N>)>(self, commit_number: u64, edit: F) -> Result<Self, Error> {
+        let mut batch = self.into_dirty();
+        edit(&mut batch);
+        batch.commit(commit_number)
+    }
+
+    /// Returns the bitmap as it was at a commit, as a bitmap of its own, or `None` if the commit is not kept.
+    /// `at` reads a past state without a copy.
+    ///
+    /// # Panics
+    ///
+    /// Panics if memory runs out.
+    ///
+    /// ```
+    /// use mortarpink::bitmap::historical::CleanBitMap;
+    ///
+    /// let bitmap = CleanBitMap::<4>::new().apply_batch(1, |batch| {
+    ///     batch.push(true);
+    /// })?;
+    /// let bitmap = bitmap.apply_batch(2, |batch| {
+    ///     batch.set_bit(0, false);
+    /// })?;
+    /// assert!(bitmap.get_at_commit(1).unwrap().get_bit(0));
+    /// assert!(bitmap.get_at_commit(3).is_none());
+    /// # Ok::<(), mortarpink::bitmap::historical::Error>(())
+    /// ```
+    pub fn get_at_commit(&self, commit_number: u64) -> Option<Prunable<N>> {
+        expect_memory(self.try_get_at_commit(commit_number))
+    }
+}
+
+/// Edits of a batch, which chain. Each has a form `try_..` that returns an error if memory runs out, and leaves the batch unchanged then.
+impl<const N: usize> BitMap<N, Dirty<N>> {
+    /// Sets the bit at the absolute position `bit` to `value`.
+    ///
+    /// # Panics
+    ///
+    /// Panics if memory runs out, or if `bit` is pruned or not below the pending length.
+    ///
+    /// ```
+    /// use mortarpink::bitmap::historical::CleanBitMap;
+    ///
+    /// let mut batch = CleanBitMap::<4>::new().into_dirty();
+    /// batch.push(true).set_bit(0, false);
+    /// assert!(!batch.get_bit(0));
+    /// ```
+    #[inline]
+    pub fn set_bit(&mut self, bit: u64, value: bool) -> &mut Self {
+        expect_memory(self.set_bit_unchained(bit, value));
+        self
+    }
+
+    /// Sets the bit at each position in `range` to `value`. If the range is empty or ends before it starts, nothing changes.
+    ///
+    /// # Panics
+    ///
+    /// Panics if memory runs out, or if the range starts below the first position that is not pruned, or ends after the pending length.
+    ///
+    /// ```
+    /// use mortarpink::bitmap::Readable;
+    /// use mortarpink::bitmap::historical::CleanBitMap;
+    ///
+    /// let mut batch = CleanBitMap::<4>::new().into_dirty();
+    /// batch.push_chunk(&[0; 4]).set_range(3..30, true);
+    /// assert_eq!(batch.count_ones_range(0..32), 27);
+    /// ```
+    pub fn set_range(&mut self, range: Range<u64>, value: bool) -> &mut Self {
+        expect_memory(self.set_range_unchained(range, value));
+        self
+    }
+
+    /// Appends a bit.
+    ///
+    /// # Panics
+    ///
+    /// Panics if memory runs out, or if the new length does not fit `u64`.
+    ///
+    /// ```
+    /// use mortarpink::bitmap::historical::CleanBitMap;
+    ///
+    /// let mut batch = CleanBitMap::<4>::new().into_dirty();
+    /// batch.push(true).push(false);
+    /// assert_eq!(batch.len(), 2);
+    /// ```
+    #[inline]
+    pub fn push(&mut self, bit: bool) -> &mut Self {
+        expect_memory(self.push_unchained(bit));
+        self
+    }
+
+    /// Appends the eight bits of a byte, lowest first, at any length.
+    ///
+    /// # Panics
+    ///
+    /// Panics if memory runs out, or if the new length does not fit `u64`.
+    ///
+    /// ```
+    /// use mortarpink::bitmap::historical::CleanBitMap;
+    ///
+    /// let mut batch = CleanBitMap::<4>::new().into_dirty();
+    /// batch.push(false).push_byte(0b0000_0001);
+    /// assert!(batch.get_bit(1) && !batch.get_bit(2));
+    /// ```
+    pub fn push_byte(&mut self, byte: u8) -> &mut Self {
+        expect_memory(self.push_byte_unchained(byte));
+        self
+    }
+
+    /// Appends the `8N` bits of a chunk, at any length.
+    ///
+    /// # Panics
+    ///
+    /// Panics if memory runs out, or if the new length does not fit `u64`.
+    ///
+    /// ```
+    /// use mortarpink::bitmap::historical::CleanBitMap;
+    ///
+    /// let mut batch = CleanBitMap::<4>::new().into_dirty();
+    /// batch.push_chunk(&[1, 2, 3, 4]);
+    /// assert_eq!(batch.get_chunk(0), [1, 2, 3, 4]);
+    /// ```
+    pub fn push_chunk(&mut self, chunk: &[u8; N]) -> &mut Self {
+        expect_memory(self.push_chunk_unchained(chunk));
+        self
+    }
+
+    /// Drops the chunks before the one of the absolute position `bit`. Changes nothing if they are already pruned.
+    ///
+    /// # Panics
+    ///
+    /// Panics if memory runs out, or if `bit` is above the pending length.
+    ///
+    /// ```
+    /// use mortarpink::bitmap::historical::CleanBitMap;
+    ///
+    /// let mut batch = CleanBitMap::<1>::new().into_dirty();
+    /// batch.push_chunk(&[7]).push_chunk(&[8]).prune_to_bit(8);
+    /// assert_eq!(batch.pruned_chunks(), 1);
+    /// ```
+    pub fn prune_to_bit(&mut self, bit: u64) -> &mut Self {
+        expect_memory(self.prune_to_bit_unchained(bit));
+        self
+    }
+
+    /// Makes the pending bitmap current, and keeps it as a commit under a number.
+    ///
+    /// # Errors
+    ///
+    /// Returns `ReservedCommitNumber` if the number is `u64::MAX`, and `NonMonotonicCommit` if it is not above the last number.
+    /// The batch is dropped then; `try_commit` returns it.
+    ///
+    /// # Panics
+    ///
+    /// Panics if memory runs out.
+    ///
+    /// ```
+    /// use mortarpink::bitmap::historical::CleanBitMap;
+    ///
+    /// let mut batch = CleanBitMap::<8>::new().into_dirty();
+    /// batch.push(true);
+    /// let bitmap = batch.commit(1)?;
+    /// assert_eq!(bitmap.latest_commit(), Some(1));
+    /// assert!(bitmap.into_dirty().commit(1).is_err());
+    /// # Ok::<(), mortarpink::bitmap::historical::Error>(())
+    /// ```
+    pub fn commit(self, commit_number: u64) -> Result<CleanBitMap<N>, Error> {
+        match self.try_commit(commit_number) {
+            Ok(bitmap) => Ok(bitmap),
+            Err((_, Error::Memory(_))) => out_of_memory(),
+            Err((_, error)) => Err(error),
+        }
+    }
+}
+
+impl<const N: usize, S: State> Clone for BitMap<N, S> {
+    /// Returns an equal bitmap, with its commits and its pending edits. Panics if memory runs out; `TryClone` returns an error instead.
+    fn clone(&self) -> Self {
+        expect_memory(self.try_clone())
+    }
+}
+
+impl<const N: usize> Default for BitMap<N, Clean> {
+    fn default() -> Self {
+        CleanBitMap::new()
+    }
+}

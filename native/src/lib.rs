@@ -1,0 +1,56 @@
+//! Bitmaps that remember earlier versions of themselves: a program saves a list of bits under a number, goes on editing it, and can later
+//! read the list as it was under that number, or go back to it.
+//!
+//! The module [`bitmap`] has the types of `commonware_utils::bitmap`, under the same names. The crate has no dependency and no `unsafe`.
+//!
+//! ```
+//! use mortarpink::bitmap::Readable;
+//! use mortarpink::bitmap::historical::CleanBitMap;
+//!
+//! let orders = CleanBitMap::<8>::new();
+//! let orders = orders.apply_batch(1, |day| {
+//!     day.push(true).push(true);
+//! })?;
+//! let orders = orders.apply_batch(2, |day| {
+//!     day.set_bit(0, false).push(true);
+//! })?;
+//!
+//! // The orders that were open at the end of day 1, and those that are open now.
+//! assert_eq!(orders.at(1).unwrap().ones_iter_from(0).collect::<Vec<_>>(), [0, 1]);
+//! assert_eq!(orders.current().ones_iter_from(0).collect::<Vec<_>>(), [1, 2]);
+//! # Ok::<(), mortarpink::bitmap::historical::Error>(())
+//! ```
+//!
+//! # Trust
+//!
+//! The modules that do the work are generated from source that a theorem prover has checked, and tested against the program that it has
+//! proved. They are not themselves proved. `docs/NATIVE.md` of the repository says what is trusted in addition.
+//!
+//! # Memory
+//!
+//! A call that may allocate panics if memory runs out, as those of Rust's collections abort. Its form `try_..` returns an [`AllocError`]
+//! instead, and leaves the value unchanged. [`TryClone`] has the copies that return an error.
+//!
+//! # Features
+//!
+//! The crate is `no_std`, with `alloc`. The feature `std`, which is on by default, adds the conversion of [`AllocError`] to
+//! `std::io::Error`.
+#![no_std]
+#![forbid(unsafe_code)]
+
+extern crate alloc;
+#[cfg(feature = "std")]
+extern crate std;
+
+// The proofs hold if `usize` has 64 bits.
+#[cfg(not(target_pointer_width = "64"))]
+compile_error!("mortarpink needs a target whose usize has 64 bits");
+
+pub mod bitmap;
+#[doc(hidden)]
+pub mod generated;
+#[doc(hidden)]
+pub mod support;
+
+pub use support::alloc::AllocError;
+pub use support::clone::TryClone;

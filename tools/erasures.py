@@ -1,0 +1,430 @@
+"""The rewrites by which erase.py makes Rust of the tokens of a Rattle source. Its head lists those that carry meaning."""
+
+import re
+
+from rattle_tokens import (
+    BLANK, Token, Unknown, closing, closing_angle, first_of_item, following, functions_of, is_mark, is_name, preceding, separated, text_of, until,
+)
+
+# A call of a method, `.name(..)`, and the name that it gets. So do the methods of that name that a source defines.
+# In Rattle these calls return an error if memory runs out, and those of Rust abort, or take no allocator.
+METHODS = {
+    "allocator": "its_allocator",
+    "apply_batch": "try_apply_batch",
+    "clone": "try_clone",
+    "commit": "try_commit",
+    "extend_from_bitmap": "try_extend_from_bitmap",
+    "extend_from_slice": "try_extend_from_slice",
+    "extend_to": "try_extend_to",
+    "get_at_commit": "try_get_at_commit",
+    "insert": "try_put",
+    "prune_to_bit": "try_prune_to_bit",
+    "push": "try_push",
+    "push_back": "try_push_back",
+    "push_byte": "try_push_byte",
+    "push_chunk": "try_push_chunk",
+    "reserve": "try_reserve",
+    "resize": "try_resize",
+    "set_bit": "try_set_bit",
+    "set_range": "try_set_range",
+    "to_bools": "try_to_bools",
+    "unprune": "try_unprune",
+    # Rattle's own `try_` forms are those that do not chain.
+    "try_prune_to_bit": "prune_to_bit_unchained",
+    "try_push": "push_unchained",
+    "try_push_byte": "push_byte_unchained",
+    "try_push_chunk": "push_chunk_unchained",
+    "try_set_bit": "set_bit_unchained",
+    "try_set_range": "set_range_unchained",
+}
+
+# The same for `Type::name(..)`: functions that take the allocator.
+CONSTRUCTORS = {
+    "default": "default_within",
+    "from_bitmap": "from_bitmap_within",
+    "from_bools": "from_bools_within",
+    "from_slice": "from_slice_within",
+    "from_str": "from_str_within",
+    "new": "new_within",
+    "new_with_pruned_chunks": "new_with_pruned_chunks_within",
+    "ones": "ones_within",
+    "with_capacity": "with_capacity_within",
+    "zeroes": "zeroes_within",
+}
+
+# Types that are Rust's own, whose constructors keep their names.
+FOREIGN = ("Cell", "DefaultHasher")
+
+# Renamed functions that the public API replaces. Documentation does not show them.
+HIDDEN = {new for old, new in METHODS.items() if old.startswith("try_")} | set(CONSTRUCTORS.values())
+
+KNOWN_DERIVES = {"Clone", "Copy", "Debug", "Eq", "Hash", "Ord", "PartialEq", "PartialOrd"}
+KNOWN_ATTRIBUTES = {"allow", "cfg", "cold", "derive", "doc", "error", "inline", "test"}
+ERASED_ATTRIBUTES = {"cycle", "tactic"}
+KNOWN_MACROS = {"matches", "write", "writeln"}
+UNKNOWN_WORDS = {"asm", "extern", "ghost", "static", "union", "unsafe"}
+
+
+def made(text, line):
+    return Token("made", text, line)
+
+
+def is_path(tokens, at):
+    """Whether a `::` begins at `at`."""
+    return is_mark(tokens, at, ":") and is_mark(tokens, at + 1, ":")
+
+
+def line_end(tokens, at):
+    """The index after the blank tokens at `at`."""
+    while tokens[at].kind == "space":
+        at += 1
+    return at
+
+
+def erase_ghosts(tokens, counts):
+    """Removes clauses, ghost imports and ghost members, with the comments directly above a ghost item."""
+    at = 0
+    while at < len(tokens):
+        kind = tokens[at].kind
+        if kind in ("requires", "ensures", "ghost_use", "ghost_member"):
+            counts[kind] += 1
+            start = at if kind in ("requires", "ensures") else start_of_ghost_item(tokens, at)
+            while kind in ("requires", "ensures") and tokens[start - 1].kind == "space":
+                start -= 1
+            gap = "\n" if kind in ("requires", "ensures") else "\n\n"
+            tokens[start:line_end(tokens, at + 1)] = [Token("space", gap, tokens[at].line)]
+            at = start
+        at += 1
+
+
+def start_of_ghost_item(tokens, at):
+    """The index of the first comment line directly above the ghost item at `at`, or of the item."""
+    while at >= 2 and tokens[at - 1].kind == "space" and tokens[at - 1].text.count("\n") == 1 and tokens[at - 2].kind in ("comment", "doc"):
+        at -= 2
+    before = preceding(tokens, at - 1)
+    return before if is_name(tokens, before, "pub") else at
+
+
+def erase_attributes(tokens, counts):
+    """Removes attributes that are for the prover, and stops at an attribute that is not known."""
+    at = 0
+    while at < len(tokens):
+        opened = at + 1 + is_mark(tokens, at + 1, "!") if is_mark(tokens, at, "#") else at
+        if opened == at or not is_mark(tokens, opened, "["):
+            at += 1
+        elif is_name(tokens, opened + 1, *ERASED_ATTRIBUTES):
+            counts["attribute for the prover"] += 1
+            del tokens[at:line_end(tokens, closing(tokens, opened) + 1)]
+        elif is_name(tokens, opened + 1, *KNOWN_ATTRIBUTES):
+            at = opened + 1
+        else:
+            raise Unknown(f"line {tokens[at].line}: the attribute `{tokens[opened + 1].text}`")
+
+
+def erase_imports(tokens, counts):
+    """Removes the imports of `Model` and of thiserror. Returns the names by which thiserror's `Error` is derived."""
+    names, at = set(), 0
+    while at < len(tokens):
+        if not is_name(tokens, at, "use"):
+            at += 1
+            continue
+        end = until(tokens, at, ";")
+        words = text_of(tokens, at, end).split()
+        if words[1].startswith("thiserror::"):
+            names.add(words[3] if words[2:3] == ["as"] else "Error")
+        if words[1] != "std::marker::Model" and not words[1].startswith("thiserror::"):
+            at = end
+            continue
+        counts["import for proofs or derives"] += 1
+        del tokens[at:end + 1 + (tokens[end + 1].text == "\n")]
+    return names
+
+
+def erase_models(tokens, counts):
+    """Removes the impls of `Model`, which are empty once their ghost members are gone."""
+    at = 0
+    while at < len(tokens):
+        named = following(tokens, at + 1) if is_name(tokens, at, "impl") else at
+        if named != at and is_mark(tokens, named, "<"):
+            named = following(tokens, closing_angle(tokens, named) + 1)
+        if named == at or not is_name(tokens, named, "Model"):
+            at += 1
+            continue
+        opened = until(tokens, at, "{")
+        closed = closing(tokens, opened)
+        if any(token.kind != "space" for token in tokens[opened + 1:closed]):
+            raise Unknown(f"line {tokens[at].line}: an impl of Model with code")
+        counts["impl of Model"] += 1
+        at = first_of_item(tokens, at)
+        del tokens[at:line_end(tokens, closed + 1)]
+
+
+def erase_final(tokens, counts):
+    """Removes the word `final` before a function of a trait."""
+    for at in reversed(range(len(tokens))):
+        if is_name(tokens, at, "final") and is_name(tokens, following(tokens, at + 1), "fn"):
+            counts["final"] += 1
+            del tokens[at:following(tokens, at + 1)]
+
+
+def erase_drop_bounds(tokens, counts):
+    """Removes the bound `Drop`, by which Rattle says that values may be dropped. Each Rust value may be."""
+    for at in reversed(range(len(tokens))):
+        if not is_name(tokens, at, "Drop"):
+            continue
+        before, after = preceding(tokens, at - 1), following(tokens, at + 1)
+        if is_mark(tokens, before, "+") or is_mark(tokens, before, ":") and not is_mark(tokens, after, "+"):
+            del tokens[before:at + 1]
+        elif is_mark(tokens, before, ":"):
+            del tokens[at:following(tokens, after + 1)]
+        else:
+            continue
+        counts["bound Drop"] += 1
+
+
+def rewrite_derives(tokens, error_names, counts):
+    """Takes `Drop` and thiserror's derive out of derives. A derived `Clone` becomes a `TryClone` too, and an error is written out."""
+    at = 0
+    while at < len(tokens):
+        if not (is_mark(tokens, at, "#") and is_mark(tokens, at + 1, "[") and is_name(tokens, at + 2, "derive")):
+            at += 1
+            continue
+        closed = closing(tokens, at + 1)
+        names = [text_of(tokens, a, b) for a, b in separated(tokens, at + 4, closed - 1)]
+        kept = [name for name in names if name not in error_names | {"Drop"}]
+        if set(kept) - KNOWN_DERIVES or "Clone" in kept and "Copy" not in kept:
+            raise Unknown(f"line {tokens[at].line}: a derive of {', '.join(kept)}")
+        counts["derive of Drop"] += "Drop" in names
+        if error_names & set(names):
+            counts["derive of an error"] += 1
+            write_error(tokens, closed + 1)
+        if "Clone" in kept:
+            counts["derive of Clone"] += 1
+            write_try_clone(tokens, closed + 1)
+        if kept:
+            tokens[at:closed + 1] = [made(f"#[derive({', '.join(kept)})]", tokens[at].line)]
+        else:
+            del tokens[at:line_end(tokens, closed + 1)]
+
+
+def item_of(tokens, at, *words):
+    """The index of the first of the words from `at` on, and the name of the item."""
+    while not is_name(tokens, at, *words):
+        at += 1
+    return at, following(tokens, at + 1)
+
+
+def end_of_type(tokens, at):
+    """The index after the struct or enum at `at`."""
+    end = until(tokens, at, ";", "{") if is_mark(tokens, until(tokens, at, ";", "{"), ";") else until(tokens, at, "{")
+    return end + 1 if is_mark(tokens, end, ";") else closing(tokens, end) + 1
+
+
+def write_try_clone(tokens, at):
+    """Adds an impl of `TryClone` after the type at `at`, which is `Copy`."""
+    start, named = item_of(tokens, at, "struct", "enum")
+    opened, parameters, arguments = following(tokens, named + 1), "", ""
+    if is_mark(tokens, opened, "<"):
+        closed = closing_angle(tokens, opened)
+        parameters = text_of(tokens, opened + 1, closed)
+        names = [re.match(r"(?:const )?(\w+)", parameter.strip()).group(1) for parameter in parameters.split(",")]
+        arguments = f"<{', '.join(names)}>"
+    text = f"\n\ncrate::support::clones_by_copy! {{ [{parameters}] {tokens[named].text}{arguments} }}\n"
+    tokens.insert(end_of_type(tokens, start), made(text, tokens[start].line))
+
+
+def write_error(tokens, at):
+    """Takes the `#[error(..)]` attributes of the enum at `at` away, and adds impls of Display and Error after it."""
+    start, named = item_of(tokens, at, "enum")
+    opened, name, arms = until(tokens, start, "{"), tokens[named].text, []
+    at = opened + 1
+    while at < closing(tokens, opened):
+        if is_mark(tokens, at, "#") and is_name(tokens, at + 2, "error"):
+            end = closing(tokens, at + 1)
+            message = next(token.text for token in tokens[at:end] if token.kind == "string")
+            del tokens[at:line_end(tokens, end + 1)]
+            arms.append(arm(tokens, name, following(tokens, at), message))
+            at = until(tokens, at, ",", "}")
+        at += 1
+    text = (
+        f"\n\nimpl core::fmt::Display for {name} {{\n    fn fmt(&self, f: &mut core::fmt::Formatter<'_>) -> core::fmt::Result {{\n"
+        f"        match self {{\n{''.join(arms)}        }}\n    }}\n}}\n\nimpl core::error::Error for {name} {{}}\n"
+    )
+    tokens.insert(closing(tokens, opened) + 1, made(text, tokens[start].line))
+
+
+def arm(tokens, name, variant, message):
+    """The arm of `Display::fmt` for the variant at `variant` and its message, which names its fields."""
+    after = following(tokens, variant + 1)
+    fields, used = "", set(re.findall(r"\{(\w+)", message))
+    if is_mark(tokens, after, "("):
+        count = len(separated(tokens, after + 1, closing(tokens, after)))
+        fields = "(" + ", ".join(f"field{k}" if str(k) in used else "_" for k in range(count)) + ")"
+        message = re.sub(r"\{(\d+)", r"{field\1", message)
+    elif is_mark(tokens, after, "{"):
+        fields = " { " + "".join(f"{field}, " for field in sorted(used)) + ".. }"
+    return f"            {name}::{tokens[variant].text}{fields} => write!(f, {message}),\n"
+
+
+def rename_functions(tokens, counts):
+    """Renames the functions of METHODS and CONSTRUCTORS where impls and traits define them, and where they are called."""
+    for function in reversed(functions_of(tokens)):
+        names = METHODS if function.takes_self else CONSTRUCTORS
+        if function.scope and function.name in names:
+            tokens[function.at].text = names[function.name]
+            counts["renamed function"] += 1
+            if function.is_public and names[function.name] in HIDDEN:
+                hide(tokens, function)
+    for at, token in enumerate(tokens):
+        before, after = preceding(tokens, at - 1), following_call(tokens, at)
+        if token.kind != "name" or not is_mark(tokens, after, "("):
+            continue
+        if is_mark(tokens, before, ".") and token.text in METHODS:
+            token.text = METHODS[token.text]
+            counts["renamed call"] += 1
+        elif is_mark(tokens, before, ":") and token.text in CONSTRUCTORS and is_type(tokens, before - 2):
+            token.text = CONSTRUCTORS[token.text]
+            counts["renamed call"] += 1
+
+
+def hide(tokens, function):
+    """Keeps a public function that the API replaces out of the documentation."""
+    at = function.at
+    while not is_name(tokens, at, "pub"):
+        at -= 1
+    tokens.insert(at, made("#[doc(hidden)]\n", tokens[at].line))
+
+
+def following_call(tokens, at):
+    """The index of what follows the name at `at` and its generic arguments."""
+    after = following(tokens, at + 1) if tokens[at].kind != "end" else at
+    if is_path(tokens, after) and is_mark(tokens, after + 2, "<"):
+        after = following(tokens, closing_angle(tokens, after + 2) + 1)
+    return after
+
+
+def is_type(tokens, at):
+    """Whether the path that ends at `at` is that of a type which is not Rust's own: its last name begins with a capital letter."""
+    if is_mark(tokens, at, ">"):
+        while not is_mark(tokens, at, "<"):
+            at -= 1
+        at -= 3
+    return tokens[at].kind == "name" and tokens[at].text[0].isupper() and tokens[at].text not in FOREIGN
+
+
+def rewrite_clones(tokens, counts):
+    """An impl of Rattle's `Clone`, which may fail, is one of `TryClone`. `collect` with an allocator is `collect_within`."""
+    for at in range(len(tokens)):
+        named = following(tokens, at + 1) if is_name(tokens, at, "impl") else at
+        if named != at and is_mark(tokens, named, "<"):
+            named = following(tokens, closing_angle(tokens, named) + 1)
+        if named != at and is_name(tokens, named, "Clone"):
+            counts["impl of Clone"] += 1
+            tokens[named].text = "TryClone"
+        opened = following_call(tokens, at) if is_name(tokens, at, "collect") and is_mark(tokens, preceding(tokens, at - 1), ".") else at
+        if opened != at and is_mark(tokens, opened, "(") and not is_mark(tokens, following(tokens, opened + 1), ")"):
+            counts["collect with an allocator"] += 1
+            tokens[at].text = "collect_within"
+
+
+def rewrite_formatters(tokens, counts):
+    """`fmt::Formatter<W>` over any `W: fmt::Write` is Rust's `fmt::Formatter<'_>`, and the parameter `W` goes."""
+    for at in reversed(range(len(tokens))):
+        if not is_name(tokens, at, "W"):
+            continue
+        before, after = preceding(tokens, at - 1), following(tokens, at + 1)
+        if is_mark(tokens, before, "<") and is_name(tokens, preceding(tokens, before - 1), "Formatter"):
+            tokens[at] = Token("lifetime", "'_", tokens[at].line)
+        elif is_mark(tokens, after, ":") and text_of(tokens, after, after + 6).replace(" ", "") == ":fmt::Write":
+            counts["writer of a formatter"] += 1
+            end = following(tokens, after + 6)
+            is_only = is_mark(tokens, before, "<") and is_mark(tokens, end, ">")
+            if not is_only and not is_mark(tokens, before, ","):
+                raise Unknown(f"line {tokens[at].line}: a writer that is not the last parameter")
+            del tokens[before:end + is_only]
+
+
+def erase_modules(tokens, names, counts):
+    """Removes the declarations of the modules in `names`."""
+    at = 0
+    while at < len(tokens):
+        named = following(tokens, at + 1) if is_name(tokens, at, "mod") else at
+        if named != at and is_name(tokens, named, *names) and is_mark(tokens, named + 1, ";"):
+            counts["module of laws"] += 1
+            at = first_of_item(tokens, at)
+            del tokens[at:line_end(tokens, named + 2)]
+        at += 1
+
+
+def rewrite_paths(tokens, crate, roots, std, counts):
+    """Paths that begin with `crate`, `std` or the name of a Rattle crate: `roots` has the path of each crate, and `std` that of the support."""
+    for at, token in enumerate(tokens):
+        before, after = preceding(tokens, at - 1), following(tokens, at + 1) if token.kind != "end" else at
+        if token.kind != "name" or not is_path(tokens, after) or is_mark(tokens, before, ":") and is_mark(tokens, before - 1, ":"):
+            continue
+        root = {"crate": roots.get(crate), "std": std}.get(token.text, roots.get(token.text))
+        if root:
+            counts["path"] += 1
+            token.text = root
+
+
+def erase_examples(tokens, counts):
+    """Removes the examples of doc comments, which are in Rattle, with the heading or the sentence that announces them."""
+    at = 0
+    while at < len(tokens):
+        if tokens[at].kind not in ("doc", "inner_doc"):
+            at += 1
+            continue
+        kind, end = tokens[at].kind, at + 1
+        while tokens[end].kind == "space" and tokens[end].text.count("\n") == 1 and tokens[end + 1].kind == kind:
+            end += 2
+        lines = [token.text for token in tokens[at:end] if token.kind == kind]
+        kept = lines_without_examples(lines, counts)
+        gap = tokens[at + 1] if end > at + 1 else None
+        fresh = [part for line in kept for part in (Token(kind, line, tokens[at].line), gap)][:-1]
+        tokens[at:end] = fresh
+        at += max(len(fresh), 1)
+
+
+def lines_without_examples(lines, counts):
+    """The lines of a doc comment without its blocks of code, and without what announces one."""
+    kept, in_block = [], False
+    for line in lines:
+        if line[3:].strip() == "```":
+            in_block = not in_block
+            counts["example in Rattle"] += in_block
+            while in_block and kept and (kept[-1][3:].strip() in ("", "# Examples") or kept[-1].endswith(":")):
+                kept.pop()
+        elif not in_block:
+            kept.append(line)
+    while kept and not kept[-1][3:].strip():
+        kept.pop()
+    return kept
+
+
+def add_prelude(tokens, prelude):
+    """Each module, a file or one with braces, imports the support's prelude."""
+    text = f"#[allow(unused_imports)]\nuse {prelude}::*;\n"
+    for at in reversed(range(len(tokens))):
+        opened = following(tokens, following(tokens, at + 1) + 1) if is_name(tokens, at, "mod") else at
+        if opened != at and is_mark(tokens, opened, "{"):
+            tokens.insert(opened + 1, made("\n" + text, tokens[at].line))
+    at = 0
+    while tokens[at].kind in ("space", "inner_doc") or is_mark(tokens, at, "#") and is_mark(tokens, at + 1, "!"):
+        at = closing(tokens, at + 2) + 1 if tokens[at].kind == "mark" else at + 1
+    tokens.insert(at, made(text, 1))
+
+
+def check_known(tokens):
+    """Stops at a word or a macro that no rewrite knows."""
+    defined = {tokens[following(tokens, at + 2)].text for at in range(len(tokens)) if is_name(tokens, at, "macro_rules")}
+    for at, token in enumerate(tokens):
+        if is_name(tokens, at, *UNKNOWN_WORDS) or is_name(tokens, at, "Drop") and not is_mark(tokens, preceding(tokens, at - 1), ":"):
+            raise Unknown(f"line {token.line}: the word `{token.text}`")
+        is_macro = token.kind == "name" and is_mark(tokens, at + 1, "!") and not is_mark(tokens, at + 2, "=")
+        if is_macro and token.text not in KNOWN_MACROS | defined | {"macro_rules"}:
+            raise Unknown(f"line {token.line}: the macro `{token.text}!`")
+
+
+def without_blank_runs(text):
+    return re.sub(r"\n{3,}", "\n\n", text)
