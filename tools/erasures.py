@@ -3,7 +3,7 @@
 import re
 
 from rattle_tokens import (
-    BLANK, Token, Unknown, closing, closing_angle, first_of_item, following, functions_of, is_mark, is_name, preceding, separated, text_of, until,
+    Token, Unknown, closing, closing_angle, first_of_item, following, functions_of, is_mark, is_name, preceding, separated, text_of, until,
 )
 
 # A call of a method, `.name(..)`, and the name that it gets. So do the methods of that name that a source defines.

@@ -52,5 +52,9 @@ pub mod generated;
 #[doc(hidden)]
 pub mod support;
 
+#[cfg(doctest)]
+#[doc = include_str!("../README.md")]
+struct Readme;
+
 pub use support::alloc::AllocError;
 pub use support::clone::TryClone;

@@ -52,24 +52,7 @@ pub trait Readable<const N: usize> {
     /// If the bitmap does not hold the chunk in a slice, the slice is empty. The default is an empty slice.
     ///
     /// For `BitMap` and `Prunable`, does not allocate; constant time.
-    ///
-    /// # Panics
-    ///
-    /// Panics if the chunk `chunk` has no retained bit.
     fn chunks_around(&self, chunk: usize) -> (&[[u8; N]], usize) {
-        assert!(
-            self.pruned_chunks() <= chunk,
-            "chunk {} is pruned (pruned_chunks: {})",
-            chunk,
-            self.pruned_chunks()
-        );
-        assert!(
-            (chunk as u64) < self.len().div_ceil(8 * N as u64),
-            "chunk {} out of bounds (chunks: {})",
-            chunk,
-            self.len().div_ceil(8 * N as u64)
-        );
-
         (&[], chunk)
     }
 
