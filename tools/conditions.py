@@ -34,7 +34,7 @@ FORMS = [
     Form("width", r"IsWidth N", [("N > 0", '"chunk size must be > 0"'), ("N < 1 << 61", '"chunk size must be below 2^61"')],
          "`N` is 0, or `8N` does not fit `u64`", True),
     Form("positive", r"0 < N", [("N > 0", '"chunk size must be > 0"')], "`N` is 0", True),
-    Form("below", rf"(\w+) < {LEN}", [("$1 < self.len()", OUT_OF_BOUNDS)], "`$1` is not below the length"),
+    Form("below", rf"([a-z]\w*) < {LEN}", [("$1 < self.len()", OUT_OF_BOUNDS)], "`$1` is not below the length"),
     Form("up_to", rf"(\w+) ≤ {LEN}", [("$1 <= self.len()", OUT_OF_BOUNDS)], "`$1` is above the length"),
     Form("range_end", rf"range\.end ≤ {LEN}", [("range.end <= self.len()", '"range end {} out of bounds (len: {})", range.end, self.len()')],
          "the range ends after the length"),

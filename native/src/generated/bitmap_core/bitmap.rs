@@ -509,9 +509,9 @@ impl<const N: usize> BitMap<N> {
     ///
     /// # Panics
     ///
-    /// Panics if `0` is not below the length.
+    /// Panics if the bitmap is empty.
     pub fn pop(&mut self) -> bool {
-        assert!(0 < self.len(), "bit {} out of bounds (len: {})", 0, self.len());
+        assert!(!self.is_empty(), "Cannot pop from empty bitmap");
 
         let last = self.len - 1;
         let bit = deque::get_bit(&self.chunks, last);
