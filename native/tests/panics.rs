@@ -1,0 +1,178 @@
+//! Each condition of a public call: the call panics, with the message of the original crate if that has one, and changes nothing.
+
+use mortarpink::bitmap::historical::{CleanBitMap, DirtyBitMap};
+use mortarpink::bitmap::{BitMap, Prunable, Readable};
+use std::panic::{AssertUnwindSafe, catch_unwind};
+
+/// The message with which a call panics.
+#[track_caller]
+fn panic_of<T>(call: impl FnOnce() -> T) -> String {
+    let Err(payload) = catch_unwind(AssertUnwindSafe(call)) else {
+        panic!("the call returned");
+    };
+    match payload.downcast_ref::<String>() {
+        Some(message) => message.clone(),
+        None => payload.downcast_ref::<&str>().unwrap().to_string(),
+    }
+}
+
+/// A bitmap of one byte per chunk: two pruned chunks, and ten retained bits, every third of which is set.
+fn pruned() -> Prunable<1> {
+    let mut bitmap = Prunable::new();
+    for bit in 0..26 {
+        bitmap.push(bit % 3 == 0);
+    }
+    bitmap.prune_to_bit(17);
+    bitmap
+}
+
+/// A bitmap that is as long as a bitmap can be, less seven bits.
+fn longest() -> Prunable<1> {
+    let mut bitmap = Prunable::new_with_pruned_chunks(usize::MAX / 8).unwrap();
+    bitmap.push(true);
+    bitmap
+}
+
+fn batch() -> DirtyBitMap<1> {
+    CleanBitMap::from_bitmap(pruned()).into_dirty()
+}
+
+#[test]
+fn of_dense_bitmaps() {
+    let mut bitmap = BitMap::<1>::from([true, false, true]);
+    let same = bitmap.clone();
+    assert_eq!(panic_of(|| bitmap.get(3)), "bit 3 out of bounds (len: 3)");
+    assert_eq!(panic_of(|| bitmap[3]), "bit 3 out of bounds (len: 3)");
+    assert_eq!(panic_of(|| bitmap.set(3, true)), "bit 3 out of bounds (len: 3)");
+    assert_eq!(panic_of(|| bitmap.flip(u64::MAX)), "bit 18446744073709551615 out of bounds (len: 3)");
+    assert_eq!(panic_of(|| bitmap.set_range(1..4, true)), "range end 4 out of bounds (len: 3)");
+    assert_eq!(panic_of(|| bitmap.is_unset(0..4)), "range end 4 out of bounds (len: 3)");
+    assert_eq!(panic_of(|| bitmap.truncate(4)), "cannot truncate to a larger size");
+    assert_eq!(panic_of(|| bitmap.push_chunk(&[1])), "cannot add chunk when not chunk aligned");
+    assert_eq!(panic_of(|| BitMap::<1>::new().pop()), "Cannot pop from empty bitmap");
+    assert_eq!(bitmap, same);
+}
+
+#[test]
+fn of_two_dense_bitmaps() {
+    let (mut left, right) = (BitMap::<1>::ones(3), BitMap::<1>::ones(4));
+    let expected = "BitMap lengths don't match: 3 vs 4";
+    assert_eq!(panic_of(|| left.and(&right)), expected);
+    assert_eq!(panic_of(|| left.or(&right)), expected);
+    assert_eq!(panic_of(|| left.xor(&right)), expected);
+    assert_eq!(panic_of(|| left.and_not(&right)), expected);
+    assert_eq!(panic_of(|| left.is_subset(&right)), expected);
+    assert_eq!(panic_of(|| left.is_disjoint(&right)), expected);
+    assert_eq!(panic_of(|| &left & &right), expected);
+    assert_eq!(panic_of(|| &left | &right), expected);
+    assert_eq!(panic_of(|| &left ^ &right), expected);
+    assert_eq!(panic_of(|| &left - &right), expected);
+    assert_eq!(left, BitMap::ones(3));
+}
+
+#[test]
+fn of_reads_of_pruned_bitmaps() {
+    let (bitmap, none) = (pruned(), Prunable::<1>::new_with_pruned_chunks(2).unwrap());
+    assert_eq!(panic_of(|| bitmap.get_bit(15)), "bit pruned: 15");
+    assert_eq!(panic_of(|| bitmap.get_bit(26)), "bit 26 out of bounds (len: 26)");
+    assert_eq!(panic_of(|| bitmap.get_chunk_containing(15)), "bit pruned: 15");
+    assert_eq!(panic_of(|| bitmap.get_chunk_containing(26)), "bit 26 out of bounds (len: 26)");
+    assert_eq!(panic_of(|| *bitmap.get_chunk(1)), "chunk 1 is pruned (pruned_chunks: 2)");
+    assert_eq!(panic_of(|| *bitmap.get_chunk(4)), "chunk 4 out of bounds (chunks: 4)");
+    assert_eq!(panic_of(|| bitmap.is_unset(15..26)), "range start 15 is pruned");
+    assert_eq!(panic_of(|| bitmap.is_unset(16..27)), "range end 27 out of bounds (len: 26)");
+    assert_eq!(panic_of(|| none.last_chunk()), "no bit is retained");
+}
+
+#[test]
+fn of_edits_of_pruned_bitmaps() {
+    let mut bitmap = pruned();
+    assert_eq!(panic_of(|| bitmap.set_bit(15, true)), "bit pruned: 15");
+    assert_eq!(panic_of(|| bitmap.set_bit(26, true)), "bit 26 out of bounds (len: 26)");
+    assert_eq!(panic_of(|| bitmap.set_range(15..26, true)), "range start 15 is pruned");
+    assert_eq!(panic_of(|| bitmap.set_range(16..27, true)), "range end 27 out of bounds (len: 26)");
+    assert_eq!(panic_of(|| bitmap.truncate(15)), "cannot truncate into pruned region");
+    assert_eq!(panic_of(|| bitmap.truncate(27)), "cannot truncate to a larger size");
+    assert_eq!(panic_of(|| bitmap.prune_to_bit(27)), "bit 27 out of bounds (len: 26)");
+    assert_eq!(panic_of(|| bitmap.push_byte(0)), "cannot add byte when not byte aligned");
+    assert_eq!(panic_of(|| bitmap.push_chunk(&[0])), "cannot add chunk when not chunk aligned");
+    assert_eq!(panic_of(|| bitmap.pop_chunk()), "cannot pop chunk when not chunk aligned");
+    assert_eq!(panic_of(|| bitmap.unprune(&[[0]; 3])), "cannot unprune 3 chunks (only 2 pruned)");
+    assert_eq!(panic_of(|| bitmap.set_chunk_by_index(1, &[0])), "cannot set pruned chunk 1 (pruned_chunks: 2)");
+    assert_eq!(panic_of(|| bitmap.set_chunk_by_index(4, &[0])), "chunk index 4 out of bounds (chunks_len: 4)");
+    assert_eq!(panic_of(|| bitmap.set_chunk_by_index(3, &[4])), "non-zero bits beyond bitmap length");
+    assert_eq!(bitmap.encode(), pruned().encode());
+    bitmap.truncate(16);
+    assert_eq!(panic_of(|| bitmap.pop()), "Cannot pop from empty bitmap");
+    assert_eq!(panic_of(|| bitmap.pop_chunk()), "cannot pop chunk: bitmap has fewer than CHUNK_SIZE_BITS bits");
+}
+
+#[test]
+fn of_lengths_near_the_end() {
+    let mut bitmap = longest();
+    let others = [BitMap::<2>::zeroes(7), BitMap::<2>::zeroes(6)];
+    assert_eq!(panic_of(|| bitmap.extend_from_bitmap(&others[0])), "length overflows u64");
+    bitmap.extend_from_bitmap(&others[1]);
+    assert_eq!(bitmap.len(), u64::MAX);
+    assert_eq!(panic_of(|| bitmap.push(true)), "length overflows u64");
+    let mut batch = CleanBitMap::from_bitmap(bitmap).into_dirty();
+    assert_eq!(panic_of(|| batch.push(true).len()), "length overflows u64");
+    assert_eq!(panic_of(|| batch.push_byte(0).len()), "length overflows u64");
+    assert_eq!(panic_of(|| batch.push_chunk(&[0]).len()), "length overflows u64");
+    let mut empty = Prunable::<1>::new_with_pruned_chunks(usize::MAX / 8).unwrap();
+    assert_eq!(panic_of(|| empty.push_byte(0)), "length overflows u64");
+    assert_eq!(panic_of(|| empty.push_chunk(&[0])), "length overflows u64");
+}
+
+#[test]
+fn of_historical_bitmaps() {
+    let bitmap = CleanBitMap::from_bitmap(pruned()).apply_batch(1, |_| ()).unwrap();
+    assert_eq!(panic_of(|| bitmap.get_bit(15)), "bit pruned: 15");
+    assert_eq!(panic_of(|| bitmap.get_bit(26)), "bit 26 out of bounds (len: 26)");
+    assert_eq!(panic_of(|| *bitmap.get_chunk_containing(26)), "bit 26 out of bounds (len: 26)");
+    let past = bitmap.at(1).unwrap();
+    assert_eq!(panic_of(|| past.get_bit(15)), "bit pruned: 15");
+    assert_eq!(panic_of(|| past.get_bit(26)), "bit 26 out of bounds (len: 26)");
+    assert_eq!(panic_of(|| past.get_chunk(4)), "chunk 4 out of bounds (chunks: 4)");
+    assert_eq!(panic_of(|| past.retained_bytes(usize::MAX)), "chunk 18446744073709551615 starts past u64::MAX");
+    let empty = CleanBitMap::<1>::new().apply_batch(1, |_| ()).unwrap();
+    assert_eq!(panic_of(|| empty.at(1).unwrap().last_chunk()), "no bit is retained");
+}
+
+#[test]
+fn of_batches() {
+    let mut batch = batch();
+    assert_eq!(panic_of(|| batch.get_bit(15)), "cannot get bit 15: chunk 1 is pruned (pruned up to chunk 2)");
+    assert_eq!(panic_of(|| batch.get_bit(26)), "bit offset 26 out of bounds (len: 26)");
+    assert_eq!(panic_of(|| batch.get_chunk(15)), "cannot get chunk at bit offset 15: chunk 1 is pruned (pruned up to chunk 2)");
+    assert_eq!(panic_of(|| batch.get_chunk(26)), "bit offset 26 out of bounds (len: 26)");
+    assert_eq!(panic_of(|| batch.set_bit(15, true).len()), "cannot set bit 15: chunk 1 is pruned (pruned up to chunk 2)");
+    assert_eq!(panic_of(|| batch.set_bit(26, true).len()), "cannot set bit 26: out of bounds (len: 26)");
+    assert_eq!(panic_of(|| batch.set_range(15..20, true).len()), "range start 15 is pruned");
+    assert_eq!(panic_of(|| batch.set_range(16..27, true).len()), "range end 27 out of bounds (len: 26)");
+    assert_eq!(panic_of(|| batch.prune_to_bit(27).len()), "cannot prune to bit 27: beyond projected length (26)");
+    for _ in 0..10 {
+        batch.pop();
+    }
+    assert_eq!(panic_of(|| batch.pop()), "cannot pop from empty bitmap");
+    assert_eq!(batch.len(), 16);
+}
+
+#[test]
+fn of_chained_edits() {
+    let mut batch = batch();
+    let edit = batch.try_push(true).unwrap();
+    assert_eq!(panic_of(|| edit.try_set_bit(27, true).is_ok()), "cannot set bit 27: out of bounds (len: 27)");
+    assert!(batch.get_bit(26));
+}
+
+#[test]
+fn of_the_trait() {
+    let dense = BitMap::<1>::zeroes(3);
+    assert_eq!(panic_of(|| Readable::get_bit(&dense, 3)), "bit 3 out of bounds (len: 3)");
+    assert_eq!(panic_of(|| Readable::get_chunk(&dense, 1)), "chunk 1 out of bounds (chunks: 1)");
+    assert_eq!(panic_of(|| dense.chunks_around(1).1), "chunk 1 out of bounds (chunks: 1)");
+    assert_eq!(panic_of(|| Readable::last_chunk(&BitMap::<1>::new())), "no bit is retained");
+    assert_eq!(panic_of(|| Readable::get_chunk(&pruned(), 1)), "chunk 1 is pruned (pruned_chunks: 2)");
+    assert_eq!(panic_of(|| Readable::get_chunk(&batch(), 1)), "chunk 1 is pruned (pruned_chunks: 2)");
+}
