@@ -1,0 +1,60 @@
+"""The mutants of the Rust crate: wrong changes of the parts that are written by hand and of the eraser. A test has to fail for each."""
+
+from typing import NamedTuple
+
+
+class Mutant(NamedTuple):
+    name: str
+    file: str
+    old: str  # is once in the file
+    new: str
+
+
+SUPPORT = "native/src/support"
+
+HAND_WRITTEN = [
+    Mutant("a copy of a deque has its front alone", f"{SUPPORT}/clone.rs", "        T::append_clones(back, &mut copy)?;\n", "        let _ = back;\n"),
+    Mutant("a deque that grows reserves nothing", f"{SUPPORT}/collections.rs", "            self.try_reserve(1)?;\n", ""),
+    Mutant("a vector that grows reserves nothing", f"{SUPPORT}/vec.rs", "            self.try_reserve(1)?;\n", ""),
+    Mutant("a vector with capacity has none", f"{SUPPORT}/vec.rs", "        vec.try_reserve_exact(count)?;\n", "        let _ = &mut vec;\n        let _ = count;\n"),
+    Mutant("a slice that is appended reserves nothing", f"{SUPPORT}/vec.rs", "        self.try_reserve(values.len())?;\n", ""),
+    Mutant("a resized vector is one longer", f"{SUPPORT}/vec.rs", "        self.resize(count, value);\n", "        self.resize(count + 1, value);\n"),
+    Mutant("a value for the front goes to the back", f"{SUPPORT}/collections.rs", "        self.push_front(value);\n", "        self.push_back(value);\n"),
+    Mutant("a map keeps the old value", f"{SUPPORT}/collections.rs", "        Ok(self.insert(key, value))\n",
+           "        self.entry(key).or_insert(value);\n        Ok(None)\n"),
+    Mutant("collecting leaves the last item out", f"{SUPPORT}/iter.rs", "            vec.try_push(item)?;\n        }\n",
+           "            vec.try_push(item)?;\n        }\n        vec.pop();\n"),
+    Mutant("each operator is |", "native/src/bitmap/dense.rs", "expect_memory(fallible::$operator::$function(self, other))",
+           "expect_memory(fallible::BitOr::bitor(self, other))"),
+    Mutant("a batch that is out of memory reports a number", "native/src/bitmap/versions.rs", "            Err((_, Error::Memory(_))) => out_of_memory(),\n", ""),
+    Mutant("a closure's batch is committed before it is edited", "native/src/bitmap/versions.rs", "        edit(&mut batch);\n        batch.commit(commit_number)\n",
+           "        let mut other = batch.clone();\n        edit(&mut other);\n        batch.set_range(0..0, true);\n        batch.commit(commit_number)\n"),
+]
+
+# Where the text of each erased source ends up, so that a mutant of the eraser can change it.
+RESULT = '    return re.sub(r"\\n{3,}", "\\n\\n", text)\n'
+
+
+def rewriting(old, new):
+    """A change of the eraser that also makes `new` of the pattern `old` in all that it writes."""
+    return "tools/erasures.py", RESULT, f'    return re.sub({old!r}, {new!r}, re.sub(r"\\n{{3,}}", "\\n\\n", text))\n'
+
+
+ERASER = [
+    Mutant("the eraser drops a statement", *rewriting(r"deque::clear_tail\([^;]*;", "")),
+    Mutant("the eraser drops statements that bind nothing", *rewriting(r"\n\s*drop\([^;]*;", "")),
+    Mutant("the eraser exchanges two names", *rewriting(r"let \(front, back\) = deque::bytes", "let (back, front) = deque::bytes")),
+    Mutant("the eraser turns a comparison", *rewriting(r"if len < n \{", "if len <= n.wrapping_sub(2) {")),
+    Mutant("the eraser writes no assertion of retained positions", "tools/conditions.py", 'Form("retained", r"IsRetained N self (\\w+)", [',
+           'Form("retained", r"IsRetained N self (\\w+)", 0 * ['),
+    Mutant("the eraser writes no assertion of ranges", "tools/conditions.py", '[("range.end <= self.len()",', '0 * [("range.end <= self.len()",'),
+    Mutant("the eraser writes no assertion in impls of traits", "tools/erase.py",
+           "            return [ghost_clause(tokens, scope, c) for c in self.traits.get(implemented.group(1), {}).get(function.name, [])]\n",
+           "            return []\n"),
+    Mutant("the eraser keeps no message of the original", "tools/conditions.py",
+           "            messages = MESSAGES.get(key, [message for _, message in form.assertions])\n",
+           "            messages = [message for _, message in form.assertions]\n"),
+    Mutant("the eraser exchanges the fields of an error", "tools/erasures.py", 'message = re.sub(r"\\{(\\d+)", r"{field\\1", message)',
+           'message = re.sub(r"\\{(\\d+)", r"{field0", message).replace("is out of", "is in")'),
+    Mutant("the eraser writes another default width", "tools/erase.py", '("bitmap_core", "BitMap"): "DEFAULT_CHUNK_SIZE"', '("bitmap_core", "BitMap"): "4"'),
+]
