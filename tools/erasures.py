@@ -26,6 +26,7 @@ METHODS = {
     "reserve": "try_reserve",
     "resize": "try_resize",
     "set_bit": "try_set_bit",
+    "set_chunk": "try_set_chunk",
     "set_range": "try_set_range",
     "to_bools": "try_to_bools",
     "unprune": "try_unprune",
@@ -34,6 +35,7 @@ METHODS = {
     "try_push": "push_unchained",
     "try_push_byte": "push_byte_unchained",
     "try_push_chunk": "push_chunk_unchained",
+    "try_set_chunk": "set_chunk_unchained",
     "try_set_bit": "set_bit_unchained",
     "try_set_range": "set_range_unchained",
 }

@@ -145,6 +145,24 @@ impl<const N: usize> BitMap<N, Dirty<N>> {
         self
     }
 
+    /// Replaces the chunk at an absolute index by these bytes. Bits past the pending length are ignored.
+    ///
+    /// # Panics
+    ///
+    /// Panics if memory runs out, if the chunk is pruned, or if it begins at or after the pending length.
+    ///
+    /// ```
+    /// use mortarpink::bitmap::historical::CleanBitMap;
+    ///
+    /// let mut batch = CleanBitMap::<4>::new().into_dirty();
+    /// batch.push_chunk(&[0; 4]).set_chunk(0, &[1, 0, 0, 128]);
+    /// assert!(batch.get_bit(0) && batch.get_bit(31));
+    /// ```
+    pub fn set_chunk(&mut self, index: usize, chunk: &[u8; N]) -> &mut Self {
+        expect_memory(self.set_chunk_unchained(index, chunk));
+        self
+    }
+
     /// Appends a bit.
     ///
     /// # Panics

@@ -19,6 +19,7 @@ mod edited;
 pub mod error;
 mod grown;
 mod index;
+mod lengths;
 mod pending;
 mod pending_changes;
 mod pending_reads;
@@ -28,6 +29,7 @@ mod rewind;
 mod state;
 mod tail;
 mod undo;
+mod whole_chunks;
 mod word;
 
 use crate::generated::bitmap_core::bitmap::Prunable;

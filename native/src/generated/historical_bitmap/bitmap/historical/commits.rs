@@ -141,6 +141,13 @@ impl<const N: usize> BitMap<N, Clean> {
         self.commits.first_number()
     }
 
+    /// Returns the number last committed or rewound to, even if its commit is not kept, or `None` if there is none.
+    ///
+    /// A commit's number has to be above it. Does not allocate; constant time.
+    pub fn last_number(&self) -> Option<u64> {
+        self.last
+    }
+
     /// Returns an iterator over the numbers of the kept commits, ascending, each once.
     ///
     /// Does not allocate.

@@ -90,6 +90,13 @@ fn replace_bit_at<const N: usize>(chunks: &mut ChunkMap<N>, place: usize, index:
     old
 }
 
+// Removes the chunks of a map from index `from` on. Does not allocate.
+fn remove_from<const N: usize>(chunks: &mut ChunkMap<N>, from: usize) {
+    while let Some(index) = chunks.next_from(from) {
+        let _ = chunks.remove(index);
+    }
+}
+
 impl<const N: usize> EditedChunks<N> {
     // Returns a collection without chunks. Does not allocate.
     pub(crate) fn new_within(alloc: Global) -> Self {
@@ -190,6 +197,12 @@ impl<const N: usize> EditedChunks<N> {
     // Removes the chunk at an index and returns it. Does not allocate.
     pub(crate) fn remove(&mut self, index: usize) -> Option<[u8; N]> {
         self.chunks.remove(index)
+    }
+
+    // Removes the chunks from index `from` on. Does not allocate.
+    pub(crate) fn drop_from(&mut self, from: usize) {
+        remove_from(&mut self.chunks, from);
+        self.chunks.order();
     }
 
     // Returns the map of the chunks.

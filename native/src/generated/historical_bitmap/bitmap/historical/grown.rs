@@ -186,6 +186,16 @@ impl<const N: usize> GrownChunks<N> {
         self.open(index, chunk)
     }
 
+    // As `write`, for a chunk that need not be appended: a new one never goes into the run.
+    pub(crate) fn replace(&mut self, index: usize, chunk: [u8; N]) -> Result<(), AllocError> {
+        if is_in(self.from, self.run.len(), index) {
+            let place = index - self.from;
+            self.run[place] = chunk;
+            return Ok(());
+        }
+        self.others.write(index, chunk)
+    }
+
     // Inserts or replaces the chunk at an index, and inserts one at the next. There is no chunk past the index.
     // After an error nothing is changed.
     pub(crate) fn write_two(&mut self, index: usize, first: [u8; N], second: [u8; N]) -> Result<(), AllocError> {
@@ -210,6 +220,19 @@ impl<const N: usize> GrownChunks<N> {
             return self.run.pop();
         }
         self.others.remove(index)
+    }
+
+    // Removes the chunks from index `from` on. Does not allocate.
+    pub(crate) fn drop_from(&mut self, from: usize) {
+        self.others.drop_from(from);
+        self.run.truncate(from.saturating_sub(self.from));
+    }
+
+    // Clears the bits of the chunk at an index from bit `from` on, counted from its start, if there is a chunk. Does not allocate.
+    pub(crate) fn cut(&mut self, index: usize, from: u64) {
+        if self.get(index).is_some() {
+            self.set_in(index, from, chunk_width::<N>(), false);
+        }
     }
 
     // Returns the map of the other chunks, and the part of the run from index `from` up to `to`: its first index, and the one past its last.

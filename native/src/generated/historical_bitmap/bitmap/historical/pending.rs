@@ -6,7 +6,7 @@ use crate::generated::bitmap_core::chunk::facts::known;
 use crate::generated::bitmap_core::chunk::join::{chunk_from, join};
 use crate::generated::bitmap_core::chunk::{chunk_count, chunk_index, chunk_width, clear_from, get_bit};
 use crate::generated::chunk_map::map::ChunkMap;
-use crate::generated::historical_bitmap::bitmap::historical::edited::first_chunk;
+use crate::generated::historical_bitmap::bitmap::historical::edited::{cut, first_chunk};
 use crate::generated::historical_bitmap::bitmap::historical::grown::GrownChunks;
 use crate::generated::historical_bitmap::bitmap::historical::record::{ChunkDiff, CommitDiff};
 use crate::generated::historical_bitmap::bitmap::historical::tail::TailChunks;
@@ -281,6 +281,12 @@ impl<const N: usize> Dirty<N> {
         self.edited.clear_bit(last)
     }
 
+    // Shortens the pending bitmap to `total` bits. Does not allocate.
+    pub(crate) fn truncate(&mut self, total: u64) {
+        self.edited.truncate(total);
+        self.len = total;
+    }
+
     // Sets the bits at the positions from `from` up to `to`. After an error nothing is changed.
     // Does not allocate, and succeeds, if each chunk of these positions is edited.
     pub(crate) fn try_set_range(&mut self, current: &Prunable<N>, from: u64, to: u64, value: bool) -> Result<(), AllocError> {
@@ -289,6 +295,17 @@ impl<const N: usize> Dirty<N> {
             return Ok(());
         }
         self.edited.try_set_range(current, len, from, to, value, self.alloc)?;
+        Ok(())
+    }
+
+    // Replaces the bits of the chunk at an index, which starts before the length. Bits past the length become zero.
+    // After an error nothing is changed. Does not allocate, and succeeds, if the chunk is edited.
+    pub(crate) fn try_set_chunk(&mut self, index: usize, chunk: &[u8; N]) -> Result<(), AllocError> {
+        let len = self.len();
+        let start = chunk_width::<N>() * index as u64;
+        let mut bytes = *chunk;
+        cut(&mut bytes, len - start);
+        self.edited.replace(index, bytes)?;
         Ok(())
     }
 

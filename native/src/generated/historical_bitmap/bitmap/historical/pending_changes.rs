@@ -27,7 +27,7 @@ pub struct PendingChanges<'a, const N: usize> {
 }
 
 // Returns the bytes of a chunk of the current bitmap, if it is retained.
-fn current_bytes<const N: usize>(current: &Prunable<N>, chunk: usize) -> Option<[u8; N]> {
+pub(crate) fn current_bytes<const N: usize>(current: &Prunable<N>, chunk: usize) -> Option<[u8; N]> {
     let len = current.len();
     let start = chunk_width::<N>() * chunk as u64;
     if chunk < current.pruned_chunks() || start >= len {
@@ -37,7 +37,7 @@ fn current_bytes<const N: usize>(current: &Prunable<N>, chunk: usize) -> Option<
 }
 
 // Returns the bytes of a chunk of the pending bitmap, if it is retained.
-fn pending_bytes<const N: usize>(current: &Prunable<N>, edits: &Dirty<N>, chunk: usize) -> Option<[u8; N]> {
+pub(crate) fn pending_bytes<const N: usize>(current: &Prunable<N>, edits: &Dirty<N>, chunk: usize) -> Option<[u8; N]> {
     let len = edits.len();
     let start = chunk_width::<N>() * chunk as u64;
     if chunk < edits.pruned_chunks() || start >= len {

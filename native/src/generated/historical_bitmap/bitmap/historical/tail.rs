@@ -283,6 +283,12 @@ impl<const N: usize> TailChunks<N> {
         self.chunks.write(index, chunk)
     }
 
+    // As `write`, for a chunk that need not be appended: a new one never goes into the appended run.
+    pub(crate) fn replace(&mut self, index: usize, chunk: [u8; N]) -> Result<(), AllocError> {
+        settle(&mut self.chunks, &mut self.tail);
+        self.chunks.replace(index, chunk)
+    }
+
     // Inserts or replaces the chunk at an index, and inserts one at the next. There is no chunk past the index.
     // After an error nothing is changed.
     pub(crate) fn write_two(&mut self, index: usize, first: [u8; N], second: [u8; N]) -> Result<(), AllocError> {
@@ -309,6 +315,20 @@ impl<const N: usize> TailChunks<N> {
     pub(crate) fn remove(&mut self, index: usize) -> Option<[u8; N]> {
         settle(&mut self.chunks, &mut self.tail);
         self.chunks.remove(index)
+    }
+
+    // Removes the chunks that start at position `total` or later, and clears the bits from there on of the chunk that starts before.
+    // Does not allocate.
+    pub(crate) fn truncate(&mut self, total: u64) {
+        settle(&mut self.chunks, &mut self.tail);
+        let index = chunk_index::<N>(total);
+        let kept = total % chunk_width::<N>();
+        if kept == 0 {
+            self.chunks.drop_from(index);
+        } else {
+            self.chunks.drop_from(index + 1);
+            self.chunks.cut(index, kept);
+        }
     }
 
     // Caches the word of a bit, if its chunk is edited. Does not allocate.
