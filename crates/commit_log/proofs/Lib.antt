@@ -3,3 +3,4 @@ pub mod Canonical
 pub mod Checks
 pub mod Entries
 pub mod Following
+pub mod Making

@@ -3,6 +3,8 @@ use Rattle.std.specs.Prelude.{◌≡◌, ℕ, ◌*◌, ◌≤◌, List, [], ◌�
 use Rattle.bitmap_core.specs.PrunedBits.{PrunedBits}
 use Rattle.historical_bitmap.specs.History.{kept_under}
 use Rattle.historical_bitmap.specs.View.{commit_error}
+use Rattle.commit_log.specs.declared.error.ApplyError.{ApplyError}
+use Rattle.commit_log.specs.declared.error.ApplyError.TheVariants as failures
 use Rattle.commit_log.specs.declared.error.EntryError.{EntryError}
 use Rattle.commit_log.specs.declared.error.EntryError.TheVariants as errors
 use Rattle.commit_log.specs.Entries.{Change, Entry}
@@ -42,3 +44,8 @@ IsChangeError n old last c errors.Length = (commit_error last c.number ≡ None)
 IsChangeError n old last c errors.Chunks = (commit_error last c.number ≡ None) × HasExtent n old c × (IsCanonical n old c → ⊥)
 IsChangeError n old last c errors.NoSuchCommit = ⊥
 IsChangeError n old last c (errors.Decode e) = ⊥
+
+-- why a change was not applied: it does not follow, or it does, and an allocation failed
+abbrev pub IsApplyError : ℕ → Kept → Change → ApplyError → Type 0
+IsApplyError n s c (failures.Entry e) = IsChangeError n s.current s.last c e
+IsApplyError n s c (failures.Memory e) = Accepts n s (Commit c)

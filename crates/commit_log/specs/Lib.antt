@@ -2,3 +2,4 @@ pub mod Accepted
 pub mod Entries
 pub mod Kept
 pub mod ListOfChanges
+pub mod Making

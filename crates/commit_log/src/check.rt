@@ -70,7 +70,7 @@ fn is_zero_from<const N: usize>(bytes: &[u8; N], chunk: u64, len: u64) -> bool
 }
 
 // Returns the first chunk of a list, with its index, and the bytes after it.
-fn split_chunk<const N: usize>(chunks: &[u8]) -> Option<(u64, &[u8; N], &[u8])>
+pub(crate) fn split_chunk<const N: usize>(chunks: &[u8]) -> Option<(u64, &[u8; N], &[u8])>
     requires { 8 + N < 2 ^ 64 }
     ensures none { result ≡ None → all_chunks N chunks.now ≡ [] }
     ensures some { IfSome result (λ found. all_chunks N chunks.now

@@ -1,6 +1,7 @@
 //! Errors of entries.
 
 use crate::entry::DecodeError;
+use std::alloc::AllocError;
 use thiserror::Error as ErrorDerive;
 
 /// Why bytes are no entry that a bitmap accepts. Of several reasons, the first one in this order is the error.
@@ -25,4 +26,27 @@ pub enum EntryError {
     /// No commit is kept under the number of a rewind.
     #[error("no commit is kept under the number of the rewind")]
     NoSuchCommit,
+}
+
+/// Why an entry was not applied.
+#[derive(Clone, Copy, Debug, PartialEq, Eq, ErrorDerive)]
+pub enum ApplyError {
+    /// The bitmap does not accept the entry.
+    #[error("the bitmap does not accept the entry")]
+    Entry(EntryError),
+
+    /// An allocation failed.
+    #[error("out of memory")]
+    Memory(AllocError),
+}
+
+impl From<AllocError> for ApplyError {
+    ghost use Rattle.std.specs.Prelude.{◌≡◌};
+    ghost use Rattle.commit_log.specs.declared.error.ApplyError.TheVariants.{Memory};
+
+    ghost from_gives = { λ e r. r ≡ Memory e };
+
+    fn from(error: AllocError) -> ApplyError {
+        ApplyError::Memory(error)
+    }
 }

@@ -15,14 +15,16 @@
 //! are zero. So each commit has one encoding: the law [`a_change_has_one_list`] says this.
 #![tactic(auto)]
 
+mod apply;
 mod calls;
 mod check;
 mod entry;
 mod error;
 mod laws;
 
+pub use apply::apply_change;
 pub use calls::{clear_is_an_entry, commit_is_an_entry, drop_is_an_entry, rewind_is_an_entry};
 pub use check::check_change;
 pub use entry::{Change, DecodeError, Entry, push_chunk, read_entry};
-pub use error::EntryError;
+pub use error::{ApplyError, EntryError};
 pub use laws::{a_change_has_one_list, a_change_makes_the_newer_state};
