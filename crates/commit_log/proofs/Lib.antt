@@ -4,3 +4,4 @@ pub mod Checks
 pub mod Entries
 pub mod Following
 pub mod Making
+pub mod Bases

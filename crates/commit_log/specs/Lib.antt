@@ -3,3 +3,4 @@ pub mod Entries
 pub mod Kept
 pub mod ListOfChanges
 pub mod Making
+pub mod Base

@@ -57,7 +57,7 @@ pub enum Entry<'a> {
 }
 
 // Reads a number, and returns it with the bytes after it.
-fn read_number(bytes: &[u8]) -> Result<(u64, &[u8]), DecodeError>
+pub(crate) fn read_number(bytes: &[u8]) -> Result<(u64, &[u8]), DecodeError>
     ensures { Gives (λ x. (x.0, x.1.now)) result (decode_number bytes.now) }
 {
     let Some((first, rest)) = bytes.split_first_chunk::<8>() else {

@@ -11,11 +11,15 @@
 //! | 3 | drop before | the first number that is not dropped |
 //! | 5 | clear | none |
 //!
+//! A log begins with a base, which is no entry: the state before the first entry, as a bitmap and what is kept of it. It has the tag 4, a flag, the
+//! last number, a count and the encoding of the bitmap. [`base_bytes`] encodes it and [`read_base`] reads it.
+//!
 //! The chunks of a commit are those that the bitmap retains after it, and that differ from the bitmap before it, ascending. Bits past the length
 //! are zero. So each commit has one encoding: the law [`a_change_has_one_list`] says this.
 #![tactic(auto)]
 
 mod apply;
+mod base;
 mod calls;
 mod check;
 mod entry;
@@ -23,6 +27,7 @@ mod error;
 mod laws;
 
 pub use apply::apply_change;
+pub use base::{BaseError, Past, base_bytes, from_base, read_base};
 pub use calls::{clear_is_an_entry, commit_is_an_entry, drop_is_an_entry, rewind_is_an_entry};
 pub use check::check_change;
 pub use entry::{Change, DecodeError, Entry, push_chunk, read_entry};
