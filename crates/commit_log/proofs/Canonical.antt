@@ -1,17 +1,17 @@
 -- A list of chunks is that of the chunks that differ exactly if it passes the test of one pass.
-use Rattle.std.proofs.Common.{◌≡◌, ℕ, zero, suc, ◌+◌, ◌-◌, ◌*◌, ◌/◌, ◌<◌, ◌≤◌, Bool, true, false, cond, not, List, [], ◌∷◌, length, Option, Some, None, refl, sym, ap, subst, ◌∙◌, arith, inl, inr}
+use Rattle.std.proofs.Common.{◌≡◌, ℕ, zero, suc, ◌+◌, ◌-◌, ◌*◌, ◌/◌, ◌<◌, ◌≤◌, Bool, true, false, cond, not, List, [], ◌∷◌, Option, Some, None, refl, sym, ap, subst, ◌∙◌, arith, inl, inr}
 use Rattle.std.specs.Prelude.{nat_eq, max}
 use Rattle.std.specs.Bool.{Decides}
 use Rattle.std.specs.Map.{lookup}
 use Rattle.std.specs.List.{filter, range_with_len}
-use Rattle.std.proofs.lemmas.Bool.{cases_Bool, cases_lt, eq-eqb, ne_eqb, lt-ltb, false≢true}
+use Rattle.std.proofs.lemmas.Bool.{cases_Bool, cases_lt, eq-eqb, ne_eqb, false≢true}
 use Rattle.std.proofs.lemmas.Nat.{mul-le}
 use Rattle.std.proofs.lemmas.Option.{none-some, same_Some}
 use Rattle.std.proofs.lemmas.List.FromFn.{length-map-range_with_len, get_or-map-range_with_len}
 use Rattle.std.proofs.lemmas.List.{get_or_past}
 use Rattle.bitmap_bytes.specs.Chunk.{bit_value, chunk_bit, byte_of, IsChunk}
-use Rattle.bitmap_core.specs.PrunedBits.{PrunedBits, bit_at, bit_len, chunk, pruned_bits, IsRetainedChunk}
-use Rattle.bitmap_core.proofs.Pruned.Positions.{bit_from_bits, bit_past, len_from_bits, ceil_above_index}
+use Rattle.bitmap_core.specs.PrunedBits.{PrunedBits, bit_at, bit_len, chunk}
+use Rattle.bitmap_core.proofs.Pruned.Positions.{bit_from_bits, bit_past, len_from_bits}
 use Rattle.historical_bitmap.specs.Changes.{changed, chunk_total, differs, retained_bytes}
 use Rattle.historical_bitmap.specs.Record.{bit_or_else}
 use Rattle.historical_bitmap.proofs.Changes.Patched.{same_option, past_total}
@@ -19,8 +19,8 @@ use Rattle.historical_bitmap.proofs.Changes.Unnamed.{bytes_none, bytes_there, ch
 use Rattle.historical_bitmap.proofs.Pending.Chunks.{chunk_with_bits}
 use Rattle.historical_bitmap.proofs.Records.Restores.{bit_in_chunk}
 use Rattle.commit_log.specs.Entries.{Change}
-use Rattle.commit_log.specs.Kept.{with_bytes, listed, change_to, applied}
-use Rattle.commit_log.specs.ListOfChanges.{Differs, IsZeroFrom, IsListed, IsLeftOut, ListsFrom, IsListOfChanges}
+use Rattle.commit_log.specs.Kept.{with_bytes, listed, applied}
+use Rattle.commit_log.specs.ListOfChanges.{IsZeroFrom, IsListed, IsLeftOut, ListsFrom, IsListOfChanges}
 use Rattle.commit_log.specs.Accepted.{Follows, HasExtent, IsCanonical}
 use Rattle.commit_log.specs.Making.{AscendFrom}
 

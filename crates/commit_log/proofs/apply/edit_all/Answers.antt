@@ -1,4 +1,4 @@
-use Rattle.std.proofs.Common.{◌≡◌, ◌*◌, ℕ, List, ap, sym, subst, arith}
+use Rattle.std.proofs.Common.{◌≡◌, ◌*◌, ℕ, ap, sym, subst, arith}
 use Rattle.historical_bitmap.specs.View.{pending_of}
 use Rattle.commit_log.specs.Entries.{all_chunks}
 use Rattle.commit_log.specs.Making.{AscendFrom}

@@ -1,4 +1,4 @@
-use Rattle.std.proofs.Common.{arith, refl, ℕ, List}
+use Rattle.std.proofs.Common.{arith, refl}
 use Rattle.commit_log.specs.Entries.{all_chunks}
 use Rattle.commit_log.proofs.Making.{write_begun, may_write, write_more, all_written}
 use Rattle.commit_log.proofs.apply.write_chunks.Goals as goal
