@@ -57,12 +57,7 @@ fn check_at<const N: usize>(
 }
 
 // Chunk `index` of a batch on `before`. The batch is committed at 2, and the bitmap is rewound.
-fn check_chunk<const N: usize>(
-    rt: &impl Abort,
-    before: &CleanBitMap<N>,
-    width: u64,
-    index: usize,
-) {
+fn check_chunk<const N: usize>(rt: &impl Abort, before: &CleanBitMap<N>, width: u64, index: usize) {
     let mut map = begun(rt, ok(rt, before.clone()), width);
     // The prover learns the bounds of `N` from this call.
     let _ = map.len();
