@@ -7,6 +7,7 @@ ghost use Rattle.bitmap_core.specs.PrunedBits.{pruned_bits};
 ghost use Rattle.historical_bitmap.specs.View.{pending_of};
 
 use crate::checks::ok;
+use bitmap_core::bitmap::BitMap;
 use historical_bitmap::bitmap::Readable;
 use historical_bitmap::bitmap::historical::{CleanBitMap, DirtyBitMap, Error, RewindError};
 use std::alloc::AllocError;
@@ -160,6 +161,37 @@ pub fn try_push_chunk<const N: usize>(
 /// The same, but fails the test if an allocation fails.
 pub fn push_chunk<const N: usize>(rt: &impl Abort, map: &mut DirtyBitMap<N>, chunk: &[u8; N]) {
     ok(rt, try_push_chunk(rt, map, chunk));
+}
+
+/// Appends zeros up to a length.
+pub fn try_extend_to<const N: usize>(map: &mut DirtyBitMap<N>, n: u64) -> Result<(), AllocError> {
+    map.extend_to(n)?;
+    Ok(())
+}
+
+/// The same, but fails the test if an allocation fails.
+pub fn extend_to<const N: usize>(rt: &impl Abort, map: &mut DirtyBitMap<N>, n: u64) {
+    ok(rt, try_extend_to(map, n));
+}
+
+/// Appends the bits of a dense bitmap.
+pub fn try_extend_from_bitmap<const N: usize>(
+    rt: &impl Abort,
+    map: &mut DirtyBitMap<N>,
+    other: &BitMap<N>,
+) -> Result<(), AllocError> {
+    assert!(rt; u64::MAX - map.len() >= other.len());
+    map.extend_from_bitmap(other)?;
+    Ok(())
+}
+
+/// The same, but fails the test if an allocation fails.
+pub fn extend_from_bitmap<const N: usize>(
+    rt: &impl Abort,
+    map: &mut DirtyBitMap<N>,
+    other: &BitMap<N>,
+) {
+    ok(rt, try_extend_from_bitmap(rt, map, other));
 }
 
 /// Removes and returns the last bit of the pending bitmap, which is retained.

@@ -6,11 +6,12 @@
 ghost use Rattle.bitmap_bytes.specs.Chunk.{IsWidth};
 
 use crate::checked_calls::{
-    commit, has_pending_bits, pop, prune_to_bit, push, push_byte, read_bit, rewind, set_bit,
-    truncate,
+    commit, extend_from_bitmap, extend_to, has_pending_bits, pop, prune_to_bit, push, push_byte,
+    read_bit, rewind, set_bit, truncate,
 };
 use crate::checks::{equal, expect, expect_at, ok};
 use crate::ranges::{begun, committed, grow, pattern};
+use bitmap_core::bitmap::BitMap;
 use historical_bitmap::bitmap::Readable;
 use historical_bitmap::bitmap::historical::{CleanBitMap, DirtyBitMap};
 use std::alloc::Global;
@@ -72,6 +73,65 @@ fn edited_chunk_truncated(rt: HostRuntime) {
     expect(&rt, has_bits(map.current(), 1, b"0111010111111000"));
 }
 
+// Bits that were cut off are zero if the batch is extended again. A length that the batch has already changes nothing.
+#[test]
+fn batch_extended(rt: HostRuntime) {
+    let mut map = three_chunks(&rt, rt.alloc());
+    truncate(&rt, &mut map, 18);
+    extend_to(&rt, &mut map, 8);
+    extend_to(&rt, &mut map, 18);
+    expect(&rt, has_pending_bits(&rt, &map, 1, b"0111010111"));
+    extend_to(&rt, &mut map, 21);
+    expect(&rt, has_pending_bits(&rt, &map, 1, b"0111010111000"));
+    extend_to(&rt, &mut map, 34);
+    expect(
+        &rt,
+        has_pending_bits(&rt, &map, 1, b"01110101110000000000000000"),
+    );
+    push(&rt, &mut map, true);
+    let map = commit(&rt, map, 2);
+    expect(
+        &rt,
+        has_bits(map.current(), 1, b"011101011100000000000000001"),
+    );
+    let map = rewind(&rt, map, 1);
+    expect(&rt, has_bits(map.current(), 1, b"0111010111110000"));
+}
+
+// The bits 1101 0011 101, in chunks of one byte.
+fn eleven(rt: &impl Abort, alloc: Global) -> BitMap<1> {
+    ok(
+        rt,
+        BitMap::from_bools(
+            alloc,
+            &[
+                true, true, false, true, false, false, true, true, true, false, true,
+            ],
+        ),
+    )
+}
+
+#[test]
+fn bitmap_appended(rt: HostRuntime) {
+    let more = eleven(&rt, rt.alloc());
+    let mut map = three_chunks(&rt, rt.alloc());
+    truncate(&rt, &mut map, 18);
+    extend_from_bitmap(&rt, &mut map, &BitMap::new(rt.alloc()));
+    expect(&rt, has_pending_bits(&rt, &map, 1, b"0111010111"));
+    extend_from_bitmap(&rt, &mut map, &more);
+    expect(
+        &rt,
+        has_pending_bits(&rt, &map, 1, b"011101011111010011101"),
+    );
+    truncate(&rt, &mut map, 16);
+    extend_from_bitmap(&rt, &mut map, &more);
+    expect(&rt, has_pending_bits(&rt, &map, 1, b"0111010111010011101"));
+    let map = commit(&rt, map, 2);
+    expect(&rt, has_bits(map.current(), 1, b"0111010111010011101"));
+    let map = rewind(&rt, map, 1);
+    expect(&rt, has_bits(map.current(), 1, b"0111010111110000"));
+}
+
 // Each bit of a readable bitmap of `len` bits: that of the pattern below `filled`, and zero from there on.
 fn check_read<B: Readable<N>, const N: usize>(rt: &impl Abort, map: &B, filled: u64, len: u64) {
     equal(rt, map.len(), len);
@@ -131,6 +191,39 @@ fn check_truncated<const N: usize>(rt: &impl Abort, before: &CleanBitMap<N>, wid
     check_batch(rt, before, map, longer, longer);
 }
 
+// The bits of the pattern from position `from` up to `to`.
+fn dense<const N: usize>(rt: &impl Abort, alloc: Global, from: u64, to: u64) -> BitMap<N>
+    requires { IsWidth N }
+{
+    let mut bits = BitMap::new(alloc);
+    for position in from..to {
+        expect(rt, bits.len() < u64::MAX);
+        ok(rt, bits.push(pattern(position)));
+    }
+    bits
+}
+
+// A batch that is shortened to the first of two lengths, and then extended to the other: with zeros, and with the bits of a dense bitmap.
+fn check_extended<const N: usize>(
+    rt: &impl Abort,
+    alloc: Global,
+    before: &CleanBitMap<N>,
+    width: u64,
+    lengths: (u64, u64),
+)
+    requires { IsWidth N }
+{
+    let (n, to) = lengths;
+    let mut map = begun(rt, ok(rt, before.clone()), width);
+    truncate(rt, &mut map, n);
+    extend_to(rt, &mut map, to);
+    check_batch(rt, before, map, n, to);
+    let mut map = begun(rt, ok(rt, before.clone()), width);
+    truncate(rt, &mut map, n);
+    extend_from_bitmap(rt, &mut map, &dense(rt, alloc, n, to));
+    check_batch(rt, before, map, to, to);
+}
+
 // Lengths within chunks and between them. Chunk 2 is edited, chunk 5 is the last of the current bitmap, and chunks 6 and 7 are appended.
 fn check_lengths<const N: usize>(rt: &impl Abort, alloc: Global, width: u64)
     requires { IsWidth N }
@@ -151,6 +244,9 @@ fn check_lengths<const N: usize>(rt: &impl Abort, alloc: Global, width: u64)
         7 * width + 3,
     ] {
         check_truncated(rt, &before, width, n);
+        for more in [1, width - 3, width, 2 * width + 1] {
+            check_extended(rt, alloc, &before, width, (n, n.saturating_add(more)));
+        }
     }
 }
 

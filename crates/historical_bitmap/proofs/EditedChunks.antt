@@ -4,6 +4,8 @@
 -- AppendedRun: entries with an appended run.
 -- OpenedChunk: the first bit of a new chunk.
 -- ManyChunks: many chunks inserted, removed again, and set in a range of their bits.
+-- OpenedUpTo: chunks opened up to an index, past which there is none.
+-- JoinedBits: the bits of a dense bitmap, joined to edited chunks.
 -- CachedWord: entries with a cached word.
 -- CutChunks: entries that are cut at an index or at a position.
 pub mod ReplacedChunk
@@ -12,4 +14,6 @@ pub mod AppendedRun
 pub mod CachedWord
 pub mod OpenedChunk
 pub mod ManyChunks
+pub mod OpenedUpTo
+pub mod JoinedBits
 pub mod CutChunks

@@ -7,6 +7,7 @@
 -- InPlace: a past state read in place.
 -- Rewound: a rewind in place.
 -- AddedCommit: the invariant, the history and the costs after a commit.
+-- Replaced: the record of a commit of a whole new bitmap.
 pub mod PastStates
 pub mod KeptCommits
 pub mod KeptUnder
@@ -15,3 +16,4 @@ pub mod Ends
 pub mod InPlace
 pub mod Rewound
 pub mod AddedCommit
+pub mod Replaced

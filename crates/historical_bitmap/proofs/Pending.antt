@@ -17,6 +17,7 @@
 -- BatchEdits: the edits of a batch, from those of its pending edits.
 -- EditedAfter: which chunks are edited after each edit.
 -- Truncates: many bits removed at once.
+-- Lengthened: chunks opened up to a greater length.
 pub mod Touched
 pub mod Edits
 pub mod Ends
@@ -35,3 +36,4 @@ pub mod Writes
 pub mod BatchEdits
 pub mod EditedAfter
 pub mod Truncates
+pub mod Lengthened

@@ -99,8 +99,13 @@ abbrev pub is_above : Option ℕ → ℕ → Bool
 is_above None number = true
 is_above (Some last) number = nat_lt last number
 
--- the invariant of kept commits: each record can be undone, and the numbers ascend up to the last number
+-- the latest kept number, if there is one, is the last number
+abbrev pub LatestIsLast : {X : Type 0} → List (ℕ × X) → Option ℕ → Type 0
+LatestIsLast history last = IfSome (latest history) (λ number. last ≡ Some number)
+
+-- the invariant of kept commits: each record can be undone, and the numbers ascend up to the last number, which is the latest of them if there are any
 pub record AreKept (n : ℕ) (current : PrunedBits) (commits : List (ℕ × ReverseRecord)) (last : Option ℕ) : Type 0 where
   pub undo : AllCanUndo n commits current
   pub rise : RiseInNumber commits
   pub numbers : AreUpTo (keys_of commits) last
+  pub ends : LatestIsLast commits last

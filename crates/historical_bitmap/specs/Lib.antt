@@ -7,9 +7,11 @@
 -- Index: the index of kept commits by chunk.
 -- Cost: how many entries a record may have.
 -- Changes: the chunks in which two states differ.
+-- Replaced: the record of a commit of a whole new bitmap.
 -- Pending: pending edits, each edit of them, and the record that a commit makes.
 -- Compared, Run, Tail: conditions inside the code that compares states and stores edited chunks.
 -- View: a whole historical bitmap, as the contracts of its calls describe it.
+-- Lengths: edits that make a batch longer by many bits at once.
 -- Batch: the result of a batch.
 pub mod Edits
 pub mod Record
@@ -20,10 +22,12 @@ pub mod Rewind
 pub mod Index
 pub mod Cost
 pub mod Changes
+pub mod Replaced
 pub mod Pending
 pub mod Compared
 pub mod Run
 pub mod Tail
 pub mod View
+pub mod Lengths
 pub mod Batch
 pub mod Lends

@@ -40,11 +40,11 @@ pub record IsOldChunk (n : ℕ) (len : ℕ) (i : ℕ) (bytes : List ℕ) : Type 
   pub high : 8 * n * i < len
   pub clear : (k : ℕ) → k / (8 * n) ≡ i → len ≤ k → chunk_bit n bytes k ≡ false
 
--- a record can be undone from `newer`: it keeps every chunk pruned since, and its other bytes can be written back; every other old bit is in `newer`, which has new bits only in chunks with an entry
+-- a record can be undone from `newer`: it keeps every old chunk pruned since, and its other bytes can be written back; every other old bit is in `newer`, which has new bits only in chunks with an entry
 pub record CanUndo (n : ℕ) (r : ReverseRecord) (newer : PrunedBits) : Type 0 where
   pub rises : r.pruned ≤ newer.pruned
   pub fits : 8 * n * r.pruned ≤ r.len
-  pub pruned : (i : ℕ) → r.pruned ≤ i → i < newer.pruned → IsSome (kept r i)
+  pub pruned : (i : ℕ) → r.pruned ≤ i → i < newer.pruned → 8 * n * i < r.len → IsSome (kept r i)
   pub others : (i : ℕ) → newer.pruned ≤ i → MatchOption (kept r i) (Unit {0}) (IsOldChunk n r.len i)
   pub unkept : (k : ℕ) → 8 * n * r.pruned ≤ k → k < r.len → kept r (k / (8 * n)) ≡ None → IsRetained n newer k
   pub unnamed : (k : ℕ) → IsRetained n newer k → lookup (nat_eq (k / (8 * n))) r.entries ≡ None → (8 * n * r.pruned ≤ k) × (k < r.len)

@@ -1,8 +1,7 @@
 //! Calls that do not allocate. They give the same results while every allocation after the set-up fails.
 
-use crate::allocation_failures::{
-    PENDING, batch_begun, committed, same_in_place, with_indexed_copy,
-};
+use crate::allocation_failures::indexed::{same_in_place, with_indexed_copy};
+use crate::allocation_failures::{PENDING, batch_begun, committed};
 use crate::checked_calls::{
     current_bit, current_chunk, failed_commit, failed_rewind, has_pending_bits, keeps, pending_bit,
     pending_chunk, pop, pop_run, read_bit, truncate, try_commit, try_prune_to_bit, try_push,

@@ -112,7 +112,7 @@ patched_changed n old new pos = same_from_bits n new (λ k. bit_or_else n (sent_
         ]
 
 -- ---- the order
-run_above : (a c m : ℕ) → a < c → AllByRecursion (λ k. nat_cmp a k ≡ Less) (range_with_len c m)
+pub run_above : (a c m : ℕ) → a < c → AllByRecursion (λ k. nat_cmp a k ≡ Less) (range_with_len c m)
 run_above a c zero l = tt
 run_above a c (suc m) l = (rw (lt-ltb a c l) refl, run_above a (c + 1) m (omega arith))
 

@@ -23,6 +23,7 @@ use Rattle.historical_bitmap.specs.Record.{ReverseRecord, before, bit_or_else, b
 use Rattle.historical_bitmap.specs.Undo.{CanUndo}
 use Rattle.historical_bitmap.proofs.History.InPlace.{before_len, entries_rise}
 use Rattle.historical_bitmap.proofs.History.KeptCommits.{can_undo_past, found_under, rise_past}
+use Rattle.historical_bitmap.proofs.History.Rewound.{undone_pruned}
 use Rattle.historical_bitmap.proofs.Lists.Members.{in_neither, not_key}
 use Rattle.historical_bitmap.proofs.History.PastStates.{can_undo_rewound, undone_rewound}
 use Rattle.historical_bitmap.proofs.Pending.Chunks.{chunk_with_bits}
@@ -181,6 +182,18 @@ shown_is n b i len old new pos same has is shows bits = ap Some (chunk_with_bits
           | inr s ↦ rw (le-ltb (k % (8 * n)) (len - 8 * n * i) (omega (arith, at, s, same))) (sym (bit_past n b k s))
         ])
 
+-- the state under a kept number is the current one with the later records undone
+is_left : (n m : ℕ) (cs : List (ℕ × ReverseRecord)) (b state : PrunedBits) → RiseInNumber cs → kept_under (snapshots n cs b) m ≡ Some state → left_by n m cs b ≡ state
+is_left n m cs b state rise g = same_Some (left_by n m cs b) state (sym (found_under n m cs b rise (rw g refl)) ∙ g)
+
+-- a later kept state has at least as many pruned chunks
+pub pruned_rises : (n from to : ℕ) (cs : List (ℕ × ReverseRecord)) (b : PrunedBits) (last : Option ℕ) (old new : PrunedBits) → AreKept n b cs last → from ≤ to
+    → kept_under (snapshots n cs b) from ≡ Some old → kept_under (snapshots n cs b) to ≡ Some new → old.pruned ≤ new.pruned
+pruned_rises n from to cs b last old new kept order e f =
+    let below : (left_by n from cs b).pruned ≤ (left_by n to cs b).pruned =
+    rw (leads_between n from to cs b order kept.rise kept.undo) at (undone_pruned n (between_numbers from to cs) (left_by n to cs b) (can_undo_between n from to cs b order kept.rise kept.undo)) in
+    rw (is_left n from cs b old kept.rise e, is_left n to cs b new kept.rise f) at below
+
 -- two kept states can be compared
 pub comparing : (n from to : ℕ) (cs : List (ℕ × ReverseRecord)) (b : PrunedBits) (last : Option ℕ) (old new : PrunedBits) (end : ℕ) → IsWidth n → from ≤ to → AreKept n b cs last
     → kept_under (snapshots n cs b) from ≡ Some old → kept_under (snapshots n cs b) to ≡ Some new → bit_len n old < 2 ^ 64 → bit_len n new < 2 ^ 64
@@ -191,12 +204,9 @@ comparing n from to cs b last old new end width order kept e f short long last_i
   rise = entries_rise n (between_numbers from to cs) (left_by n to cs b) (can_undo_between n from to cs b order kept.rise kept.undo);
   unnamed = λ i out.
       let same : IsSameChunk n (left_by n from cs b) (left_by n to cs b) i = unnamed_between n from to cs b order kept.rise kept.undo i out in
-      not_different n old new i (same_bytes n old new i width.positive (rw (is_left from old e, is_left to new f) at same));
+      not_different n old new i (same_bytes n old new i width.positive (rw (is_left n from cs b old kept.rise e, is_left n to cs b new kept.rise f) at same));
   small = λ i h. elim (cases_lt i (chunk_total n old)) [
     | inl l ↦ omega (arith, index_below_ceil n (bit_len n old) i width.positive l, short)
     | inr l ↦ omega (arith, index_below_ceil n (bit_len n new) i width.positive (omega (arith, h, l, last_is)), long)
   ];
 }
-  where
-    is_left : (m : ℕ) (state : PrunedBits) → kept_under (snapshots n cs b) m ≡ Some state → left_by n m cs b ≡ state
-    is_left m state g = same_Some (left_by n m cs b) state (sym (found_under n m cs b kept.rise (rw g refl)) ∙ g)

@@ -13,7 +13,7 @@ use Rattle.historical_bitmap.specs.Record.ChunkDiff.{Modified, Removed, Added, P
 use Rattle.historical_bitmap.specs.History.{AllCanUndo, AreKept}
 use Rattle.historical_bitmap.specs.Undo.{CanUndo, IsOldChunk, kept_between}
 use Rattle.historical_bitmap.specs.Pending.{CanApply, IsEdited, IsRecordOf, edited_chunk, uncaptured, pending_bits}
-use Rattle.historical_bitmap.proofs.Examples.Undos.{twelve, shorter, from_shorter, beyond_one, from_beyond_one}
+use Rattle.historical_bitmap.proofs.Examples.Undos.{twelve, shorter, from_shorter, beyond_one, from_beyond_one, far, across_a_gap}
 use Rattle.historical_bitmap.proofs.Examples.PendingBits.{base, rewritten, back}
 
 -- the indices of the records below ascend
@@ -49,7 +49,7 @@ shorter_can : CanUndo 1 from_shorter shorter
 shorter_can = record {
   rises = omega arith;
   fits = omega arith;
-  pruned = λ i low high. absurd (omega (arith, low, high));
+  pruned = λ i low high start. absurd (omega (arith, low, high));
   others = λ i low. other i;
   unkept = λ k low high none. absurd (none_unkept k high none);
   unnamed = λ k has none. (omega arith, omega (arith, has.1));
@@ -73,7 +73,7 @@ shorter_can = record {
 
 -- a record that does not keep the bytes of a pruned chunk cannot be undone
 forgotten_cannot : CanUndo 1 (record { len = 12; pruned = 0; entries = [] }) beyond_one → ⊥
-forgotten_cannot can = absurd (false≢true (can.pruned 0 (omega arith) (omega arith)))
+forgotten_cannot can = absurd (false≢true (can.pruned 0 (omega arith) (omega arith) (omega arith)))
 
 -- nor can one that keeps bytes for a chunk past the end
 past_the_end_cannot : CanUndo 1 (record { len = 12; pruned = 0; entries = (2, Removed (1 ∷ [])) ∷ [] }) shorter → ⊥
@@ -97,7 +97,7 @@ unfolding IsStrictlySortedBy
 beyond_one_can = record {
   rises = omega arith;
   fits = omega arith;
-  pruned = λ i low high. let first : i ≡ 0 = omega (arith, high) in rw first refl;
+  pruned = λ i low high start. let first : i ≡ 0 = omega (arith, high) in rw first refl;
   others = λ i low. rw (ne_eqb i 0 (λ e. omega (arith, low, e))) tt;
   unkept = λ k low high none. elim (cases_eq (k / 8) 0) [ inl a ↦ let e = rw a at none in cc | inr b ↦ (omega (arith, b), omega (arith, high)) ];
   unnamed = λ k has none. (omega arith, omega (arith, has.1));
@@ -109,12 +109,29 @@ appended_and_pruned_can : CanUndo 1 (record { len = 4; pruned = 0; entries = (0,
 appended_and_pruned_can = record {
   rises = omega arith;
   fits = omega arith;
-  pruned = λ i low high. elim (cases_eq i 0) [ inl a ↦ rw a refl | inr b ↦ let second : i ≡ 1 = omega (arith, high, b) in rw second refl ];
+  pruned = λ i low high start. elim (cases_eq i 0) [ inl a ↦ rw a refl | inr b ↦ let second : i ≡ 1 = omega (arith, high, b) in rw second refl ];
   others = λ i low. rw (ne_eqb i 0 (λ e. omega (arith, low, e)), ne_eqb i 1 (λ e. omega (arith, low, e))) tt;
   unkept = λ k low high none. let first : k / 8 ≡ 0 = omega (arith, high) in let e = rw first at none in cc;
   unnamed = λ k has none. absurd (omega (arith, has.0, has.1));
   sorted = first_two;
 }
+
+-- a record need not keep the chunks between the old length and the new bitmap, which neither has
+across_a_gap_can : CanUndo 1 across_a_gap far
+unfolding IsStrictlySortedBy
+across_a_gap_can = record {
+  rises = omega arith;
+  fits = omega arith;
+  pruned = λ i low high start. let first : i ≡ 0 = omega (arith, start) in rw first refl;
+  others = λ i low. elim (cases_eq i 1000) [ inl a ↦ rw a tt | inr b ↦ rw (ne_eqb i 0 (λ e. omega (arith, low, e)), ne_eqb i 1000 b) tt ];
+  unkept = λ k low high none. let first : k / 8 ≡ 0 = omega (arith, high) in let e = rw first at none in cc;
+  unnamed = λ k has none. let last : k / 8 ≡ 1000 = omega (arith, has.0, has.1) in let e = rw last at none in cc;
+  sorted = ((refl, tt), (tt, tt));
+}
+
+-- but it has to keep those before the old length
+gap_forgotten_cannot : CanUndo 1 (record { len = 4; pruned = 0; entries = (1000, Added) ∷ [] }) far → ⊥
+gap_forgotten_cannot can = absurd (false≢true (can.pruned 0 (omega arith) (omega arith) (omega arith)))
 
 -- bytes cannot be written back to a chunk that starts at the length, nor if they have a bit at the length
 at_the_length_is_no_chunk : IsOldChunk 1 8 1 (0 ∷ []) → ⊥
@@ -141,7 +158,7 @@ both_can = (pushed, (cut, tt))
     pushed = record {
       rises = omega arith;
       fits = omega arith;
-      pruned = λ i low high. absurd (omega (arith, low, high));
+      pruned = λ i low high start. absurd (omega (arith, low, high));
       others = λ i low. elim (cases_eq i 1) [ inl a ↦ rw a tt | inr b ↦ rw (ne_eqb i 1 b) tt ];
       unkept = λ k low high none. (omega arith, omega (arith, high));
       unnamed = λ k has none. elim (cases_eq (k / 8) 1) [ inl a ↦ let e = rw a at none in cc | inr b ↦ (omega arith, omega (arith, has.1, b)) ];
@@ -161,7 +178,7 @@ both_can = (pushed, (cut, tt))
     cut = record {
       rises = omega arith;
       fits = omega arith;
-      pruned = λ i low high. absurd (omega (arith, low, high));
+      pruned = λ i low high start. absurd (omega (arith, low, high));
       others = λ i low. other i;
       unkept = λ k low high none. elim (cases_eq (k / 8) 0) [
         | inl a ↦ let e = rw a at none in cc
@@ -189,7 +206,11 @@ number_past_the_last kept = omega (arith, kept.numbers.1 0 0 (omega arith))
 
 none_are_kept : AreKept 1 four_left [] None
 unfolding IsStrictlySortedBy
-none_are_kept = record { undo = tt; rise = tt; numbers = refl }
+none_are_kept = record { undo = tt; rise = tt; numbers = refl; ends = tt }
+
+-- the last number is the latest kept one, and not a greater one
+last_number_not_kept : AreKept 1 four_left ((2, record { len = 4; pruned = 0; entries = [] }) ∷ []) (Some 3) → ⊥
+last_number_not_kept kept = absurd cc
 
 -- the bytes of chunks 1 and 2, in order; an added chunk keeps none
 between : kept_between 1 3 ((0, Modified (9 ∷ [])) ∷ (1, Pruned (7 ∷ [])) ∷ (2, Pruned (5 ∷ [])) ∷ (3, Added) ∷ []) ≡ (7 ∷ []) ∷ (5 ∷ []) ∷ []

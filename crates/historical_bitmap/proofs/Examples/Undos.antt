@@ -4,6 +4,7 @@ use Rattle.std.proofs.Common.{refl}
 use Rattle.bitmap_core.specs.PrunedBits.{PrunedBits}
 use Rattle.historical_bitmap.specs.Record.{ReverseRecord, kept_bytes, kept, bit_or_else, before}
 use Rattle.historical_bitmap.specs.Record.ChunkDiff.{Modified, Removed, Added, Pruned}
+use Rattle.historical_bitmap.specs.Replaced.{replaced_record}
 use Rattle.historical_bitmap.specs.Undo.{resized, put_back, pruned_chunk_bytes, undone_in_steps}
 
 -- twelve true bits: the bytes FF and 0F
@@ -79,6 +80,19 @@ keeps_no_other = refl
 
 chunks_to_put_in_front : pruned_chunk_bytes from_beyond_one 1 ≡ (255 ∷ []) ∷ []
 chunks_to_put_in_front = refl
+
+-- a newer state whose pruned chunks reach far past the old length: the record of the commit has no entry for the chunks between
+abbrev pub far : PrunedBits
+far = record { pruned = 1000; bits = true ∷ [] }
+
+abbrev pub across_a_gap : ReverseRecord
+across_a_gap = record { len = 4; pruned = 0; entries = (0, Pruned (15 ∷ [])) ∷ (1000, Added) ∷ [] }
+
+gap_record : replaced_record 1 (record { pruned = 0; bits = replicate 4 true }) far ≡ across_a_gap
+gap_record = refl
+
+gap_restored : before 1 across_a_gap far ≡ record { pruned = 0; bits = replicate 4 true }
+gap_restored = refl
 
 -- twelve bits truncated to nine, and extended to fourteen
 cut : resized 1 twelve 9 ≡ record { pruned = 0; bits = replicate 9 true }

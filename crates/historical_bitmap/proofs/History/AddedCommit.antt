@@ -12,10 +12,11 @@ use Rattle.std.proofs.lemmas.Bool.{false≢true}
 use Rattle.std.specs.Prelude.{Option, Some, None, false, true, OnErr, OnOk}
 use Rattle.std.specs.Result.{is_err}
 use Rattle.bitmap_core.specs.PrunedBits.{PrunedBits}
-use Rattle.historical_bitmap.specs.History.{before_latest, costs, snapshots, AreUpTo, AreKept}
+use Rattle.historical_bitmap.specs.History.{before_latest, costs, latest, snapshots, AreUpTo, AreKept}
 use Rattle.historical_bitmap.specs.Record.{ReverseRecord, LeadsBack}
 use Rattle.historical_bitmap.specs.Undo.{CanUndo}
 use Rattle.historical_bitmap.specs.View.{commit_error}
+use Rattle.historical_bitmap.proofs.History.KeptCommits.{latest_is, latest_push}
 use Rattle.historical_bitmap.proofs.History.PastStates.{can_undo_push, costs_push, snapshots_push}
 use Rattle.historical_bitmap.proofs.Pending.Record.{keys_push, sorted_push}
 
@@ -75,6 +76,7 @@ module _ (n : ℕ) (cs ds : List (ℕ × ReverseRecord)) (last : Option ℕ) (nu
               (All-weaker (λ k. k < number) (λ k. k ≤ number) (λ k l. omega (arith, l)) (keys_of cs) below)
               (All-cons (λ k. k ≤ number) number [] (omega arith) (All-nil (λ k. k ≤ number)))),
         );
+        ends = latest_is ds number (ap latest appended ∙ latest_push cs (number, r));
       }
 
   -- the bitmap that the commit leaves is appended to the history

@@ -1,22 +1,24 @@
 -- The kept commits as the calls use them: their numbers, dropping, rewinding, and undoing records newest first.
-use Rattle.std.proofs.Common.{◌≡◌, ℕ, suc, ◌-◌, ◌^◌, ◌<◌, ◌≤◌, List, [], ◌∷◌, ◌++◌, length, refl, ap, arith, sym, ◌∙◌}
-use mathlib.Core.Logic.{inl, inr}
-use Rattle.std.proofs.lemmas.Bool.{ltb-true, le-leb, lt-leb, cases_lt, cases_eq, eq-eqb, ne_eqb}
+use Rattle.std.proofs.Common.{◌≡◌, ℕ, suc, ◌-◌, ◌^◌, ◌<◌, ◌≤◌, List, [], ◌∷◌, ◌++◌, length, refl, ap, arith, subst, sym, ◌∙◌}
+use mathlib.Core.Logic.{inl, inr, ◌≢◌}
+use Rattle.std.proofs.lemmas.Bool.{ltb-true, le-leb, lt-leb, cases_lt, cases_eq, cases_order, eq-eqb, ne_eqb}
 use Rattle.std.proofs.lemmas.List.Elements.{All-head, All-tail, All-weaker, All-filter, All-nil, All-cons}
 use Rattle.std.proofs.lemmas.List.Kept.{IsStrictlySortedBy-filter}
 use Rattle.std.proofs.lemmas.Map.Entries.{length-keys_of}
+use Rattle.std.proofs.lemmas.Map.Keys.{sorted_head, sorted_tail}
 use Rattle.std.proofs.lemmas.Option.{slice_get-map}
 use Rattle.std.specs.List.{All, filter}
 use Rattle.std.specs.Map.{keys_of}
 use Rattle.std.specs.Ordering.{nat_cmp}
-use Rattle.std.specs.Prelude.{true, Option, Some, None, is_some, IsSome, slice_get, nat_le}
+use Rattle.std.specs.Prelude.{true, Option, Some, None, is_some, IfSome, IsSome, slice_get, nat_le}
 use Rattle.std.specs.Option.{option_map}
 use Rattle.bitmap_core.specs.PrunedBits.{PrunedBits}
-use Rattle.historical_bitmap.specs.History.{undone, snapshots, costs, from_number, past_number, up_to_number, latest, RiseInNumber, AllCanUndo, AreUpTo, AreKept, is_above, kept_under}
+use Rattle.historical_bitmap.specs.History.{undone, snapshots, costs, from_number, past_number, up_to_number, latest, RiseInNumber, AllCanUndo, AreUpTo, AreKept, is_above, kept_under, LatestIsLast}
 use Rattle.historical_bitmap.specs.Record.{ReverseRecord, before}
 use Rattle.historical_bitmap.specs.Undo.{CanUndo}
+use Rattle.historical_bitmap.proofs.Lists.Maps.{none_under}
 use Rattle.historical_bitmap.proofs.History.Positions.{sorted_none}
-use Rattle.historical_bitmap.proofs.History.PastStates.{snapshot_at, snapshot_none, snapshots_numbers, can_undo_from, can_undo_rewound, snapshots_rewound, undone_push}
+use Rattle.historical_bitmap.proofs.History.PastStates.{from_above, none_up_to, snapshot_at, snapshot_none, snapshots_numbers, can_undo_from, can_undo_rewound, snapshots_rewound, undone_push}
 
 -- ---- the numbers of a history are those of the commits
 pub same_number : (n i : ℕ) (cs : List (ℕ × ReverseRecord)) (b : PrunedBits) → option_map (λ e. e.0) (slice_get (snapshots n cs b) i) ≡ option_map (λ e. e.0) (slice_get cs i)
@@ -69,6 +71,56 @@ above_never n m b cs last kept above = snapshot_none n m cs b (above_none m cs l
 pub reserved_never : (n : ℕ) (b : PrunedBits) (cs : List (ℕ × ReverseRecord)) (last : Option ℕ) → AreKept n b cs last → kept_under (snapshots n cs b) (2 ^ 64 - 1) ≡ None
 reserved_never n b cs last kept = snapshot_none n (2 ^ 64 - 1) cs b (reserved_none cs last kept.numbers)
 
+-- ---- the latest number
+-- an entry before others does not change it
+latest_cons : {X : Type 0} (e d : ℕ × X) (ds : List (ℕ × X)) → latest (e ∷ d ∷ ds) ≡ latest (d ∷ ds)
+latest_cons e d ds = let next : length (e ∷ d ∷ ds) - 1 ≡ suc (length (d ∷ ds) - 1) = omega arith in ap (λ i. option_map (λ e. e.0) (slice_get (e ∷ d ∷ ds) i)) next
+
+latest_tail : {X : Type 0} (e : ℕ × X) (es : List (ℕ × X)) (number : ℕ) → latest es ≡ Some number → latest (e ∷ es) ≡ Some number
+latest_tail e [] number h = cc
+latest_tail e (d ∷ ds) number h = latest_cons e d ds ∙ h
+
+-- it is that of an entry after all others
+pub latest_push : {X : Type 0} (es : List (ℕ × X)) (e : ℕ × X) → latest (es ++ e ∷ []) ≡ Some e.0
+latest_push [] e = refl
+latest_push (d ∷ ds) e = latest_tail d (ds ++ e ∷ []) e.0 (latest_push ds e)
+
+-- the latest number is the last one if both are the same number
+pub latest_is : {X : Type 0} (es : List (ℕ × X)) (number : ℕ) → latest es ≡ Some number → LatestIsLast es (Some number)
+latest_is es number e = let same : Some number ≡ Some number = refl in subst (λ o. IfSome o (λ other. Some number ≡ Some other)) (sym e) same
+
+-- if the latest number is the last one, it is so without the numbers below a number
+latest_from : {X : Type 0} (m : ℕ) (es : List (ℕ × X)) (last : Option ℕ) → RiseInNumber es → LatestIsLast es last → LatestIsLast (from_number m es) last
+latest_from m [] last rise h = h
+latest_from m (e ∷ []) last rise h = elim (cases_lt e.0 m) [
+  | inl l ↦ rw (lt-leb m e.0 l) tt
+  | inr l ↦ rw (le-leb m e.0 l) h
+]
+latest_from m (e ∷ d ∷ es) last rise h = elim (cases_lt e.0 m) [
+  | inl l ↦ rw (lt-leb m e.0 l) (latest_from m (d ∷ es) last (sorted_tail nat_cmp e.0 (keys_of (d ∷ es)) rise) (subst (λ o. IfSome o (λ number. last ≡ Some number)) (latest_cons e d es) h))
+  | inr l ↦ rw (le-leb m e.0 l, from_above m e.0 (d ∷ es) (omega arith) (sorted_head nat_cmp e.0 (keys_of (d ∷ es)) rise)) h
+]
+
+-- a kept number is the latest of those up to it
+latest_up_to : {X : Type 0} (m : ℕ) (es : List (ℕ × X)) → RiseInNumber es → IsSome (kept_under es m) → latest (up_to_number m es) ≡ Some m
+latest_up_to m [] rise there = cc
+latest_up_to m (e ∷ es) rise there =
+    let head = sorted_head nat_cmp e.0 (keys_of es) rise in
+    elim (cases_order e.0 m) [
+      | inl same ↦ rw (le-leb e.0 m (omega arith), none_up_to m e.0 es (omega arith) head) (ap Some same)
+      | inr (inl l) ↦
+          let ne : m ≢ e.0 = omega arith in
+          rw (le-leb e.0 m (omega arith)) (latest_tail e (up_to_number m es) m (latest_up_to m es (sorted_tail nat_cmp e.0 (keys_of es) rise) (rw (ne_eqb m e.0 ne) at there)))
+      | inr (inr l) ↦
+          let ne : m ≢ e.0 = omega arith in
+          let none = rw (ne_eqb m e.0 ne, none_under es m e.0 (omega arith) head) at there in
+          cc
+    ]
+
+-- it is the same number in the history
+pub latest_is_last : (n : ℕ) (b : PrunedBits) (cs : List (ℕ × ReverseRecord)) (last : Option ℕ) → AreKept n b cs last → LatestIsLast (snapshots n cs b) last
+latest_is_last n b cs last kept = rw (same_latest n cs b) kept.ends
+
 -- ---- the oldest commits dropped
 numbers_from : {X : Type 0} (m : ℕ) (es : List (ℕ × X)) → keys_of (from_number m es) ≡ filter (nat_le m) (keys_of es)
 numbers_from m [] = refl
@@ -90,6 +142,7 @@ kept_from n m b cs last kept = record {
   undo = can_undo_from n m cs b kept.rise kept.undo;
   rise = rw (numbers_from m cs) (IsStrictlySortedBy-filter nat_cmp (nat_le m) (keys_of cs) kept.rise);
   numbers = rw (numbers_from m cs) (up_to_from m (keys_of cs) last kept.numbers);
+  ends = latest_from m cs last kept.rise kept.ends;
 }
 
 pub costs_from : (m : ℕ) (cs : List (ℕ × ReverseRecord)) → costs (from_number m cs) ≡ from_number m (costs cs)
@@ -105,7 +158,7 @@ numbers_none numbers None h = refl
 numbers_none numbers (Some last) h = (h.0, All-nil (λ k. k ≤ last))
 
 pub kept_none : (n : ℕ) (b : PrunedBits) (cs : List (ℕ × ReverseRecord)) (last : Option ℕ) → AreKept n b cs last → AreKept n b [] last
-kept_none n b cs last kept = record { undo = tt; rise = sorted_none; numbers = numbers_none (keys_of cs) last kept.numbers }
+kept_none n b cs last kept = record { undo = tt; rise = sorted_none; numbers = numbers_none (keys_of cs) last kept.numbers; ends = tt }
 
 -- ---- the latest records undone, the newest first
 pub can_undo_past : (n m : ℕ) (cs : List (ℕ × ReverseRecord)) (b : PrunedBits) → RiseInNumber cs → AllCanUndo n cs b → AllCanUndo n (past_number m cs) b
@@ -178,6 +231,7 @@ module _ (n m : ℕ) (b older : PrunedBits) (cs : List (ℕ × ReverseRecord)) (
     undo = rw older_is (can_undo_rewound n m cs b kept.rise kept.undo);
     rise = rw (numbers_up_to m cs) (IsStrictlySortedBy-filter nat_cmp (λ k. nat_le k m) (keys_of cs) kept.rise);
     numbers = (not_reserved n m b cs last small kept there, rw (numbers_up_to m cs) (none_above m (keys_of cs)));
+    ends = latest_is (up_to_number m cs) m (latest_up_to m cs kept.rise (rw (same_kept n m cs b) at there));
   }
 
   pub history_rewound : snapshots n (up_to_number m cs) older ≡ up_to_number m (snapshots n cs b)

@@ -59,7 +59,8 @@ pub from_above : {X : Type 0} (m a : ℕ) (cs : List (ℕ × X)) → m ≤ a + 1
 from_above m a [] l h = refl
 from_above m a (c ∷ cs) l h = rw (le-leb m c.0 (omega (arith, below a c.0 h.0))) (ap (λ ys. c ∷ ys) (from_above m a cs l h.1))
 
-none_up_to : {X : Type 0} (m a : ℕ) (cs : List (ℕ × X)) → m < a → AllByRecursion (λ k. nat_cmp a k ≡ Less) (keys_of cs) → up_to_number m cs ≡ []
+-- if all numbers are greater than a, none is at most a
+pub none_up_to : {X : Type 0} (m a : ℕ) (cs : List (ℕ × X)) → m ≤ a → AllByRecursion (λ k. nat_cmp a k ≡ Less) (keys_of cs) → up_to_number m cs ≡ []
 none_up_to m a [] l h = refl
 none_up_to m a (c ∷ cs) l h = rw (lt-leb c.0 m (omega (arith, below a c.0 h.0))) (none_up_to m a cs l h.1)
 
@@ -129,7 +130,7 @@ split_at_number m (c ∷ cs) h =
     let h0 = sorted_head nat_cmp c.0 (keys_of cs) h in
     let h1 = sorted_tail nat_cmp c.0 (keys_of cs) h in
     elim (cases_lt m c.0) [
-      | inl l ↦ rw (lt-leb c.0 m l, lt-ltb m c.0 l, none_up_to m c.0 cs l h0, from_above (suc m) c.0 cs (omega arith) h0) refl
+      | inl l ↦ rw (lt-leb c.0 m l, lt-ltb m c.0 l, none_up_to m c.0 cs (omega arith) h0, from_above (suc m) c.0 cs (omega arith) h0) refl
       | inr l ↦ rw (le-leb c.0 m l, le-ltb m c.0 l) (ap (λ ds. c ∷ ds) (split_at_number m cs h1))
     ]
 
@@ -145,7 +146,7 @@ snapshots_rewound n m (c ∷ cs) b h =
     let h1 = sorted_tail nat_cmp c.0 (keys_of cs) h in
     elim (cases_lt m c.0) [
       | inl l ↦
-          let none = none_up_to m c.0 cs l h0 in
+          let none = none_up_to m c.0 cs (omega arith) h0 in
           let rest : [] ≡ up_to_number m (snapshots n cs b) = ap (λ ds. snapshots n ds (undone n (past_number m cs) b)) (sym none) ∙ snapshots_rewound n m cs b h1 in
           rw (lt-leb c.0 m l, none) rest
       | inr l ↦ rw (le-leb c.0 m l, le-ltb m c.0 l, undone_rewound n m cs b h1) (ap (λ rest. (c.0, undone n cs b) ∷ rest) (snapshots_rewound n m cs b h1))
@@ -158,7 +159,7 @@ can_undo_rewound n m (c ∷ cs) b h all =
     let h0 = sorted_head nat_cmp c.0 (keys_of cs) h in
     let h1 = sorted_tail nat_cmp c.0 (keys_of cs) h in
     elim (cases_lt m c.0) [
-      | inl l ↦ rw (lt-leb c.0 m l, none_up_to m c.0 cs l h0) tt
+      | inl l ↦ rw (lt-leb c.0 m l, none_up_to m c.0 cs (omega arith) h0) tt
       | inr l ↦ rw (le-leb c.0 m l, le-ltb m c.0 l, undone_rewound n m cs b h1) (all.0, can_undo_rewound n m cs b h1 all.1)
     ]
 

@@ -206,7 +206,7 @@ all_put n old all left now e before = record {
 
 -- ---- the bitmap at a past commit
 -- it has at most as many pruned chunks as the current bitmap
-undone_pruned : (n : ℕ) (cs : List (ℕ × ReverseRecord)) (b : PrunedBits) → AllCanUndo n cs b → (undone n cs b).pruned ≤ b.pruned
+pub undone_pruned : (n : ℕ) (cs : List (ℕ × ReverseRecord)) (b : PrunedBits) → AllCanUndo n cs b → (undone n cs b).pruned ≤ b.pruned
 undone_pruned n [] b all = omega arith
 undone_pruned n (c ∷ cs) b all = omega (arith, all.0.rises, undone_pruned n cs b all.1)
 

@@ -34,7 +34,7 @@ below a b e = elim (cases_order a b) [
 ]
 
 -- no number up to k is a key if all keys are greater than k
-none_under : {X : Type 0} (es : List (ℕ × X)) (j k : ℕ) → j ≤ k → AllByRecursion (λ y. nat_cmp k y ≡ Less) (keys_of es) → lookup (nat_eq j) es ≡ None
+pub none_under : {X : Type 0} (es : List (ℕ × X)) (j k : ℕ) → j ≤ k → AllByRecursion (λ y. nat_cmp k y ≡ Less) (keys_of es) → lookup (nat_eq j) es ≡ None
 none_under [] j k h a = refl
 none_under (e ∷ es) j k h a = rw (ne_eqb j e.0 (λ f. absurd (omega (arith, f, h, below k e.0 a.0)))) (none_under es j k h a.1)
 

@@ -106,7 +106,7 @@ pub record_can_undo : (n : ℕ) (b : PrunedBits) (l : PendingEdits) (r : Reverse
 record_can_undo n b l r pos fits h = record {
   rises = rw h.pruned fits.rises;
   fits = rw (h.pruned, h.len) (omega arith);
-  pruned = λ i low high.
+  pruned = λ i low high start.
       let p : b.pruned ≤ i = rw h.pruned at low in
       let k : kept r i ≡ Some (get_or l.captured (i - b.pruned) []) = kept_marked n b l r h i (mark n b l i (inr (inr (p, high)))) ∙ rw (lt-ltb i l.pruned high) refl in
       rw k refl;

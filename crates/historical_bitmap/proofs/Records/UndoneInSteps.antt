@@ -11,14 +11,16 @@ use Rattle.std.specs.List.{flat_map, AllByRecursion, filter}
 use Rattle.std.specs.List.Sorted.{IsStrictlySortedBy}
 use Rattle.std.specs.Ordering.{nat_cmp}
 use Rattle.std.specs.declared.cmp.Ordering.TheVariants.{Less}
+use Rattle.std.specs.Int.{div_ceil}
 use Rattle.std.specs.Map.{lookup, keys_of}
 use Rattle.std.proofs.lemmas.Map.Keys.{sorted_head, sorted_tail}
 use Rattle.bitmap_bytes.specs.Chunk.{chunk_bit, chunk_bits}
-use Rattle.bitmap_core.specs.PrunedBits.{PrunedBits, pruned_bits, bit_len, bit_at, from_bits, IsRetained, unpruned, with_chunk}
+use Rattle.bitmap_core.specs.PrunedBits.{PrunedBits, pruned_bits, bit_len, bit_at, from_bits, IsRetained, truncated, unpruned, with_chunk}
 use Rattle.bitmap_bytes.proofs.Chunks.Bits.{chunk_bit-mod}
 use Rattle.bitmap_bytes.proofs.Chunks.Concatenated.{length-front_bits}
-use Rattle.bitmap_core.proofs.Pruned.Positions.{front_of, same_from_bits, bit_from_bits, len_from_bits}
-use Rattle.bitmap_core.proofs.Pruned.Edits.{bit_extended, bit_truncated, bit_unpruned_low}
+use Rattle.bitmap_bytes.proofs.Chunks.Places.{fewer_chunks, IsChunkCount-ceil}
+use Rattle.bitmap_core.proofs.Pruned.Positions.{front_of, place, same_bitmap, same_from_bits, bit_from_bits, len_from_bits}
+use Rattle.bitmap_core.proofs.Pruned.Edits.{bit_extended, bit_truncated, bit_unpruned_low, len_unpruned}
 use Rattle.historical_bitmap.specs.Record.{ChunkDiff, ReverseRecord, kept, kept_bytes, bytes_of, bit_or_else, before}
 use Rattle.historical_bitmap.specs.Undo.{resized, put_back_one, put_back, pruned_chunk_bytes, undone_in_steps, CanUndo}
 use Rattle.historical_bitmap.proofs.History.PastStates.{below}
@@ -135,8 +137,9 @@ bit_put n b least (e ∷ es) k up h =
       | inr ne ↦ rw (ne_eqb (k / (8 * n)) e.0 ne) refl
     ]
 
--- ---- the undo in steps gives the bitmap before the commit
-module _ (n : ℕ) (r : ReverseRecord) (b : PrunedBits) (pos : 0 < n) (can : CanUndo n r b) where
+-- ---- the chunks that a record keeps, prepended to a bitmap whose pruned count is `b.pruned`, and the length restored
+module _ (n : ℕ) (r : ReverseRecord) (b : PrunedBits) (pos : 0 < n) (rises : r.pruned ≤ b.pruned) (fits : 8 * n * r.pruned ≤ r.len)
+    (keeps : (i : ℕ) → r.pruned ≤ i → i < b.pruned → 8 * n * i < r.len → IsSome (kept r i)) where
   abbrev chunks : List (List ℕ)
   chunks = pruned_chunk_bytes r b.pruned
 
@@ -150,33 +153,40 @@ module _ (n : ℕ) (r : ReverseRecord) (b : PrunedBits) (pos : 0 < n) (can : Can
   count = length-map-range_with_len (λ i. unwrap_or (kept r i) []) r.pruned (b.pruned - r.pruned)
 
   pub whole_pruned : whole.pruned ≡ r.pruned
-  whole_pruned = omega (arith, count, can.rises)
+  whole_pruned = omega (arith, count, rises)
 
   sized_pruned : sized.pruned ≡ r.pruned
   sized_pruned = pruned_resized n whole r.len ∙ whole_pruned
 
   sized_len : bit_len n sized ≡ r.len
-  sized_len = len_resized n whole r.len (rw whole_pruned can.fits)
+  sized_len = len_resized n whole r.len (rw whole_pruned fits)
 
   high : (k : ℕ) → 8 * n * b.pruned ≤ k → k < r.len → bit_at n sized k ≡ bit_at n b k
   high k l h =
-      bit_resized n whole r.len k (rw whole_pruned (omega (arith, l, mul-le (8 * n) r.pruned (8 * n) b.pruned (omega arith) can.rises))) h
+      bit_resized n whole r.len k (rw whole_pruned (omega (arith, l, mul-le (8 * n) r.pruned (8 * n) b.pruned (omega arith) rises))) h
       ∙ bit_beyond_front n b chunks pos (omega (arith, count)) k l
 
-  low : (k : ℕ) → 8 * n * r.pruned ≤ k → k < 8 * n * b.pruned → k < r.len → bit_at n sized k ≡ bit_or_else n (kept r (k / (8 * n))) b k
-  low k l h m =
+  -- a bit of a prepended chunk is that of the bitmap before the commit, whatever the bitmap after it is
+  low : (newer : PrunedBits) (k : ℕ) → 8 * n * r.pruned ≤ k → k < 8 * n * b.pruned → k < r.len → bit_at n sized k ≡ bit_or_else n (kept r (k / (8 * n))) newer k
+  low newer k l h m =
       let i : k / (8 * n) < b.pruned = div_below k (8 * n) b.pruned (omega arith) (omega arith) in
       let low_i : r.pruned ≤ k / (8 * n) = le-div r.pruned k (8 * n) (omega arith) (omega arith) in
+      let start : 8 * n * (k / (8 * n)) < r.len = omega (arith, m, place (8 * n) k) in
       let which : get_or chunks (k / (8 * n) - whole.pruned) [] ≡ unwrap_or (kept r (k / (8 * n))) [] =
       ap (λ p. get_or chunks (k / (8 * n) - p) []) whole_pruned
       ∙ get_or-map-range_with_len (λ i. unwrap_or (kept r i) []) r.pruned (b.pruned - r.pruned) (k / (8 * n) - r.pruned) (k / (8 * n)) [] (omega arith) (omega arith) in
       bit_resized n whole r.len k (rw whole_pruned l) m
       ∙ (bit_in_front n b chunks pos (omega (arith, count)) k (rw whole_pruned l) h
-      ∙ (ap (λ bytes. chunk_bit n bytes k) which ∙ there (kept r (k / (8 * n))) (can.pruned (k / (8 * n)) low_i i)))
+      ∙ (ap (λ bytes. chunk_bit n bytes k) which ∙ there (kept r (k / (8 * n))) (keeps (k / (8 * n)) low_i i start)))
     where
-      there : (o : Option (List ℕ)) → IsSome o → chunk_bit n (unwrap_or o []) k ≡ bit_or_else n o b k
+      there : (o : Option (List ℕ)) → IsSome o → chunk_bit n (unwrap_or o []) k ≡ bit_or_else n o newer k
       there None f = cc
       there (Some bytes) f = refl
+
+-- ---- the undo in steps gives the bitmap before the commit
+module _ (n : ℕ) (r : ReverseRecord) (b : PrunedBits) (pos : 0 < n) (can : CanUndo n r b) where
+  abbrev undone : PrunedBits
+  undone = sized n r b pos can.rises can.fits can.pruned
 
   pub steps_are : undone_in_steps n r b ≡ before n r b
   steps_are = sym (ap (λ (p : ℕ). from_bits n p r.len bit) (sym result_pruned) ∙ (ap (λ (l : ℕ). from_bits n result.pruned l bit) (sym result_len) ∙ same_from_bits n result bit agrees))
@@ -188,17 +198,67 @@ module _ (n : ℕ) (r : ReverseRecord) (b : PrunedBits) (pos : 0 < n) (can : Can
       result = undone_in_steps n r b
 
       result_pruned : result.pruned ≡ r.pruned
-      result_pruned = put_pruned n sized (filter (λ e. nat_le b.pruned e.0) r.entries) ∙ sized_pruned
+      result_pruned = put_pruned n undone (filter (λ e. nat_le b.pruned e.0) r.entries) ∙ sized_pruned n r b pos can.rises can.fits can.pruned
 
       result_len : bit_len n result ≡ r.len
-      result_len = put_len n sized (filter (λ e. nat_le b.pruned e.0) r.entries) ∙ sized_len
+      result_len = put_len n undone (filter (λ e. nat_le b.pruned e.0) r.entries) ∙ sized_len n r b pos can.rises can.fits can.pruned
 
       agrees : (k : ℕ) → IsRetained n result k → bit k ≡ bit_at n result k
       agrees k h =
           let l : 8 * n * r.pruned ≤ k = rw result_pruned at h.0 in
           let m : k < r.len = rw result_len at h.1 in
-          let there : IsRetained n sized k = (rw sized_pruned l, rw sized_len m) in
-          sym (bit_put n sized b.pruned r.entries k can.sorted there ∙ elim (cases_lt k (8 * n * b.pruned)) [
-            | inl before_b ↦ rw (lt-leb b.pruned (k / (8 * n)) (div_below k (8 * n) b.pruned (omega arith) (omega arith))) (low k l before_b m)
-            | inr past_b ↦ rw (le-leb b.pruned (k / (8 * n)) (le-div b.pruned k (8 * n) (omega arith) (omega arith))) (same_from n (kept r (k / (8 * n))) sized b k (high k past_b m))
+          let there : IsRetained n undone k = (rw (sized_pruned n r b pos can.rises can.fits can.pruned) l, rw (sized_len n r b pos can.rises can.fits can.pruned) m) in
+          sym (bit_put n undone b.pruned r.entries k can.sorted there ∙ elim (cases_lt k (8 * n * b.pruned)) [
+            | inl before_b ↦ rw (lt-leb b.pruned (k / (8 * n)) (div_below k (8 * n) b.pruned (omega arith) (omega arith))) (low n r b pos can.rises can.fits can.pruned b k l before_b m)
+            | inr past_b ↦ rw (le-leb b.pruned (k / (8 * n)) (le-div b.pruned k (8 * n) (omega arith) (omega arith)))
+                (same_from n (kept r (k / (8 * n))) undone b k (high n r b pos can.rises can.fits can.pruned k past_b m))
           ])
+
+-- ---- the bitmap before a commit from its record alone
+module _ (n : ℕ) (r : ReverseRecord) (pos : 0 < n) (fits : 8 * n * r.pruned ≤ r.len) (keeps : (i : ℕ) → r.pruned ≤ i → 8 * n * i < r.len → IsSome (kept r i)) where
+  abbrev pub total : ℕ
+  total = div_ceil r.len (8 * n)
+
+  -- all of its chunks pruned
+  abbrev pub empty : PrunedBits
+  empty = record { pruned = total; bits = [] }
+
+  rises_to_total : r.pruned ≤ total
+  rises_to_total = fewer_chunks (8 * n) r.pruned total r.len (omega (arith, fits, pos)) (IsChunkCount-ceil n r.len pos).0
+
+  keeps_below : (i : ℕ) → r.pruned ≤ i → i < total → 8 * n * i < r.len → IsSome (kept r i)
+  keeps_below i low high start = keeps i low start
+
+  abbrev pub alone : PrunedBits
+  alone = unpruned n empty (pruned_chunk_bytes r total)
+
+  pub alone_count : length (pruned_chunk_bytes r total) ≡ total - r.pruned
+  alone_count = count n r empty pos rises_to_total fits keeps_below
+
+  pub alone_pruned : alone.pruned ≡ r.pruned
+  alone_pruned = whole_pruned n r empty pos rises_to_total fits keeps_below
+
+  pub alone_long : r.len ≤ bit_len n alone
+  alone_long = omega (arith, len_unpruned n empty (pruned_chunk_bytes r total) pos (omega (arith, alone_count)), (IsChunkCount-ceil n r.len pos).0)
+
+  pub alone_is : (newer : PrunedBits) → truncated n alone r.len ≡ before n r newer
+  alone_is newer = cut ∙ same_bitmap n older (before n r newer) older_pruned (older_len ∙ sym (len_from_bits n r.pruned r.len bit fits)) (λ k has.
+      let low_k : 8 * n * r.pruned ≤ k = has.0 in
+      let high_k : k < r.len = rw (len_from_bits n r.pruned r.len bit fits) at has.1 in
+      low n r empty pos rises_to_total fits keeps_below newer k low_k (omega (arith, high_k, (IsChunkCount-ceil n r.len pos).0)) high_k
+      ∙ sym (bit_from_bits n r.pruned r.len bit k low_k high_k))
+    where
+      bit : ℕ → Bool
+      bit k = bit_or_else n (kept r (k / (8 * n))) newer k
+
+      older : PrunedBits
+      older = sized n r empty pos rises_to_total fits keeps_below
+
+      cut : truncated n alone r.len ≡ older
+      cut = sym (rw (le-ltb (bit_len n alone) r.len alone_long) refl)
+
+      older_pruned : older.pruned ≡ r.pruned
+      older_pruned = sized_pruned n r empty pos rises_to_total fits keeps_below
+
+      older_len : bit_len n older ≡ r.len
+      older_len = sized_len n r empty pos rises_to_total fits keeps_below

@@ -1,11 +1,12 @@
 //! The chunks in which two kept states of a historical bitmap differ.
 
-ghost use Rattle.std.specs.Prelude.{◌≡◌, ℕ, ◌+◌, ◌*◌, ◌++◌, ◌^◌, ◌<◌, ◌≤◌, List, length, IfSome};
+ghost use Rattle.std.specs.Prelude.{◌≡◌, ℕ, ◌+◌, ◌*◌, ◌++◌, ◌^◌, ◌<◌, ◌≤◌, List, length, Some, IfSome};
 ghost use Rattle.std.specs.Iterator.{YieldsFirst, item_count};
+ghost use Rattle.bitmap_core.specs.PrunedBits.{PrunedBits};
 ghost use Rattle.chunk_map.specs.Entries.{IsNextMember};
 ghost use Rattle.historical_bitmap.specs.Changes.{changed_between, retained_bytes as retained_bytes_of};
 ghost use Rattle.historical_bitmap.specs.Compared.{between_numbers, IsComparing, IsNextChange, named_chunks};
-ghost use Rattle.historical_bitmap.specs.History.{at_least, EntriesRise};
+ghost use Rattle.historical_bitmap.specs.History.{at_least, EntriesRise, kept_under};
 ghost use Rattle.historical_bitmap.specs.View.{history_of};
 
 use crate::bitmap::historical::at::AtCommit;
@@ -157,6 +158,19 @@ impl<const N: usize> BitMap<N, Clean> {
             next: 0,
             end,
         })
+    }
+
+    /// States that of two kept states, the later one has at least as many pruned chunks as the earlier one.
+    ///
+    /// It holds of every bitmap.
+    ///
+    /// Does not allocate; constant time.
+    pub fn pruned_counts_rise(&self)
+        ensures { (from to : ℕ) (old new : PrunedBits) → from ≤ to
+            → kept_under (history_of N self.now) from ≡ Some old
+            → kept_under (history_of N self.now) to ≡ Some new → old.pruned ≤ new.pruned }
+    {
+        let _ = &self.state;
     }
 }
 

@@ -92,6 +92,13 @@ impl<const N: usize> BitMap<N, Clean> {
         }
     }
 
+    /// Returns the allocator from which edits and commits of the bitmap allocate.
+    ///
+    /// Does not allocate; constant time.
+    pub fn allocator(&self) -> Global {
+        self.state.allocator()
+    }
+
     /// Returns the current bitmap.
     ///
     /// Does not allocate; constant time.

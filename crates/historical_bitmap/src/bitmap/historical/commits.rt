@@ -3,7 +3,7 @@
 ghost use Rattle.std.specs.Prelude.{◌≡◌, ℕ, ◌+◌, ◌-◌, ◌^◌, [], length, None, Some, Ok, is_some, IsSome, IfErr, IfOk, OnOk, if◌then◌else◌, alloc_error};
 ghost use Rattle.std.specs.List.{sum_by};
 ghost use Rattle.std.specs.Map.{keys_of};
-ghost use Rattle.historical_bitmap.specs.History.{AllCanUndo, at_least, earliest, from_number, is_above, kept_under, latest, past_number, RiseInNumber, undone, up_to_number};
+ghost use Rattle.historical_bitmap.specs.History.{AllCanUndo, at_least, earliest, from_number, is_above, kept_under, latest, LatestIsLast, past_number, RiseInNumber, undone, up_to_number};
 ghost use Rattle.historical_bitmap.specs.View.{costs_of, history_of};
 ghost use Rattle.historical_bitmap.specs.declared.bitmap.historical.error.RewindError.TheVariants.{Memory, NoSuchCommit};
 
@@ -133,7 +133,8 @@ impl<const N: usize> BitMap<N, Clean> {
     /// `AllocError` if an allocation fails. A number that is not kept is no error.
     ///
     /// # Memory
-    /// Allocates the bitmap, and temporarily the chunks that later commits pruned. Does not allocate if the number is not kept.
+    /// Allocates the bitmap, and temporarily the chunks that later commits pruned and whose bytes their records keep.
+    /// Does not allocate if the number is not kept.
     ///
     /// # Complexity
     /// Linear in the retained chunks of the current bitmap, plus the reverse records past the number and their entries.
@@ -195,9 +196,12 @@ impl<const N: usize> BitMap<N, Clean> {
 
     /// Returns the number last committed or rewound to, even if its commit is not kept, or `None` if there is none.
     ///
-    /// A commit's number has to be above it. Does not allocate; constant time.
+    /// If any commit is kept, it is the greatest number of a kept commit. A commit's number has to be above it.
+    ///
+    /// Does not allocate; constant time.
     pub fn last_number(&self) -> Option<u64>
-        ensures { result ≡ self.now.last }
+        ensures value { result ≡ self.now.last }
+        ensures latest { LatestIsLast (history_of N self.now) self.now.last }
     {
         self.last
     }
@@ -259,8 +263,9 @@ impl<const N: usize> BitMap<N, Clean> {
     /// The bitmap is returned unchanged with the error.
     ///
     /// # Memory
-    /// Allocates temporarily the old bytes of each chunk that is restored, and the chunks that were pruned since. Allocates the chunks by
-    /// which the bitmap grows, at either end, if there is no capacity for them. Does not allocate if the number is not kept.
+    /// Allocates temporarily the old bytes of each chunk that is restored, and the chunks of the bitmap at that commit that were pruned since.
+    /// Allocates the chunks by which the bitmap grows, at either end, if there is no capacity for them. Does not allocate if the number is
+    /// not kept.
     ///
     /// # Complexity
     /// A search among the kept commits. Per entry of the reverse records past the number, logarithmic in the restored chunks. Per dropped

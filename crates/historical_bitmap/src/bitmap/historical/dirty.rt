@@ -27,7 +27,7 @@ use std::alloc::{AllocError, Global};
 use std::ops::Range;
 
 // Checks that a commit may have a number, given the last one.
-fn check_number(last: Option<u64>, number: u64) -> Result<(), Error>
+pub(crate) fn check_number(last: Option<u64>, number: u64) -> Result<(), Error>
     ensures { result_err result ≡ commit_error last number }
 {
     if number == u64::MAX {
@@ -88,6 +88,15 @@ impl<const N: usize> BitMap<N, Dirty<N>> {
         ensures { result ≡ (pending_of N self.now).pruned }
     {
         self.state.pruned_chunks()
+    }
+
+    /// Returns the number last committed or rewound to, even if its commit is not kept, or `None` if there is none.
+    ///
+    /// The number of the commit has to be above it. Does not allocate; constant time.
+    pub fn last_number(&self) -> Option<u64>
+        ensures { result ≡ self.now.last }
+    {
+        self.last
     }
 
     /// Returns the pending bit at the absolute position `bit`, which the pending bitmap retains.

@@ -1,6 +1,6 @@
 //! The pending edits of a batch.
 
-ghost use Rattle.std.specs.Prelude.{◌≡◌, ℕ, ◌+◌, ◌-◌, ◌*◌, ◌/◌, ◌%◌, ◌^◌, ◌<◌, ◌≤◌, ◌++◌, ◌∷◌, List, length, map, true, false, if◌then◌else◌, nat_lt, IfOk, IfSome, MatchOption, None, Some, OnOk, OnErr, IsOk, IsSome, nat_eq, unwrap_or, slice_index, [], vec_len, vec_capacity};
+ghost use Rattle.std.specs.Prelude.{◌≡◌, ℕ, ◌+◌, ◌-◌, ◌*◌, ◌/◌, ◌%◌, ◌^◌, ◌<◌, ◌≤◌, ◌++◌, ◌∷◌, List, length, map, replicate, true, false, if◌then◌else◌, nat_lt, IfOk, IfSome, MatchOption, None, Some, OnOk, OnErr, IsOk, IsSome, nat_eq, unwrap_or, slice_index, [], vec_len, vec_capacity};
 ghost use Rattle.std.specs.List.{range_with_len};
 ghost use Rattle.std.specs.List.Sorted.{IsStrictlySortedBy};
 ghost use Rattle.std.specs.Map.{keys_of, lookup};
@@ -20,6 +20,7 @@ use crate::bitmap::historical::edited::{cut, first_chunk};
 use crate::bitmap::historical::grown::GrownChunks;
 use crate::bitmap::historical::record::{ChunkDiff, CommitDiff};
 use crate::bitmap::historical::tail::TailChunks;
+use bitmap_core::bitmap::BitMap;
 use bitmap_core::bitmap::prunable::Prunable;
 use bitmap_core::chunk::facts::known;
 use bitmap_core::chunk::join::{chunk_from, join};
@@ -480,6 +481,47 @@ impl<const N: usize> Dirty<N> {
         let mut bytes = *chunk;
         cut(&mut bytes, len - start);
         self.edited.replace(index, bytes)?;
+        Ok(())
+    }
+
+    // Appends zeros up to a length of `total` bits, which is greater than the length. After an error nothing is changed.
+    // Does not allocate, and succeeds, if each chunk of the new positions is edited.
+    pub(crate) fn extend_to(&mut self, current: &Prunable<N>, total: u64) -> Result<(), AllocError>
+        requires edits_fit { PendingFits N current.now self.old }
+        requires more { self.old.len < total }
+        ensures ok { OnOk result (Appends N current.now self.old
+            (replicate (total - self.old.len) false) self.new) }
+        ensures err { OnErr result (self.new ≡ self.old) }
+        ensures edited { ((k : ℕ) → self.old.len ≤ k → k < total
+            → IsSome (edited_chunk self.old (k / (8 * N)))) → IsOk result }
+    {
+        let len = self.len();
+        let first = chunk_index::<N>(len);
+        let past = chunk_count::<N>(total);
+        self.edited.open_to(current, len, first, past)?;
+        self.len = total;
+        Ok(())
+    }
+
+    // Appends the bits of a bitmap that is not empty. After an error nothing is changed.
+    // Does not allocate, and succeeds, if each chunk of the new positions is edited.
+    pub(crate) fn extend_from_bitmap(
+        &mut self,
+        current: &Prunable<N>,
+        other: &BitMap<N>,
+    ) -> Result<(), AllocError>
+        requires edits_fit { PendingFits N current.now self.old }
+        requires some { 0 < length other.now }
+        requires fits { self.old.len + length other.now < 2 ^ 64 }
+        ensures ok { OnOk result (Appends N current.now self.old other.now self.new) }
+        ensures err { OnErr result (self.new ≡ self.old) }
+        ensures edited { ((k : ℕ) → self.old.len ≤ k → k < self.old.len + length other.now
+            → IsSome (edited_chunk self.old (k / (8 * N)))) → IsOk result }
+    {
+        let len = self.len();
+        let total = len + other.len();
+        self.edited.append_bits(current, len, other)?;
+        self.len = total;
         Ok(())
     }
 

@@ -5,7 +5,7 @@ ghost use Rattle.std.specs.List.Sorted.{IsStrictlySortedBy};
 ghost use Rattle.std.specs.Map.{keys_of, lookup};
 ghost use Rattle.std.specs.Ordering.{nat_cmp};
 ghost use Rattle.bitmap_bytes.specs.Chunk.{IsWidth};
-ghost use Rattle.bitmap_core.specs.PrunedBits.{IsRetainedChunk};
+ghost use Rattle.bitmap_core.specs.PrunedBits.{bit_len, IsRetainedChunk};
 ghost use Rattle.historical_bitmap.specs.History.{AllCanUndo, EntriesRise, first_kept, IsLeftBy, left_by, past_number};
 ghost use Rattle.historical_bitmap.specs.Record.{bytes_of, kept};
 ghost use Rattle.historical_bitmap.specs.Rewind.{Gathers, HasExtent, IsWrittenBack};
@@ -22,8 +22,8 @@ use std::collections::BTreeMap;
 
 // Turns the current bitmap into the one that the last commit up to a number left, of the given length and pruned count.
 //
-// Allocates temporarily the old bytes of each chunk that is restored, and the chunks pruned since; and the chunks by which the bitmap
-// grows, if there is no capacity for them. If an allocation fails, the bitmap is unchanged.
+// Allocates temporarily the old bytes of each chunk that is restored, and the chunks of the past bitmap pruned since; and the chunks by
+// which the bitmap grows, if there is no capacity for them. If an allocation fails, the bitmap is unchanged.
 pub(crate) fn rewind<const N: usize>(
     current: &mut Prunable<N>,
     commits: &CommitList<N>,
@@ -39,8 +39,7 @@ pub(crate) fn rewind<const N: usize>(
 {
     let _ = current.len();
     let chunks = gather(alloc, commits, number, pruned, chunk_count::<N>(len))?;
-    let prefix = zero_chunks(alloc, current.pruned_chunks() - pruned)?;
-    restore_extent(current, &prefix, len)?;
+    restore_extent(current, pruned, len, alloc)?;
     write_back(current, &chunks);
     Ok(())
 }
@@ -114,10 +113,50 @@ fn zero_chunks<const N: usize>(alloc: Global, count: usize) -> Result<Vec<[u8; N
     Ok(chunks)
 }
 
+// Returns a bitmap of zeros with a pruned count and a length. Allocates its retained chunks.
+fn zero_bitmap<const N: usize>(
+    alloc: Global,
+    pruned: usize,
+    len: u64,
+) -> Result<Prunable<N>, AllocError>
+    requires width { IsWidth N }
+    requires within { 8 * N * pruned ≤ len }
+    ensures pruned { IfOk result (λ b. b.pruned ≡ pruned) }
+    ensures len { IfOk result (λ b. bit_len N b ≡ len) }
+{
+    let mut bitmap = Prunable::new_with_pruned_chunks(alloc, pruned).unwrap();
+    bitmap.extend_to(len)?;
+    Ok(bitmap)
+}
+
+// Gives the bitmap a pruned count and a length: it loses the bits past the length, and the bits that it lacked may have any value.
+//
+// If that leaves none of its bits, it is made anew, so that nothing is allocated for chunks past the length.
+// If an allocation fails, the bitmap is unchanged.
+fn restore_extent<const N: usize>(
+    current: &mut Prunable<N>,
+    pruned: usize,
+    len: u64,
+    alloc: Global,
+) -> Result<(), AllocError>
+    requires width { IsWidth N }
+    requires rises { pruned ≤ current.old.pruned }
+    requires within { 8 * N * pruned ≤ len }
+    ensures ok { OnOk result (HasExtent N current.old pruned len current.new) }
+    ensures err { OnErr result (current.new ≡ current.old) }
+{
+    if chunk_count::<N>(len) < current.pruned_chunks() {
+        *current = zero_bitmap(alloc, pruned, len)?;
+        return Ok(());
+    }
+    let prefix = zero_chunks(alloc, current.pruned_chunks() - pruned)?;
+    widen(current, &prefix, len)
+}
+
 // Inserts chunks before the retained bits, and truncates the bitmap, or extends it with zeros, to a length.
 //
 // Extends first, since that can be undone if the chunks cannot be inserted. If an allocation fails, the bitmap is unchanged.
-fn restore_extent<const N: usize>(
+fn widen<const N: usize>(
     current: &mut Prunable<N>,
     prefix: &[[u8; N]],
     len: u64,

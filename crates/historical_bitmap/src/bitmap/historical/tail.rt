@@ -1,7 +1,7 @@
 //! The edited chunks of a batch, with the word that single pushes and pops write to.
 
 ghost use Rattle.std.specs.Prelude.{◌≡◌, ℕ, ◌+◌, ◌-◌, ◌*◌, ◌/◌, ◌%◌, ◌^◌, ◌<◌, ◌≤◌, ◌&&◌, ◌++◌, ◌⊎◌, [], List, length, replicate, Option, Some, None, IfOk, IfSome, OnOk, OnErr, IsOk, IsSome, if◌then◌else◌, nat_eq, nat_le, nat_lt, true, false};
-ghost use Rattle.std.specs.Int.{bit_at};
+ghost use Rattle.std.specs.Int.{bit_at, div_ceil};
 ghost use Rattle.std.specs.List.Sorted.{IsStrictlySortedBy};
 ghost use Rattle.std.specs.Map.{keys_of, lookup};
 ghost use Rattle.std.specs.Option.{option_map};
@@ -11,12 +11,16 @@ ghost use Rattle.bitmap_bytes.specs.Words.{next_word};
 ghost use Rattle.bitmap_core.specs.PrunedBits.{chunk, truncated};
 ghost use Rattle.chunk_map.specs.Entries.{IsNextMember, Puts};
 ghost use Rattle.historical_bitmap.specs.Edits.{from_to};
+ghost use Rattle.historical_bitmap.specs.Lengths.{JoinsChunks, OpensChunks};
 ghost use Rattle.historical_bitmap.specs.Pending.{CutsChunks, IsByteSetIn, IsClearFrom, IsSetIn, PutsTwo, SetsChunks, SetsIn, members_between};
 ghost use Rattle.historical_bitmap.specs.Tail.{IsTail, is_cached_at, with_word};
 
 use crate::bitmap::historical::grown::GrownChunks;
+use crate::bitmap::historical::joined::append_bits;
+use crate::bitmap::historical::opened::open_to;
 use crate::bitmap::historical::ranges::set_range;
 use crate::bitmap::historical::word::put_word;
+use bitmap_core::bitmap::BitMap;
 use bitmap_core::bitmap::prunable::Prunable;
 use bitmap_core::chunk::facts::known;
 use bitmap_core::chunk::load::{following_word, word_base, word_below};
@@ -506,6 +510,53 @@ impl<const N: usize> TailChunks<N> {
     {
         settle(&mut self.chunks, &mut self.tail);
         set_range(&mut self.chunks, current, len, from, to, value, alloc)
+    }
+
+    // Inserts the current bitmap's chunk, cut to `len` bits, at each index from `first` up to `past` that has no chunk. There is no chunk past `first`.
+    // After an error nothing is changed. Does not allocate, and succeeds, if there is a chunk at each of these indices.
+    pub(crate) fn open_to(
+        &mut self,
+        current: &Prunable<N>,
+        len: u64,
+        first: usize,
+        past: usize,
+    ) -> Result<(), AllocError>
+        requires width { IsWidth N }
+        requires some { first < past }
+        requires low { current.now.pruned ≤ first }
+        requires fits { (q : ℕ) → q < past → 8 * N * q < 2 ^ 64 }
+        requires last { (q : ℕ) → first < q → lookup (nat_eq q) self.old ≡ None }
+        ensures ok { OnOk result (OpensChunks (chunk N (truncated N current.now len))
+            self.old self.new first past) }
+        ensures err { OnErr result (self.new ≡ self.old) }
+        ensures edited { ((q : ℕ) → first ≤ q → q < past → IsSome (lookup (nat_eq q) self.old))
+            → IsOk result }
+    {
+        settle(&mut self.chunks, &mut self.tail);
+        open_to(&mut self.chunks, current, len, first, past)
+    }
+
+    // Appends the bits of a bitmap from position `len` on, past whose chunk there is none. The bitmap is not empty.
+    // Starts from the current bitmap's chunk, cut to `len` bits, if none is edited there. After an error nothing is changed.
+    // Does not allocate, and succeeds, if each chunk of the new bits is edited.
+    pub(crate) fn append_bits(
+        &mut self,
+        current: &Prunable<N>,
+        len: u64,
+        bits: &BitMap<N>,
+    ) -> Result<(), AllocError>
+        requires some { 0 < length bits.now }
+        requires fits { len + length bits.now < 2 ^ 64 }
+        requires low { current.now.pruned ≤ len / (8 * N) }
+        requires last { (q : ℕ) → len / (8 * N) < q → lookup (nat_eq q) self.old ≡ None }
+        ensures ok { OnOk result (JoinsChunks N (chunk N (truncated N current.now len)) self.old self.new
+            (len / (8 * N)) (div_ceil (len + length bits.now) (8 * N)) len bits.now) }
+        ensures err { OnErr result (self.new ≡ self.old) }
+        ensures edited { ((q : ℕ) → len / (8 * N) ≤ q → q < div_ceil (len + length bits.now) (8 * N)
+            → IsSome (lookup (nat_eq q) self.old)) → IsOk result }
+    {
+        settle(&mut self.chunks, &mut self.tail);
+        append_bits(&mut self.chunks, current, len, bits)
     }
 
     // Removes the chunk at an index, past which there is none, and returns it. Does not allocate.

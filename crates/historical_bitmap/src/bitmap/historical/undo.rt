@@ -1,27 +1,63 @@
 //! Undoing a commit: from the bitmap after it and its reverse record, the bitmap before it.
 
-ghost use Rattle.std.specs.Prelude.{◌≡◌, ℕ, ◌≤◌, MatchOption, OnOk, nat_eq, nat_le, option_copied};
+ghost use Rattle.std.specs.Prelude.{◌≡◌, ℕ, ◌*◌, ◌^◌, ◌<◌, ◌≤◌, IfOk, IsSome, MatchOption, OnOk, nat_eq, nat_le, option_copied};
+ghost use Rattle.std.specs.Int.{div_ceil};
 ghost use Rattle.std.specs.List.{filter};
 ghost use Rattle.std.specs.List.Sorted.{IsStrictlySortedBy};
 ghost use Rattle.std.specs.Map.{keys_of, lookup};
 ghost use Rattle.std.specs.Ordering.{nat_cmp};
 ghost use Rattle.bitmap_bytes.specs.Chunk.{IsWidth};
-ghost use Rattle.bitmap_core.specs.PrunedBits.{bit_len, pruned_bits};
-ghost use Rattle.historical_bitmap.specs.Record.{before, bytes_of};
+ghost use Rattle.bitmap_core.specs.PrunedBits.{PrunedBits, bit_len, pruned_bits};
+ghost use Rattle.historical_bitmap.specs.Record.{before, bytes_of, kept};
 ghost use Rattle.historical_bitmap.specs.Stored.{entry_values};
 ghost use Rattle.historical_bitmap.specs.Undo.{CanUndo, IsOldChunk, put_back, put_back_one, resized};
 
 use crate::bitmap::historical::record::{ChunkDiff, CommitDiff};
 use bitmap_core::bitmap::Prunable;
+use bitmap_core::chunk::chunk_count;
 use std::alloc::AllocError;
 
-// Turns the bitmap after a commit into the one before it. Allocates for the chunks that it restores.
+// Turns the bitmap after a commit into the one before it. Allocates for the chunks that it restores, and for no others.
 // After an error the bitmap may have any value: it is a working copy.
 pub(crate) fn undo<const N: usize>(
     newer: &mut Prunable<N>,
     diff: &CommitDiff<N>,
 ) -> Result<(), AllocError>
     requires { CanUndo N diff.now newer.old }
+    ensures { OnOk result (newer.new ≡ before N diff.now newer.old) }
+{
+    let _ = newer.len();
+    if chunk_count::<N>(diff.len()) < newer.pruned_chunks() {
+        *newer = rebuilt(diff)?;
+        return Ok(());
+    }
+    undo_in_steps(newer, diff)
+}
+
+// Returns the bitmap before a commit from its record alone, which keeps all of its chunks. Allocates for these.
+fn rebuilt<const N: usize>(diff: &CommitDiff<N>) -> Result<Prunable<N>, AllocError>
+    requires fits { 8 * N * diff.now.pruned ≤ diff.now.len }
+    requires small { 8 * N * div_ceil diff.now.len (8 * N) < 2 ^ 64 }
+    requires kept { (i : ℕ) → diff.now.pruned ≤ i → 8 * N * i < diff.now.len → IsSome (kept diff.now i) }
+    requires sorted { IsStrictlySortedBy nat_cmp (keys_of diff.now.entries) }
+    ensures { (newer : PrunedBits) → IfOk result (λ older. older ≡ before N diff.now newer) }
+{
+    let len = diff.len();
+    let end = chunk_count::<N>(len);
+    let chunks = diff.pruned_bytes(end)?;
+    let mut older = Prunable::new_with_pruned_chunks(*chunks.allocator(), end).unwrap();
+    older.unprune(&chunks)?;
+    older.truncate(len);
+    Ok(older)
+}
+
+// As `undo`, if the newer bitmap has at most as many pruned chunks as the older one has chunks.
+fn undo_in_steps<const N: usize>(
+    newer: &mut Prunable<N>,
+    diff: &CommitDiff<N>,
+) -> Result<(), AllocError>
+    requires undo { CanUndo N diff.now newer.old }
+    requires short { newer.old.pruned ≤ div_ceil diff.now.len (8 * N) }
     ensures { OnOk result (newer.new ≡ before N diff.now newer.old) }
 {
     let len = diff.len();

@@ -1,4 +1,4 @@
-use Rattle.std.proofs.Common.{◌≡◌, ℕ, ◌-◌, ◌*◌, [], length, ap, arith, subst}
+use Rattle.std.proofs.Common.{ℕ, ◌*◌, [], arith, subst}
 use Rattle.std.specs.Int.{div_ceil}
 use Rattle.historical_bitmap.specs.History.{first_kept, past_number}
 use Rattle.historical_bitmap.specs.Rewind.{Gathers, HasExtent}
@@ -15,16 +15,21 @@ gather-requires g c = (
   ),
 )
 
-pub overflow_sub-pruned_chunks : goal.overflow_sub-pruned_chunks
-overflow_sub-pruned_chunks g c =
-    omega (arith, pruned_below g.row.N c.args.number c.args.commits.now c.args.current.now c.args.len c.args.pruned c.requires.undo c.requires.extent, c.pruned_chunks.ensures)
+pub restore_extent-requires : goal.restore_extent-requires
+restore_extent-requires g c = (
+  omega arith,
+  (
+    c.requires.extent.width,
+    (
+      pruned_below g.row.N c.args.number c.args.commits.now c.args.current.now c.args.len c.args.pruned c.requires.undo c.requires.extent,
+      c.requires.extent.within,
+    ),
+  ),
+)
 
 pub write_back-requires : goal.write_back-requires
 write_back-requires g c =
-    let below = pruned_below g.row.N c.args.number c.args.commits.now c.args.current.now c.args.len c.args.pruned c.requires.undo c.requires.extent in
-    let count : c.args.current.now.pruned - length c.deref.result.now ≡ c.args.pruned = omega (arith, ap length c.deref.ensures.value, c.in_ok-prefix.ensures, c.pruned_chunks.ensures, below) in
-    let sized : HasExtent g.row.N c.args.current.now c.args.pruned c.args.len c.restore_extent.new.current =
-    subst (λ (p : ℕ). HasExtent g.row.N c.args.current.now p c.args.len c.restore_extent.new.current) count c.in_ok-restore_extent.ensures.ok in
+    let sized : HasExtent g.row.N c.args.current.now c.args.pruned c.args.len c.restore_extent.new.current = c.in_ok-restore_extent.ensures.ok in
     let gathers : Gathers (first_kept (past_number c.args.number c.args.commits.now)) c.args.pruned (div_ceil c.args.len (8 * g.row.N)) [] c.in_ok-chunks.chunks.entries =
     subst (λ (end : ℕ). Gathers (first_kept (past_number c.args.number c.args.commits.now)) c.args.pruned end [] c.in_ok-chunks.chunks.entries) c.chunk_count.ensures c.in_ok-chunks.ensures in (
       omega arith,
@@ -39,10 +44,7 @@ write_back-requires g c =
 
 pub returns-clause-ok : goal.returns-clause-ok
 returns-clause-ok g c =
-    let below = pruned_below g.row.N c.args.number c.args.commits.now c.args.current.now c.args.len c.args.pruned c.requires.undo c.requires.extent in
-    let count : c.args.current.now.pruned - length c.deref.result.now ≡ c.args.pruned = omega (arith, ap length c.deref.ensures.value, c.in_ok-prefix.ensures, c.pruned_chunks.ensures, below) in
-    let sized : HasExtent g.row.N c.args.current.now c.args.pruned c.args.len c.restore_extent.new.current =
-    subst (λ (p : ℕ). HasExtent g.row.N c.args.current.now p c.args.len c.restore_extent.new.current) count c.in_ok-restore_extent.ensures.ok in
+    let sized : HasExtent g.row.N c.args.current.now c.args.pruned c.args.len c.restore_extent.new.current = c.in_ok-restore_extent.ensures.ok in
     let gathers : Gathers (first_kept (past_number c.args.number c.args.commits.now)) c.args.pruned (div_ceil c.args.len (8 * g.row.N)) [] c.in_ok-chunks.chunks.entries =
     subst (λ (end : ℕ). Gathers (first_kept (past_number c.args.number c.args.commits.now)) c.args.pruned end [] c.in_ok-chunks.chunks.entries) c.chunk_count.ensures c.in_ok-chunks.ensures in
     rewound_is g.row.N c.args.number c.args.commits.now c.args.current.now c.args.len c.args.pruned c.requires.undo c.requires.extent c.in_ok-chunks.chunks.entries c.restore_extent.new.current gathers sized

@@ -1,7 +1,7 @@
 use Rattle.std.proofs.Common.{◌≡◌, ap, arith, ◌∙◌}
 use Rattle.bitmap_core.specs.PrunedBits.{extended, unpruned}
 use Rattle.historical_bitmap.proofs.History.Rewound.{extent_restored, whole_fits}
-use Rattle.historical_bitmap.proofs.bitmap.historical.rewind.restore_extent.Goals as goal
+use Rattle.historical_bitmap.proofs.bitmap.historical.rewind.widen.Goals as goal
 
 pub truncate-requires : goal.truncate-requires
 truncate-requires g c =
