@@ -32,7 +32,7 @@ IsBytes-take n input h i =
 pub size-again : (n : ℕ) (rest : List ℕ) → n < 2 ^ 64 → number_in (to_be_bytes w64 n ++ rest) ≡ n
 size-again n rest h = ap (from_be_bytes w64) (take_at (to_be_bytes w64 n) rest 8 refl) ∙ from_be_bytes-to_be_bytes_8 n h
 
-size-lt : (input : List ℕ) → IsBytes input → number_in input < 2 ^ 64
+pub size-lt : (input : List ℕ) → IsBytes input → number_in input < 2 ^ 64
 size-lt input fits = let f = IsBytes-take 8 input fits in omega (arith, f 0, f 1, f 2, f 3, f 4, f 5, f 6, f 7)
 
 abbrev pub read : {A : Type 0} → A → Result A DecodeError
@@ -67,7 +67,7 @@ number-again n rest h =
     rw (long, size-again n rest h, drop_at (to_be_bytes w64 n) rest 8 refl) refl
 
 -- a number that was read is encoded as it was
-size-back : (input : List ℕ) → IsBytes input → 8 ≤ length input → to_be_bytes w64 (number_in input) ≡ take 8 input
+pub size-back : (input : List ℕ) → IsBytes input → 8 ≤ length input → to_be_bytes w64 (number_in input) ≡ take 8 input
 size-back input fits long = be_bytes_8 (take 8 input) (number_in input) (omega (arith, length-take 8 input)) (IsBytes-take 8 input fits) refl
 
 pub record TakesNumber (input : List ℕ) (n : ℕ) (rest : List ℕ) : Type 0 where
@@ -88,7 +88,7 @@ length-encode_chunk : (n : ℕ) (e : ℕ × List ℕ) → FitsChunk n e → leng
 unfolding encode_chunk
 length-encode_chunk n e h = omega (arith, length-append (to_be_bytes w64 e.0) e.1, h.bytes)
 
-length-chunks : (n : ℕ) (chunks : List (ℕ × List ℕ)) → AllByRecursion (FitsChunk n) chunks → length (flat_map encode_chunk chunks) ≡ (8 + n) * length chunks
+pub length-chunks : (n : ℕ) (chunks : List (ℕ × List ℕ)) → AllByRecursion (FitsChunk n) chunks → length (flat_map encode_chunk chunks) ≡ (8 + n) * length chunks
 length-chunks n [] h = grind arith
 length-chunks n (e ∷ es) h =
     let l = length-chunks n es h.1 in
@@ -107,7 +107,7 @@ chunks_in-again n (e ∷ es) h =
     let after : drop (8 + n) (flat_map encode_chunk (e ∷ es)) ≡ rest = sym (drop-drop n 8 (flat_map encode_chunk (e ∷ es))) ∙ ap (drop n) past ∙ drop_at e.1 rest n h.0.bytes in
     rw (after, chunks_in-again n es h.1) (ap (λ (p : ℕ × List ℕ). p ∷ es) (λ i. (index i, bytes i)))
 
-chunks-again : (n : ℕ) (chunks : List (ℕ × List ℕ)) → AllByRecursion (FitsChunk n) chunks → decode_chunks n (flat_map encode_chunk chunks) ≡ read chunks
+pub chunks-again : (n : ℕ) (chunks : List (ℕ × List ℕ)) → AllByRecursion (FitsChunk n) chunks → decode_chunks n (flat_map encode_chunk chunks) ≡ read chunks
 unfolding decode_chunks
 chunks-again n chunks h =
     let len = length-chunks n chunks h in

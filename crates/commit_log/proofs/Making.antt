@@ -1,55 +1,29 @@
 -- The edits of a batch, one after another.
-use Rattle.std.proofs.Common.{◌≡◌, ℕ, ◌+◌, ◌*◌, ◌/◌, ◌<◌, ◌≤◌, Bool, false, cond, eqb, List, [], ◌∷◌, refl, sym, ap, subst, ◌∙◌, arith, inl, inr}
+use Rattle.std.proofs.Common.{◌≡◌, ℕ, ◌+◌, ◌*◌, ◌/◌, ◌<◌, ◌≤◌, Bool, cond, eqb, List, [], ◌∷◌, refl, sym, ap, subst, ◌∙◌, arith, inl, inr}
 use Rattle.std.specs.Prelude.{nat_eq, Option, Some, None}
 use Rattle.std.proofs.lemmas.Bool.{cases_lt, cases_eq, eq-eqb, ne_eqb, lt-ltb, le-ltb}
 use Rattle.std.proofs.Math.Nat.{mul-le-mul_left, mul-div_cancel_left}
-use Rattle.bitmap_core.specs.PrunedBits.{PrunedBits, bit_len, bit_at, pruned_bits, pushed, truncated, pruned_to, from_bits, with_chunk, IsRetained}
-use Rattle.bitmap_core.proofs.Pruned.Edits.{len_pushed, bit_pushed, len_truncated, bit_truncated, len_pruned_to, bit_pruned}
-use Rattle.bitmap_core.proofs.Pruned.Positions.{bit_from_bits, bit_past, len_from_bits, same_from_bits}
+use Rattle.bitmap_core.specs.PrunedBits.{PrunedBits, bit_len, bit_at, pruned_bits, truncated, pruned_to, from_bits, with_chunk, IsRetained}
+use Rattle.bitmap_core.proofs.Pruned.Edits.{len_truncated, bit_truncated, len_pruned_to, bit_pruned}
+use Rattle.bitmap_core.proofs.Pruned.Positions.{bit_from_bits, len_from_bits, same_from_bits}
 use Rattle.historical_bitmap.specs.Record.{bit_or_else}
 use Rattle.historical_bitmap.specs.Pending.{PendingEdits}
 use Rattle.historical_bitmap.specs.View.{View, pending_of, IsEditOf, IsRunOf}
 use Rattle.bitmap_bytes.specs.Chunk.{chunk_bit}
 use Rattle.historical_bitmap.specs.Edits.{Edit}
-use Rattle.historical_bitmap.specs.Edits.Edit.{Push, Prune}
+use Rattle.historical_bitmap.specs.Edits.Edit.{Prune}
 use Rattle.std.specs.Map.{lookup}
 use Rattle.commit_log.specs.Making.{AscendFrom, Has, IsOn, Makes, byte_bit_or, overlaid}
 
 pub same_on : (a : View PendingEdits) → IsOn a a
 same_on a = record { current = refl; commits = refl; last = refl }
 
-pub begun : (n : ℕ) (a : View PendingEdits) → Makes n a (bit_len n (pending_of n a)) (bit_at n (pending_of n a)) a
-begun n a = record { on = same_on a; has = record { pruned_is = refl; len_is = refl; bits = λ k h. refl } }
-
 -- a bitmap has the bits that it has
 pub is_made : (n pruned len : ℕ) (bit : ℕ → Bool) (b : PrunedBits) → Has n pruned len bit b → b ≡ from_bits n pruned len bit
 is_made n pruned len bit b h = sym (same_from_bits n b bit (λ k r. sym (h.bits k r))) ∙ (λ i. from_bits n (h.pruned_is i) (h.len_is i) bit)
 
-has_pushed : (n pruned : ℕ) (bit : ℕ → Bool) (b : PrunedBits) → Has n pruned (bit_len n b) bit b → bit (bit_len n b) ≡ false → Has n pruned (bit_len n b + 1) bit (pushed b false)
-has_pushed n pruned bit b h e = record {
-  pruned_is = h.pruned_is;
-  len_is = len_pushed n b false;
-  bits = λ k r.
-      bit_pushed n b false k r.0
-      ∙ elim (cases_eq k (bit_len n b)) [
-        | inl same ↦ rw (eq-eqb k (bit_len n b) same) (sym (ap bit same ∙ e))
-        | inr other ↦ rw (ne_eqb k (bit_len n b) other) (h.bits k (r.0, omega (arith, r.1, len_pushed n b false, other)))
-      ];
-}
-
 has_same : (n pruned len : ℕ) (f g : ℕ → Bool) (b : PrunedBits) → Has n pruned len f b → ((k : ℕ) → k < len → f k ≡ g k) → Has n pruned len g b
 has_same n pruned len f g b h e = record { pruned_is = h.pruned_is; len_is = h.len_is; bits = λ k r. h.bits k r ∙ e k (omega (arith, r.1, h.len_is)) }
-
-on_more : (n : ℕ) (a b c : View PendingEdits) (e : Edit) → IsOn a b → IsEditOf n b e c → IsOn a c
-on_more n a b c e on edit = record { current = edit.current ∙ on.current; commits = edit.commits ∙ on.commits; last = edit.last ∙ on.last }
-
--- one bit more
-pub push_more : (n : ℕ) (a b c : View PendingEdits) → Makes n a (bit_len n (pending_of n b)) (bit_at n (pending_of n a)) b → bit_len n (pending_of n a) ≤ bit_len n (pending_of n b) → IsEditOf n b (Push false) c
-    → Makes n a (bit_len n (pending_of n c)) (bit_at n (pending_of n a)) c × (bit_len n (pending_of n c) ≡ bit_len n (pending_of n b) + 1)
-push_more n a b c m le edit =
-    let h = has_pushed n (pending_of n a).pruned (bit_at n (pending_of n a)) (pending_of n b) m.has (bit_past n (pending_of n a) (bit_len n (pending_of n b)) le) in
-    let more : bit_len n (pending_of n c) ≡ bit_len n (pending_of n b) + 1 = ap (bit_len n) edit.pending ∙ h.len_is in
-    (record { on = on_more n a b c (Push false) m.on edit; has = subst (λ (x : PrunedBits). Has n (pending_of n a).pruned (bit_len n x) (bit_at n (pending_of n a)) x) (sym edit.pending) (record { pruned_is = h.pruned_is; len_is = refl; bits = h.bits }) }, more)
 
 on_run : (n : ℕ) (a b : View PendingEdits) (edits : List Edit) → IsRunOf n a edits b → IsOn a b
 on_run n a b edits run = record { current = run.current; commits = run.commits; last = run.last }

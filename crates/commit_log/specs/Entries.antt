@@ -31,7 +31,8 @@ encode_chunk e = to_be_bytes w64 e.0 ++ e.1
 
 -- the encoding of a change: its number, its length, its pruned count, and its chunks in order
 unfoldable pub encode_change : Change → List ℕ
-encode_change c = to_be_bytes w64 c.number ++ (to_be_bytes w64 c.len ++ (to_be_bytes w64 c.pruned ++ flat_map encode_chunk c.chunks))
+encode_change c =
+    to_be_bytes w64 c.number ++ (to_be_bytes w64 c.len ++ (to_be_bytes w64 c.pruned ++ flat_map encode_chunk c.chunks))
 
 -- the encoding of an entry: a byte that says which kind it is, and its fields
 unfoldable pub encode_entry : Entry → List ℕ
@@ -96,7 +97,10 @@ decode_chunks n bytes = if (8 + n) * chunks_of n bytes == length bytes then Ok (
 -- the change that some bytes encode, or the first error
 unfoldable pub decode_change : ℕ → List ℕ → Result Change DecodeError
 decode_change n bytes =
-    decode_number bytes >>= λ number. decode_number number.1 >>= λ len. decode_number len.1 >>= λ pruned. decode_chunks n pruned.1 >>= λ chunks.
+    decode_number bytes >>= λ number.
+    decode_number number.1 >>= λ len.
+    decode_number len.1 >>= λ pruned.
+    decode_chunks n pruned.1 >>= λ chunks.
     Ok (record { number = number.0; len = len.0; pruned = pruned.0; chunks = chunks })
 
 -- the number that some bytes encode, or the first error

@@ -1,6 +1,11 @@
 pub mod Accepted
+pub mod Base
+pub mod Delta
 pub mod Entries
+pub mod History
 pub mod Kept
 pub mod ListOfChanges
+pub mod Logs
 pub mod Making
-pub mod Base
+pub mod Reading
+pub mod Recovered

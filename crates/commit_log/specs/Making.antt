@@ -43,8 +43,10 @@ Resizes n old len new = Makes n old len (bit_at n (pending_of n old)) new
 
 -- a batch is another one with the bits of chunk i replaced by those of some bytes
 abbrev pub Replaces : ℕ → View PendingEdits → ℕ → List ℕ → View PendingEdits → Type 0
-Replaces n old i bytes new = Makes n old (bit_len n (pending_of n old)) (λ k. if k / (8 * n) == i then chunk_bit n bytes k else bit_at n (pending_of n old) k) new
+Replaces n old i bytes new =
+    Makes n old (bit_len n (pending_of n old)) (λ k. if k / (8 * n) == i then chunk_bit n bytes k else bit_at n (pending_of n old) k) new
 
 -- a batch is another one with the bits of each of some chunks
 abbrev pub Overlays : ℕ → View PendingEdits → List (ℕ × List ℕ) → View PendingEdits → Type 0
-Overlays n old chunks new = Makes n old (bit_len n (pending_of n old)) (overlaid n chunks (bit_at n (pending_of n old))) new
+Overlays n old chunks new =
+    Makes n old (bit_len n (pending_of n old)) (overlaid n chunks (bit_at n (pending_of n old))) new

@@ -1,23 +1,28 @@
 //! The base of a log: the bitmap that it begins with, and what is known of the commits before it.
 
-ghost use Rattle.std.specs.Prelude.{◌≡◌, ◌-◌, ◌+◌, ◌^◌, ◌<◌, ◌++◌, ◌∷◌, [], None, Some, IfOk, IfErr, IfSome, alloc_error};
+ghost use Rattle.std.specs.Prelude.{◌≡◌, ℕ, ◌+◌, ◌-◌, ◌^◌, ◌<◌, ◌≤◌, ◌++◌, ◌∷◌, [], Bool, List, None, Some, IfOk, IfErr, alloc_error, drop, length, true};
 ghost use Rattle.bitmap_bytes.specs.Chunk.{IsWidth};
-ghost use Rattle.bitmap_core.specs.Decoding.{decode_error};
+ghost use Rattle.bitmap_core.specs.Decoding.{admits, chunk_bytes, decode_error, pruned_error};
+ghost use Rattle.bitmap_core.specs.declared.bitmap.codec.error.CodecError.TheVariants.{OutOfMemory};
 ghost use Rattle.bitmap_core.specs.Encoding.{pruned_encoding};
-ghost use Rattle.bitmap_core.specs.PrunedBits.{PrunedBits, bit_len};
+ghost use Rattle.bitmap_core.specs.PrunedBits.{bit_len};
 ghost use Rattle.historical_bitmap.specs.View.{history_of};
-ghost use Rattle.commit_log.specs.Base.{Base, FitsBase, IsPast, base_kept, decode_byte, decode_fields, encode_base};
-ghost use Rattle.commit_log.specs.Base.{flag as flag_of, past_count, past_number};
+ghost use Rattle.commit_log.specs.Base.{Base, FitsBase, IsBaseError, IsBaseErrorWithin, IsPast, Names, Reason, base_kept, decode_numbers, encode_base};
+ghost use Rattle.commit_log.specs.Base.{first_reason, flag as flag_of, has_more, is_wrong_number as wrong_number, past_count, past_number, past_tests, state_tests};
 ghost use Rattle.commit_log.specs.Entries.{Gives};
 ghost use Rattle.commit_log.specs.Kept.{kept_of};
 ghost use Rattle.commit_log.specs.declared.base.BaseError.TheVariants.{Memory};
-ghost use Rattle.commit_log.specs.declared.base.Past.{Past as KnownPast};
 
 use crate::entry::{DecodeError, read_number};
 use bitmap_core::bitmap::Prunable;
 use bitmap_core::bitmap::codec::{CodecError, RangeCfg, Read, Write};
+use bitmap_core::chunk::chunk_count;
 use historical_bitmap::bitmap::historical::CleanBitMap;
 use std::alloc::{AllocError, Global};
+use thiserror::Error as ErrorDerive;
+
+// The first byte of a base. It differs from that of each kind of entry.
+const BASE: u8 = 4;
 
 /// What is known of the commits before a log.
 #[derive(Clone, Copy, Debug, PartialEq, Eq)]
@@ -38,13 +43,39 @@ pub enum Past {
     },
 }
 
-/// Why bytes were not read as a base.
-#[derive(Clone, Copy, Debug, PartialEq, Eq)]
+/// Why bytes were not read as a base. `read_base` says in which order the reasons are tested.
+#[derive(Debug, Drop, ErrorDerive)]
 pub enum BaseError {
-    /// The bytes encode no base.
-    NoBase,
+    /// The first byte is not the tag of a base.
+    #[error("the first byte is not that of a base")]
+    Tag,
 
-    /// An allocation failed.
+    /// The bytes end within a field before the state.
+    #[error("the bytes end within a field of the base")]
+    Short,
+
+    /// The flag is none of 0, 1 and 2.
+    #[error("the flag of the base is above 2")]
+    Flag,
+
+    /// The last number is one that the flag does not allow: not 0 under flag 0, or `u64::MAX` under another flag.
+    #[error("the last number of the base is not one that its flag allows")]
+    Number,
+
+    /// The count is not 0, and the flag says that no state is kept.
+    #[error("the base has a count, and keeps no state")]
+    Count,
+
+    /// The bytes of the state encode no bitmap. The error is not `OutOfMemory`.
+    #[error("the state of the base: {0}")]
+    State(CodecError),
+
+    /// Bytes are left after the state.
+    #[error("bytes are left after the base")]
+    Long,
+
+    /// The bytes encode a base, and an allocation failed.
+    #[error("out of memory")]
     Memory(AllocError),
 }
 
@@ -71,7 +102,7 @@ fn number(past: Past) -> u64
 }
 
 // Returns the count that is known, or zero.
-fn count(past: Past) -> u64
+pub(crate) fn count(past: Past) -> u64
     ensures { result ≡ past_count past }
 {
     match past {
@@ -98,7 +129,7 @@ pub fn base_bytes<const N: usize>(
         ≡ encode_base N (record { bits = bits.now; past = past })) }
 {
     let mut out = Vec::new(alloc);
-    out.push(4)?;
+    out.push(BASE)?;
     out.push(flag(past))?;
     out.extend_from_slice(&number(past).to_be_bytes())?;
     out.extend_from_slice(&count(past).to_be_bytes())?;
@@ -106,85 +137,172 @@ pub fn base_bytes<const N: usize>(
     Ok(out)
 }
 
-// Returns what a flag, a number and a count say.
-fn past_of(flag: u8, number: u64, count: u64) -> Option<Past>
-    ensures found { IfSome result (λ past. IsPast flag number count past) }
-    ensures fits { IfSome result (λ past. past_number past < 2 ^ 64 - 1) }
-    ensures none { result ≡ None → (past : KnownPast) → past_number past < 2 ^ 64 - 1
-        → flag_of past ≡ flag → past_number past ≡ number → past_count past ≡ count → ⊥ }
+// Returns whether a last number is one that a flag does not allow.
+fn is_wrong_number(flag: u8, number: u64) -> bool
+    ensures { result ≡ wrong_number flag number }
 {
-    if number == u64::MAX {
-        return None;
+    if flag == 0 {
+        return number != 0;
+    }
+    number == u64::MAX
+}
+
+// Returns what a flag, a number and a count say.
+fn past_of(flag: u8, number: u64, count: u64) -> Result<Past, BaseError>
+    requires { flag ≤ 2 }
+    ensures found { IfOk result (IsPast flag number count) }
+    ensures fits { IfOk result (λ past. past_number past < 2 ^ 64 - 1) }
+    ensures error { (more : List (Bool × Reason)) → IfErr result (λ e. Names e
+        (first_reason (past_tests flag number count ++ more))) }
+{
+    if is_wrong_number(flag, number) {
+        return Err(BaseError::Number);
+    }
+    if flag < 2 && count != 0 {
+        return Err(BaseError::Count);
     }
     match flag {
-        0 if number == 0 && count == 0 => Some(Past::NoCommit),
-        1 if count == 0 => Some(Past::Dropped(number)),
-        2 => Some(Past::KeptUnder { number, count }),
-        _ => None,
+        0 => Ok(Past::NoCommit),
+        1 => Ok(Past::Dropped(number)),
+        _ => Ok(Past::KeptUnder { number, count }),
     }
 }
 
-// Returns why bytes were not read, if they are to be a bitmap.
-fn base_error(error: CodecError) -> BaseError
-    ensures { decode_error error ≡ None → result ≡ Memory alloc_error }
+// Returns whether bytes are left after a bitmap, whose chunks are whole.
+fn is_followed<const N: usize>(bytes: &[u8]) -> bool
+    requires width { IsWidth N }
+    requires whole { 16 + chunk_bytes N (drop 8 bytes.now) ≤ length bytes.now }
+    ensures { result ≡ has_more N bytes.now }
+{
+    let (_, retained) = bytes.split_at(8);
+    let (len, _) = retained.split_first_chunk::<8>().unwrap();
+    let chunks = chunk_count::<N>(u64::from_be_bytes(*len));
+    16 + N * chunks < bytes.len()
+}
+
+// Returns the error of bytes that encode a bitmap, if its allocation failed: bytes after it are an error that comes before this one.
+fn unallocated<const N: usize>(bytes: &[u8]) -> BaseError
+    requires width { IsWidth N }
+    requires whole { 16 + chunk_bytes N (drop 8 bytes.now) ≤ length bytes.now }
+    ensures { (range : ℕ → Bool) → pruned_error N range bytes.now ≡ None
+        → Names result (first_reason (state_tests N range bytes.now)) }
+{
+    if is_followed::<N>(bytes) {
+        return BaseError::Long;
+    }
+    BaseError::Memory(AllocError)
+}
+
+// Returns the error of bytes that were not read as a bitmap with this error.
+fn unread<const N: usize>(bytes: &[u8], error: CodecError) -> BaseError
+    requires width { IsWidth N }
+    requires whole { error ≡ OutOfMemory
+        → 16 + chunk_bytes N (drop 8 bytes.now) ≤ length bytes.now }
+    ensures { (range : ℕ → Bool) → pruned_error N range bytes.now ≡ decode_error error
+        → Names result (first_reason (state_tests N range bytes.now)) }
 {
     match error {
-        CodecError::EndOfBuffer => BaseError::NoBase,
-        CodecError::InvalidLength(_) => BaseError::NoBase,
-        CodecError::Invalid(_, _) => BaseError::NoBase,
-        CodecError::OutOfMemory => BaseError::Memory(AllocError),
+        CodecError::OutOfMemory => unallocated::<N>(bytes),
+        error => BaseError::State(error),
     }
 }
 
-// Reads a bitmap, which is all of the bytes.
-fn read_bits<const N: usize>(alloc: Global, bytes: &[u8]) -> Result<Prunable<N>, BaseError>
+// Reads a bitmap, which is all of the bytes, and whose number of retained bits the range admits.
+fn read_bits<const N: usize>(
+    alloc: Global,
+    bytes: &[u8],
+    range: &RangeCfg,
+) -> Result<Prunable<N>, BaseError>
     requires { IsWidth N }
     ensures found { IfOk result (λ b. bytes.now ≡ pruned_encoding N b) }
     ensures fits { IfOk result (λ b. (bit_len N b < 2 ^ 64) × (b.pruned < 2 ^ 64)) }
-    ensures again { (b : PrunedBits) → bit_len N b < 2 ^ 64 → b.pruned < 2 ^ 64
-        → bytes.now ≡ pruned_encoding N b → IfErr result (λ e. e ≡ Memory alloc_error) }
+    ensures admitted { IfOk result (λ b. admits range.now (length b.bits) ≡ true) }
+    ensures error { IfErr result (λ e. Names e
+        (first_reason (state_tests N (admits range.now) bytes.now))) }
 {
     let mut from = bytes;
-    match Prunable::<N>::read_cfg(alloc, &mut from, &RangeCfg::any()) {
+    match Prunable::<N>::read_cfg(alloc, &mut from, range) {
         Ok(bits) => {
             if !from.is_empty() {
-                return Err(BaseError::NoBase);
+                return Err(BaseError::Long);
             }
             Ok(bits)
         }
-        Err(error) => Err(base_error(error)),
+        Err(error) => Err(unread::<N>(bytes, error)),
     }
 }
 
-// Reads a byte, and returns it with the bytes after it.
-fn read_byte(bytes: &[u8]) -> Result<(u8, &[u8]), DecodeError>
-    ensures { Gives (λ x. (x.0, x.1.now)) result (decode_byte bytes.now) }
+// Reads the tag and the flag, and returns the flag with the bytes after it.
+fn read_flag(bytes: &[u8]) -> Result<(u8, &[u8]), BaseError>
+    ensures found { IfOk result (λ x. bytes.now ≡ 4 ∷ x.0 ∷ x.1.now) }
+    ensures fits { IfOk result (λ x. x.0 ≤ 2) }
+    ensures error { (n : ℕ) (range : ℕ → Bool)
+        → IfErr result (IsBaseErrorWithin n range bytes.now) }
 {
-    match bytes {
-        [] => Err(DecodeError::Short),
-        [byte, rest @ ..] => Ok((*byte, rest)),
+    let [tag, rest @ ..] = bytes else {
+        return Err(BaseError::Short);
+    };
+    if *tag != BASE {
+        return Err(BaseError::Tag);
     }
+    let [flag, rest @ ..] = rest else {
+        return Err(BaseError::Short);
+    };
+    if *flag > 2 {
+        return Err(BaseError::Flag);
+    }
+    Ok((*flag, rest))
 }
 
-// Reads the first byte, the flag, the number and the count of a base, and returns them with the bytes after them.
-#[tactic(auto, unfolding(crate::specs::Base::decode_fields))]
-fn read_fields(bytes: &[u8]) -> Result<(u8, u8, u64, u64, &[u8]), DecodeError>
-    ensures { Gives (λ x. (x.0, x.1, x.2, x.3, x.4.now)) result (decode_fields bytes.now) }
+// Reads two numbers, and returns them with the bytes after them.
+#[tactic(auto, unfolding(crate::specs::Base::decode_numbers))]
+fn read_numbers(bytes: &[u8]) -> Result<(u64, u64, &[u8]), DecodeError>
+    ensures { Gives (λ x. (x.0, x.1, x.2.now)) result (decode_numbers bytes.now) }
 {
-    let (tag, rest) = read_byte(bytes)?;
-    let (known, rest) = read_byte(rest)?;
-    let (number, rest) = read_number(rest)?;
-    let (count, rest) = read_number(rest)?;
-    Ok((tag, known, number, count, rest))
+    let (first, rest) = read_number(bytes)?;
+    let (second, rest) = read_number(rest)?;
+    Ok((first, second, rest))
+}
+
+// Reads a base, which is all of the bytes, and whose number of retained bits the range admits.
+pub(crate) fn read_base_within<const N: usize>(
+    alloc: Global,
+    bytes: &[u8],
+    range: &RangeCfg,
+) -> Result<(Prunable<N>, Past), BaseError>
+    requires { IsWidth N }
+    ensures found { IfOk result (λ b. bytes.now
+        ≡ encode_base N (record { bits = b.0; past = b.1 })) }
+    ensures fits { IfOk result (λ b. FitsBase N (record { bits = b.0; past = b.1 })) }
+    ensures admitted { IfOk result (λ b. admits range.now (length b.0.bits) ≡ true) }
+    ensures error { IfErr result (IsBaseErrorWithin N (admits range.now) bytes.now) }
+{
+    let (flag, rest) = read_flag(bytes)?;
+    let Ok((number, count, rest)) = read_numbers(rest) else {
+        return Err(BaseError::Short);
+    };
+    let past = past_of(flag, number, count)?;
+    let bits = read_bits(alloc, rest, range)?;
+    Ok((bits, past))
 }
 
 /// Reads a base, which is all of the bytes. `N` is at least 1, and `8N` fits `u64`.
 ///
 /// # Errors
-/// Returns `NoBase` if the bytes encode no base, and `Memory` if an allocation fails.
+/// Returns the first of these errors that applies:
+///
+/// 1. `Tag`: there is a first byte, and it is not 4.
+/// 2. `Short`: there are fewer than two bytes.
+/// 3. `Flag`: the second byte is above 2.
+/// 4. `Short`: there are fewer than 18 bytes.
+/// 5. `Number`: the last number is not 0 under flag 0, or is `u64::MAX` under another flag.
+/// 6. `Count`: the count is not 0 under flag 0 or 1.
+/// 7. `State`: the bytes from the 19th on have this error, if they are read as a `Prunable` of any length.
+/// 8. `Long`: bytes are left after the state.
+/// 9. `Memory`: an allocation fails.
 ///
 /// # Memory
-/// Allocates the chunks of the bitmap, which are no more bytes than were read.
+/// Allocates the chunks of the bitmap, which are no more bytes than were read, and only if none of the first eight errors applies.
 pub fn read_base<const N: usize>(
     alloc: Global,
     bytes: &[u8],
@@ -194,23 +312,13 @@ pub fn read_base<const N: usize>(
     ensures found { IfOk result (λ b. bytes.now
         ≡ encode_base N (record { bits = b.0; past = b.1 })) }
     ensures fits { IfOk result (λ b. FitsBase N (record { bits = b.0; past = b.1 })) }
+    // The error is that of the first test that holds, or an allocation failed.
+    ensures error { IfErr result (IsBaseError N bytes.now) }
     // A base is read from its encoding, unless an allocation fails.
     ensures again { (b : Base) → FitsBase N b → bytes.now ≡ encode_base N b
         → IfErr result (λ e. e ≡ Memory alloc_error) }
 {
-    let Ok((tag, known, number, count, rest)) = read_fields(bytes) else {
-        return Err(BaseError::NoBase);
-    };
-    if tag != 4 {
-        return Err(BaseError::NoBase);
-    }
-    let Some(past) = past_of(known, number, count) else {
-        return Err(BaseError::NoBase);
-    };
-    match read_bits(alloc, rest) {
-        Ok(bits) => Ok((bits, past)),
-        Err(error) => Err(error),
-    }
+    read_base_within(alloc, bytes, &RangeCfg::any())
 }
 
 // Commits the current bitmap of one that has no last number.

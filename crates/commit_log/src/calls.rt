@@ -1,9 +1,10 @@
 //! Each call that changes what is kept makes of it what an entry does.
 
-ghost use Rattle.std.specs.Prelude.{◌≡◌, IfOk, IfErr, OnOk, None, is_some, alloc_error, if◌then◌else◌};
+ghost use Rattle.std.specs.Prelude.{◌≡◌, ◌++◌, ◌∷◌, [], IfOk, IfErr, OnOk, None, is_some, unwrap_or, alloc_error, if◌then◌else◌};
+ghost use Rattle.historical_bitmap.specs.declared.bitmap.historical.error.Error.TheVariants as commit_errors;
 ghost use Rattle.historical_bitmap.specs.declared.bitmap.historical.error.RewindError.TheVariants.{Memory, NoSuchCommit};
 ghost use Rattle.historical_bitmap.specs.History.{kept_under};
-ghost use Rattle.historical_bitmap.specs.View.{history_of};
+ghost use Rattle.historical_bitmap.specs.View.{commit_error, history_of, pending_of};
 ghost use Rattle.commit_log.specs.Accepted.{Accepts};
 ghost use Rattle.commit_log.specs.Entries.Entry.{Clear, DropBefore, Rewind};
 ghost use Rattle.commit_log.specs.Kept.{after, entry_of_commit, kept_of};
@@ -22,6 +23,11 @@ pub fn commit_is_an_entry<const N: usize>(
         ≡ after N (kept_of N batch.entry) (entry_of_commit N batch.entry number)) }
     ensures accepted { OnOk result (Accepts N (kept_of N batch.entry)
         (entry_of_commit N batch.entry number)) }
+    ensures current { IfOk result (λ b. b.current ≡ pending_of N batch.entry) }
+    ensures history { IfOk result (λ b. history_of N b
+        ≡ history_of N batch.entry ++ (number, pending_of N batch.entry) ∷ []) }
+    ensures refused { IfErr result (λ e. e.1
+        ≡ unwrap_or (commit_error batch.entry.last number) (commit_errors.Memory alloc_error)) }
     ensures unchanged { IfErr result (λ e. e.0 ≡ batch.entry) }
 {
     let _ = batch.len();

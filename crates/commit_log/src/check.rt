@@ -19,7 +19,7 @@ use bitmap_core::chunk::{chunk_count, chunk_index, chunk_width, is_set_from};
 use historical_bitmap::bitmap::historical::CleanBitMap;
 
 // Whether a commit may have a number, given the last one.
-fn accepts_number(last: Option<u64>, number: u64) -> bool
+pub(crate) fn accepts_number(last: Option<u64>, number: u64) -> bool
     ensures { Decides result (commit_error last number ≡ None) }
 {
     if number == u64::MAX {
@@ -48,7 +48,7 @@ fn accepts_extent<const N: usize>(current: &Prunable<N>, change: &Change<'_>) ->
 }
 
 // Returns the bytes of a chunk, or `None` if none of its bits is retained.
-fn bytes_of<const N: usize>(current: &Prunable<N>, chunk: usize) -> Option<[u8; N]>
+pub(crate) fn bytes_of<const N: usize>(current: &Prunable<N>, chunk: usize) -> Option<[u8; N]>
     requires { 8 * N * chunk < 2 ^ 64 }
     ensures { result ≡ retained_bytes_of N current.now chunk }
 {

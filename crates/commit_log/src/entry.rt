@@ -8,6 +8,15 @@ ghost use Rattle.commit_log.specs.Entries.{decode_change, decode_entry, decode_l
 use std::alloc::AllocError;
 use thiserror::Error as ErrorDerive;
 
+// The first byte of each kind of entry.
+pub(crate) const COMMIT: u8 = 1;
+
+pub(crate) const REWIND: u8 = 2;
+
+pub(crate) const DROP_BEFORE: u8 = 3;
+
+pub(crate) const CLEAR: u8 = 5;
+
 /// Why bytes encode no entry.
 #[derive(Clone, Copy, Debug, PartialEq, Eq, ErrorDerive)]
 pub enum DecodeError {
@@ -80,7 +89,7 @@ fn read_last_number(bytes: &[u8]) -> Result<u64, DecodeError>
 
 // Reads a change, which is all of the bytes.
 #[tactic(auto, unfolding(crate::specs::Entries::decode_change, crate::specs::Entries::decode_chunks))]
-fn read_change<const N: usize>(bytes: &[u8]) -> Result<Change<'_>, DecodeError>
+pub(crate) fn read_change<const N: usize>(bytes: &[u8]) -> Result<Change<'_>, DecodeError>
     requires { 8 + N < 2 ^ 64 }
     ensures { Gives (view_change N) result (decode_change N bytes.now) }
 {
@@ -106,11 +115,11 @@ fn read_kind<const N: usize>(bytes: &[u8]) -> Result<Entry<'_>, DecodeError>
 {
     match bytes {
         [] => Err(DecodeError::Short),
-        [1, rest @ ..] => Ok(Entry::Commit(read_change::<N>(rest)?)),
-        [2, rest @ ..] => Ok(Entry::Rewind(read_last_number(rest)?)),
-        [3, rest @ ..] => Ok(Entry::DropBefore(read_last_number(rest)?)),
-        [5] => Ok(Entry::Clear),
-        [5, _, ..] => Err(DecodeError::Long),
+        [COMMIT, rest @ ..] => Ok(Entry::Commit(read_change::<N>(rest)?)),
+        [REWIND, rest @ ..] => Ok(Entry::Rewind(read_last_number(rest)?)),
+        [DROP_BEFORE, rest @ ..] => Ok(Entry::DropBefore(read_last_number(rest)?)),
+        [CLEAR] => Ok(Entry::Clear),
+        [CLEAR, _, ..] => Err(DecodeError::Long),
         [_, ..] => Err(DecodeError::Kind),
     }
 }
