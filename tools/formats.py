@@ -292,16 +292,17 @@ class Formats:
 
     def read_base(self, body, admitted=ANY):
         """The historical bitmap that a log begins with, and the count."""
-        refuse(body[0] != BASE, "the tag")
-        refuse(len(body) < 2, "no flag")
+        refuse(body and body[0] != BASE, "Tag")
+        refuse(len(body) < 2, "Short")
         flag = body[1]
-        refuse(flag > 2, "the flag")
-        refuse(len(body) < 18, "short")
+        refuse(flag > 2, "Flag")
+        refuse(len(body) < 18, "Short")
         last, count = values(body[2:18])
-        refuse(last == RESERVED if flag else last != 0, "the last number")
-        refuse(flag < 2 and count != 0, "the count")
-        state, rest = self.read_pruned(body[18:], admitted)
-        refuse(rest, "long")
+        refuse(last == RESERVED if flag else last != 0, "Number")
+        refuse(flag < 2 and count != 0, "Count")
+        with within("State({})"):
+            state, rest = self.read_pruned(body[18:], admitted)
+        refuse(rest, "Long")
         return Historical(state, {last: state} if flag == 2 else {}, last if flag else None), count
 
     # Changes
@@ -438,13 +439,14 @@ class Formats:
         body, place = self.whole_frame(data, place)
         with within("Base({})"):
             bitmap, count = self.read_base(body, bits)
-        refuse(count not in counts, f"the count, {count}, is not admitted")
+        refuse(count not in counts, f"Count({count})")
         for _ in range(count):
             body, place = self.whole_frame(data, place)
-            refuse(body[0] != COMMIT, "Decode(Kind)")
-            bitmap = self.applied(bitmap, self.read_entry(body))
+            refuse(body[0] != COMMIT, "Entry(Decode(Kind))")
+            with within("Entry({})"):
+                bitmap = self.applied(bitmap, self.read_entry(body))
             retained = self.retained(bitmap.current)
-            refuse(retained not in bits, f"commit {bitmap.last} leaves {retained} retained bits, which are not admitted")
+            refuse(retained not in bits, f"Bits({retained})")
         return bitmap, data[place.at :]
 
     def whole_frame(self, data, place):
@@ -477,16 +479,17 @@ class Formats:
     def apply_delta(self, bitmap, data):
         """The historical bitmap after a delta."""
         refuse(len(data) < LEAST_DELTA, "Short")
-        refuse(data[:8] != DELTA_MAGIC, "the magic differs")
+        refuse(data[:8] != DELTA_MAGIC, "NotADelta")
         version, width, *older, replaced, newer, length, pruned = values(data[8:80])
-        refuse(version != VERSION, "the version differs")
+        refuse(version != VERSION, f"Version({version})")
         refuse(value(data[-8:]) != digest(data[:-8]), "BadDigest")
-        refuse(width != self.width, "the width differs")
+        refuse(width != self.width, f"Width({width})")
         refuse(not self.is_whole_list(len(data) - LEAST_DELTA), "Short")
         refuse(older != [bitmap.last, bitmap.current.length, bitmap.current.pruned], "NotAtBase")
         chunks = self.read_list(data[80:-8])
         refuse(replaced != digest(self.replaced(bitmap.current, chunks)), "NotAtBase")
-        return self.committed(bitmap, newer, Change(length, pruned, chunks))
+        with within("Change({})"):
+            return self.committed(bitmap, newer, Change(length, pruned, chunks))
 
 
 def outcome(read, *given):
@@ -525,9 +528,6 @@ def in_hex(cell):
 
 def shown(error):
     """An error as a cell has it: a name is code, and other errors are words."""
-    base = re.fullmatch(r"(Damaged .* Base\()(.*)(\) \})", error)
-    if base:
-        return f"`{base[1]}..{base[3]}`: {base[2]}"
     return f"`{error}`" if error[0].isupper() else error
 
 
@@ -775,9 +775,6 @@ class Page:
         result = outcome(self.three.read_history, edited(self.history, words), *ranges)
         if not isinstance(result, str):
             return "both states; the other bytes are left" if result == (self.sender, b"x") else f"{result}"
-        inner = re.fullmatch(r"Header\((.*)\)|Base\(InvalidLength\((\d+)\)\)", result)
-        if inner:
-            return f"the header's `{inner[1]}`" if inner[1] else f"the base has {inner[2]} retained bits, which are not admitted"
         return shown(result)
 
     def delta_of(self, cells):
@@ -1036,10 +1033,10 @@ def history_differences(script):
         first, *later = map(formats.retained, bitmap.kept.values() or [bitmap.current])
         yield from unlike("the history", outcome(formats.read_history, data + rest), (bitmap, rest))
         yield from unlike("the history as a log", outcome(formats.recover, data)[::2], (bitmap, False))
-        yield from unlike("fewer commits", outcome(formats.read_history, data, ANY, range(count)), f"the count, {count}, is not admitted")
-        yield from unlike("fewer bits", outcome(formats.read_history, data, range(first)), f"Base(InvalidLength({first}))")
-        excess = next((zipped for zipped in zip(list(bitmap.kept)[1:], later) if zipped[1] > first), None)
-        expected = f"commit {excess[0]} leaves {excess[1]} retained bits, which are not admitted" if excess else (bitmap, b"")
+        yield from unlike("fewer commits", outcome(formats.read_history, data, ANY, range(count)), f"Count({count})")
+        yield from unlike("fewer bits", outcome(formats.read_history, data, range(first)), f"Base(State(InvalidLength({first})))")
+        excess = next((retained for retained in later if retained > first), None)
+        expected = f"Bits({excess})" if excess else (bitmap, b"")
         yield from unlike("fewer bits later", outcome(formats.read_history, data, range(first + 1)), expected)
         for cut in chance.sample(range(len(data)), 40):
             expected = "Short" if cut >= HEADER_SIZE else "Header(Short)"
@@ -1064,8 +1061,9 @@ def delta_differences(script):
             expected = "Short" if cut < LEAST_DELTA else "BadDigest"
             yield from unlike(f"the first {cut} bytes of a delta", outcome(formats.apply_delta, replica, data[:cut]), expected)
         for bit in chance.sample(range(8 * len(data)), 40):
-            expected = "the magic differs" if bit < 64 else "the version differs" if bit < 128 else "BadDigest"
-            yield from unlike(f"bit {bit} of a delta is flipped", outcome(formats.apply_delta, replica, flipped(data, bit)), expected)
+            copy = flipped(data, bit)
+            expected = "NotADelta" if bit < 64 else f"Version({value(copy[8:16])})" if bit < 128 else "BadDigest"
+            yield from unlike(f"bit {bit} of a delta is flipped", outcome(formats.apply_delta, replica, copy), expected)
 
 
 def is_change_by_definition(formats, old, change):
@@ -1118,7 +1116,8 @@ def list_differences(script):
             yield from unlike(f"{body.hex()} after {old}", found if isinstance(found, str) else "accepted", expected)
             if bitmap.last is not None:
                 data = formats.write_delta(bitmap.last, old, number, change)
-                yield from unlike(f"the delta {data.hex()} after {old}", outcome(formats.apply_delta, bitmap, data), found)
+                same = f"Change({found})" if isinstance(found, str) else found
+                yield from unlike(f"the delta {data.hex()} after {old}", outcome(formats.apply_delta, bitmap, data), same)
 
 
 def run_differences(number, seed):

@@ -34,5 +34,6 @@ runs 550 tools/check_errors.py
 tools/allocation_failures.sh --built | tee "$output"
 scenarios conformance 40
 scenarios conformance_history 30
+scenarios conformance_log 11
 scenarios conformance_session 1
 tools/check_frees.py

@@ -35,6 +35,8 @@ mod kept_bits;
 #[cfg(test)]
 mod latest_events;
 #[cfg(test)]
+mod logged_event;
+#[cfg(test)]
 mod loops;
 #[cfg(test)]
 mod next_around;
@@ -54,6 +56,8 @@ mod pending_search;
 mod quick_start;
 #[cfg(test)]
 mod recent_log;
+#[cfg(test)]
+mod reopened_log;
 #[cfg(test)]
 mod replica;
 #[cfg(test)]

@@ -1,0 +1,15 @@
+//! Tests of logs, histories and deltas, through the public calls of `commit_log` alone.
+#![tactic(auto)]
+
+#[cfg(test)]
+mod allocation_failures;
+#[cfg(test)]
+mod checked_calls;
+#[cfg(test)]
+mod checks;
+#[cfg(test)]
+mod states;
+#[cfg(test)]
+mod worked;
+#[cfg(test)]
+mod worked_bytes;
