@@ -1,52 +1,78 @@
 #!/usr/bin/env python3
 """Checks the Rust crate in native/, which erase.py generates from the sources.
 
-usage: check_native.py [--target DIR] [PART..]    runs the parts, or all: generated, tests, erased, replay, proved, mutants
+usage: check_native.py [--after-gate] [--target DIR] [PART..]    runs the parts, or all: generated, tests, erased, replay, proved, original, mutants
 
-- generated: native/src/generated is what erase.py writes.
+- generated: native/src/generated is what erase.py writes. docs/NATIVE.md has the forms of conditions that erase.py knows.
 - tests: the crate's tests, examples and doc tests pass, with checks of overflow and as a release; its examples print what they should.
-  It builds without the feature `std`. Clippy and rustdoc have no warning.
+  It builds without the feature `std`. Clippy and rustdoc have no warning, and rustfmt has no change.
 - erased: the repository's own tests, erased, pass on the crate.
 - replay: the program `replay` over the crate prints what the rows say, and what the reference model gives for random scripts and small batches.
-- proved: it prints the same bytes as the proved program on random scripts, if the gate has built that.
+- proved: it prints the same bytes as the proved program on random scripts, if that is built from the sources as they are. With --after-gate the
+  proved program is the one that `rt ci` has just left, and has to be there.
+- original: what is written for commonware-utils compiles with that crate too, passes, and prints the same, if the environment variable
+  COMMONWARE_UTILS names the folder of that crate.
 - mutants: faults in the parts that are written by hand, and in the eraser, make a test fail.
 
-A machine without cargo leaves out all but the first part, and says so. DIR keeps what cargo builds; without it, that is temporary.
+The gate runs all but the last two. A machine without cargo leaves out all but the first part, and says so. DIR keeps what cargo builds;
+without it, that is temporary.
 """
 
 import argparse
 import os
 import re
 import shutil
+import signal
 import subprocess
 import sys
 import tempfile
+from itertools import zip_longest
 from pathlib import Path
 
 from built import is_current
 from check_runs import random_script
+from conditions import FORMS
 from native_mutants import ERASER, HAND_WRITTEN
 from replay import PROVED, TOP, WIDTHS, report
 
 NATIVE = TOP / "native"
 JOBS = "2"
-SECONDS = 1800  # the most that one command may take, on a busy machine
-PARTS = ("generated", "tests", "erased", "replay", "proved", "mutants")
+SECONDS = 1200  # the most that one command may take, on a busy machine
+PARTS = ("generated", "tests", "erased", "replay", "proved", "original", "mutants")
 SCRIPTS = 1000  # random scripts for the comparison with the proved program
+
+# The files of the crate that are written for commonware-utils, in each of which one `use` is changed.
+FOR_ORIGINAL = ("examples/commonware.rs", "tests/commonware.rs")
+ORIGINAL_MANIFEST = """\
+[package]
+name = "written-for-original"
+version = "0.0.0"
+edition = "2024"
+
+[dependencies]
+commonware-utils = {{ path = "{folder}" }}
+"""
 
 
 class Place:
-    """Where the checks write: a temporary folder, and the folder in which cargo builds."""
+    """Where the checks write: a temporary folder, and the folder in which cargo builds; and whether they run after the gate."""
 
-    def __init__(self, folder, target):
-        self.folder, self.target = Path(folder), Path(target or f"{folder}/target").resolve()
+    def __init__(self, folder, target, after_gate):
+        self.folder, self.target, self.after_gate = Path(folder), Path(target or f"{folder}/target").resolve(), after_gate
 
     def run(self, *command, folder=NATIVE, **environment):
         """Runs a command. Returns its status and all that it prints."""
         variables = {**os.environ, "CARGO_TARGET_DIR": str(self.target), "CARGO_NET_OFFLINE": "true", **environment}
-        done = subprocess.run(command, cwd=folder, env=variables, stdout=subprocess.PIPE, stderr=subprocess.STDOUT, text=True, errors="replace",
-                              timeout=SECONDS)
-        return done.returncode, done.stdout
+        process = subprocess.Popen(command, cwd=folder, env=variables, stdout=subprocess.PIPE, stderr=subprocess.STDOUT, text=True, errors="replace",
+                                   start_new_session=True)
+        try:
+            printed, _ = process.communicate(timeout=SECONDS)
+        except subprocess.TimeoutExpired:
+            # The process and what it has started, such as a test that does not end.
+            os.killpg(process.pid, signal.SIGKILL)
+            printed, _ = process.communicate()
+            printed += f"\nstopped after {SECONDS} seconds"
+        return process.returncode, printed
 
     def case(self, name, *command, **options):
         """A case: the name, and the end of what the command prints if it fails."""
@@ -65,7 +91,15 @@ def cargo(*words):
 
 
 def check_generated(place):
-    return [place.case("generated modules", sys.executable, str(TOP / "tools/erase.py"), "--check")]
+    return [place.case("generated modules", sys.executable, str(TOP / "tools/erase.py"), "--check"), ("table of conditions", table_difference())]
+
+
+def table_difference():
+    """How the forms of conditions that docs/NATIVE.md lists differ from those that the eraser has, or None."""
+    section = (TOP / "docs/NATIVE.md").read_text().partition("\n## Conditions\n")[2].partition("\n## ")[0]
+    listed = {name for row in re.findall(r"^\|([^|]*)\|", section, re.M) for name in re.findall(r"`(\w+)`", row)}
+    names = {form.name for form in FORMS}
+    return None if listed == names else f"docs/NATIVE.md lacks {sorted(names - listed)}, and has {sorted(listed - names)} besides"
 
 
 def check_tests(place):
@@ -75,6 +109,7 @@ def check_tests(place):
         place.case("tests of a release", *cargo("test", "--release", "--tests")),
         place.case("without std", *cargo("build", "--no-default-features")),
         place.case("documentation", *cargo("doc", "--no-deps"), RUSTDOCFLAGS="-D warnings"),
+        place.case("layout", "cargo", "fmt", "--check"),
     ]
     if shutil.which("cargo-clippy"):
         cases.append(place.case("clippy", *cargo("clippy", "--all-targets"), "--", "-D", "warnings"))
@@ -103,8 +138,13 @@ def check_erased(place):
     return cases if status == 0 or failed else [*cases, ("erased tests", printed[-3000:])]
 
 
+def build_replay(place):
+    """Builds the program `replay` over the crate. Returns its cases."""
+    return [write_tests(place), place.case("replay is built", *cargo("build", "--release", "--bin", "replay"), folder=place.tests())]
+
+
 def check_replay(place):
-    cases = [write_tests(place), place.case("replay is built", *cargo("build", "--release", "--bin", "replay"), folder=place.tests())]
+    cases = build_replay(place)
     program = {"REPLAY_PROGRAM": str(place.program())}
     for tool in (["check_rows.py"], ["check_runs.py", "random", "3000"], ["check_runs.py", "exhaustive"]):
         cases.append(place.case(" ".join(tool), sys.executable, str(TOP / "tools" / tool[0]), *tool[1:], **program))
@@ -113,28 +153,64 @@ def check_replay(place):
 
 def check_proved(place):
     """The cases of random scripts on both programs: status, output and errors are the same bytes."""
-    if not is_current(PROVED):
+    if not (PROVED.exists() if place.after_gate else is_current(PROVED)):
         print("check_native: there is no proved program of these sources to compare with")
-        return []
-    cases, script = [], place.folder / "script"
-    for number in range(SCRIPTS):
+        return [("the proved program", "it is missing")] if place.after_gate else []
+    cases, script = build_replay(place), place.folder / "script"
+    for number in range(SCRIPTS if place.program().exists() else 0):
         width = WIDTHS[number % len(WIDTHS)]
         script.write_text("\n".join(random_script(f"native {number}", width, 20 + number % 100).lines) + "\n")
         ends = [subprocess.run([program, str(width), script], capture_output=True, timeout=SECONDS) for program in (PROVED, place.program())]
         proved, native = [(end.returncode, end.stdout, end.stderr) for end in ends]
-        cases.append((f"script {number} at width {width}", None if proved == native else "the programs differ"))
+        cases.append((f"script {number} at width {width}", None if proved == native else first_difference(proved, native)))
     return cases
 
 
+def first_difference(proved, native):
+    """How two runs differ: the exit statuses, or the first line that one of them prints and the other does not."""
+    if proved[0] != native[0]:
+        return f"the proved program ends with status {proved[0]}, and this one with {native[0]}"
+    for stream, ours, others in (("line", proved[1], native[1]), ("error line", proved[2], native[2])):
+        for number, (line, other) in enumerate(zip_longest(ours.split(b"\n"), others.split(b"\n")), 1):
+            if line != other:
+                return f"{stream} {number} of the proved program is {line!r}, and of this one {other!r}"
+    return None
+
+
+def check_original(place):
+    """The cases of the files that are written for commonware-utils, with that crate."""
+    folder = os.environ.get("COMMONWARE_UTILS")
+    if not folder:
+        print("check_native: COMMONWARE_UTILS names no folder, so nothing is compiled with commonware-utils")
+        return []
+    package = place.folder / "original"
+    for name in FOR_ORIGINAL:
+        text = (NATIVE / name).read_text()
+        if len(re.findall(r"^use mortarpink::", text, re.M)) != 1:
+            return [(name, "it has not one `use` of the crate")]
+        (package / name).parent.mkdir(parents=True, exist_ok=True)
+        (package / name).write_text(re.sub(r"^use mortarpink::", "use commonware_utils::", text, flags=re.M))
+    (package / "src").mkdir()
+    (package / "src/lib.rs").touch()
+    (package / "Cargo.toml").write_text(ORIGINAL_MANIFEST.format(folder=Path(folder).resolve()))
+    printed = (NATIVE / "examples/commonware.printed").read_text()
+    status, found = place.run(*cargo("run", "--quiet", "--example", "commonware"), folder=package)
+    return [
+        ("examples/commonware with commonware-utils", None if status == 0 and found == printed else found),
+        place.case("tests/commonware with commonware-utils", *cargo("test", "--test", "commonware"), folder=package),
+    ]
+
+
 def copied(place):
-    """A copy of the eraser and of the crate, with the sources of this repository."""
+    """A copy of the eraser and of the crate, with the sources and the documents of this repository."""
     copy = place.folder / "mutant"
     shutil.rmtree(copy, ignore_errors=True)
     shutil.copytree(NATIVE, copy / "native", ignore=shutil.ignore_patterns("target", "Cargo.lock"))
     (copy / "tools").mkdir()
     for tool in (TOP / "tools").glob("*.py"):
         shutil.copy(tool, copy / "tools")
-    (copy / "crates").symlink_to(TOP / "crates")
+    for name in ("crates", "crates.txt", "docs"):
+        (copy / name).symlink_to(TOP / name)
     return copy
 
 
@@ -149,10 +225,14 @@ def check_mutant(place, mutant, erases):
         status, printed = place.run(sys.executable, "tools/erase.py", folder=copy)
         if status:
             return mutant.name, f"the eraser stops: {printed[-500:]}"
+    status, printed = place.run(*cargo("test", "--tests", "--no-run"), folder=copy / "native")
+    if status:
+        return mutant.name, f"it does not compile: {printed[-500:]}"
     status, printed = place.run(*cargo("test", "--tests"), folder=copy / "native")
-    failed = re.findall(r"^test (\S+) \.\.\. FAILED$|process didn't exit successfully: \S+/(\w+)-", printed, re.M)
-    print(f"{mutant.name}: noticed by {', '.join(sorted({test or program for test, program in failed})[:3])}")
-    return mutant.name, None if status and failed else "no test fails" if status == 0 else f"does not compile: {printed[-500:]}"
+    failed = re.findall(r"^test (\S+) \.\.\. FAILED$|process didn't exit successfully: \S+/(\w+)-|^(stopped after \d+ seconds)$", printed, re.M)
+    names = ", ".join(sorted({"".join(found) for found in failed})[:3])
+    print(f"{mutant.name}: noticed by {names or 'no test'}", flush=True)
+    return mutant.name, None if status and failed else "no test fails"
 
 
 def check_mutants(place):
@@ -161,6 +241,7 @@ def check_mutants(place):
 
 def main():
     parser = argparse.ArgumentParser(description="Checks the Rust crate in native/.")
+    parser.add_argument("--after-gate", action="store_true", help="the proved program has to be there")
     parser.add_argument("--target", metavar="DIR", help="where cargo builds")
     parser.add_argument("parts", metavar="PART", nargs="*", help=f"what to check: {', '.join(PARTS)}")
     arguments = parser.parse_args()
@@ -171,9 +252,9 @@ def main():
         print("check_native: cargo is missing, so the Rust crate is compared with the sources, and not built")
         parts = [part for part in parts if part == "generated" and shutil.which("rustfmt")]
     checks = {"generated": check_generated, "tests": check_tests, "erased": check_erased, "replay": check_replay, "proved": check_proved,
-              "mutants": check_mutants}
+              "original": check_original, "mutants": check_mutants}
     with tempfile.TemporaryDirectory() as folder:
-        place = Place(folder, arguments.target)
+        place = Place(folder, arguments.target, arguments.after_gate)
         return max([report(f"native crate, {part}", checks[part](place)) for part in parts], default=0)
 
 

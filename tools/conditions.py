@@ -34,6 +34,7 @@ FORMS = [
     Form("width", r"IsWidth N", [("N > 0", '"chunk size must be > 0"'), ("N < 1 << 61", '"chunk size must be below 2^61"')],
          "`N` is 0, or `8N` does not fit `u64`", True),
     Form("positive", r"0 < N", [("N > 0", '"chunk size must be > 0"')], "`N` is 0", True),
+    Form("indexed_chunk", r"8 \+ N < 2 \^ 64", [("N <= usize::MAX - 8", '"chunk size must be at most 2^64 - 9"')], "`8 + N` does not fit `usize`", True),
     Form("below", rf"([a-z]\w*) < {LEN}", [("$1 < self.len()", OUT_OF_BOUNDS)], "`$1` is not below the length"),
     Form("up_to", rf"(\w+) ≤ {LEN}", [("$1 <= self.len()", OUT_OF_BOUNDS)], "`$1` is above the length"),
     Form("range_end", rf"range\.end ≤ {LEN}", [("range.end <= self.len()", '"range end {} out of bounds (len: {})", range.end, self.len()')],
@@ -61,6 +62,9 @@ FORMS = [
         "the chunk `$1` has no retained bit"),
     Form("not_pruned", r"pruned_bits N self ≤ (\w+)", [(f"{PRUNED_BITS} <= $1", '"bit {} is pruned", $1')],
          "`$1` is below the first position that is not pruned"),
+    Form("past_the_end", r"bit_len N self ≤ pruned_bits N (\w+)",
+         [(f"self.len() <= $1.pruned_chunks() as u64 * ({WIDTH})", '"{} pruned chunks are less than the length ({} bits)", $1.pruned_chunks(), self.len()')],
+         "`$1` has fewer pruned bits than the current bitmap has bits"),
     Form("pruned_before", r"length (\w+) ≤ self\.pruned",
          [("$1.len() <= self.pruned_chunks()", '"cannot unprune {} chunks (only {} pruned)", $1.len(), self.pruned_chunks()')],
          "`$1` has more chunks than are pruned"),
@@ -68,6 +72,12 @@ FORMS = [
          "the first position of the chunk does not fit `u64`"),
     Form("encoded_size", r"div_ceil (\w+) \(8 \* N\) \* N \+ 8 < 2 \^ 64",
          [(f"$1.div_ceil({WIDTH}) as usize <= (usize::MAX - 8) / N", '"chunk count must fit in usize"')], "the size does not fit `usize`"),
+    Form("not_empty_slice", r"0 < length (\w+)", [("!$1.is_empty()", '"$1 is empty"')], "`$1` is empty"),
+    Form("space_of_slice", r"(\w+)\.at \+ length (\w+) < 2 \^ 64", [("$2.len() as u64 <= u64::MAX - $1.at", '"the bytes end past position 2^64 - 1"')],
+         "`$2` ends past position `u64::MAX` of the log"),
+    Form("past_number", r"past_number (\w+) < 2 \^ 64 - 1",
+         [("!matches!($1, crate::generated::commit_log::Past::Dropped(u64::MAX) | crate::generated::commit_log::Past::KeptUnder { number: u64::MAX, .. })",
+           '"the number u64::MAX is reserved"')], "the number of `$1` is `u64::MAX`"),
     Form("clear_past_end", rf"\(k : ℕ\) → {LEN} ≤ k → k / \(8 \* N\) ≡ index → chunk_bit N chunk k ≡ false",
          [(f"!crate::generated::bitmap_bytes::chunk::is_set_from(chunk, self.len().saturating_sub(({WIDTH}) * index as u64))",
            '"non-zero bits beyond bitmap length"')], "`chunk` has a set bit at or past the length"),
@@ -139,7 +149,7 @@ def holder_of(scope):
 
 
 def condition_of(clause, scope, function):
-    """The condition in a clause. `scope` is the impl or trait of the function."""
+    """The condition in a clause. `scope` is the impl or trait of the function, or None."""
     terms = terms_of(clause)
     for pattern in WITHOUT_TEST:
         if re.fullmatch(pattern, normal(terms)):
@@ -147,12 +157,14 @@ def condition_of(clause, scope, function):
     for form in FORMS:
         found = re.fullmatch(form.pattern, normal(terms))
         if found:
-            key = (holder_of(scope) if scope.word == "impl" else "", function.removeprefix("try_"), form.name)
+            is_impl = scope is not None and scope.word == "impl"
+            key = (holder_of(scope) if is_impl else "", function.removeprefix("try_"), form.name)
             messages = MESSAGES.get(key, [message for _, message in form.assertions])
-            receiver = "self.on." if "Edit<" in scope.header else "self."
+            receiver = "self.on." if is_impl and "Edit<" in scope.header else "self."
             filled = [filled_in(f"{test}, {message}", found, receiver) for (test, _), message in zip(form.assertions, messages)]
             return Condition(terms, form, filled, filled_in(form.words, found, "self."))
-    raise Unknown(f"the condition `{normal(terms)}` of `{function}`")
+    raise Unknown(f"the condition `{normal(terms)}` of `{function}`",
+                  help="FORMS in tools/conditions.py has the forms of conditions with their assertions, and WITHOUT_TEST those that need none")
 
 
 def filled_in(text, found, receiver):

@@ -3,7 +3,8 @@
 import re
 
 from rattle_tokens import (
-    Token, Unknown, closing, closing_angle, first_of_item, following, functions_of, is_mark, is_name, preceding, separated, text_of, until,
+    Token, Unknown, closing, closing_angle, first_of_item, following, functions_of, is_mark, is_name, preceding, separated, signature_end, text_of,
+    until,
 )
 
 # A call of a method, `.name(..)`, and the name that it gets. So do the methods of that name that a source defines.
@@ -30,15 +31,10 @@ METHODS = {
     "set_range": "try_set_range",
     "to_bools": "try_to_bools",
     "unprune": "try_unprune",
-    # Rattle's own `try_` forms are those that do not chain.
-    "try_prune_to_bit": "prune_to_bit_unchained",
-    "try_push": "push_unchained",
-    "try_push_byte": "push_byte_unchained",
-    "try_push_chunk": "push_chunk_unchained",
-    "try_set_chunk": "set_chunk_unchained",
-    "try_set_bit": "set_bit_unchained",
-    "try_set_range": "set_range_unchained",
 }
+
+# Rattle's own forms `try_` of these are those that do not chain.
+METHODS |= {f"try_{name}": f"{name}_unchained" for name in METHODS if METHODS[name] == f"try_{name}"}
 
 # The same for `Type::name(..)`: functions that take the allocator.
 CONSTRUCTORS = {
@@ -57,8 +53,35 @@ CONSTRUCTORS = {
 # Types that are Rust's own, whose constructors keep their names.
 FOREIGN = ("Cell", "DefaultHasher")
 
-# Renamed functions that the public API replaces. Documentation does not show them.
-HIDDEN = {new for old, new in METHODS.items() if old.startswith("try_")} | set(CONSTRUCTORS.values())
+# Renamed functions that the public API replaces, as it does those that are renamed and return no error. Documentation does not show them.
+HIDDEN = {new for old, new in METHODS.items() if old.startswith("try_")} | set(CONSTRUCTORS.values()) | {METHODS["allocator"]}
+
+# Public functions that take the allocator first. In Rust they take none: in their bodies it is the global one.
+WITHOUT_ALLOCATOR = {"Log::begin", "base_bytes", "delta", "from_base", "read_base", "read_history", "recover"}
+
+# Public methods that do nothing when code runs, which proofs call for what their contracts state. Documentation does not show them.
+STATEMENTS = {"pruned_counts_rise"}
+
+# Modules whose functions only have another contract than those that they call, by crate. Documentation does not show them.
+HIDDEN_MODULES = {("commit_log", ("calls",))}
+
+# Sentences of documentation that are about proofs or do not hold in Rust, each on a line of the sources, and what stands there instead.
+SENTENCES = {
+    "It is not a default: the type of a bitmap always names its chunk size.": "It is the default.",
+    "In contracts its value is the list of the bits that are left.": "",
+    "An implementor states which bitmap a value holds (`meaning`) and implements the five functions without a body.":
+        "An implementor implements the five functions without a body.",
+    "The contracts require that `N` is at least 1, and that `8N` and the length fit `u64`.": "`N` is at least 1, and `8N` and the length fit `u64`.",
+    "The final functions do not allocate themselves.": "The functions with a body do not allocate themselves.",
+    "A caller for any `N` calls `len()` before it iterates over set positions: the contract of `len` gives its proof the bound on `N`.": "",
+    "With it, a call that fails can promise its callers an unchanged value; with a returned `&mut Self` it could not.": "",
+    "Each call has the contract of the bitmap's call of the same name.": "Each call does what the bitmap's call of the same name does.",
+    "Tests show that pushes up to `size` bits then do not allocate. No contract states it.": "Pushes up to `size` bits then do not allocate.",
+    "Allocates from the allocator of `out`: the history,": "Allocates the history,",
+    "Commits a batch, as `commit` does, and appends": "Commits a batch, as `try_commit` does, and appends",
+    "Returns the batch, unchanged, with the error of `commit`: that of the number": "Returns the batch, unchanged, with the error of `try_commit`: that of the number",
+    "Allocates at most once, from the allocator of `out`, and only": "Allocates at most once, and only",
+}
 
 KNOWN_DERIVES = {"Clone", "Copy", "Debug", "Eq", "Hash", "Ord", "PartialEq", "PartialOrd"}
 KNOWN_ATTRIBUTES = {"allow", "cfg", "cold", "derive", "doc", "error", "inline", "test"}
@@ -120,7 +143,8 @@ def erase_attributes(tokens, counts):
         elif is_name(tokens, opened + 1, *KNOWN_ATTRIBUTES):
             at = opened + 1
         else:
-            raise Unknown(f"line {tokens[at].line}: the attribute `{tokens[opened + 1].text}`")
+            raise Unknown(f"the attribute `{tokens[opened + 1].text}`", tokens[at].line,
+                          "KNOWN_ATTRIBUTES in tools/erasures.py has those that Rust has too, and ERASED_ATTRIBUTES those for the prover")
 
 
 def erase_imports(tokens, counts):
@@ -155,7 +179,7 @@ def erase_models(tokens, counts):
         opened = until(tokens, at, "{")
         closed = closing(tokens, opened)
         if any(token.kind != "space" for token in tokens[opened + 1:closed]):
-            raise Unknown(f"line {tokens[at].line}: an impl of Model with code")
+            raise Unknown("an impl of Model with code", tokens[at].line, "the impl is for proofs: move its code to another one")
         counts["impl of Model"] += 1
         at = first_of_item(tokens, at)
         del tokens[at:line_end(tokens, closed + 1)]
@@ -184,8 +208,11 @@ def erase_drop_bounds(tokens, counts):
         counts["bound Drop"] += 1
 
 
-def rewrite_derives(tokens, error_names, counts):
-    """Takes `Drop` and thiserror's derive out of derives. A derived `Clone` becomes a `TryClone` too, and an error is written out."""
+def rewrite_derives(tokens, error_names, formatted, counts):
+    """Takes thiserror's derive out of derives, and writes the error out. A derived `Clone` becomes a `TryClone` too.
+
+    `Drop` becomes `Debug`, but for the types in `formatted`, which have an impl of it.
+    """
     at = 0
     while at < len(tokens):
         if not (is_mark(tokens, at, "#") and is_mark(tokens, at + 1, "[") and is_name(tokens, at + 2, "derive")):
@@ -195,8 +222,11 @@ def rewrite_derives(tokens, error_names, counts):
         names = [text_of(tokens, a, b) for a, b in separated(tokens, at + 4, closed - 1)]
         kept = [name for name in names if name not in error_names | {"Drop"}]
         if set(kept) - KNOWN_DERIVES or "Clone" in kept and "Copy" not in kept:
-            raise Unknown(f"line {tokens[at].line}: a derive of {', '.join(kept)}")
-        counts["derive of Drop"] += "Drop" in names
+            raise Unknown(f"a derive of {', '.join(kept)}", tokens[at].line,
+                          "KNOWN_DERIVES in tools/erasures.py has what can be derived; a derived Clone needs a derived Copy, or write the impl")
+        if "Drop" in names:
+            counts["derive of Drop"] += 1
+            kept += [] if "Debug" in kept or tokens[item_of(tokens, closed, "struct", "enum")[1]].text in formatted else ["Debug"]
         if error_names & set(names):
             counts["derive of an error"] += 1
             write_error(tokens, closed + 1)
@@ -275,8 +305,8 @@ def rename_functions(tokens, counts):
         if function.scope and function.name in names:
             tokens[function.at].text = names[function.name]
             counts["renamed function"] += 1
-            if function.is_public and names[function.name] in HIDDEN:
-                hide(tokens, function)
+        if function.is_public and is_hidden(tokens, function, tokens[function.at].text):
+            hide(tokens, function)
     for at, token in enumerate(tokens):
         before, after = preceding(tokens, at - 1), following_call(tokens, at)
         if token.kind != "name" or not is_mark(tokens, after, "("):
@@ -289,12 +319,68 @@ def rename_functions(tokens, counts):
             counts["renamed call"] += 1
 
 
+def is_hidden(tokens, function, name):
+    """Whether documentation does not show a function under this name: it is for proofs, or it is renamed, and the API has another one in its place."""
+    opened, end = signature_end(tokens, function.at)
+    fails = "Result" in text_of(tokens, closing(tokens, opened), end)
+    return function.name in STATEMENTS or name != function.name and (name in HIDDEN or name.startswith("try_") and not fails)
+
+
+def holder_before(tokens, at):
+    """The type before the name at `at` in its path, without generic arguments and with its `::`, or an empty string."""
+    holder = at - 3
+    if is_path(tokens, at - 2) and is_mark(tokens, holder, ">"):
+        while not is_mark(tokens, holder, "<"):
+            holder -= 1
+        at, holder = holder, holder - 3
+    return f"{tokens[holder].text}::" if is_path(tokens, at - 2) and is_type(tokens, holder) else ""
+
+
+def erase_allocators(tokens, counts):
+    """The functions of WITHOUT_ALLOCATOR lose their first parameter, the allocator, and their calls the argument for it."""
+    for function in reversed(functions_of(tokens)):
+        holder = re.match(r"impl\s*(?:<.*?>)?\s*(\w+)", function.scope.header)[1] + "::" if function.scope and function.scope.word == "impl" else ""
+        if not function.is_public or holder + function.name not in WITHOUT_ALLOCATOR:
+            continue
+        opened, _ = signature_end(tokens, function.at)
+        end = until(tokens, opened + 1, ",", ")")
+        if text_of(tokens, opened + 1, end) != "alloc: Global":
+            raise Unknown(f"`{function.name}` without the allocator", tokens[function.at].line,
+                          "WITHOUT_ALLOCATOR in tools/erasures.py has functions whose first parameter is `alloc: Global`")
+        counts["allocator of a function"] += 1
+        tokens.insert(function.opened + 1, made("\nlet alloc = Global;\n", tokens[function.at].line))
+        del tokens[opened + 1:line_end(tokens, end + 1)]
+    for at in reversed(range(len(tokens))):
+        if tokens[at].kind != "name" or is_name(tokens, preceding(tokens, at - 1), "fn"):
+            continue
+        opened = following_call(tokens, at)
+        if holder_before(tokens, at) + tokens[at].text in WITHOUT_ALLOCATOR and is_mark(tokens, opened, "(") and not is_mark(tokens, preceding(tokens, at - 1), "."):
+            counts["allocator of a call"] += 1
+            del tokens[opened + 1:line_end(tokens, until(tokens, opened + 1, ",") + 1)]
+
+
+def check_allocators(tokens, exported):
+    """Stops at a public function that takes the allocator, which users of the crate do not have. `exported` has the items that users reach."""
+    for function in functions_of(tokens):
+        opened, _ = signature_end(tokens, function.at)
+        if function.is_public and (function.scope or function.name in exported) and re.search(r"\bGlobal\b", text_of(tokens, opened, closing(tokens, opened))):
+            raise Unknown(f"the allocator as a parameter of `{function.name}`", tokens[function.at].line,
+                          "WITHOUT_ALLOCATOR in tools/erasures.py has the functions whose first parameter it is, and which take none in Rust")
+
+
 def hide(tokens, function):
     """Keeps a public function that the API replaces out of the documentation."""
     at = function.at
     while not is_name(tokens, at, "pub"):
         at -= 1
     tokens.insert(at, made("#[doc(hidden)]\n", tokens[at].line))
+
+
+def hide_functions(tokens):
+    """Keeps the public functions of a source out of the documentation."""
+    for function in reversed(functions_of(tokens)):
+        if function.is_public:
+            hide(tokens, function)
 
 
 def following_call(tokens, at):
@@ -342,20 +428,32 @@ def rewrite_formatters(tokens, counts):
             end = following(tokens, after + 6)
             is_only = is_mark(tokens, before, "<") and is_mark(tokens, end, ">")
             if not is_only and not is_mark(tokens, before, ","):
-                raise Unknown(f"line {tokens[at].line}: a writer that is not the last parameter")
+                raise Unknown("a writer that is not the last parameter", tokens[at].line, "rewrite_formatters in tools/erasures.py erases the last one")
             del tokens[before:end + is_only]
 
 
 def erase_modules(tokens, names, counts):
-    """Removes the declarations of the modules in `names`."""
+    """Removes the declarations of the modules in `names`, and what is imported from them."""
     at = 0
     while at < len(tokens):
-        named = following(tokens, at + 1) if is_name(tokens, at, "mod") else at
-        if named != at and is_name(tokens, named, *names) and is_mark(tokens, named + 1, ";"):
-            counts["module of laws"] += 1
+        named = following(tokens, at + 1) if is_name(tokens, at, "mod", "use") else at
+        if is_name(tokens, at, "use") and is_name(tokens, named, "crate", "self"):
+            named = following(tokens, named + 3)
+        end = until(tokens, named, ";") if named != at and is_name(tokens, named, *names) else None
+        if end and (is_name(tokens, at, "use") or end == named + 1):
+            counts["module of laws"] += is_name(tokens, at, "mod")
             at = first_of_item(tokens, at)
-            del tokens[at:line_end(tokens, named + 2)]
-        at += 1
+            del tokens[at:line_end(tokens, end + 1)]
+        else:
+            at += 1
+
+
+def rewrite_links(tokens, unlinked, root):
+    """Links in documentation: those to items in `unlinked`, which are left out, become code, and those from `crate` are from `root`."""
+    for token in tokens:
+        if token.kind in ("doc", "inner_doc"):
+            text = re.sub(r"\[(`\w+`)\](?:\([\w:]+\))?", lambda link: link[1] if link[1].strip("`") in unlinked else link[0], token.text)
+            token.text = text.replace("](crate::", f"]({root}::")
 
 
 def rewrite_paths(tokens, crate, roots, std, counts):
@@ -380,18 +478,31 @@ def erase_examples(tokens, counts):
         kind, end = tokens[at].kind, at + 1
         while tokens[end].kind == "space" and tokens[end].text.count("\n") == 1 and tokens[end + 1].kind == kind:
             end += 2
-        lines = [token.text for token in tokens[at:end] if token.kind == kind]
-        kept = lines_without_examples(lines, counts)
+        lines = [in_rust(token.text, counts) for token in tokens[at:end] if token.kind == kind]
+        kept = lines_without_examples([line for line in lines if line], counts)
         gap = tokens[at + 1] if end > at + 1 else None
         fresh = [part for line in kept for part in (Token(kind, line, tokens[at].line), gap)][:-1]
         tokens[at:end] = fresh
         at += max(len(fresh), 1)
 
 
+def in_rust(line, counts):
+    """The line of a doc comment with the sentences that SENTENCES has for Rust, or None if no sentence is left."""
+    for sentence, instead in SENTENCES.items():
+        if sentence in line:
+            counts[sentence] += 1
+            line = line.replace(sentence, instead).rstrip()
+            if not line[3:].strip():
+                return None
+    return line
+
+
 def lines_without_examples(lines, counts):
-    """The lines of a doc comment without its blocks of code, and without what announces one."""
+    """The lines of a doc comment without its blocks of code, and without what announces one. Empty lines that follow each other are one."""
     kept, in_block = [], False
     for line in lines:
+        if not in_block and kept and not line[3:].strip() and not kept[-1][3:].strip():
+            continue
         if line[3:].strip() == "```":
             in_block = not in_block
             counts["example in Rattle"] += in_block
@@ -422,10 +533,10 @@ def check_known(tokens):
     defined = {tokens[following(tokens, at + 2)].text for at in range(len(tokens)) if is_name(tokens, at, "macro_rules")}
     for at, token in enumerate(tokens):
         if is_name(tokens, at, *UNKNOWN_WORDS) or is_name(tokens, at, "Drop") and not is_mark(tokens, preceding(tokens, at - 1), ":"):
-            raise Unknown(f"line {token.line}: the word `{token.text}`")
+            raise Unknown(f"the word `{token.text}`", token.line, "no rewrite in tools/erasures.py is for this word here; UNKNOWN_WORDS lists such words")
         is_macro = token.kind == "name" and is_mark(tokens, at + 1, "!") and not is_mark(tokens, at + 2, "=")
         if is_macro and token.text not in KNOWN_MACROS | defined | {"macro_rules"}:
-            raise Unknown(f"line {token.line}: the macro `{token.text}!`")
+            raise Unknown(f"the macro `{token.text}!`", token.line, "KNOWN_MACROS in tools/erasures.py has those that mean the same in Rust")
 
 
 def without_blank_runs(text):

@@ -1,7 +1,7 @@
 """The rewrites that only the tests, the laws and the program `replay` need, which erase.py writes with `--tests`.
 
 They make tests of Rust's: assertions and macros without the handle of the runtime, test functions without an argument, and the operators of
-two bitmaps, which may run out of memory, as calls of functions.
+two bitmaps, which may run out of memory, as calls of functions. Laws name the items of private modules by the root of their library.
 """
 
 import erasures
@@ -50,6 +50,14 @@ def rewrite(tokens, counts):
     rewrite_macros(tokens, counts)
     rewrite_tests(tokens, counts)
     rewrite_operators(tokens, counts)
+
+
+def rewrite_private_paths(tokens, root, modules, counts):
+    """Laws reach items of their library's private modules, which are in `modules`, by the path of its root, which re-exports them."""
+    for at in reversed(range(len(tokens))):
+        if tokens[at].text == root and erasures.is_path(tokens, at + 1) and is_name(tokens, at + 3, *modules) and erasures.is_path(tokens, at + 4):
+            counts["path of a private module"] += 1
+            del tokens[at + 3:at + 6]
 
 
 def rewrite_macros(tokens, counts):

@@ -8,7 +8,15 @@ from dataclasses import dataclass
 
 
 class Unknown(Exception):
-    """A form that is not known. Its text has the line."""
+    """A form that is not known, at a line of a source, and what can be done about it. A form within one line may be raised without the line."""
+
+    def __init__(self, form, line=None, help=None):
+        super().__init__(form)
+        self.form, self.line, self.help = form, line, help
+
+    def at(self, path):
+        """The message for a source at a path: the path, the line, the form, and what can be done."""
+        return f"{path}:{self.line}: {self.form}" + (f"\n  help: {self.help}" if self.help else "")
 
 
 @dataclass
@@ -85,11 +93,11 @@ def tokens_of(text):
     while at < len(text):
         kind, found = next(((k, m) for k, p in KINDS if (m := p.match(text, at))), (None, None))
         if not found:
-            raise Unknown(f"line {line}: the character {text[at]!r}")
+            raise Unknown(f"the character {text[at]!r}", line, "KINDS in tools/rattle_tokens.py has the tokens of sources")
         try:
             kind, end = ghost_or_name(text, at, found.end()) if kind == "name" else (kind, found.end())
         except Unknown as unknown:
-            raise Unknown(f"line {line}: {unknown}") from None
+            raise Unknown(unknown.form, line, "tools/rattle_tokens.py says how clauses and ghost items end") from None
         tokens.append(Token(kind, text[at:end], line))
         line += text.count("\n", at, end)
         at = end
@@ -127,7 +135,7 @@ def closing(tokens, at):
             depth += (tokens[index].text in OPENING) - (tokens[index].text in CLOSING)
             if depth == 0:
                 return index
-    raise Unknown(f"line {tokens[at].line}: a bracket that does not close")
+    raise Unknown("a bracket that does not close", tokens[at].line)
 
 
 def closing_angle(tokens, at):
@@ -138,7 +146,7 @@ def closing_angle(tokens, at):
         depth += is_mark(tokens, index, "<") - (is_mark(tokens, index, ">") and not is_arrow)
         if depth == 0:
             return index
-    raise Unknown(f"line {tokens[at].line}: `<` that does not close")
+    raise Unknown("`<` that does not close", tokens[at].line)
 
 
 def until(tokens, at, *texts):
@@ -147,7 +155,7 @@ def until(tokens, at, *texts):
         if tokens[at].kind == "mark" and tokens[at].text in texts:
             return at
         at = closing(tokens, at) + 1 if tokens[at].kind == "mark" and tokens[at].text in "([{" else at + 1
-    raise Unknown(f"line {tokens[at].line}: the source ends before one of {' '.join(texts)}")
+    raise Unknown(f"the source ends before one of {' '.join(texts)}", tokens[at].line)
 
 
 def separated(tokens, start, end):

@@ -64,7 +64,12 @@ fn main() {
     let popped = batch.pop();
     versions = batch.commit(2).unwrap();
     let past: Prunable<4> = versions.get_at_commit(1).unwrap();
-    println!("popped {popped}; sums {} and {}, at commits {:?}", sum(&past), sum(versions.current()), versions.commits().collect::<Vec<_>>());
+    println!(
+        "popped {popped}; sums {} and {}, at commits {:?}",
+        sum(&past),
+        sum(versions.current()),
+        versions.commits().collect::<Vec<_>>()
+    );
     match versions.apply_batch(2, |_| ()) {
         Err(historical::Error::NonMonotonicCommit { previous, attempted }) => println!("{attempted} is not above {previous}"),
         other => println!("{other:?}"),

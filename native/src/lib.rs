@@ -1,7 +1,8 @@
 //! Bitmaps that remember earlier versions of themselves: a program saves a list of bits under a number, goes on editing it, and can later
 //! read the list as it was under that number, or go back to it.
 //!
-//! The module [`bitmap`] has the types of `commonware_utils::bitmap`, under the same names. The crate has no dependency and no `unsafe`.
+//! The module [`bitmap`] has the types of `commonware_utils::bitmap`, under the same names. The module [`log`] has the bytes from which such a
+//! bitmap is made again after a restart. The crate has no dependency and no `unsafe`.
 //!
 //! ```
 //! use mortarpink::bitmap::Readable;
@@ -29,7 +30,8 @@
 //! # Memory
 //!
 //! A call that may allocate panics if memory runs out, as those of Rust's collections abort. Its form `try_..` returns an [`AllocError`]
-//! instead, and leaves the value unchanged. [`TryClone`] has the copies that return an error.
+//! instead, and leaves the value unchanged. [`TryClone`] has the copies that return an error. The calls of [`log`] have one form, which returns
+//! its errors.
 //!
 //! # Features
 //!
@@ -49,6 +51,7 @@ compile_error!("mortarpink needs a target whose usize has 64 bits");
 pub mod bitmap;
 #[doc(hidden)]
 pub mod generated;
+pub mod log;
 #[doc(hidden)]
 pub mod support;
 

@@ -1,14 +1,22 @@
 //! Each allocation of each scenario fails once: the call returns an error, and leaves the value as it was.
-//!
-//! Rewinding, adding an index and committing to an indexed bitmap are not here: they insert into Rust's maps, and abort if that fails.
 
 use mortarpink::bitmap::codec::{CodecError, RangeCfg};
-use mortarpink::bitmap::historical::{ApplyError, CleanBitMap, DirtyBitMap, Error};
+use mortarpink::bitmap::historical::{ApplyError, CleanBitMap, DirtyBitMap, Error, RewindError};
 use mortarpink::bitmap::{BitMap, Prunable, Readable};
+use mortarpink::log::{
+    DeltaError, HistoryError, Log, RecoverError, apply_delta, clear_logged, commit_logged, delta, drop_before_logged, read_history,
+    recover, rewind_logged, write_history,
+};
+use mortarpink::support::alloc::Global;
+use mortarpink::support::collections::{BTreeMap, DequeWithin, VecDeque};
+use mortarpink::support::iter::CollectWithin;
+use mortarpink::support::ops::{BitAnd, BitOr, BitXor, Sub};
+use mortarpink::support::vec::VecWithin;
 use mortarpink::{AllocError, TryClone};
 use std::alloc::{GlobalAlloc, Layout, System};
 use std::cell::Cell;
 use std::fmt::Debug;
+use std::sync::LazyLock;
 
 thread_local! {
     /// How many allocations of this thread succeed before one fails; none fails if it is `None`.
@@ -21,8 +29,11 @@ struct Failing;
 #[global_allocator]
 static FAILING: Failing = Failing;
 
-/// Whether this allocation is to fail.
+/// Whether this allocation is to fail. None fails that a panic makes to print itself, since it may have a lock.
 fn fails() -> bool {
+    if std::thread::panicking() {
+        return false;
+    }
     LEFT.with(|left| {
         let count = left.get();
         left.set(count.and_then(|count| count.checked_sub(1)));
@@ -70,7 +81,11 @@ fn each<T, I: PartialEq + Debug>(make: impl Fn() -> T, image: impl Fn(&T) -> I, 
 }
 
 /// The same for an edit of a value in place.
-fn each_edit<T, I: PartialEq + Debug>(make: impl Fn() -> T, image: impl Fn(&T) -> I, edit: impl Fn(&mut T) -> Result<(), AllocError>) -> u64 {
+fn each_edit<T, I: PartialEq + Debug>(
+    make: impl Fn() -> T,
+    image: impl Fn(&T) -> I,
+    edit: impl Fn(&mut T) -> Result<(), AllocError>,
+) -> u64 {
     each(make, image, |mut value| {
         let is_error = edit(&mut value).is_err();
         (value, is_error)
@@ -82,6 +97,9 @@ fn dense() -> BitMap<4> {
     bitmap.extend((0..64).map(|bit| bit % 3 == 0));
     bitmap
 }
+
+/// A bitmap to append.
+static ONES: LazyLock<BitMap<4>> = LazyLock::new(|| BitMap::ones(100));
 
 fn pruned() -> Prunable<4> {
     let mut bitmap = Prunable::new();
@@ -149,6 +167,52 @@ fn of_values_that_are_made() {
     assert_eq!(made(&|| dense.try_encode().is_err()), 1);
     assert_eq!(made(&|| pruned.try_clone().is_err()), 1);
     assert_eq!(made(&|| pruned.try_encode().is_err()), 1);
+    assert_eq!(each_edit(|| vec![1], Vec::clone, |bytes| dense.try_encode_into(bytes)), 1);
+    assert_eq!(each_edit(|| vec![1], Vec::clone, |bytes| pruned.try_encode_into(bytes)), 1);
+    assert_eq!(made(&|| BitAnd::bitand(&dense, &dense).is_err()), 1);
+    assert_eq!(made(&|| BitOr::bitor(&dense, &dense).is_err()), 1);
+    assert_eq!(made(&|| BitXor::bitxor(&dense, &dense).is_err()), 1);
+    assert_eq!(made(&|| Sub::sub(&dense, &dense).is_err()), 1);
+}
+
+/// The calls over Rust's collections, of which each has no capacity left.
+#[test]
+fn of_the_support() {
+    let full = || Vec::from([1u64; 4]);
+    assert_eq!(each_edit(full, Vec::clone, |vec| vec.try_push(2)), 1);
+    assert_eq!(each_edit(full, Vec::clone, |vec| vec.try_extend_from_slice(&[2])), 1);
+    assert_eq!(each_edit(full, Vec::clone, |vec| vec.try_resize(5, 2)), 1);
+    assert_eq!(each_edit(full, Vec::clone, |vec| Vec::from_slice_within(Global, vec).map(drop)), 1);
+    assert_eq!(each_edit(full, Vec::clone, |vec| vec.iter().collect_within::<Vec<_>>(Global).map(drop)), 1);
+    let deque = || VecDeque::from([1u64; 4]);
+    assert_eq!(each_edit(deque, VecDeque::clone, |deque| deque.try_push_back(2)), 1);
+    assert_eq!(each_edit(deque, VecDeque::clone, |deque| deque.try_clone().map(drop)), 1);
+    assert_eq!(each_edit(deque, VecDeque::clone, |_| VecDeque::<u64>::with_capacity_within(Global, 1).map(drop)), 1);
+}
+
+/// A map of some keys, and what is in it.
+fn map_of(keys: impl Iterator<Item = u64>) -> BTreeMap<u64, u64> {
+    let mut map = BTreeMap::new_within(Global);
+    for key in keys {
+        map.try_put(key, key).unwrap();
+    }
+    map
+}
+
+fn map_image(map: &BTreeMap<u64, u64>) -> Vec<(u64, u64)> {
+    map.into_iter().map(|(key, value)| (*key, *value)).collect()
+}
+
+/// The list of blocks and a block are allocated, or one of them, as the keys come.
+#[test]
+fn of_maps() {
+    assert_eq!(each_edit(|| map_of(0..0), map_image, |map| map.try_put(1, 1).map(drop)), 2);
+    assert_eq!(each_edit(|| map_of(0..1), map_image, |map| map.try_put(1, 1).map(drop)), 1, "the block grows");
+    assert_eq!(each_edit(|| map_of(0..64), map_image, |map| map.try_put(64, 1).map(drop)), 1, "a block is added at the end");
+    assert_eq!(each_edit(|| map_of((0..64).map(|k| 2 * k)), map_image, |map| map.try_put(9, 1).map(drop)), 1, "a block is divided");
+    assert_eq!(each_edit(|| map_of(0..256), map_image, |map| map.try_put(256, 1).map(drop)), 2, "so is the list");
+    assert_eq!(each_edit(|| map_of(0..100), map_image, |map| map.try_put(7, 1).map(drop)), 0, "the key is there");
+    assert_eq!(each_edit(|| map_of(0..100), map_image, |map| map.try_clone().map(drop)), 3);
 }
 
 #[test]
@@ -158,29 +222,80 @@ fn of_pruned_bitmaps() {
         bitmap.extend_from_bitmap(&BitMap::<4>::zeroes(128));
         bitmap
     };
+    let other = dense();
     assert_eq!(each_edit(full, Prunable::encode, |bitmap| bitmap.try_push(true)), 1);
     assert_eq!(each_edit(full, Prunable::encode, |bitmap| bitmap.try_push_byte(1)), 1);
     assert_eq!(each_edit(full, Prunable::encode, |bitmap| bitmap.try_push_chunk(&[1; 4])), 1);
     assert_eq!(each_edit(full, Prunable::encode, |bitmap| bitmap.try_extend_to(1000)), 1);
+    assert_eq!(each_edit(full, Prunable::encode, |bitmap| bitmap.try_extend_from_bitmap(&other)), 1);
     assert_eq!(each_edit(full, Prunable::encode, |bitmap| bitmap.try_unprune(&[[1; 4]; 3])), 1);
 }
 
 #[test]
 fn of_edits_of_a_batch() {
     type Edit = fn(&mut DirtyBitMap<4>) -> Result<(), AllocError>;
-    let edits: [(&str, Edit); 8] = [
+    let edits: [(&str, Edit); 18] = [
         ("push", |batch| batch.push_unchained(true)),
+        ("push_byte", |batch| batch.push_byte_unchained(1)),
         ("push_chunk", |batch| batch.push_chunk_unchained(&[1; 4])),
         ("set_bit", |batch| batch.set_bit_unchained(250, true)),
+        ("set_chunk", |batch| batch.set_chunk_unchained(8, &[9; 4])),
         ("set_range", |batch| batch.set_range_unchained(210..450, true)),
+        ("extend_to", |batch| batch.extend_to_unchained(700)),
+        ("extend_from_bitmap", |batch| batch.extend_from_bitmap_unchained(&ONES)),
         ("prune_to_bit", |batch| batch.prune_to_bit_unchained(400)),
-        ("try_push", |batch| batch.try_push(true).map(|_| ())),
-        ("try_push_byte", |batch| batch.try_push_byte(1).map(|_| ())),
-        ("try_set_range", |batch| batch.try_set_range(210..450, true).map(|_| ())),
+        ("try_push", |batch| batch.try_push(true).map(drop)),
+        ("try_push_byte", |batch| batch.try_push_byte(1).map(drop)),
+        ("try_push_chunk", |batch| batch.try_push_chunk(&[1; 4]).map(drop)),
+        ("try_set_bit", |batch| batch.try_set_bit(250, true).map(drop)),
+        ("try_set_chunk", |batch| batch.try_set_chunk(8, &[9; 4]).map(drop)),
+        ("try_set_range", |batch| batch.try_set_range(210..450, true).map(drop)),
+        ("try_extend_to", |batch| batch.try_extend_to(700).map(drop)),
+        ("try_extend_from_bitmap", |batch| batch.try_extend_from_bitmap(&ONES).map(drop)),
+        ("try_prune_to_bit", |batch| batch.try_prune_to_bit(400).map(drop)),
     ];
+    assert_eq!(ONES.len(), 100);
     for (name, edit) in edits {
-        for make in [batch, || versions().into_dirty()] {
-            println!("{name}: {}", each_edit(make, batch_image, edit));
+        let failed = each_edit(|| versions().into_dirty(), batch_image, edit);
+        assert!(failed > 0, "{name} allocates in a batch without edits");
+        each_edit(batch, batch_image, edit);
+    }
+}
+
+/// In a chain, the edits before the one that fails stay, and it leaves nothing.
+#[test]
+fn of_chained_edits() {
+    let edit = |batch: &mut DirtyBitMap<4>| -> Result<(), AllocError> {
+        let edit = batch.try_set_bit(250, true)?.try_set_chunk(9, &[9; 4])?.try_set_range(330..450, true)?;
+        edit.try_push(true)?.try_push_byte(1)?.try_push_chunk(&[1; 4])?.try_prune_to_bit(430)?;
+        Ok(())
+    };
+    let mut batch = versions().into_dirty();
+    let mut images = vec![batch_image(&batch)];
+    let edits: [fn(&mut DirtyBitMap<4>) -> &mut DirtyBitMap<4>; 7] = [
+        |batch| batch.set_bit(250, true),
+        |batch| batch.set_chunk(9, &[9; 4]),
+        |batch| batch.set_range(330..450, true),
+        |batch| batch.push(true),
+        |batch| batch.push_byte(1),
+        |batch| batch.push_chunk(&[1; 4]),
+        |batch| batch.prune_to_bit(430),
+    ];
+    for edit in edits {
+        edit(&mut batch);
+        images.push(batch_image(&batch));
+    }
+    let mut least = 0;
+    for count in 0.. {
+        let mut batch = versions().into_dirty();
+        let (result, failed) = with_failure(count, || edit(&mut batch));
+        assert_eq!(result.is_err(), failed, "allocation {count}");
+        let made = images.iter().position(|image| *image == batch_image(&batch)).unwrap();
+        assert!(least <= made && (made == 7) != failed, "allocation {count}: {made} edits are made");
+        least = made;
+        if !failed {
+            assert!(count > 3, "{count} allocations");
+            break;
         }
     }
 }
@@ -200,18 +315,127 @@ fn of_commits() {
     assert!(each(versions, clean_image, apply) > 0);
 }
 
+/// The versions with an index.
+fn indexed() -> CleanBitMap<4> {
+    versions().indexed().map_err(|(_, error)| error).unwrap()
+}
+
+/// All that users can read of a bitmap with commits, also by its past states in place, which use the index.
+fn indexed_image(bitmap: &CleanBitMap<4>) -> (Vec<u8>, Vec<Vec<u64>>) {
+    let past = bitmap.commits().map(|number| bitmap.at(number).unwrap().ones_iter_from(0).collect());
+    (bitmap.current().encode(), past.collect())
+}
+
+#[test]
+fn of_indexed_bitmaps() {
+    let index = |bitmap: CleanBitMap<4>| match bitmap.indexed() {
+        Ok(bitmap) => (bitmap, false),
+        Err((bitmap, AllocError)) => (bitmap, true),
+    };
+    assert!(each(versions, indexed_image, index) > 0);
+    let commit =
+        |bitmap: CleanBitMap<4>| match bitmap.try_apply_batch(9, |batch: &mut DirtyBitMap<4>| batch.set_range_unchained(210..450, true)) {
+            Ok(bitmap) => (bitmap, false),
+            Err((bitmap, ApplyError::Batch(AllocError) | ApplyError::Commit(Error::Memory(AllocError)))) => (bitmap, true),
+            Err((bitmap, _)) => (bitmap, false),
+        };
+    assert!(each(indexed, indexed_image, commit) > each(versions, indexed_image, commit));
+}
+
+#[test]
+fn of_rewinding() {
+    for number in 1..5 {
+        let rewind = |bitmap: CleanBitMap<4>| match bitmap.rewind_to(number) {
+            Ok(bitmap) => (bitmap, false),
+            Err((bitmap, error)) => (bitmap, error == RewindError::Memory(AllocError)),
+        };
+        assert!(each(versions, indexed_image, rewind) > 0);
+        assert!(each(indexed, indexed_image, rewind) > 0);
+    }
+}
+
 #[test]
 fn of_past_states_and_copies() {
     let read = |bitmap: CleanBitMap<4>| {
         let is_error = bitmap.try_get_at_commit(1).is_err();
         (bitmap, is_error)
     };
-    assert!(each(versions, clean_image, read) > 0);
     let copy = |bitmap: CleanBitMap<4>| {
         let is_error = bitmap.try_clone().is_err();
         (bitmap, is_error)
     };
-    assert!(each(versions, clean_image, copy) > 0);
+    for make in [versions, indexed] {
+        assert!(each(make, clean_image, read) > 0);
+        assert!(each(make, clean_image, copy) > 0);
+    }
+    assert!(each(indexed, clean_image, copy) > each(versions, clean_image, copy));
+}
+
+/// All that users can read of a log.
+fn log_image(log: &Log<4>) -> (Vec<u8>, u64, u64) {
+    (log.bytes().to_vec(), log.position(), log.digest())
+}
+
+/// The versions, and a log that begins with them, whose bytes are taken.
+fn logged() -> (CleanBitMap<4>, Log<4>) {
+    let bitmap = versions();
+    let mut log = Log::begin(&bitmap).unwrap();
+    log.take();
+    (bitmap, log)
+}
+
+/// The bitmap and the log are both changed, or neither is.
+#[test]
+fn of_logged_calls() {
+    let image = |(bitmap, log): &(CleanBitMap<4>, Log<4>)| (clean_image(bitmap), log_image(log));
+    let pending = || (batch(), logged().1);
+    let commit = |(batch, mut log): (DirtyBitMap<4>, Log<4>)| match commit_logged(batch, 9, &mut log) {
+        Ok(bitmap) => ((bitmap.into_dirty(), log), false),
+        Err((batch, error)) => ((batch, log), error == Error::Memory(AllocError)),
+    };
+    assert!(each(pending, |(batch, log)| (batch_image(batch), log_image(log)), commit) > 2);
+    let rewind = |(bitmap, mut log): (CleanBitMap<4>, Log<4>)| match rewind_logged(bitmap, 2, &mut log) {
+        Ok(bitmap) => ((bitmap, log), false),
+        Err((bitmap, error)) => ((bitmap, log), error == RewindError::Memory(AllocError)),
+    };
+    assert!(each(logged, image, rewind) > 1);
+    assert!(each_edit(logged, image, |(bitmap, log)| drop_before_logged(bitmap, 3, log)) > 0);
+    assert!(each_edit(logged, image, |(bitmap, log)| clear_logged(bitmap, log)) > 0);
+}
+
+#[test]
+fn of_logs_and_histories() {
+    let begin = |bitmap: CleanBitMap<4>| {
+        let is_error = Log::begin(&bitmap).is_err();
+        (bitmap, is_error)
+    };
+    assert!(each(versions, clean_image, begin) > 2);
+    let (bitmap, some) = (versions(), || b"some".to_vec());
+    let bytes = Log::begin(&bitmap).unwrap().take();
+    assert!(each_edit(some, Vec::clone, |out| write_history(&bitmap, out).map(drop)) > 2);
+    let read_log = |()| ((), matches!(recover::<4>(&bytes), Err(RecoverError::Memory(AllocError))));
+    assert!(each(|| (), |_| (), read_log) > 5);
+    let read = |mut from| {
+        let result = read_history::<4>(&mut from, &RangeCfg::any(), &RangeCfg::any());
+        (from, matches!(result, Err(HistoryError::Memory(AllocError))))
+    };
+    assert!(each(|| bytes.as_slice(), |from| from.to_vec(), read) > 5);
+}
+
+#[test]
+fn of_deltas() {
+    let write = |bitmap: CleanBitMap<4>| {
+        let is_error = delta(&bitmap, 2, 5).is_err();
+        (bitmap, is_error)
+    };
+    assert!(each(versions, clean_image, write) > 0);
+    let bytes = delta(&versions(), 2, 5).unwrap().unwrap();
+    let replica = || versions().rewind_to(2).unwrap();
+    let apply = |bitmap: CleanBitMap<4>| match apply_delta(bitmap, &bytes) {
+        Ok(bitmap) => (bitmap, false),
+        Err((bitmap, error)) => (bitmap, error == DeltaError::Memory(AllocError)),
+    };
+    assert!(each(replica, clean_image, apply) > 0);
 }
 
 #[test]

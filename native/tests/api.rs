@@ -1,10 +1,15 @@
 //! What Rust users expect of the types: traits, conversions and operators, and that code is generic over any bitmap.
 
 use mortarpink::bitmap::codec::{CodecError, EncodeSize, RangeCfg};
-use mortarpink::bitmap::historical::{AtCommit, CleanBitMap, DirtyBitMap, Error, RewindError};
-use mortarpink::bitmap::{BitMap, DEFAULT_CHUNK_SIZE, OnesIter, Prunable, Readable};
+use mortarpink::bitmap::historical::{
+    ApplyError, AtCommit, ChangedChunks, CleanBitMap, Commits, DirtyBitMap, Edit, Error, PendingChanges, RewindError,
+};
+use mortarpink::bitmap::{BitMap, DEFAULT_CHUNK_SIZE, Iterator as Bits, OnesIter, Prunable, Readable, prunable};
+use mortarpink::{AllocError, log};
 use std::collections::hash_map::DefaultHasher;
+use std::fmt::Debug;
 use std::hash::{Hash, Hasher};
+use std::panic::{RefUnwindSafe, UnwindSafe};
 
 fn hash_of(value: &impl Hash) -> u64 {
     let mut hasher = DefaultHasher::new();
@@ -12,22 +17,48 @@ fn hash_of(value: &impl Hash) -> u64 {
     hasher.finish()
 }
 
-fn is_shared_between_threads<T: Send + Sync>() {}
+/// Whether values of a type move between threads, are shared between them, and can be printed while a program is debugged.
+fn is_usual<T: Send + Sync + Unpin + UnwindSafe + RefUnwindSafe + Debug>() {}
 
 #[test]
-fn all_types_are_shared_between_threads() {
-    is_shared_between_threads::<BitMap>();
-    is_shared_between_threads::<Prunable<8>>();
-    is_shared_between_threads::<CleanBitMap<8>>();
-    is_shared_between_threads::<DirtyBitMap<8>>();
-    is_shared_between_threads::<AtCommit<'_, 8>>();
-    is_shared_between_threads::<OnesIter<'_, BitMap, DEFAULT_CHUNK_SIZE>>();
-    is_shared_between_threads::<CodecError>();
+fn all_types_have_the_usual_traits() {
+    is_usual::<BitMap>();
+    is_usual::<Prunable<8>>();
+    is_usual::<Bits<'_, 8>>();
+    is_usual::<OnesIter<'_, BitMap<8>, 8>>();
+    is_usual::<OnesIter<'_, AtCommit<'_, 8>, 8>>();
+    is_usual::<CleanBitMap<8>>();
+    is_usual::<DirtyBitMap<8>>();
+    is_usual::<AtCommit<'_, 8>>();
+    is_usual::<Commits<'_, 8>>();
+    is_usual::<ChangedChunks<'_, 8>>();
+    is_usual::<PendingChanges<'_, 8>>();
+    is_usual::<(RangeCfg, CodecError, prunable::Error, Error, RewindError, ApplyError<AllocError>)>();
+    is_usual::<AllocError>();
+    is_usual::<(log::Past, log::BaseError, log::DecodeError, log::EntryError, log::ApplyError)>();
+    is_usual::<(log::Change<'_>, log::Entry<'_>, log::frames::Frame<'_>, log::frames::Place)>();
+    is_usual::<(log::frames::Stop, log::frames::HeaderError)>();
+    is_usual::<(log::Log<8>, log::Recovered<8>)>();
+    is_usual::<(log::Damage, log::RecoverError, log::HistoryError, log::DeltaError)>();
+}
+
+/// A guard of edits borrows its batch mutably, so it is not unwind safe.
+#[test]
+fn guards_are_shared_between_threads() {
+    fn is_shared<T: Send + Sync + Debug>() {}
+
+    is_shared::<Edit<'_, 8>>();
+}
+
+/// The width of a bitmap.
+fn width_of<const N: usize>(_: &BitMap<N>) -> usize {
+    N
 }
 
 #[test]
 fn the_width_has_a_default() {
     let bitmap: BitMap = BitMap::default();
+    assert_eq!((width_of(&bitmap), DEFAULT_CHUNK_SIZE), (8, 8));
     assert_eq!(BitMap::<8>::CHUNK_SIZE_BITS, 64);
     assert_eq!(bitmap.len(), 0);
     assert_eq!(BitMap::<4>::FULL_CHUNK, [255; 4]);
@@ -44,6 +75,10 @@ fn bitmaps_are_collections_of_booleans() {
     assert_eq!(BitMap::<2>::from(vec![true, false, true, true]), bitmap);
     assert_eq!(BitMap::<2>::from([true, false, true, true]), bitmap);
     assert_eq!((bitmap[0], bitmap[1]), (true, false));
+    assert_eq!([true, false, true, true].iter().collect::<BitMap<2>>(), bitmap);
+    bitmap.extend(&[false]);
+    assert_eq!(bitmap, BitMap::from([true, false, true, true, false]));
+    bitmap.pop();
     assert_eq!(format!("{bitmap:?}"), "BitMap[1011]");
 }
 
@@ -62,7 +97,38 @@ fn operators_make_new_bitmaps() {
     assert_eq!(&left | &right, BitMap::from([true, true, true, false]));
     assert_eq!(&left ^ &right, BitMap::from([false, true, true, false]));
     assert_eq!(&left - &right, BitMap::from([false, true, false, false]));
+    assert_eq!(!&left, BitMap::from([false, false, true, true]));
     assert!((&left & &right).is_subset(&left) && (&left - &right).is_disjoint(&right));
+}
+
+#[test]
+fn operators_change_bitmaps() {
+    let (left, right) = (BitMap::<1>::from([true, true, false, false]), BitMap::<1>::from([true, false, true, false]));
+    let changed = |change: fn(&mut BitMap<1>, &BitMap<1>)| {
+        let mut bitmap = left.clone();
+        change(&mut bitmap, &right);
+        bitmap
+    };
+    assert_eq!(changed(|bitmap, other| *bitmap &= other), &left & &right);
+    assert_eq!(changed(|bitmap, other| *bitmap |= other), &left | &right);
+    assert_eq!(changed(|bitmap, other| *bitmap ^= other), &left ^ &right);
+    assert_eq!(changed(|bitmap, other| *bitmap -= other), &left - &right);
+}
+
+#[test]
+fn pruned_bitmaps_are_compared() {
+    let of = |pruned, bits: &[bool]| {
+        let mut bitmap = Prunable::<1>::new_with_pruned_chunks(pruned).unwrap();
+        bitmap.extend_from_bitmap(&BitMap::<8>::from(bits));
+        bitmap
+    };
+    let bitmap = of(1, &[true; 9]);
+    assert_eq!(bitmap, of(1, &[true; 9]));
+    assert_eq!(CleanBitMap::from(bitmap.clone()).current(), &bitmap);
+    let last = [true, true, true, true, true, true, true, true, false];
+    for other in [of(1, &[true; 8]), of(2, &[true]), of(0, &[true; 17]), of(1, &last)] {
+        assert_ne!(bitmap, other);
+    }
 }
 
 /// The positions of the set bits of any bitmap.

@@ -2,6 +2,8 @@
 
 use mortarpink::bitmap::historical::{CleanBitMap, DirtyBitMap};
 use mortarpink::bitmap::{BitMap, Prunable, Readable};
+use mortarpink::log::frames::{Place, next_frame, push_frame};
+use mortarpink::log::{Past, from_base};
 use std::panic::{AssertUnwindSafe, catch_unwind};
 
 /// The message with which a call panics.
@@ -119,6 +121,8 @@ fn of_lengths_near_the_end() {
     assert_eq!(panic_of(|| batch.push(true).len()), "length overflows u64");
     assert_eq!(panic_of(|| batch.push_byte(0).len()), "length overflows u64");
     assert_eq!(panic_of(|| batch.push_chunk(&[0]).len()), "length overflows u64");
+    assert_eq!(panic_of(|| batch.extend_from_bitmap(&BitMap::ones(1)).len()), "length overflows u64");
+    assert_eq!(batch.extend_from_bitmap(&BitMap::new()).len(), u64::MAX);
     let mut empty = Prunable::<1>::new_with_pruned_chunks(usize::MAX / 8).unwrap();
     assert_eq!(panic_of(|| empty.push_byte(0)), "length overflows u64");
     assert_eq!(panic_of(|| empty.push_chunk(&[0])), "length overflows u64");
@@ -135,6 +139,9 @@ fn of_historical_bitmaps() {
     assert_eq!(panic_of(|| past.get_bit(26)), "bit 26 out of bounds (len: 26)");
     assert_eq!(panic_of(|| past.get_chunk(4)), "chunk 4 out of bounds (chunks: 4)");
     assert_eq!(panic_of(|| past.retained_bytes(usize::MAX)), "chunk 18446744073709551615 starts past u64::MAX");
+    let later = Prunable::new_with_pruned_chunks(3).unwrap();
+    assert_eq!(panic_of(|| bitmap.clone().commit_replaced(2, later).is_ok()), "3 pruned chunks are less than the length (26 bits)");
+    assert!(bitmap.clone().commit_replaced(2, Prunable::new_with_pruned_chunks(4).unwrap()).is_ok());
     let empty = CleanBitMap::<1>::new().apply_batch(1, |_| ()).unwrap();
     assert_eq!(panic_of(|| empty.at(1).unwrap().last_chunk()), "no bit is retained");
 }
@@ -150,6 +157,8 @@ fn of_batches() {
     assert_eq!(panic_of(|| batch.set_bit(26, true).len()), "cannot set bit 26: out of bounds (len: 26)");
     assert_eq!(panic_of(|| batch.set_range(15..20, true).len()), "range start 15 is pruned");
     assert_eq!(panic_of(|| batch.set_range(16..27, true).len()), "range end 27 out of bounds (len: 26)");
+    assert_eq!(panic_of(|| batch.truncate(15)), "bit 15 is pruned");
+    assert_eq!(panic_of(|| batch.truncate(27)), "bit 27 out of bounds (len: 26)");
     assert_eq!(panic_of(|| batch.prune_to_bit(27).len()), "cannot prune to bit 27: beyond projected length (26)");
     for _ in 0..10 {
         batch.pop();
@@ -175,4 +184,15 @@ fn of_the_trait() {
     assert_eq!(panic_of(|| Readable::last_chunk(&BitMap::<1>::new())), "no bit is retained");
     assert_eq!(panic_of(|| Readable::get_chunk(&pruned(), 1)), "chunk 1 is pruned (pruned_chunks: 2)");
     assert_eq!(panic_of(|| Readable::get_chunk(&batch(), 1)), "chunk 1 is pruned (pruned_chunks: 2)");
+}
+
+#[test]
+fn of_logs() {
+    let (mut log, place) = (Vec::new(), Place { at: u64::MAX - 3, digest: 0 });
+    assert_eq!(panic_of(|| push_frame(&mut log, place, &[])), "body is empty");
+    assert_eq!(panic_of(|| next_frame(place, &[0; 4]).is_ok()), "the bytes end past position 2^64 - 1");
+    assert!(next_frame(place, &[0; 3]).is_err());
+    for past in [Past::Dropped(u64::MAX), Past::KeptUnder { number: u64::MAX, count: 0 }] {
+        assert_eq!(panic_of(|| from_base(Prunable::<1>::new(), past)), "the number u64::MAX is reserved");
+    }
 }

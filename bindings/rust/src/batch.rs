@@ -16,7 +16,7 @@ use crate::{Bitmap, Chunk, CommitError, Error, PushBytesError};
 /// # Examples
 ///
 /// ```
-/// use mortarpink::{Bitmap, Width};
+/// use mortarpink_proved::{Bitmap, Width};
 ///
 /// let mut bitmap = Bitmap::new(Width::Bytes8)?;
 ///
@@ -30,7 +30,7 @@ use crate::{Bitmap, Chunk, CommitError, Error, PushBytesError};
 /// batch.pop()?;
 /// batch.abort();
 /// assert_eq!(bitmap.len(), 8);
-/// # Ok::<(), mortarpink::Error>(())
+/// # Ok::<(), mortarpink_proved::Error>(())
 /// ```
 #[must_use = "a batch that is dropped is aborted"]
 pub struct Batch<'a> {
@@ -140,7 +140,7 @@ impl<'a> Batch<'a> {
     /// # Examples
     ///
     /// ```
-    /// use mortarpink::{Bitmap, Error, Width};
+    /// use mortarpink_proved::{Bitmap, Error, Width};
     ///
     /// let mut bitmap = Bitmap::new(Width::Bytes8)?;
     /// bitmap.begin().commit(7)?;

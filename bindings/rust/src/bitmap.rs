@@ -20,7 +20,7 @@ use crate::{Batch, ChangedChunks, Chunk, Commits, Error, Ones, Version, Width, r
 /// a bitmap for itself during each call, reads included. This does not compile:
 ///
 /// ```compile_fail,E0277
-/// use mortarpink::{Bitmap, Width};
+/// use mortarpink_proved::{Bitmap, Width};
 ///
 /// let bitmap = Bitmap::new(Width::Bytes8).unwrap();
 /// std::thread::scope(|scope| {
@@ -31,7 +31,7 @@ use crate::{Batch, ChangedChunks, Chunk, Commits, Error, Ones, Version, Width, r
 /// # Examples
 ///
 /// ```
-/// use mortarpink::{Bitmap, Width};
+/// use mortarpink_proved::{Bitmap, Width};
 ///
 /// let mut bitmap = Bitmap::new(Width::Bytes8)?;
 ///
@@ -42,7 +42,7 @@ use crate::{Batch, ChangedChunks, Chunk, Commits, Error, Ones, Version, Width, r
 /// assert_eq!(bitmap.len(), 16);
 /// assert_eq!(bitmap.count_ones(..), 12);
 /// assert_eq!(bitmap.next_zero(0), Some(12));
-/// # Ok::<(), mortarpink::Error>(())
+/// # Ok::<(), mortarpink_proved::Error>(())
 /// ```
 pub struct Bitmap {
     pub(crate) session: Session,
@@ -66,11 +66,11 @@ impl Bitmap {
     /// # Examples
     ///
     /// ```
-    /// use mortarpink::{Bitmap, Width};
+    /// use mortarpink_proved::{Bitmap, Width};
     ///
     /// let bitmap = Bitmap::new(Width::Bytes1)?;
     /// assert!(bitmap.is_empty());
-    /// # Ok::<(), mortarpink::Error>(())
+    /// # Ok::<(), mortarpink_proved::Error>(())
     /// ```
     pub fn new(width: Width) -> Result<Bitmap, Error> {
         let session = Session::new(width.bytes() as u32)?;
@@ -87,11 +87,11 @@ impl Bitmap {
     /// # Examples
     ///
     /// ```
-    /// use mortarpink::{Bitmap, Width};
+    /// use mortarpink_proved::{Bitmap, Width};
     ///
     /// let bitmap = Bitmap::with_pruned_chunks(Width::Bytes8, 2)?;
     /// assert_eq!(bitmap.len(), 128);
-    /// # Ok::<(), mortarpink::Error>(())
+    /// # Ok::<(), mortarpink_proved::Error>(())
     /// ```
     pub fn with_pruned_chunks(width: Width, pruned_chunks: u64) -> Result<Bitmap, Error> {
         let mut bitmap = Bitmap::new(width)?;
@@ -121,7 +121,7 @@ impl Bitmap {
     /// # Examples
     ///
     /// ```
-    /// use mortarpink::{Bitmap, Error, Width};
+    /// use mortarpink_proved::{Bitmap, Error, Width};
     ///
     /// let mut bitmap = Bitmap::new(Width::Bytes8)?;
     /// let mut batch = bitmap.begin();
@@ -228,7 +228,7 @@ impl Bitmap {
     /// # Examples
     ///
     /// ```
-    /// use mortarpink::{Bitmap, Error, Width};
+    /// use mortarpink_proved::{Bitmap, Error, Width};
     ///
     /// let mut bitmap = Bitmap::new(Width::Bytes1)?;
     /// let mut batch = bitmap.begin();
@@ -254,7 +254,7 @@ impl Bitmap {
     /// # Examples
     ///
     /// ```
-    /// use mortarpink::{Bitmap, Width};
+    /// use mortarpink_proved::{Bitmap, Width};
     ///
     /// let mut bitmap = Bitmap::new(Width::Bytes8)?;
     /// let mut batch = bitmap.begin();
@@ -262,7 +262,7 @@ impl Bitmap {
     /// batch.commit(1)?;
     ///
     /// assert_eq!(bitmap.chunk(15)?.as_slice(), [1, 2, 0, 0, 0, 0, 0, 0]);
-    /// # Ok::<(), mortarpink::Error>(())
+    /// # Ok::<(), mortarpink_proved::Error>(())
     /// ```
     pub fn chunk(&self, position: u64) -> Result<Chunk, Error> {
         let mut chunk = Chunk::zeroed(self.width);
@@ -279,7 +279,7 @@ impl Bitmap {
     /// # Examples
     ///
     /// ```
-    /// use mortarpink::{Bitmap, Width};
+    /// use mortarpink_proved::{Bitmap, Width};
     ///
     /// let mut bitmap = Bitmap::new(Width::Bytes8)?;
     /// let mut batch = bitmap.begin();
@@ -288,7 +288,7 @@ impl Bitmap {
     ///
     /// assert!(bitmap.ones(..).eq([1, 2, 5, 7]));
     /// assert!(bitmap.ones(2..7).eq([2, 5]));
-    /// # Ok::<(), mortarpink::Error>(())
+    /// # Ok::<(), mortarpink_proved::Error>(())
     /// ```
     pub fn ones(&self, range: impl RangeBounds<u64>) -> Ones<'_> {
         Ones::new(self.settled(), None, range::half_open(range))
@@ -303,7 +303,7 @@ impl Bitmap {
     /// # Examples
     ///
     /// ```
-    /// use mortarpink::{Bitmap, Width};
+    /// use mortarpink_proved::{Bitmap, Width};
     ///
     /// let mut bitmap = Bitmap::new(Width::Bytes8)?;
     /// let mut batch = bitmap.begin();
@@ -314,7 +314,7 @@ impl Bitmap {
     /// assert_eq!(bitmap.next_one(6), None);
     /// assert_eq!(bitmap.prev_one(5), Some(2));
     /// assert_eq!(bitmap.prev_zero(3), Some(0));
-    /// # Ok::<(), mortarpink::Error>(())
+    /// # Ok::<(), mortarpink_proved::Error>(())
     /// ```
     pub fn next_one(&self, from: u64) -> Option<u64> {
         self.settled().next_one(None, from)
@@ -374,7 +374,7 @@ impl Bitmap {
     /// # Examples
     ///
     /// ```
-    /// use mortarpink::{Bitmap, Error, Width};
+    /// use mortarpink_proved::{Bitmap, Error, Width};
     ///
     /// let mut bitmap = Bitmap::new(Width::Bytes8)?;
     /// bitmap.begin().commit(3)?;
@@ -401,14 +401,14 @@ impl Bitmap {
     /// # Examples
     ///
     /// ```
-    /// use mortarpink::{Bitmap, Width};
+    /// use mortarpink_proved::{Bitmap, Width};
     ///
     /// let mut bitmap = Bitmap::new(Width::Bytes8)?;
     /// bitmap.begin().commit(3)?;
     /// bitmap.begin().commit(5)?;
     ///
     /// assert!(bitmap.commits().eq([3, 5]));
-    /// # Ok::<(), mortarpink::Error>(())
+    /// # Ok::<(), mortarpink_proved::Error>(())
     /// ```
     pub fn commits(&self) -> Commits<'_> {
         Commits::new(self.settled())
@@ -447,7 +447,7 @@ impl Bitmap {
     /// # Examples
     ///
     /// ```
-    /// use mortarpink::{Bitmap, Width};
+    /// use mortarpink_proved::{Bitmap, Width};
     ///
     /// let mut bitmap = Bitmap::new(Width::Bytes1)?;
     /// let mut batch = bitmap.begin();
@@ -460,7 +460,7 @@ impl Bitmap {
     /// batch.commit(2)?;
     ///
     /// assert!(bitmap.changed_chunks(1, 2)?.eq([1, 3]));
-    /// # Ok::<(), mortarpink::Error>(())
+    /// # Ok::<(), mortarpink_proved::Error>(())
     /// ```
     pub fn changed_chunks(&self, from: u64, to: u64) -> Result<ChangedChunks<'_>, Error> {
         let session = self.settled();
@@ -483,7 +483,7 @@ impl Bitmap {
     /// # Examples
     ///
     /// ```
-    /// use mortarpink::{Bitmap, Width};
+    /// use mortarpink_proved::{Bitmap, Width};
     ///
     /// let mut bitmap = Bitmap::new(Width::Bytes8)?;
     /// bitmap.begin().commit(1)?;
@@ -494,7 +494,7 @@ impl Bitmap {
     /// bitmap.rewind_to(1)?;
     /// assert!(bitmap.is_empty());
     /// assert_eq!(bitmap.latest(), Some(1));
-    /// # Ok::<(), mortarpink::Error>(())
+    /// # Ok::<(), mortarpink_proved::Error>(())
     /// ```
     pub fn rewind_to(&mut self, number: u64) -> Result<(), Error> {
         self.settled_mut().rewind(number)
@@ -509,7 +509,7 @@ impl Bitmap {
     /// # Examples
     ///
     /// ```
-    /// use mortarpink::{Bitmap, Width};
+    /// use mortarpink_proved::{Bitmap, Width};
     ///
     /// let mut bitmap = Bitmap::new(Width::Bytes8)?;
     /// bitmap.begin().commit(3)?;
@@ -517,7 +517,7 @@ impl Bitmap {
     ///
     /// assert_eq!(bitmap.drop_before(5), 1);
     /// assert_eq!(bitmap.earliest(), Some(5));
-    /// # Ok::<(), mortarpink::Error>(())
+    /// # Ok::<(), mortarpink_proved::Error>(())
     /// ```
     pub fn drop_before(&mut self, number: u64) -> u64 {
         self.settled_mut().drop_before(number)

@@ -23,7 +23,7 @@ impl Width {
     /// # Examples
     ///
     /// ```
-    /// use mortarpink::Width;
+    /// use mortarpink_proved::Width;
     ///
     /// assert_eq!(Width::Bytes32.bytes(), 32);
     /// ```
@@ -41,7 +41,7 @@ impl Width {
     /// # Examples
     ///
     /// ```
-    /// use mortarpink::Width;
+    /// use mortarpink_proved::Width;
     ///
     /// assert_eq!(Width::Bytes32.bits(), 256);
     /// ```

@@ -1,12 +1,13 @@
 //! Bitmaps with numbered commits, past states of which are read in place.
 //!
 //! The crate is a safe interface to the C library `mortarpink`. That library is written in Rattle,
-//! and each of its calls is proved to do what its contract says.
+//! and each of its calls is proved to do what its contract says. The crate `mortarpink` of the same
+//! repository is another one: ordinary Rust, generated from the proved source, without a C library.
 //!
 //! # Quick start
 //!
 //! ```
-//! use mortarpink::{Bitmap, Width};
+//! use mortarpink_proved::{Bitmap, Width};
 //!
 //! let mut bitmap = Bitmap::new(Width::Bytes8)?;
 //!
@@ -28,7 +29,7 @@
 //! // Rewinding makes it current again.
 //! bitmap.rewind_to(1)?;
 //! assert!(bitmap.ones(..).eq([0]));
-//! # Ok::<(), mortarpink::Error>(())
+//! # Ok::<(), mortarpink_proved::Error>(())
 //! ```
 //!
 //! # Units
@@ -92,7 +93,7 @@ struct Readme;
 /// # Examples
 ///
 /// ```
-/// assert_eq!(mortarpink::interface_version(), 1);
+/// assert_eq!(mortarpink_proved::interface_version(), 1);
 /// ```
 pub fn interface_version() -> u32 {
     ffi::version()

@@ -20,7 +20,7 @@ use crate::{Chunk, Error, Ones, Width, range};
 /// # Examples
 ///
 /// ```
-/// use mortarpink::{Bitmap, Width};
+/// use mortarpink_proved::{Bitmap, Width};
 ///
 /// let mut bitmap = Bitmap::new(Width::Bytes8)?;
 /// for (number, bit) in [(1, true), (2, false), (3, true)] {
@@ -34,7 +34,7 @@ use crate::{Chunk, Error, Ones, Width, range};
 /// assert_eq!(version.len(), 2);
 /// assert!(version.ones(..).eq([0]));
 /// assert!(bitmap.ones(..).eq([0, 2]));
-/// # Ok::<(), mortarpink::Error>(())
+/// # Ok::<(), mortarpink_proved::Error>(())
 /// ```
 #[derive(Clone, Copy)]
 pub struct Version<'a> {

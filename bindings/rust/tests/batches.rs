@@ -5,7 +5,7 @@ mod common;
 use std::mem;
 
 use common::{WIDTHS, bitmap_of, commit};
-use mortarpink::{Batch, Bitmap, Error, Width};
+use mortarpink_proved::{Batch, Bitmap, Error, Width};
 
 #[test]
 fn a_new_bitmap_is_empty() {

@@ -3,7 +3,7 @@
 mod common;
 
 use common::{WIDTHS, bitmap_of, commit};
-use mortarpink::{Bitmap, Error, Width};
+use mortarpink_proved::{Bitmap, Error, Width};
 
 /// Returns a bitmap with these commits. Each one appends a set bit.
 fn with_commits(numbers: &[u64]) -> Bitmap {

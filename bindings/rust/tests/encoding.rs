@@ -3,7 +3,7 @@
 mod common;
 
 use common::{WIDTHS, bitmap_of, commit};
-use mortarpink::{Bitmap, Error, Width};
+use mortarpink_proved::{Bitmap, Error, Width};
 
 /// Returns the bytes of two numbers and of chunks.
 fn encoding(pruned_chunks: u64, retained: u64, chunks: &[u8]) -> Vec<u8> {

@@ -3,7 +3,7 @@
 mod common;
 
 use common::{WIDTHS, bitmap_of, commit};
-use mortarpink::{Bitmap, Error, Width};
+use mortarpink_proved::{Bitmap, Error, Width};
 
 /// Returns a bitmap with as many pruned chunks as there may be. One less than a chunk fits.
 fn longest(width: Width) -> Bitmap {

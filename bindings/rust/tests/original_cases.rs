@@ -36,7 +36,7 @@
 mod common;
 
 use common::{WIDTHS, bitmap_of, commit};
-use mortarpink::{Batch, Bitmap, Error, Width};
+use mortarpink_proved::{Batch, Bitmap, Error, Width};
 
 const CHUNKS: [[u8; 8]; 3] = [
     [0x01, 0x02, 0x03, 0x04, 0x11, 0x12, 0x13, 0x14],

@@ -6,7 +6,7 @@ use std::env;
 use std::process::Command;
 
 use common::{WIDTHS, bitmap_of, commit};
-use mortarpink::{Bitmap, Error, Width};
+use mortarpink_proved::{Bitmap, Error, Width};
 
 /// The variable of the environment that the small process has.
 const IS_SMALL: &str = "MORTARPINK_TEST_IS_SMALL";

@@ -1,6 +1,6 @@
 //! Random batches, compared with lists of bits.
 
-use mortarpink::{Batch, Bitmap, Error, Version, Width};
+use mortarpink_proved::{Batch, Bitmap, Error, Version, Width};
 
 /// A generator of numbers that are the same in each run.
 struct Random(u64);

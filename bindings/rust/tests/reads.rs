@@ -5,7 +5,7 @@ mod common;
 use std::ops::Bound;
 
 use common::{WIDTHS, bitmap_of, commit};
-use mortarpink::{Bitmap, Error, Version, Width};
+use mortarpink_proved::{Bitmap, Error, Version, Width};
 
 /// Bits 1, 2, 5, 7, 16 and 23 of 24.
 const BYTES: [u8; 3] = [0b1010_0110, 0, 0b1000_0001];

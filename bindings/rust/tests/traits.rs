@@ -8,7 +8,7 @@ use std::sync::{Mutex, mpsc};
 use std::thread;
 
 use common::{WIDTHS, bitmap_of, commit};
-use mortarpink::{
+use mortarpink_proved::{
     Batch, Bitmap, ChangedChunks, Chunk, CommitError, Commits, Error, Ones, PushBytesError,
     Version, Width,
 };
@@ -250,5 +250,5 @@ fn an_iterator_outlives_its_version() {
 
 #[test]
 fn the_interface_has_a_version() {
-    assert_eq!(mortarpink::interface_version(), 1);
+    assert_eq!(mortarpink_proved::interface_version(), 1);
 }

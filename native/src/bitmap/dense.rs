@@ -8,7 +8,7 @@ use crate::support::clone::TryClone;
 use crate::support::ops as fallible;
 use alloc::vec::Vec;
 use core::iter::FusedIterator;
-use core::ops::{BitAnd, BitOr, BitXor, Index, Range, Sub};
+use core::ops::{BitAnd, BitAndAssign, BitOr, BitOrAssign, BitXor, BitXorAssign, Index, Not, Range, Sub, SubAssign};
 
 /// Constructors. `N` has to be at least 1, and `8N` has to fit `u64`: otherwise they do not compile.
 impl<const N: usize> BitMap<N> {
@@ -285,6 +285,41 @@ impl<const N: usize> BitMap<N> {
         Ok(out)
     }
 
+    /// Appends the encoding of the bitmap, as `encode` returns it, to some bytes.
+    ///
+    /// # Panics
+    ///
+    /// Panics if memory runs out.
+    ///
+    /// ```
+    /// use mortarpink::bitmap::BitMap;
+    ///
+    /// let mut bytes = vec![1];
+    /// BitMap::<1>::new().encode_into(&mut bytes);
+    /// assert_eq!(bytes.len(), 1 + 8);
+    /// ```
+    pub fn encode_into(&self, out: &mut Vec<u8>) {
+        expect_memory(self.try_encode_into(out));
+    }
+
+    /// Appends the encoding of the bitmap, as `encode_into` does.
+    ///
+    /// # Errors
+    ///
+    /// Returns `AllocError` if the allocation fails. `out` is then unchanged.
+    ///
+    /// ```
+    /// use mortarpink::bitmap::BitMap;
+    ///
+    /// let mut bytes = vec![1];
+    /// BitMap::<1>::new().try_encode_into(&mut bytes)?;
+    /// assert_eq!(bytes.len(), 1 + 8);
+    /// # Ok::<(), mortarpink::AllocError>(())
+    /// ```
+    pub fn try_encode_into(&self, out: &mut Vec<u8>) -> Result<(), AllocError> {
+        self.write(out)
+    }
+
     /// Returns the size of the encoding in bytes.
     ///
     /// ```
@@ -353,6 +388,20 @@ impl<const N: usize> Extend<bool> for BitMap<N> {
     }
 }
 
+impl<'a, const N: usize> Extend<&'a bool> for BitMap<N> {
+    /// Appends bits. Panics if memory runs out.
+    fn extend<I: IntoIterator<Item = &'a bool>>(&mut self, bits: I) {
+        self.extend(bits.into_iter().copied());
+    }
+}
+
+impl<'a, const N: usize> FromIterator<&'a bool> for BitMap<N> {
+    /// Returns a bitmap of the bits. Panics if memory runs out.
+    fn from_iter<I: IntoIterator<Item = &'a bool>>(bits: I) -> Self {
+        bits.into_iter().copied().collect()
+    }
+}
+
 impl<const N: usize> FromIterator<bool> for BitMap<N> {
     /// Returns a bitmap of the bits. Panics if memory runs out.
     fn from_iter<I: IntoIterator<Item = bool>>(bits: I) -> Self {
@@ -388,25 +437,55 @@ impl<const N: usize> Index<u64> for BitMap<N> {
     }
 }
 
-/// Implements operators of two bitmaps by those that return an error: the trait, its function and what the operator does.
+/// Implements operators of two bitmaps: the trait, its function and what it does; the trait that assigns, and its function; and the calls that
+/// they make, of which the first returns an error if memory runs out.
 macro_rules! operators {
-    ($($operator:ident $function:ident $words:literal;)+) => {$(
+    ($($operator:ident $function:ident $words:literal, $assigning:ident $assign:ident by $in_place:ident;)+) => {$(
         impl<const N: usize> $operator for &BitMap<N> {
             type Output = BitMap<N>;
 
-            #[doc = $words]
-            #[doc = " Panics if the lengths differ, or if memory runs out."]
+            #[doc = concat!("Returns ", $words)]
+            ///
+            /// Panics if the lengths differ, or if memory runs out.
             fn $function(self, other: &BitMap<N>) -> BitMap<N> {
                 assert!(self.len() == other.len(), "BitMap lengths don't match: {} vs {}", self.len(), other.len());
                 expect_memory(fallible::$operator::$function(self, other))
+            }
+        }
+
+        impl<const N: usize> $assigning<&BitMap<N>> for BitMap<N> {
+            #[doc = concat!("Keeps ", $words)]
+            ///
+            /// Panics if the lengths differ. Does not allocate.
+            fn $assign(&mut self, other: &BitMap<N>) {
+                self.$in_place(other);
             }
         }
     )+};
 }
 
 operators! {
-    BitAnd bitand "Returns the bits that are set in both bitmaps.";
-    BitOr bitor "Returns the bits that are set in at least one of the bitmaps.";
-    BitXor bitxor "Returns the bits that are set in exactly one of the bitmaps.";
-    Sub sub "Returns the bits that are set in the left bitmap and not in the right one.";
+    BitAnd bitand "the bits that are set in both bitmaps.", BitAndAssign bitand_assign by and;
+    BitOr bitor "the bits that are set in at least one of the bitmaps.", BitOrAssign bitor_assign by or;
+    BitXor bitxor "the bits that are set in exactly one of the bitmaps.", BitXorAssign bitxor_assign by xor;
+    Sub sub "the bits that are set in the left bitmap and not in the right one.", SubAssign sub_assign by and_not;
+}
+
+impl<const N: usize> Not for BitMap<N> {
+    type Output = BitMap<N>;
+
+    /// Returns the bitmap with each bit flipped. Does not allocate.
+    fn not(mut self) -> BitMap<N> {
+        self.flip_all();
+        self
+    }
+}
+
+impl<const N: usize> Not for &BitMap<N> {
+    type Output = BitMap<N>;
+
+    /// Returns a copy with each bit flipped. Panics if memory runs out.
+    fn not(self) -> BitMap<N> {
+        !self.clone()
+    }
 }

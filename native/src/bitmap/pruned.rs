@@ -240,6 +240,41 @@ impl<const N: usize> Prunable<N> {
         Ok(out)
     }
 
+    /// Appends the encoding of the bitmap, as `encode` returns it, to some bytes.
+    ///
+    /// # Panics
+    ///
+    /// Panics if memory runs out.
+    ///
+    /// ```
+    /// use mortarpink::bitmap::Prunable;
+    ///
+    /// let mut bytes = vec![1];
+    /// Prunable::<1>::new().encode_into(&mut bytes);
+    /// assert_eq!(bytes.len(), 1 + 16);
+    /// ```
+    pub fn encode_into(&self, out: &mut Vec<u8>) {
+        expect_memory(self.try_encode_into(out));
+    }
+
+    /// Appends the encoding of the bitmap, as `encode_into` does.
+    ///
+    /// # Errors
+    ///
+    /// Returns `AllocError` if the allocation fails. `out` is then unchanged.
+    ///
+    /// ```
+    /// use mortarpink::bitmap::Prunable;
+    ///
+    /// let mut bytes = vec![1];
+    /// Prunable::<1>::new().try_encode_into(&mut bytes)?;
+    /// assert_eq!(bytes.len(), 1 + 16);
+    /// # Ok::<(), mortarpink::AllocError>(())
+    /// ```
+    pub fn try_encode_into(&self, out: &mut Vec<u8>) -> Result<(), AllocError> {
+        self.write(out)
+    }
+
     /// Returns the size of the encoding in bytes.
     ///
     /// ```
@@ -283,3 +318,15 @@ impl<const N: usize> Default for Prunable<N> {
         Prunable::new()
     }
 }
+
+impl<const N: usize> PartialEq for Prunable<N> {
+    /// Whether both have the same length, the same number of pruned chunks, and the same retained bits.
+    fn eq(&self, other: &Self) -> bool {
+        let (first, end) = (self.pruned_chunks(), self.chunks_len());
+        self.len() == other.len()
+            && first == other.pruned_chunks()
+            && (first..end).all(|index| self.get_chunk(index) == other.get_chunk(index))
+    }
+}
+
+impl<const N: usize> Eq for Prunable<N> {}

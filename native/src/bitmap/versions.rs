@@ -218,6 +218,43 @@ impl<const N: usize> BitMap<N, Dirty<N>> {
         self
     }
 
+    /// Appends zeros up to a length of `new_len` bits, pruned bits included. If the pending bitmap has that length or more, nothing changes.
+    ///
+    /// # Panics
+    ///
+    /// Panics if memory runs out.
+    ///
+    /// ```
+    /// use mortarpink::bitmap::historical::CleanBitMap;
+    ///
+    /// let mut batch = CleanBitMap::<4>::new().into_dirty();
+    /// batch.push(true).extend_to(70);
+    /// assert!(batch.len() == 70 && !batch.get_bit(69));
+    /// ```
+    pub fn extend_to(&mut self, new_len: u64) -> &mut Self {
+        expect_memory(self.extend_to_unchained(new_len));
+        self
+    }
+
+    /// Appends the bits of a dense bitmap, in order, at any length.
+    ///
+    /// # Panics
+    ///
+    /// Panics if memory runs out, or if the new length does not fit `u64`.
+    ///
+    /// ```
+    /// use mortarpink::bitmap::BitMap;
+    /// use mortarpink::bitmap::historical::CleanBitMap;
+    ///
+    /// let mut batch = CleanBitMap::<4>::new().into_dirty();
+    /// batch.push(false).extend_from_bitmap(&BitMap::ones(40));
+    /// assert!(batch.len() == 41 && !batch.get_bit(0) && batch.get_bit(40));
+    /// ```
+    pub fn extend_from_bitmap(&mut self, other: &crate::bitmap::BitMap<N>) -> &mut Self {
+        expect_memory(self.extend_from_bitmap_unchained(other));
+        self
+    }
+
     /// Drops the chunks before the one of the absolute position `bit`. Changes nothing if they are already pruned.
     ///
     /// # Panics
@@ -276,5 +313,12 @@ impl<const N: usize, S: State> Clone for BitMap<N, S> {
 impl<const N: usize> Default for BitMap<N, Clean> {
     fn default() -> Self {
         CleanBitMap::new()
+    }
+}
+
+impl<const N: usize> From<Prunable<N>> for BitMap<N, Clean> {
+    /// Makes a historical bitmap of a bitmap, as `from_bitmap` does.
+    fn from(bitmap: Prunable<N>) -> Self {
+        CleanBitMap::from_bitmap(bitmap)
     }
 }

@@ -3,13 +3,22 @@
 use alloc::collections::TryReserveError;
 use core::fmt;
 
-/// Rust's global allocator, as a value of no size.
+/// Rust's global allocator, as a value of no size, which the generated functions pass to each other.
 #[derive(Clone, Copy, Debug, Default, PartialEq, Eq)]
 pub struct Global;
 
 /// The error of a call that could not allocate.
 ///
 /// The value that the call was to change is as it was before.
+///
+/// # Examples
+///
+/// ```
+/// use mortarpink::AllocError;
+/// use mortarpink::bitmap::BitMap;
+///
+/// assert_eq!(BitMap::<8>::try_zeroes(u64::MAX), Err(AllocError));
+/// ```
 #[derive(Clone, Copy, Debug, PartialEq, Eq)]
 pub struct AllocError;
 

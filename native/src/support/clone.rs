@@ -1,16 +1,41 @@
 //! Copies that may fail.
 
 use super::alloc::AllocError;
-use alloc::collections::{BTreeMap, VecDeque};
+use alloc::collections::VecDeque;
 use alloc::vec::Vec;
 
 /// A value that can be copied, if there is memory for the copy.
+///
+/// # Examples
+///
+/// ```
+/// use mortarpink::bitmap::BitMap;
+/// use mortarpink::{AllocError, TryClone};
+///
+/// /// Returns the bits that are set in both bitmaps, or an error if memory runs out.
+/// fn try_and(one: &BitMap, other: &BitMap) -> Result<BitMap, AllocError> {
+///     let mut both = one.try_clone()?;
+///     both.and(other);
+///     Ok(both)
+/// }
+///
+/// assert_eq!(try_and(&BitMap::ones(9), &BitMap::zeroes(9))?, BitMap::zeroes(9));
+/// # Ok::<(), AllocError>(())
+/// ```
 pub trait TryClone: Sized {
     /// Returns an equal value.
     ///
     /// # Errors
     ///
     /// Returns `AllocError` if an allocation fails.
+    ///
+    /// ```
+    /// use mortarpink::TryClone;
+    /// use mortarpink::bitmap::BitMap;
+    ///
+    /// assert_eq!(BitMap::<8>::ones(9).try_clone()?, BitMap::ones(9));
+    /// # Ok::<(), mortarpink::AllocError>(())
+    /// ```
     fn try_clone(&self) -> Result<Self, AllocError>;
 
     /// Appends copies of the values to a vector that has capacity for them.
@@ -76,12 +101,5 @@ impl<T: TryClone> TryClone for VecDeque<T> {
         T::append_clones(front, &mut copy)?;
         T::append_clones(back, &mut copy)?;
         Ok(copy.into())
-    }
-}
-
-/// Rust has no copy of a map that returns an error. If an allocation fails, the program aborts.
-impl<K: Copy + Ord, V: Copy> TryClone for BTreeMap<K, V> {
-    fn try_clone(&self) -> Result<Self, AllocError> {
-        Ok(self.clone())
     }
 }

@@ -1,7 +1,8 @@
-//! Deques and maps.
+//! Deques, and maps, which are the support's own.
 
 use super::alloc::{AllocError, Global};
-pub use alloc::collections::{BTreeMap, VecDeque, vec_deque};
+pub use super::map::BTreeMap;
+pub use alloc::collections::{VecDeque, vec_deque};
 
 /// The calls of Rattle's deques that take the allocator, or that return an error if it fails. After an error the deque is unchanged.
 pub trait DequeWithin<T>: Sized {
@@ -61,28 +62,5 @@ impl<T> DequeWithin<T> for VecDeque<T> {
     fn push_front_reserved(&mut self, value: T) {
         debug_assert!(self.len() < self.capacity(), "no capacity");
         self.push_front(value);
-    }
-}
-
-/// The calls of Rattle's maps that take the allocator, or that return an error if it fails.
-///
-/// Rust has no insertion into a map that returns an error. If an allocation fails here, the program aborts.
-pub trait MapWithin<K, V>: Sized {
-    /// Returns an empty map. Does not allocate.
-    fn new_within(alloc: Global) -> Self;
-
-    /// Inserts a value, and returns the value that the key had.
-    fn try_put(&mut self, key: K, value: V) -> Result<Option<V>, AllocError>;
-}
-
-impl<K: Ord, V> MapWithin<K, V> for BTreeMap<K, V> {
-    #[inline]
-    fn new_within(_alloc: Global) -> Self {
-        BTreeMap::new()
-    }
-
-    #[inline]
-    fn try_put(&mut self, key: K, value: V) -> Result<Option<V>, AllocError> {
-        Ok(self.insert(key, value))
     }
 }

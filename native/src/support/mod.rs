@@ -7,7 +7,9 @@
 pub mod alloc;
 pub mod clone;
 pub mod collections;
+pub mod hash;
 pub mod iter;
+pub mod map;
 pub mod ops;
 pub mod vec;
 
@@ -18,15 +20,15 @@ pub mod fmt {
     pub use core::fmt::{Debug, Display, Error, Formatter, Result, Write};
 }
 
-pub mod hash {
-    //! Hashing, which is Rust's own.
-    pub use core::hash::{Hash, Hasher};
+pub mod mem {
+    //! Moving values, as Rust does.
+    pub use core::mem::{replace, swap, take};
 }
 
 pub mod prelude {
     //! What each generated module imports.
     pub use super::clone::TryClone;
-    pub use super::collections::{DequeWithin, MapWithin};
+    pub use super::collections::DequeWithin;
     pub use super::iter::CollectWithin;
     pub use super::vec::VecWithin;
     pub use ::alloc::vec::Vec;

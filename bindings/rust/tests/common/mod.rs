@@ -1,6 +1,6 @@
 //! Set-up that the tests share.
 
-use mortarpink::{Batch, Bitmap, Width};
+use mortarpink_proved::{Batch, Bitmap, Width};
 
 pub const WIDTHS: [Width; 4] = [Width::Bytes1, Width::Bytes8, Width::Bytes32, Width::Bytes64];
 

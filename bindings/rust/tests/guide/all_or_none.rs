@@ -1,4 +1,4 @@
-use mortarpink::{Bitmap, Error};
+use mortarpink_proved::{Bitmap, Error};
 
 /// Sets some bits in one batch: all of them, or none if a call fails, for instance because an
 /// allocation does.

@@ -1,4 +1,4 @@
-use mortarpink::{Bitmap, Error};
+use mortarpink_proved::{Bitmap, Error};
 
 /// Sets some bits, commits that, and then keeps the last versions: at most 100 of them.
 pub fn commit_set(versions: &mut Bitmap, positions: &[u64], number: u64) -> Result<(), Error> {

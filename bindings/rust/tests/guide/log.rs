@@ -1,4 +1,4 @@
-use mortarpink::{Bitmap, Error};
+use mortarpink_proved::{Bitmap, Error};
 
 /// Appends an event, prunes the chunks that end before the last 1,024 bits, and commits.
 /// Versions before the last 10 are dropped, so that their pruned chunks are freed too.

@@ -19,7 +19,7 @@ use all_or_none::set_all;
 use common::{WIDTHS, bitmap_of, commit};
 use last_versions::commit_set;
 use log::append;
-use mortarpink::{Bitmap, Error, Width};
+use mortarpink_proved::{Bitmap, Error, Width};
 use replicas::{UpdateError, apply_update};
 use restarts::{restored, saved};
 use slots::{new_slots, take_slot};

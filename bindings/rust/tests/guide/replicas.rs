@@ -1,5 +1,5 @@
 use crate::updates::Update;
-use mortarpink::{Bitmap, Error, Width};
+use mortarpink_proved::{Bitmap, Error, Width};
 
 /// Why a replica does not apply an update.
 #[derive(Debug, PartialEq)]

@@ -1,4 +1,4 @@
-use mortarpink::{Bitmap, Error, Width};
+use mortarpink_proved::{Bitmap, Error, Width};
 
 /// Returns the encoding of each kept version with its number. A history itself has no encoding.
 pub fn saved(versions: &Bitmap) -> Result<Vec<(u64, Vec<u8>)>, Error> {

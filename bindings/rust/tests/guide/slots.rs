@@ -1,4 +1,4 @@
-use mortarpink::{Bitmap, Error, Width};
+use mortarpink_proved::{Bitmap, Error, Width};
 
 /// Makes a slot map of free slots, as version 0. It begins as an empty bitmap.
 pub fn new_slots(count: u64) -> Result<Bitmap, Error> {

@@ -1,4 +1,4 @@
-use mortarpink::Bitmap;
+use mortarpink_proved::Bitmap;
 use std::sync::Mutex;
 use std::thread;
 

@@ -1,4 +1,4 @@
-use mortarpink::{Bitmap, Chunk, Error, Width};
+use mortarpink_proved::{Bitmap, Chunk, Error, Width};
 
 /// What a replica of the older version receives: both numbers, the width, the length of the newer
 /// version in bits, its number of pruned chunks, and the bytes of changed chunks by index.

@@ -1,4 +1,4 @@
-use mortarpink::Bitmap;
+use mortarpink_proved::Bitmap;
 
 /// Returns the bit at a position of a version, or `None` if the version is not kept or does not
 /// retain the position.

@@ -24,7 +24,7 @@ use crate::support::alloc::{AllocError, Global};
 use crate::support::collections::VecDeque;
 use crate::support::ops::Range;
 
-/// A chunk size in bytes that suits most uses. It is not a default: the type of a bitmap always names its chunk size.
+/// A chunk size in bytes that suits most uses. It is the default.
 pub const DEFAULT_CHUNK_SIZE: usize = 8;
 
 /// A list of bits that is packed into chunks of `N` bytes. Positions and lengths count bits.
@@ -35,6 +35,17 @@ pub const DEFAULT_CHUNK_SIZE: usize = 8;
 /// The trait `Readable` has the calls that read whole chunks and search for positions.
 ///
 /// The head of the module has an example.
+///
+/// # Examples
+///
+/// ```
+/// use mortarpink::bitmap::BitMap;
+///
+/// let mut free: BitMap = BitMap::ones(100);
+/// free.set(7, false);
+/// free.push(true);
+/// assert_eq!((free.len(), free.count_ones(), free[7]), (101, 100, false));
+/// ```
 pub struct BitMap<const N: usize = DEFAULT_CHUNK_SIZE> {
     chunks: VecDeque<[u8; N]>,
     len: u64,
@@ -60,10 +71,7 @@ impl<const N: usize> BitMap<N> {
         const { assert!(N > 0, "chunk size must be > 0") };
         const { assert!(N < 1 << 61, "chunk size must be below 2^61") };
 
-        BitMap {
-            chunks: VecDeque::new_within(alloc),
-            len: 0,
-        }
+        BitMap { chunks: VecDeque::new_within(alloc), len: 0 }
     }
 
     /// Returns an empty bitmap, as `new` does.
@@ -82,7 +90,7 @@ impl<const N: usize> BitMap<N> {
     /// Returns an empty bitmap with capacity for the chunks of `size` bits.
     ///
     /// `N` is at least 1, and `8N` fits `u64`.
-    /// Tests show that pushes up to `size` bits then do not allocate. No contract states it.
+    /// Pushes up to `size` bits then do not allocate.
     ///
     /// # Errors
     ///
@@ -183,15 +191,20 @@ impl<const N: usize> BitMap<N> {
         const { assert!(N > 0, "chunk size must be > 0") };
         const { assert!(N < 1 << 61, "chunk size must be below 2^61") };
 
-        Ok(BitMap {
-            chunks: deque::from_bools(alloc, bools)?,
-            len: bools.len() as u64,
-        })
+        Ok(BitMap { chunks: deque::from_bools(alloc, bools)?, len: bools.len() as u64 })
     }
 
     /// Returns the number of bits.
     ///
     /// Does not allocate; constant time.
+    ///
+    /// # Examples
+    ///
+    /// ```
+    /// use mortarpink::bitmap::BitMap;
+    ///
+    /// assert_eq!(BitMap::<8>::zeroes(100).len(), 100);
+    /// ```
     pub fn len(&self) -> u64 {
         self.len
     }
@@ -199,6 +212,15 @@ impl<const N: usize> BitMap<N> {
     /// Returns whether the bitmap has no bit.
     ///
     /// Does not allocate; constant time.
+    ///
+    /// # Examples
+    ///
+    /// ```
+    /// use mortarpink::bitmap::BitMap;
+    ///
+    /// assert!(BitMap::<8>::new().is_empty());
+    /// assert!(!BitMap::<8>::zeroes(1).is_empty());
+    /// ```
     pub fn is_empty(&self) -> bool {
         self.len() == 0
     }
@@ -206,6 +228,15 @@ impl<const N: usize> BitMap<N> {
     /// Returns whether the length is a multiple of `8N`. A length of 0 is.
     ///
     /// Does not allocate; constant time.
+    ///
+    /// # Examples
+    ///
+    /// ```
+    /// use mortarpink::bitmap::BitMap;
+    ///
+    /// assert!(BitMap::<4>::zeroes(64).is_chunk_aligned());
+    /// assert!(!BitMap::<4>::zeroes(65).is_chunk_aligned());
+    /// ```
     pub fn is_chunk_aligned(&self) -> bool {
         self.len % chunk_width::<N>() == 0
     }
@@ -220,13 +251,19 @@ impl<const N: usize> BitMap<N> {
     /// Panics if the size does not fit `usize`.
     ///
     /// Does not compile if `N` is 0, or `8N` does not fit `u64`.
+    ///
+    /// # Examples
+    ///
+    /// ```
+    /// use mortarpink::bitmap::BitMap;
+    ///
+    /// // Eight bytes of the length, and two chunks of four bytes.
+    /// assert_eq!(BitMap::<4>::max_encode_size(33), 16);
+    /// ```
     pub fn max_encode_size(bits: u64) -> usize {
         const { assert!(N > 0, "chunk size must be > 0") };
         const { assert!(N < 1 << 61, "chunk size must be below 2^61") };
-        assert!(
-            bits.div_ceil(8 * N as u64) as usize <= (usize::MAX - 8) / N,
-            "chunk count must fit in usize"
-        );
+        assert!(bits.div_ceil(8 * N as u64) as usize <= (usize::MAX - 8) / N, "chunk count must fit in usize");
 
         chunk_count::<N>(bits) * N + 8
     }
@@ -238,6 +275,15 @@ impl<const N: usize> BitMap<N> {
     /// # Panics
     ///
     /// Panics if `bit` is not below the length.
+    ///
+    /// # Examples
+    ///
+    /// ```
+    /// use mortarpink::bitmap::BitMap;
+    ///
+    /// let bitmap = BitMap::<8>::from([true, false]);
+    /// assert!(bitmap.get(0) && !bitmap.get(1));
+    /// ```
     pub fn get(&self, bit: u64) -> bool {
         assert!(bit < self.len(), "bit {} out of bounds (len: {})", bit, self.len());
 
@@ -249,6 +295,15 @@ impl<const N: usize> BitMap<N> {
     /// `N` is at least 1. Does not allocate; constant time.
     ///
     /// Does not compile if `N` is 0.
+    ///
+    /// # Examples
+    ///
+    /// ```
+    /// use mortarpink::bitmap::BitMap;
+    ///
+    /// // Position 70 is bit 6 of a chunk of 64 bits.
+    /// assert!(BitMap::<8>::get_bit_from_chunk(&[0b0100_0000, 0, 0, 0, 0, 0, 0, 0], 70));
+    /// ```
     pub fn get_bit_from_chunk(chunk: &[u8; N], bit: u64) -> bool {
         const { assert!(N > 0, "chunk size must be > 0") };
 
@@ -268,6 +323,15 @@ impl<const N: usize> BitMap<N> {
     /// # Complexity
     ///
     /// Linear in the length.
+    ///
+    /// # Examples
+    ///
+    /// ```
+    /// use mortarpink::bitmap::BitMap;
+    ///
+    /// assert_eq!(BitMap::<8>::ones(2).try_to_bools()?, [true, true]);
+    /// # Ok::<(), mortarpink::AllocError>(())
+    /// ```
     pub fn try_to_bools(&self) -> Result<Vec<bool>, AllocError> {
         let len = self.len;
         let mut bools = Vec::with_capacity_within(*self.chunks.its_allocator(), len as usize)?;
@@ -284,6 +348,14 @@ impl<const N: usize> BitMap<N> {
     /// # Complexity
     ///
     /// Linear in the words (64 bits) of the bitmap.
+    ///
+    /// # Examples
+    ///
+    /// ```
+    /// use mortarpink::bitmap::BitMap;
+    ///
+    /// assert_eq!(BitMap::<8>::from([true, false, true]).count_ones(), 2);
+    /// ```
     pub fn count_ones(&self) -> u64 {
         let _ = self.len();
         deque::count_ones(&self.chunks)
@@ -298,6 +370,14 @@ impl<const N: usize> BitMap<N> {
     /// # Complexity
     ///
     /// Linear in the words (64 bits) of the bitmap.
+    ///
+    /// # Examples
+    ///
+    /// ```
+    /// use mortarpink::bitmap::BitMap;
+    ///
+    /// assert_eq!(BitMap::<8>::from([true, false, true]).count_zeros(), 1);
+    /// ```
     pub fn count_zeros(&self) -> u64 {
         self.len() - self.count_ones()
     }
@@ -317,13 +397,18 @@ impl<const N: usize> BitMap<N> {
     /// # Panics
     ///
     /// Panics if the range ends after the length.
+    ///
+    /// # Examples
+    ///
+    /// ```
+    /// use mortarpink::bitmap::BitMap;
+    ///
+    /// let mut bitmap = BitMap::<8>::zeroes(100);
+    /// bitmap.set(50, true);
+    /// assert!(bitmap.is_unset(0..50) && !bitmap.is_unset(0..51));
+    /// ```
     pub fn is_unset(&self, range: Range<u64>) -> bool {
-        assert!(
-            range.end <= self.len(),
-            "range end {} out of bounds (len: {})",
-            range.end,
-            self.len()
-        );
+        assert!(range.end <= self.len(), "range end {} out of bounds (len: {})", range.end, self.len());
 
         let _ = self.len();
         deque::is_unset(&self.chunks, range.start, range.end)
@@ -347,13 +432,17 @@ impl<const N: usize> BitMap<N> {
     /// # Panics
     ///
     /// Panics if the lengths differ.
+    ///
+    /// # Examples
+    ///
+    /// ```
+    /// use mortarpink::bitmap::BitMap;
+    ///
+    /// let (part, whole) = (BitMap::<8>::from([true, false]), BitMap::from([true, true]));
+    /// assert!(part.is_subset(&whole) && !whole.is_subset(&part));
+    /// ```
     pub fn is_subset(&self, other: &BitMap<N>) -> bool {
-        assert!(
-            self.len() == other.len(),
-            "BitMap lengths don't match: {} vs {}",
-            self.len(),
-            other.len()
-        );
+        assert!(self.len() == other.len(), "BitMap lengths don't match: {} vs {}", self.len(), other.len());
 
         self.gives_none::<AndNot>(other)
     }
@@ -371,13 +460,17 @@ impl<const N: usize> BitMap<N> {
     /// # Panics
     ///
     /// Panics if the lengths differ.
+    ///
+    /// # Examples
+    ///
+    /// ```
+    /// use mortarpink::bitmap::BitMap;
+    ///
+    /// let (even, odd) = (BitMap::<8>::from([true, false, true]), BitMap::from([false, true, false]));
+    /// assert!(even.is_disjoint(&odd) && !even.is_disjoint(&even));
+    /// ```
     pub fn is_disjoint(&self, other: &BitMap<N>) -> bool {
-        assert!(
-            self.len() == other.len(),
-            "BitMap lengths don't match: {} vs {}",
-            self.len(),
-            other.len()
-        );
+        assert!(self.len() == other.len(), "BitMap lengths don't match: {} vs {}", self.len(), other.len());
 
         self.gives_none::<And>(other)
     }
@@ -392,6 +485,15 @@ impl<const N: usize> BitMap<N> {
     ///
     /// Constant. The whole iteration is linear in the words of the bitmap plus the positions returned.
     /// A word is 64 bits of one chunk, or fewer at the end of a chunk.
+    ///
+    /// # Examples
+    ///
+    /// ```
+    /// use mortarpink::bitmap::BitMap;
+    ///
+    /// let bitmap = BitMap::<8>::from([false, true, true]);
+    /// assert!(bitmap.ones_iter().eq([1, 2]));
+    /// ```
     pub fn ones_iter(&self) -> OnesIter<'_, BitMap<N>, N> {
         self.ones_iter_range(0..self.len())
     }
@@ -413,6 +515,17 @@ impl<const N: usize> BitMap<N> {
     /// # Panics
     ///
     /// Panics if the new length does not fit `u64`.
+    ///
+    /// # Examples
+    ///
+    /// ```
+    /// use mortarpink::bitmap::BitMap;
+    ///
+    /// let mut bitmap = BitMap::<8>::new();
+    /// bitmap.try_push(true)?;
+    /// assert_eq!(bitmap, BitMap::ones(1));
+    /// # Ok::<(), mortarpink::AllocError>(())
+    /// ```
     #[inline]
     pub fn try_push(&mut self, bit: bool) -> Result<(), AllocError> {
         assert!(self.len() <= u64::MAX - 1, "length overflows u64");
@@ -443,6 +556,17 @@ impl<const N: usize> BitMap<N> {
     /// # Panics
     ///
     /// Panics if the length is not a multiple of `8N`; or if the new length does not fit `u64`.
+    ///
+    /// # Examples
+    ///
+    /// ```
+    /// use mortarpink::bitmap::BitMap;
+    ///
+    /// let mut bitmap = BitMap::<2>::new();
+    /// bitmap.try_push_chunk(&[1, 128])?;
+    /// assert!(bitmap.ones_iter().eq([0, 15]));
+    /// # Ok::<(), mortarpink::AllocError>(())
+    /// ```
     pub fn try_push_chunk(&mut self, chunk: &[u8; N]) -> Result<(), AllocError> {
         assert!(self.len() % (8 * N as u64) == 0, "cannot add chunk when not chunk aligned");
         assert!(self.len() <= u64::MAX - (8 * N as u64), "length overflows u64");
@@ -466,6 +590,19 @@ impl<const N: usize> BitMap<N> {
     /// # Complexity
     ///
     /// Amortized linear in the chunks that are appended.
+    ///
+    /// # Examples
+    ///
+    /// ```
+    /// use mortarpink::bitmap::BitMap;
+    ///
+    /// let mut bitmap = BitMap::<8>::ones(3);
+    /// bitmap.try_extend_to(10)?;
+    /// assert_eq!((bitmap.len(), bitmap.count_ones()), (10, 3));
+    /// assert!(bitmap.try_extend_to(u64::MAX).is_err());
+    /// assert_eq!(bitmap.len(), 10);
+    /// # Ok::<(), mortarpink::AllocError>(())
+    /// ```
     pub fn try_extend_to(&mut self, n: u64) -> Result<(), AllocError> {
         let len = self.len;
         if len < n {
@@ -492,6 +629,17 @@ impl<const N: usize> BitMap<N> {
     /// # Panics
     ///
     /// Panics if the new length does not fit `u64`.
+    ///
+    /// # Examples
+    ///
+    /// ```
+    /// use mortarpink::bitmap::BitMap;
+    ///
+    /// let mut bitmap = BitMap::<8>::zeroes(3);
+    /// bitmap.try_extend_from_bitmap(&BitMap::<4>::ones(2))?;
+    /// assert_eq!((bitmap.len(), bitmap.count_ones()), (5, 2));
+    /// # Ok::<(), mortarpink::AllocError>(())
+    /// ```
     pub fn try_extend_from_bitmap<const M: usize>(&mut self, other: &BitMap<M>) -> Result<(), AllocError> {
         assert!(self.len() <= u64::MAX - other.len(), "length overflows u64");
 
@@ -510,6 +658,16 @@ impl<const N: usize> BitMap<N> {
     /// # Panics
     ///
     /// Panics if the bitmap is empty.
+    ///
+    /// # Examples
+    ///
+    /// ```
+    /// use mortarpink::bitmap::BitMap;
+    ///
+    /// let mut bitmap = BitMap::<8>::from([false, true]);
+    /// assert_eq!((bitmap.pop(), bitmap.pop()), (true, false));
+    /// assert!(bitmap.is_empty());
+    /// ```
     pub fn pop(&mut self) -> bool {
         assert!(!self.is_empty(), "Cannot pop from empty bitmap");
 
@@ -534,6 +692,16 @@ impl<const N: usize> BitMap<N> {
     /// # Panics
     ///
     /// Panics if `n` is above the length.
+    ///
+    /// # Examples
+    ///
+    /// ```
+    /// use mortarpink::bitmap::BitMap;
+    ///
+    /// let mut bitmap = BitMap::<8>::from([true, false, true]);
+    /// bitmap.truncate(2);
+    /// assert_eq!(bitmap, BitMap::from([true, false]));
+    /// ```
     pub fn truncate(&mut self, n: u64) {
         assert!(n <= self.len(), "cannot truncate to a larger size");
 
@@ -548,6 +716,16 @@ impl<const N: usize> BitMap<N> {
     /// # Panics
     ///
     /// Panics if `bit` is not below the length.
+    ///
+    /// # Examples
+    ///
+    /// ```
+    /// use mortarpink::bitmap::BitMap;
+    ///
+    /// let mut bitmap = BitMap::<8>::zeroes(3);
+    /// bitmap.set(2, true);
+    /// assert_eq!(bitmap, BitMap::from([false, false, true]));
+    /// ```
     pub fn set(&mut self, bit: u64, value: bool) {
         assert!(bit < self.len(), "bit {} out of bounds (len: {})", bit, self.len());
 
@@ -569,13 +747,9 @@ impl<const N: usize> BitMap<N> {
     /// # Panics
     ///
     /// Panics if the range ends after the length.
+    #[doc(hidden)]
     pub fn try_set_range(&mut self, range: Range<u64>, value: bool) {
-        assert!(
-            range.end <= self.len(),
-            "range end {} out of bounds (len: {})",
-            range.end,
-            self.len()
-        );
+        assert!(range.end <= self.len(), "range end {} out of bounds (len: {})", range.end, self.len());
 
         let _ = self.len;
         deque::set_range(&mut self.chunks, range.start, range.end, value);
@@ -588,6 +762,16 @@ impl<const N: usize> BitMap<N> {
     /// # Panics
     ///
     /// Panics if `bit` is not below the length.
+    ///
+    /// # Examples
+    ///
+    /// ```
+    /// use mortarpink::bitmap::BitMap;
+    ///
+    /// let mut bitmap = BitMap::<8>::zeroes(3);
+    /// bitmap.flip(1);
+    /// assert_eq!(bitmap, BitMap::from([false, true, false]));
+    /// ```
     pub fn flip(&mut self, bit: u64) {
         assert!(bit < self.len(), "bit {} out of bounds (len: {})", bit, self.len());
 
@@ -603,6 +787,16 @@ impl<const N: usize> BitMap<N> {
     /// # Complexity
     ///
     /// Linear in the chunks.
+    ///
+    /// # Examples
+    ///
+    /// ```
+    /// use mortarpink::bitmap::BitMap;
+    ///
+    /// let mut bitmap = BitMap::<8>::from([true, false, false]);
+    /// bitmap.flip_all();
+    /// assert_eq!(bitmap, BitMap::from([false, true, true]));
+    /// ```
     pub fn flip_all(&mut self) {
         let len = self.len;
         deque::flip(&mut self.chunks);
@@ -618,6 +812,16 @@ impl<const N: usize> BitMap<N> {
     /// # Complexity
     ///
     /// Linear in the chunks.
+    ///
+    /// # Examples
+    ///
+    /// ```
+    /// use mortarpink::bitmap::BitMap;
+    ///
+    /// let mut bitmap = BitMap::<8>::from([false, true]);
+    /// bitmap.set_all(true);
+    /// assert_eq!(bitmap, BitMap::ones(2));
+    /// ```
     pub fn set_all(&mut self, value: bool) {
         let len = self.len;
         deque::fill(&mut self.chunks, value);
@@ -642,13 +846,18 @@ impl<const N: usize> BitMap<N> {
     /// # Panics
     ///
     /// Panics if the lengths differ.
+    ///
+    /// # Examples
+    ///
+    /// ```
+    /// use mortarpink::bitmap::BitMap;
+    ///
+    /// let mut bitmap = BitMap::<8>::from([true, true, false]);
+    /// bitmap.and(&BitMap::from([true, false, false]));
+    /// assert_eq!(bitmap, BitMap::from([true, false, false]));
+    /// ```
     pub fn and(&mut self, other: &BitMap<N>) {
-        assert!(
-            self.len() == other.len(),
-            "BitMap lengths don't match: {} vs {}",
-            self.len(),
-            other.len()
-        );
+        assert!(self.len() == other.len(), "BitMap lengths don't match: {} vs {}", self.len(), other.len());
 
         self.combine::<And>(other);
     }
@@ -666,13 +875,18 @@ impl<const N: usize> BitMap<N> {
     /// # Panics
     ///
     /// Panics if the lengths differ.
+    ///
+    /// # Examples
+    ///
+    /// ```
+    /// use mortarpink::bitmap::BitMap;
+    ///
+    /// let mut bitmap = BitMap::<8>::from([true, true, false]);
+    /// bitmap.and_not(&BitMap::from([true, false, false]));
+    /// assert_eq!(bitmap, BitMap::from([false, true, false]));
+    /// ```
     pub fn and_not(&mut self, other: &BitMap<N>) {
-        assert!(
-            self.len() == other.len(),
-            "BitMap lengths don't match: {} vs {}",
-            self.len(),
-            other.len()
-        );
+        assert!(self.len() == other.len(), "BitMap lengths don't match: {} vs {}", self.len(), other.len());
 
         self.combine::<AndNot>(other);
     }
@@ -690,13 +904,18 @@ impl<const N: usize> BitMap<N> {
     /// # Panics
     ///
     /// Panics if the lengths differ.
+    ///
+    /// # Examples
+    ///
+    /// ```
+    /// use mortarpink::bitmap::BitMap;
+    ///
+    /// let mut bitmap = BitMap::<8>::from([true, false, false]);
+    /// bitmap.or(&BitMap::from([true, true, false]));
+    /// assert_eq!(bitmap, BitMap::from([true, true, false]));
+    /// ```
     pub fn or(&mut self, other: &BitMap<N>) {
-        assert!(
-            self.len() == other.len(),
-            "BitMap lengths don't match: {} vs {}",
-            self.len(),
-            other.len()
-        );
+        assert!(self.len() == other.len(), "BitMap lengths don't match: {} vs {}", self.len(), other.len());
 
         self.combine::<Or>(other);
     }
@@ -714,13 +933,18 @@ impl<const N: usize> BitMap<N> {
     /// # Panics
     ///
     /// Panics if the lengths differ.
+    ///
+    /// # Examples
+    ///
+    /// ```
+    /// use mortarpink::bitmap::BitMap;
+    ///
+    /// let mut bitmap = BitMap::<8>::from([true, true, false]);
+    /// bitmap.xor(&BitMap::from([true, false, false]));
+    /// assert_eq!(bitmap, BitMap::from([false, true, false]));
+    /// ```
     pub fn xor(&mut self, other: &BitMap<N>) {
-        assert!(
-            self.len() == other.len(),
-            "BitMap lengths don't match: {} vs {}",
-            self.len(),
-            other.len()
-        );
+        assert!(self.len() == other.len(), "BitMap lengths don't match: {} vs {}", self.len(), other.len());
 
         self.combine::<Xor>(other);
     }
@@ -741,9 +965,6 @@ impl<const N: usize> TryClone for BitMap<N> {
     ///
     /// Linear in the chunks.
     fn try_clone(&self) -> Result<Self, AllocError> {
-        Ok(BitMap {
-            chunks: self.chunks.try_clone()?,
-            len: self.len,
-        })
+        Ok(BitMap { chunks: self.chunks.try_clone()?, len: self.len })
     }
 }

@@ -45,10 +45,7 @@ impl<const N: usize> ChunkMap<N> {
     /// Does not allocate.
     #[doc(hidden)]
     pub fn new_within(alloc: Global) -> Self {
-        ChunkMap {
-            places: Places::new_within(alloc),
-            chunks: Vec::new_within(alloc),
-        }
+        ChunkMap { places: Places::new_within(alloc), chunks: Vec::new_within(alloc) }
     }
 
     /// Returns the number of chunks.
@@ -268,9 +265,6 @@ impl<const N: usize> ChunkMap<N> {
     ///
     /// Linear in the chunks and nodes.
     pub fn duplicate(&self) -> Result<Self, AllocError> {
-        Ok(ChunkMap {
-            places: self.places.duplicate()?,
-            chunks: copy_chunks(&self.chunks)?,
-        })
+        Ok(ChunkMap { places: self.places.duplicate()?, chunks: copy_chunks(&self.chunks)? })
     }
 }

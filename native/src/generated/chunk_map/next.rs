@@ -82,11 +82,7 @@ fn start(nodes: &[Node], keys: &[usize], root: u32, from: usize) -> Option<Slot>
         }
         let digit = next_digit(node, prefix % 16 + 1);
         if digit < 16 {
-            next = Some(Slot {
-                at: (prefix / 16 * 16 + digit) << node.shift,
-                span: node.shift,
-                link: node.links[digit],
-            });
+            next = Some(Slot { at: (prefix / 16 * 16 + digit) << node.shift, span: node.shift, link: node.links[digit] });
         }
         span = node.shift;
         link = node.links[prefix % 16];

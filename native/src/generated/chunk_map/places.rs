@@ -19,11 +19,7 @@ pub(crate) struct Places {
 impl Places {
     // Returns a list without keys. Does not allocate.
     pub(crate) fn new_within(alloc: Global) -> Self {
-        Places {
-            nodes: Vec::new_within(alloc),
-            keys: Vec::new_within(alloc),
-            root: 0,
-        }
+        Places { nodes: Vec::new_within(alloc), keys: Vec::new_within(alloc), root: 0 }
     }
 
     // Returns the number of keys.
@@ -71,10 +67,6 @@ impl Places {
 
     // Returns a copy. Allocates for its keys and nodes.
     pub(crate) fn duplicate(&self) -> Result<Self, AllocError> {
-        Ok(Places {
-            nodes: self.nodes.try_clone()?,
-            keys: self.keys.try_clone()?,
-            root: self.root,
-        })
+        Ok(Places { nodes: self.nodes.try_clone()?, keys: self.keys.try_clone()?, root: self.root })
     }
 }

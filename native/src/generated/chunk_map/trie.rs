@@ -99,12 +99,7 @@ fn branch(nodes: &mut Vec<Node>, keys: &[usize], link: u32, key: usize, leaf: u3
     links[low] = link;
     links[high] = leaf;
     let new = 2 * nodes.len() as u32 + 1;
-    let node = Node {
-        links,
-        base: key,
-        shift,
-        used: mark(mark(0, low, link), high, leaf),
-    };
+    let node = Node { links, base: key, shift, used: mark(mark(0, low, link), high, leaf) };
     nodes.try_push(node)?;
     Ok(new)
 }

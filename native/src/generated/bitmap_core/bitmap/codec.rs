@@ -37,10 +37,34 @@ pub use crate::generated::bitmap_core::bitmap::codec::range::RangeCfg;
 use crate::support::alloc::{AllocError, Global};
 
 /// A value that has an encoding as bytes. `BitMap` and `Prunable` implement it.
+///
+/// # Examples
+///
+/// ```
+/// use mortarpink::bitmap::BitMap;
+/// use mortarpink::bitmap::codec::EncodeSize;
+///
+/// /// Returns how many bytes the encodings of some values have in all.
+/// fn total<T: EncodeSize>(values: &[T]) -> usize {
+///     values.iter().map(EncodeSize::encode_size).sum()
+/// }
+///
+/// assert_eq!(total(&[BitMap::<8>::ones(9), BitMap::new()]), 16 + 8);
+/// ```
 pub trait EncodeSize {
     /// Returns the size of the encoding in bytes. It fits `usize`.
     ///
     /// Does not allocate; constant time for `BitMap` and `Prunable`.
+    ///
+    /// # Examples
+    ///
+    /// ```
+    /// use mortarpink::bitmap::BitMap;
+    /// use mortarpink::bitmap::codec::EncodeSize;
+    ///
+    /// let bitmap = BitMap::<8>::ones(9);
+    /// assert_eq!(EncodeSize::encode_size(&bitmap), bitmap.encode().len());
+    /// ```
     fn encode_size(&self) -> usize;
 }
 
@@ -55,7 +79,7 @@ pub trait Write: EncodeSize {
     ///
     /// # Memory
     ///
-    /// Allocates at most once, from the allocator of `out`, and only if `out` has no capacity for the encoding.
+    /// Allocates at most once, and only if `out` has no capacity for the encoding.
     ///
     /// # Complexity
     ///

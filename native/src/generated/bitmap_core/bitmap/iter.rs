@@ -8,8 +8,18 @@ use crate::support::prelude::*;
 
 /// An iterator over the bits of a bitmap, in order. `BitMap::iter` returns it.
 ///
-/// In contracts its value is the list of the bits that are left.
 /// After the last bit, `next` always returns `None`. A call of `next` does not allocate, and takes constant time.
+///
+/// # Examples
+///
+/// ```
+/// use mortarpink::bitmap::BitMap;
+///
+/// let bitmap = BitMap::<8>::from([true, false, true]);
+/// let mut bits = bitmap.iter();
+/// assert_eq!((bits.next(), bits.len()), (Some(true), 2));
+/// ```
+#[derive(Debug)]
 pub struct Iterator<'a, const N: usize> {
     bitmap: &'a BitMap<N>,
     position: u64,
@@ -19,6 +29,15 @@ impl<const N: usize> BitMap<N> {
     /// Returns an iterator over the bits in order, from position 0 to the length.
     ///
     /// Does not allocate; constant time.
+    ///
+    /// # Examples
+    ///
+    /// ```
+    /// use mortarpink::bitmap::BitMap;
+    ///
+    /// let bitmap = BitMap::<8>::from([true, false, true]);
+    /// assert_eq!(bitmap.iter().collect::<Vec<bool>>(), [true, false, true]);
+    /// ```
     pub fn iter(&self) -> Iterator<'_, N> {
         let _ = self.len();
         Iterator { bitmap: self, position: 0 }

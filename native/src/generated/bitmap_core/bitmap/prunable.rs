@@ -22,6 +22,21 @@ use crate::support::ops::Range;
 /// It borrows a chunk, and the call of the trait copies it.
 ///
 /// The head of the module has an example.
+///
+/// # Examples
+///
+/// ```
+/// use mortarpink::bitmap::Prunable;
+///
+/// // A log of which the chunks before the last hundred bits are pruned.
+/// let mut log = Prunable::<4>::new();
+/// for event in 0..1000 {
+///     log.push(event % 3 == 0);
+///     log.prune_to_bit(log.len().saturating_sub(100));
+/// }
+/// assert_eq!((log.len(), log.pruned_bits()), (1000, 896));
+/// assert!(log.get_bit(999));
+/// ```
 #[derive(Debug)]
 pub struct Prunable<const N: usize> {
     bitmap: BitMap<N>,
@@ -42,10 +57,7 @@ impl<const N: usize> Prunable<N> {
         const { assert!(N > 0, "chunk size must be > 0") };
         const { assert!(N < 1 << 61, "chunk size must be below 2^61") };
 
-        Prunable {
-            bitmap: BitMap::new_within(alloc),
-            pruned_chunks: 0,
-        }
+        Prunable { bitmap: BitMap::new_within(alloc), pruned_chunks: 0 }
     }
 
     /// Returns an empty bitmap in which nothing is pruned, as `new` does.
@@ -79,10 +91,7 @@ impl<const N: usize> Prunable<N> {
         if pruned_bits.is_none() {
             return Err(Error::PrunedChunksOverflow);
         }
-        Ok(Prunable {
-            bitmap: BitMap::new_within(alloc),
-            pruned_chunks,
-        })
+        Ok(Prunable { bitmap: BitMap::new_within(alloc), pruned_chunks })
     }
 
     // The bitmap of a number of pruned chunks and the bits after them.
@@ -98,6 +107,16 @@ impl<const N: usize> Prunable<N> {
     /// Returns the number of bits, pruned bits included.
     ///
     /// Does not allocate; constant time.
+    ///
+    /// # Examples
+    ///
+    /// ```
+    /// use mortarpink::bitmap::Prunable;
+    ///
+    /// let mut bitmap = Prunable::<1>::new_with_pruned_chunks(2).unwrap();
+    /// bitmap.push(true);
+    /// assert_eq!(bitmap.len(), 17);
+    /// ```
     pub fn len(&self) -> u64 {
         self.pruned_bits() + self.bitmap.len()
     }
@@ -105,6 +124,16 @@ impl<const N: usize> Prunable<N> {
     /// Returns whether the length is 0. A bitmap with pruned bits is not empty.
     ///
     /// Does not allocate; constant time.
+    ///
+    /// # Examples
+    ///
+    /// ```
+    /// use mortarpink::bitmap::Prunable;
+    ///
+    /// assert!(Prunable::<8>::new().is_empty());
+    /// // Pruned bits count.
+    /// assert!(!Prunable::<8>::new_with_pruned_chunks(1).unwrap().is_empty());
+    /// ```
     pub fn is_empty(&self) -> bool {
         self.len() == 0
     }
@@ -112,6 +141,17 @@ impl<const N: usize> Prunable<N> {
     /// Returns whether the length is a multiple of `8N`. A length of 0 is.
     ///
     /// Does not allocate; constant time.
+    ///
+    /// # Examples
+    ///
+    /// ```
+    /// use mortarpink::bitmap::Prunable;
+    ///
+    /// let mut bitmap = Prunable::<1>::new_with_pruned_chunks(2).unwrap();
+    /// assert!(bitmap.is_chunk_aligned());
+    /// bitmap.push(true);
+    /// assert!(!bitmap.is_chunk_aligned());
+    /// ```
     pub fn is_chunk_aligned(&self) -> bool {
         self.len() % chunk_width::<N>() == 0
     }
@@ -119,6 +159,17 @@ impl<const N: usize> Prunable<N> {
     /// Returns the number of pruned chunks.
     ///
     /// Does not allocate; constant time.
+    ///
+    /// # Examples
+    ///
+    /// ```
+    /// use mortarpink::bitmap::Prunable;
+    ///
+    /// let mut bitmap = Prunable::<4>::new();
+    /// bitmap.extend_to(100);
+    /// bitmap.prune_to_bit(64);
+    /// assert_eq!(bitmap.pruned_chunks(), 2);
+    /// ```
     pub fn pruned_chunks(&self) -> usize {
         self.pruned_chunks
     }
@@ -126,6 +177,14 @@ impl<const N: usize> Prunable<N> {
     /// Returns the number of pruned bits, which is the first position that is not pruned.
     ///
     /// Does not allocate; constant time.
+    ///
+    /// # Examples
+    ///
+    /// ```
+    /// use mortarpink::bitmap::Prunable;
+    ///
+    /// assert_eq!(Prunable::<4>::new_with_pruned_chunks(2).unwrap().pruned_bits(), 64);
+    /// ```
     pub fn pruned_bits(&self) -> u64 {
         let pruned = self.pruned_chunks as u64;
         chunk_width::<N>() * pruned
@@ -134,6 +193,17 @@ impl<const N: usize> Prunable<N> {
     /// Returns the number of chunks, including pruned chunks and a partly used last chunk.
     ///
     /// Does not allocate; constant time.
+    ///
+    /// # Examples
+    ///
+    /// ```
+    /// use mortarpink::bitmap::Prunable;
+    ///
+    /// let mut bitmap = Prunable::<1>::new_with_pruned_chunks(2).unwrap();
+    /// bitmap.push(true);
+    /// // Two chunks are pruned, and one is retained.
+    /// assert_eq!(bitmap.chunks_len(), 3);
+    /// ```
     pub fn chunks_len(&self) -> usize {
         chunk_count::<N>(self.len())
     }
@@ -141,6 +211,17 @@ impl<const N: usize> Prunable<N> {
     /// Returns the number of full chunks, including pruned chunks. A partly used last chunk does not count.
     ///
     /// Does not allocate; constant time.
+    ///
+    /// # Examples
+    ///
+    /// ```
+    /// use mortarpink::bitmap::Prunable;
+    ///
+    /// let mut bitmap = Prunable::<1>::new_with_pruned_chunks(2).unwrap();
+    /// bitmap.extend_to(33);
+    /// // Two pruned chunks, and two of the three that are retained.
+    /// assert_eq!(bitmap.complete_chunks(), 4);
+    /// ```
     pub fn complete_chunks(&self) -> usize {
         chunk_index::<N>(self.len())
     }
@@ -152,6 +233,16 @@ impl<const N: usize> Prunable<N> {
     /// # Panics
     ///
     /// Panics if `bit` is pruned, or not below the length.
+    ///
+    /// # Examples
+    ///
+    /// ```
+    /// use mortarpink::bitmap::Prunable;
+    ///
+    /// let mut bitmap = Prunable::<1>::new_with_pruned_chunks(2).unwrap();
+    /// bitmap.push(true);
+    /// assert!(bitmap.get_bit(16));
+    /// ```
     pub fn get_bit(&self, bit: u64) -> bool {
         assert!(self.pruned_chunks() as u64 * (8 * N as u64) <= bit, "bit pruned: {}", bit);
         assert!(bit < self.len(), "bit {} out of bounds (len: {})", bit, self.len());
@@ -168,6 +259,16 @@ impl<const N: usize> Prunable<N> {
     /// # Complexity
     ///
     /// Linear in the words (64 bits) of the retained chunks.
+    ///
+    /// # Examples
+    ///
+    /// ```
+    /// use mortarpink::bitmap::Prunable;
+    ///
+    /// let mut bitmap = Prunable::<1>::new_with_pruned_chunks(2).unwrap();
+    /// bitmap.push_byte(0b0000_0111);
+    /// assert_eq!((bitmap.len(), bitmap.count_ones()), (24, 3));
+    /// ```
     pub fn count_ones(&self) -> u64 {
         self.bitmap.count_ones()
     }
@@ -181,6 +282,17 @@ impl<const N: usize> Prunable<N> {
     /// # Complexity
     ///
     /// Linear in the words (64 bits) of the retained chunks.
+    ///
+    /// # Examples
+    ///
+    /// ```
+    /// use mortarpink::bitmap::Prunable;
+    ///
+    /// let mut bitmap = Prunable::<1>::new_with_pruned_chunks(2).unwrap();
+    /// bitmap.push_byte(0b0000_0111);
+    /// // Pruned bits are not counted.
+    /// assert_eq!(bitmap.count_zeros(), 5);
+    /// ```
     pub fn count_zeros(&self) -> u64 {
         self.bitmap.count_zeros()
     }
@@ -201,18 +313,19 @@ impl<const N: usize> Prunable<N> {
     /// # Panics
     ///
     /// Panics if the range starts below the first position that is not pruned; or if the range ends after the length.
+    ///
+    /// # Examples
+    ///
+    /// ```
+    /// use mortarpink::bitmap::Prunable;
+    ///
+    /// let mut bitmap = Prunable::<1>::new_with_pruned_chunks(2).unwrap();
+    /// bitmap.push_byte(0b0001_0000);
+    /// assert!(bitmap.is_unset(16..20) && !bitmap.is_unset(16..21));
+    /// ```
     pub fn is_unset(&self, range: Range<u64>) -> bool {
-        assert!(
-            self.pruned_chunks() as u64 * (8 * N as u64) <= range.start,
-            "range start {} is pruned",
-            range.start
-        );
-        assert!(
-            range.end <= self.len(),
-            "range end {} out of bounds (len: {})",
-            range.end,
-            self.len()
-        );
+        assert!(self.pruned_chunks() as u64 * (8 * N as u64) <= range.start, "range start {} is pruned", range.start);
+        assert!(range.end <= self.len(), "range end {} out of bounds (len: {})", range.end, self.len());
 
         let pruned = self.pruned_bits();
         self.bitmap.is_unset(range.start - pruned..range.end.saturating_sub(pruned))
@@ -225,6 +338,16 @@ impl<const N: usize> Prunable<N> {
     /// # Panics
     ///
     /// Panics if `bit` is pruned, or not below the length.
+    ///
+    /// # Examples
+    ///
+    /// ```
+    /// use mortarpink::bitmap::Prunable;
+    ///
+    /// let mut bitmap = Prunable::<1>::new_with_pruned_chunks(2).unwrap();
+    /// bitmap.push_byte(7);
+    /// assert_eq!(bitmap.get_chunk_containing(20), &[7]);
+    /// ```
     pub fn get_chunk_containing(&self, bit: u64) -> &[u8; N] {
         assert!(self.pruned_chunks() as u64 * (8 * N as u64) <= bit, "bit pruned: {}", bit);
         assert!(bit < self.len(), "bit {} out of bounds (len: {})", bit, self.len());
@@ -240,13 +363,18 @@ impl<const N: usize> Prunable<N> {
     /// # Panics
     ///
     /// Panics if the chunk `index` has no retained bit.
+    ///
+    /// # Examples
+    ///
+    /// ```
+    /// use mortarpink::bitmap::Prunable;
+    ///
+    /// let mut bitmap = Prunable::<1>::new_with_pruned_chunks(2).unwrap();
+    /// bitmap.push_byte(7);
+    /// assert_eq!(bitmap.get_chunk(2), &[7]);
+    /// ```
     pub fn get_chunk(&self, index: usize) -> &[u8; N] {
-        assert!(
-            self.pruned_chunks() <= index,
-            "chunk {} is pruned (pruned_chunks: {})",
-            index,
-            self.pruned_chunks()
-        );
+        assert!(self.pruned_chunks() <= index, "chunk {} is pruned (pruned_chunks: {})", index, self.pruned_chunks());
         assert!(
             (index as u64) < self.len().div_ceil(8 * N as u64),
             "chunk {} out of bounds (chunks: {})",
@@ -270,6 +398,17 @@ impl<const N: usize> Prunable<N> {
     /// # Panics
     ///
     /// Panics if no bit is retained.
+    ///
+    /// # Examples
+    ///
+    /// ```
+    /// use mortarpink::bitmap::Prunable;
+    ///
+    /// let mut bitmap = Prunable::<1>::new_with_pruned_chunks(2).unwrap();
+    /// bitmap.push_byte(7);
+    /// bitmap.push(true);
+    /// assert_eq!(bitmap.last_chunk(), (&[1], 1));
+    /// ```
     pub fn last_chunk(&self) -> (&[u8; N], u64) {
         assert!(self.pruned_chunks() as u64 * (8 * N as u64) < self.len(), "no bit is retained");
 
@@ -285,6 +424,7 @@ impl<const N: usize> Prunable<N> {
     /// # Panics
     ///
     /// Panics if `bit` is pruned, or not below the length.
+    #[doc(hidden)]
     pub fn try_set_bit(&mut self, bit: u64, value: bool) {
         assert!(self.pruned_chunks() as u64 * (8 * N as u64) <= bit, "bit pruned: {}", bit);
         assert!(bit < self.len(), "bit {} out of bounds (len: {})", bit, self.len());
@@ -309,22 +449,13 @@ impl<const N: usize> Prunable<N> {
     /// # Panics
     ///
     /// Panics if the range starts below the first position that is not pruned; or if the range ends after the length.
+    #[doc(hidden)]
     pub fn try_set_range(&mut self, range: Range<u64>, value: bool) {
-        assert!(
-            self.pruned_chunks() as u64 * (8 * N as u64) <= range.start,
-            "range start {} is pruned",
-            range.start
-        );
-        assert!(
-            range.end <= self.len(),
-            "range end {} out of bounds (len: {})",
-            range.end,
-            self.len()
-        );
+        assert!(self.pruned_chunks() as u64 * (8 * N as u64) <= range.start, "range start {} is pruned", range.start);
+        assert!(range.end <= self.len(), "range end {} out of bounds (len: {})", range.end, self.len());
 
         let pruned = self.pruned_bits();
-        self.bitmap
-            .try_set_range(range.start - pruned..range.end.saturating_sub(pruned), value);
+        self.bitmap.try_set_range(range.start - pruned..range.end.saturating_sub(pruned), value);
     }
 
     /// Removes the last bit, and returns it. At least one bit is retained.
@@ -334,11 +465,19 @@ impl<const N: usize> Prunable<N> {
     /// # Panics
     ///
     /// Panics if no bit is retained.
+    ///
+    /// # Examples
+    ///
+    /// ```
+    /// use mortarpink::bitmap::Prunable;
+    ///
+    /// let mut bitmap = Prunable::<1>::new_with_pruned_chunks(2).unwrap();
+    /// bitmap.push(true);
+    /// assert!(bitmap.pop());
+    /// assert_eq!(bitmap.len(), 16);
+    /// ```
     pub fn pop(&mut self) -> bool {
-        assert!(
-            self.pruned_chunks() as u64 * (8 * N as u64) < self.len(),
-            "Cannot pop from empty bitmap"
-        );
+        assert!(self.pruned_chunks() as u64 * (8 * N as u64) < self.len(), "Cannot pop from empty bitmap");
 
         self.bitmap.pop()
     }
@@ -356,11 +495,19 @@ impl<const N: usize> Prunable<N> {
     /// # Panics
     ///
     /// Panics if `n` is below the first position that is not pruned; or if `n` is above the length.
+    ///
+    /// # Examples
+    ///
+    /// ```
+    /// use mortarpink::bitmap::Prunable;
+    ///
+    /// let mut bitmap = Prunable::<1>::new_with_pruned_chunks(2).unwrap();
+    /// bitmap.push_byte(7);
+    /// bitmap.truncate(18);
+    /// assert_eq!((bitmap.len(), bitmap.count_ones()), (18, 2));
+    /// ```
     pub fn truncate(&mut self, n: u64) {
-        assert!(
-            self.pruned_chunks() as u64 * (8 * N as u64) <= n,
-            "cannot truncate into pruned region"
-        );
+        assert!(self.pruned_chunks() as u64 * (8 * N as u64) <= n, "cannot truncate into pruned region");
         assert!(n <= self.len(), "cannot truncate to a larger size");
 
         let pruned = self.pruned_bits();
@@ -374,12 +521,20 @@ impl<const N: usize> Prunable<N> {
     /// # Panics
     ///
     /// Panics if the length is not a multiple of `8N`; or if no bit is retained.
+    ///
+    /// # Examples
+    ///
+    /// ```
+    /// use mortarpink::bitmap::Prunable;
+    ///
+    /// let mut bitmap = Prunable::<1>::new_with_pruned_chunks(2).unwrap();
+    /// bitmap.push_byte(7);
+    /// assert_eq!(bitmap.pop_chunk(), [7]);
+    /// assert_eq!(bitmap.len(), 16);
+    /// ```
     pub fn pop_chunk(&mut self) -> [u8; N] {
         assert!(self.len() % (8 * N as u64) == 0, "cannot pop chunk when not chunk aligned");
-        assert!(
-            self.pruned_chunks() as u64 * (8 * N as u64) < self.len(),
-            "cannot pop chunk: bitmap has fewer than CHUNK_SIZE_BITS bits"
-        );
+        assert!(self.pruned_chunks() as u64 * (8 * N as u64) < self.len(), "cannot pop chunk: bitmap has fewer than CHUNK_SIZE_BITS bits");
 
         self.bitmap.remove_last_chunk()
     }
@@ -399,6 +554,7 @@ impl<const N: usize> Prunable<N> {
     /// # Panics
     ///
     /// Panics if `bit` is above the length.
+    #[doc(hidden)]
     pub fn try_prune_to_bit(&mut self, bit: u64) {
         assert!(bit <= self.len(), "bit {} out of bounds (len: {})", bit, self.len());
 
@@ -417,13 +573,19 @@ impl<const N: usize> Prunable<N> {
     /// # Panics
     ///
     /// Panics if the chunk `index` has no retained bit; or if `chunk` has a set bit at or past the length.
+    ///
+    /// # Examples
+    ///
+    /// ```
+    /// use mortarpink::bitmap::Prunable;
+    ///
+    /// let mut bitmap = Prunable::<1>::new_with_pruned_chunks(2).unwrap();
+    /// bitmap.push_byte(7);
+    /// bitmap.set_chunk_by_index(2, &[8]);
+    /// assert_eq!(bitmap.get_chunk(2), &[8]);
+    /// ```
     pub fn set_chunk_by_index(&mut self, index: usize, chunk: &[u8; N]) {
-        assert!(
-            self.pruned_chunks() <= index,
-            "cannot set pruned chunk {} (pruned_chunks: {})",
-            index,
-            self.pruned_chunks()
-        );
+        assert!(self.pruned_chunks() <= index, "cannot set pruned chunk {} (pruned_chunks: {})", index, self.pruned_chunks());
         assert!(
             (index as u64) < self.len().div_ceil(8 * N as u64),
             "chunk index {} out of bounds (chunks_len: {})",
@@ -456,6 +618,17 @@ impl<const N: usize> Prunable<N> {
     /// # Panics
     ///
     /// Panics if the new length does not fit `u64`.
+    ///
+    /// # Examples
+    ///
+    /// ```
+    /// use mortarpink::bitmap::Prunable;
+    ///
+    /// let mut bitmap = Prunable::<1>::new_with_pruned_chunks(2).unwrap();
+    /// bitmap.try_push(true)?;
+    /// assert!(bitmap.get_bit(16));
+    /// # Ok::<(), mortarpink::AllocError>(())
+    /// ```
     #[inline]
     pub fn try_push(&mut self, bit: bool) -> Result<(), AllocError> {
         assert!(self.len() <= u64::MAX - 1, "length overflows u64");
@@ -480,6 +653,17 @@ impl<const N: usize> Prunable<N> {
     /// # Panics
     ///
     /// Panics if the length is not a multiple of 8; or if the new length does not fit `u64`.
+    ///
+    /// # Examples
+    ///
+    /// ```
+    /// use mortarpink::bitmap::Prunable;
+    ///
+    /// let mut bitmap = Prunable::<1>::new_with_pruned_chunks(2).unwrap();
+    /// bitmap.try_push_byte(2)?;
+    /// assert!(bitmap.get_bit(17));
+    /// # Ok::<(), mortarpink::AllocError>(())
+    /// ```
     pub fn try_push_byte(&mut self, byte: u8) -> Result<(), AllocError> {
         assert!(self.len() % 8 == 0, "cannot add byte when not byte aligned");
         assert!(self.len() <= u64::MAX - 8, "length overflows u64");
@@ -504,6 +688,17 @@ impl<const N: usize> Prunable<N> {
     /// # Panics
     ///
     /// Panics if the length is not a multiple of `8N`; or if the new length does not fit `u64`.
+    ///
+    /// # Examples
+    ///
+    /// ```
+    /// use mortarpink::bitmap::Prunable;
+    ///
+    /// let mut bitmap = Prunable::<1>::new_with_pruned_chunks(2).unwrap();
+    /// bitmap.try_push_chunk(&[2])?;
+    /// assert!(bitmap.get_bit(17));
+    /// # Ok::<(), mortarpink::AllocError>(())
+    /// ```
     pub fn try_push_chunk(&mut self, chunk: &[u8; N]) -> Result<(), AllocError> {
         assert!(self.len() % (8 * N as u64) == 0, "cannot add chunk when not chunk aligned");
         assert!(self.len() <= u64::MAX - (8 * N as u64), "length overflows u64");
@@ -524,6 +719,17 @@ impl<const N: usize> Prunable<N> {
     /// # Complexity
     ///
     /// Amortized linear in the chunks that are appended.
+    ///
+    /// # Examples
+    ///
+    /// ```
+    /// use mortarpink::bitmap::Prunable;
+    ///
+    /// let mut bitmap = Prunable::<1>::new_with_pruned_chunks(2).unwrap();
+    /// bitmap.try_extend_to(20)?;
+    /// assert_eq!((bitmap.len(), bitmap.count_zeros()), (20, 4));
+    /// # Ok::<(), mortarpink::AllocError>(())
+    /// ```
     pub fn try_extend_to(&mut self, n: u64) -> Result<(), AllocError> {
         let pruned = self.pruned_bits();
         self.bitmap.try_extend_to(n.saturating_sub(pruned))
@@ -546,6 +752,17 @@ impl<const N: usize> Prunable<N> {
     /// # Panics
     ///
     /// Panics if the new length does not fit `u64`.
+    ///
+    /// # Examples
+    ///
+    /// ```
+    /// use mortarpink::bitmap::{BitMap, Prunable};
+    ///
+    /// let mut bitmap = Prunable::<1>::new_with_pruned_chunks(2).unwrap();
+    /// bitmap.try_extend_from_bitmap(&BitMap::<8>::ones(3))?;
+    /// assert_eq!((bitmap.len(), bitmap.count_ones()), (19, 3));
+    /// # Ok::<(), mortarpink::AllocError>(())
+    /// ```
     pub fn try_extend_from_bitmap<const M: usize>(&mut self, other: &BitMap<M>) -> Result<(), AllocError> {
         assert!(self.len() <= u64::MAX - other.len(), "length overflows u64");
 
@@ -571,13 +788,19 @@ impl<const N: usize> Prunable<N> {
     /// # Panics
     ///
     /// Panics if `chunks` has more chunks than are pruned.
+    ///
+    /// # Examples
+    ///
+    /// ```
+    /// use mortarpink::bitmap::Prunable;
+    ///
+    /// let mut bitmap = Prunable::<1>::new_with_pruned_chunks(2).unwrap();
+    /// bitmap.try_unprune(&[[1]])?;
+    /// assert_eq!((bitmap.pruned_chunks(), bitmap.get_bit(8)), (1, true));
+    /// # Ok::<(), mortarpink::AllocError>(())
+    /// ```
     pub fn try_unprune(&mut self, chunks: &[[u8; N]]) -> Result<(), AllocError> {
-        assert!(
-            chunks.len() <= self.pruned_chunks(),
-            "cannot unprune {} chunks (only {} pruned)",
-            chunks.len(),
-            self.pruned_chunks()
-        );
+        assert!(chunks.len() <= self.pruned_chunks(), "cannot unprune {} chunks (only {} pruned)", chunks.len(), self.pruned_chunks());
 
         let pruned = self.pruned_chunks;
         self.bitmap.put_front_chunks(chunks)?;
@@ -588,6 +811,14 @@ impl<const N: usize> Prunable<N> {
     /// Returns the mask of the bit at position `bit` in its byte: 2 to the power `bit mod 8`.
     ///
     /// Does not allocate; constant time.
+    ///
+    /// # Examples
+    ///
+    /// ```
+    /// use mortarpink::bitmap::Prunable;
+    ///
+    /// assert_eq!(Prunable::<4>::chunk_byte_bitmask(33), 0b0000_0010);
+    /// ```
     pub fn chunk_byte_bitmask(bit: u64) -> u8 {
         chunk::bit_mask(bit)
     }
@@ -597,6 +828,15 @@ impl<const N: usize> Prunable<N> {
     /// `N` is at least 1. Does not allocate; constant time.
     ///
     /// Does not compile if `N` is 0.
+    ///
+    /// # Examples
+    ///
+    /// ```
+    /// use mortarpink::bitmap::Prunable;
+    ///
+    /// // Position 42 is in byte 1 of its chunk of four bytes.
+    /// assert_eq!(Prunable::<4>::chunk_byte_offset(42), 1);
+    /// ```
     pub fn chunk_byte_offset(bit: u64) -> usize {
         const { assert!(N > 0, "chunk size must be > 0") };
 
@@ -608,6 +848,14 @@ impl<const N: usize> Prunable<N> {
     /// `N` is at least 1, and `8N` fits `u64`. Does not allocate; constant time.
     ///
     /// Does not compile if `N` is 0, or `8N` does not fit `u64`.
+    ///
+    /// # Examples
+    ///
+    /// ```
+    /// use mortarpink::bitmap::Prunable;
+    ///
+    /// assert_eq!(Prunable::<4>::to_chunk_index(42), 1);
+    /// ```
     pub fn to_chunk_index(bit: u64) -> usize {
         const { assert!(N > 0, "chunk size must be > 0") };
         const { assert!(N < 1 << 61, "chunk size must be below 2^61") };
@@ -620,6 +868,14 @@ impl<const N: usize> Prunable<N> {
     /// `N` is at least 1. Does not allocate; constant time.
     ///
     /// Does not compile if `N` is 0.
+    ///
+    /// # Examples
+    ///
+    /// ```
+    /// use mortarpink::bitmap::Prunable;
+    ///
+    /// assert!(Prunable::<1>::get_bit_from_chunk(&[0b0000_0100], 2));
+    /// ```
     pub fn get_bit_from_chunk(chunk: &[u8; N], bit: u64) -> bool {
         const { assert!(N > 0, "chunk size must be > 0") };
 
@@ -642,9 +898,6 @@ impl<const N: usize> TryClone for Prunable<N> {
     ///
     /// Linear in the retained chunks.
     fn try_clone(&self) -> Result<Self, AllocError> {
-        Ok(Prunable {
-            bitmap: self.bitmap.try_clone()?,
-            pruned_chunks: self.pruned_chunks,
-        })
+        Ok(Prunable { bitmap: self.bitmap.try_clone()?, pruned_chunks: self.pruned_chunks })
     }
 }

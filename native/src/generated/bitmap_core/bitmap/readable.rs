@@ -23,27 +23,68 @@ use crate::support::ops::Range;
 /// Positions count bits, and indices count chunks. Both are absolute: they count from the first bit that the bitmap ever had.
 /// A position is retained if it is not pruned and below the length.
 ///
-/// An implementor states which bitmap a value holds (`meaning`) and implements the five functions without a body.
+/// An implementor implements the five functions without a body.
 /// It may also implement `chunks_around`, if it has chunks in memory. Searches, counts and iterators then read these in place.
-/// The contracts require that `N` is at least 1, and that `8N` and the length fit `u64`. At most the length is pruned.
+/// `N` is at least 1, and `8N` and the length fit `u64`. At most the length is pruned.
 /// While the value is borrowed, the functions describe one and the same bitmap.
 /// The bits of a chunk at or past the length may have any value: no other function reads them.
-/// The final functions do not allocate themselves. For `BitMap` and `Prunable`, no function of the trait allocates,
+/// The functions with a body do not allocate themselves. For `BitMap` and `Prunable`, no function of the trait allocates,
 /// and the functions that an implementor writes take constant time.
 ///
 /// Complexities count words: 64 bits of one chunk each, or fewer at the end of a chunk.
 ///
-/// A caller for any `N` calls `len()` before it iterates over set positions: the contract of `len` gives its proof the bound on `N`.
+/// # Examples
+///
+/// ```
+/// use mortarpink::bitmap::{BitMap, Prunable, Readable};
+///
+/// /// Returns the number of set positions of any bitmap up to the first unset one.
+/// fn leading_ones<const N: usize>(bitmap: &impl Readable<N>) -> u64 {
+///     let first = bitmap.pruned_bits();
+///     bitmap.next_zero(first).unwrap_or(bitmap.len()) - first
+/// }
+///
+/// let mut log = Prunable::<4>::new_with_pruned_chunks(1).unwrap();
+/// log.push_byte(0b0011_1111);
+/// assert_eq!((leading_ones(&log), leading_ones(&BitMap::<8>::ones(3))), (6, 3));
+/// ```
 pub trait Readable<const N: usize> {
     /// Returns the number of full chunks, including pruned chunks. A partly used last chunk does not count.
+    ///
+    /// # Examples
+    ///
+    /// ```
+    /// use mortarpink::bitmap::{BitMap, Readable};
+    ///
+    /// assert_eq!(BitMap::<1>::ones(20).complete_chunks(), 2);
+    /// ```
     fn complete_chunks(&self) -> usize;
 
     /// Returns a copy of the chunk at an absolute index. The chunk has a retained bit. Its bits past the length may have any value.
+    ///
+    /// # Examples
+    ///
+    /// ```
+    /// use mortarpink::bitmap::{BitMap, Readable};
+    ///
+    /// let bitmap = BitMap::<1>::from([false, true, true, false, false, false, false, false, false, true]);
+    /// assert_eq!(bitmap.get_chunk(0), [0b0000_0110]);
+    /// ```
     fn get_chunk(&self, chunk: usize) -> [u8; N];
 
     /// Returns a copy of the last chunk, and the number of its bits below the length: `8N` if it is full.
     ///
     /// At least one bit is retained. The bits of the chunk past the length may have any value.
+    ///
+    /// # Examples
+    ///
+    /// ```
+    /// use mortarpink::bitmap::{BitMap, Readable};
+    ///
+    /// let bitmap = BitMap::<1>::from([false, true, true, false, false, false, false, false, false, true]);
+    /// // The last chunk has two bits.
+    /// assert_eq!(bitmap.last_chunk(), ([0b0000_0010], 2));
+    /// ```
     fn last_chunk(&self) -> ([u8; N], u64);
 
     /// Returns consecutive chunks in place, among them the chunk at an absolute index, and the absolute index of the first.
@@ -52,19 +93,54 @@ pub trait Readable<const N: usize> {
     /// If the bitmap does not hold the chunk in a slice, the slice is empty. The default is an empty slice.
     ///
     /// For `BitMap` and `Prunable`, does not allocate; constant time.
+    ///
+    /// # Examples
+    ///
+    /// ```
+    /// use mortarpink::bitmap::{BitMap, Readable};
+    ///
+    /// // A dense bitmap has all its chunks in memory, one after the other.
+    /// let bitmap = BitMap::<1>::ones(20);
+    /// let (chunks, first) = bitmap.chunks_around(1);
+    /// assert_eq!((chunks, first), (&[[255], [255], [15]][..], 0));
+    /// ```
     fn chunks_around(&self, chunk: usize) -> (&[[u8; N]], usize) {
         (&[], chunk)
     }
 
     /// Returns the number of pruned chunks.
+    ///
+    /// # Examples
+    ///
+    /// ```
+    /// use mortarpink::bitmap::{BitMap, Readable};
+    ///
+    /// assert_eq!(BitMap::<1>::ones(20).pruned_chunks(), 0);
+    /// ```
     fn pruned_chunks(&self) -> usize;
 
     /// Returns the number of bits, pruned bits included.
+    ///
+    /// # Examples
+    ///
+    /// ```
+    /// use mortarpink::bitmap::{BitMap, Readable};
+    ///
+    /// assert_eq!(Readable::len(&BitMap::<1>::ones(20)), 20);
+    /// ```
     fn len(&self) -> u64;
 
     /// Returns whether the length is 0. A bitmap with pruned bits is not empty.
     ///
     /// Does not allocate. Calls `len` once.
+    ///
+    /// # Examples
+    ///
+    /// ```
+    /// use mortarpink::bitmap::{BitMap, Readable};
+    ///
+    /// assert!(Readable::is_empty(&BitMap::<1>::new()));
+    /// ```
     fn is_empty(&self) -> bool {
         self.len() == 0
     }
@@ -72,6 +148,15 @@ pub trait Readable<const N: usize> {
     /// Returns the number of pruned bits, which is the first position that is not pruned.
     ///
     /// Does not allocate. Calls `pruned_chunks` once.
+    ///
+    /// # Examples
+    ///
+    /// ```
+    /// use mortarpink::bitmap::{Prunable, Readable};
+    ///
+    /// let bitmap = Prunable::<4>::new_with_pruned_chunks(2).unwrap();
+    /// assert_eq!(Readable::pruned_bits(&bitmap), 64);
+    /// ```
     fn pruned_bits(&self) -> u64 {
         self.pruned_chunks() as u64 * (8 * N as u64)
     }
@@ -83,6 +168,15 @@ pub trait Readable<const N: usize> {
     /// # Panics
     ///
     /// Panics if `bit` is pruned, or not below the length.
+    ///
+    /// # Examples
+    ///
+    /// ```
+    /// use mortarpink::bitmap::{BitMap, Readable};
+    ///
+    /// let bitmap = BitMap::<1>::from([false, true, true, false, false, false, false, false, false, true]);
+    /// assert!(bitmap.get_bit(9) && !bitmap.get_bit(8));
+    /// ```
     fn get_bit(&self, bit: u64) -> bool {
         assert!(self.pruned_chunks() as u64 * (8 * N as u64) <= bit, "bit pruned: {}", bit);
         assert!(bit < self.len(), "bit {} out of bounds (len: {})", bit, self.len());
@@ -106,6 +200,15 @@ pub trait Readable<const N: usize> {
     /// Calls `len` and `pruned_chunks` once, here. The whole iteration calls `get_chunk` at most once per chunk that the range meets.
     /// Calls `chunks_around` at most once per such chunk, and does not get the chunks that it reads in a slice.
     /// It is linear in the words of the range plus the positions returned.
+    ///
+    /// # Examples
+    ///
+    /// ```
+    /// use mortarpink::bitmap::{BitMap, Readable};
+    ///
+    /// let bitmap = BitMap::<1>::from([false, true, true, false, false, false, false, false, false, true]);
+    /// assert!(bitmap.ones_iter_range(0..9).eq([1, 2]));
+    /// ```
     fn ones_iter_range(&self, range: Range<u64>) -> OnesIter<'_, Self, N>
     where
         Self: Sized,
@@ -122,6 +225,15 @@ pub trait Readable<const N: usize> {
     /// # Complexity
     ///
     /// That of `ones_iter_range` for the range from `pos` to the length.
+    ///
+    /// # Examples
+    ///
+    /// ```
+    /// use mortarpink::bitmap::{BitMap, Readable};
+    ///
+    /// let bitmap = BitMap::<1>::from([false, true, true, false, false, false, false, false, false, true]);
+    /// assert!(bitmap.ones_iter_from(2).eq([2, 9]));
+    /// ```
     fn ones_iter_from(&self, pos: u64) -> OnesIter<'_, Self, N>
     where
         Self: Sized,
@@ -140,6 +252,15 @@ pub trait Readable<const N: usize> {
     /// # Complexity
     ///
     /// That of `ones_iter_range`.
+    ///
+    /// # Examples
+    ///
+    /// ```
+    /// use mortarpink::bitmap::{BitMap, Readable};
+    ///
+    /// let bitmap = BitMap::<1>::from([false, true, true, false, false, false, false, false, false, true]);
+    /// assert!(bitmap.zeros_iter_range(0..5).eq([0, 3, 4]));
+    /// ```
     fn zeros_iter_range(&self, range: Range<u64>) -> OnesIter<'_, Self, N>
     where
         Self: Sized,
@@ -156,6 +277,15 @@ pub trait Readable<const N: usize> {
     /// # Complexity
     ///
     /// That of `ones_iter_range` for the range from `pos` to the length.
+    ///
+    /// # Examples
+    ///
+    /// ```
+    /// use mortarpink::bitmap::{BitMap, Readable};
+    ///
+    /// let bitmap = BitMap::<1>::from([false, true, true, false, false, false, false, false, false, true]);
+    /// assert!(bitmap.zeros_iter_from(6).eq([6, 7, 8]));
+    /// ```
     fn zeros_iter_from(&self, pos: u64) -> OnesIter<'_, Self, N>
     where
         Self: Sized,
@@ -174,6 +304,15 @@ pub trait Readable<const N: usize> {
     /// Calls `len` and `pruned_chunks` once, and `get_chunk` at most once per chunk from `from` to the position found.
     /// Calls `chunks_around` at most once per call of `get_chunk`, and does not get the chunks that it skips in a slice.
     /// Linear in the words from `from` to that position, or to the length if there is none.
+    ///
+    /// # Examples
+    ///
+    /// ```
+    /// use mortarpink::bitmap::{BitMap, Readable};
+    ///
+    /// let bitmap = BitMap::<1>::from([false, true, true, false, false, false, false, false, false, true]);
+    /// assert_eq!([bitmap.next_one(0), bitmap.next_one(3), bitmap.next_one(10)], [Some(1), Some(9), None]);
+    /// ```
     fn next_one(&self, from: u64) -> Option<u64>
     where
         Self: Sized,
@@ -190,6 +329,15 @@ pub trait Readable<const N: usize> {
     /// # Complexity
     ///
     /// That of `next_one`.
+    ///
+    /// # Examples
+    ///
+    /// ```
+    /// use mortarpink::bitmap::{BitMap, Readable};
+    ///
+    /// let bitmap = BitMap::<1>::from([false, true, true, false, false, false, false, false, false, true]);
+    /// assert_eq!([bitmap.next_zero(1), bitmap.next_zero(9)], [Some(3), None]);
+    /// ```
     fn next_zero(&self, from: u64) -> Option<u64>
     where
         Self: Sized,
@@ -208,6 +356,15 @@ pub trait Readable<const N: usize> {
     /// Calls `len` and `pruned_chunks` once, and `get_chunk` at most once per chunk from the position found to `end`.
     /// Calls `chunks_around` as `next_one` does.
     /// Linear in the words from that position, or from the first retained one if there is none, to `end`.
+    ///
+    /// # Examples
+    ///
+    /// ```
+    /// use mortarpink::bitmap::{BitMap, Readable};
+    ///
+    /// let bitmap = BitMap::<1>::from([false, true, true, false, false, false, false, false, false, true]);
+    /// assert_eq!([bitmap.prev_one(9), bitmap.prev_one(1)], [Some(2), None]);
+    /// ```
     fn prev_one(&self, end: u64) -> Option<u64>
     where
         Self: Sized,
@@ -225,6 +382,15 @@ pub trait Readable<const N: usize> {
     /// # Complexity
     ///
     /// That of `prev_one`.
+    ///
+    /// # Examples
+    ///
+    /// ```
+    /// use mortarpink::bitmap::{BitMap, Readable};
+    ///
+    /// let bitmap = BitMap::<1>::from([false, true, true, false, false, false, false, false, false, true]);
+    /// assert_eq!([bitmap.prev_zero(3), bitmap.prev_zero(0)], [Some(0), None]);
+    /// ```
     fn prev_zero(&self, end: u64) -> Option<u64>
     where
         Self: Sized,
@@ -246,6 +412,15 @@ pub trait Readable<const N: usize> {
     /// Calls `len` and `pruned_chunks` once, and `get_chunk` at most once per chunk that the range meets.
     /// Calls `chunks_around` as `next_one` does.
     /// Linear in the words of the range.
+    ///
+    /// # Examples
+    ///
+    /// ```
+    /// use mortarpink::bitmap::{BitMap, Readable};
+    ///
+    /// let bitmap = BitMap::<1>::from([false, true, true, false, false, false, false, false, false, true]);
+    /// assert_eq!((bitmap.count_ones_range(2..10), bitmap.count_ones_range(5..2)), (2, 0));
+    /// ```
     fn count_ones_range(&self, range: Range<u64>) -> u64
     where
         Self: Sized,
@@ -266,6 +441,15 @@ pub trait Readable<const N: usize> {
     /// Calls `len` and `pruned_chunks` once, and `get_chunk` at most once per retained chunk up to that of the position found.
     /// Calls `chunks_around` as `next_one` does.
     /// Linear in the words of these chunks.
+    ///
+    /// # Examples
+    ///
+    /// ```
+    /// use mortarpink::bitmap::{BitMap, Readable};
+    ///
+    /// let bitmap = BitMap::<1>::from([false, true, true, false, false, false, false, false, false, true]);
+    /// assert_eq!([bitmap.select_one(0), bitmap.select_one(2), bitmap.select_one(3)], [Some(1), Some(9), None]);
+    /// ```
     fn select_one(&self, k: u64) -> Option<u64>
     where
         Self: Sized,

@@ -19,12 +19,15 @@ mod edited;
 pub mod error;
 mod grown;
 mod index;
+mod joined;
 mod lengths;
+mod opened;
 mod pending;
 mod pending_changes;
 mod pending_reads;
 mod ranges;
 mod record;
+mod replaced;
 mod rewind;
 mod state;
 mod tail;
@@ -55,6 +58,18 @@ use crate::support::alloc::AllocError;
 /// # Memory
 /// The retained chunks of the current bitmap, the reverse records with their entries, and the edited and captured chunks of a batch.
 /// The list of the records keeps its capacity if commits are dropped.
+///
+/// # Examples
+///
+/// ```
+/// use mortarpink::bitmap::historical::{self, CleanBitMap, State};
+///
+/// /// Takes a historical bitmap in either state.
+/// fn drop_either<S: State>(_bitmap: historical::BitMap<8, S>) {}
+///
+/// drop_either(CleanBitMap::new());
+/// drop_either(CleanBitMap::new().into_dirty());
+/// ```
 #[derive(Debug)]
 pub struct BitMap<const N: usize, S: State = Clean> {
     current: Prunable<N>,
@@ -64,6 +79,23 @@ pub struct BitMap<const N: usize, S: State = Clean> {
 }
 
 /// A historical bitmap without pending edits.
+///
+/// # Examples
+///
+/// ```
+/// use mortarpink::bitmap::historical::CleanBitMap;
+/// use mortarpink::bitmap::Readable;
+///
+/// let bitmap = CleanBitMap::<4>::new().apply_batch(1, |batch| {
+///     batch.push(true).push(false);
+/// })?;
+/// let bitmap = bitmap.apply_batch(2, |batch| {
+///     batch.set_bit(0, false).push(true);
+/// })?;
+/// assert!(bitmap.current().ones_iter_from(0).eq([2]));
+/// assert!(bitmap.at(1).unwrap().ones_iter_from(0).eq([0]));
+/// # Ok::<(), mortarpink::bitmap::historical::Error>(())
+/// ```
 pub type CleanBitMap<const N: usize> = BitMap<N, Clean>;
 
 /// A batch: a historical bitmap with pending edits, of which there may be none yet.
@@ -82,6 +114,19 @@ pub type CleanBitMap<const N: usize> = BitMap<N, Clean>;
 /// A search among the other edited chunks visits at most 16 nodes of the trie, whatever their indices.
 ///
 /// `len`, `pruned_chunks` and `complete_chunks` take constant time. A chunk takes a copy of its bytes, and at most one search among the edited chunks.
+///
+/// # Examples
+///
+/// ```
+/// use mortarpink::bitmap::historical::CleanBitMap;
+///
+/// let mut batch = CleanBitMap::<4>::new().into_dirty();
+/// batch.push(true).push(false);
+/// assert_eq!((batch.len(), batch.get_bit(0)), (2, true));
+/// let bitmap = batch.commit(1)?;
+/// assert_eq!(bitmap.len(), 2);
+/// # Ok::<(), mortarpink::bitmap::historical::Error>(())
+/// ```
 pub type DirtyBitMap<const N: usize> = BitMap<N, Dirty<N>>;
 
 impl<const N: usize, S: State> TryClone for BitMap<N, S> {
@@ -96,11 +141,6 @@ impl<const N: usize, S: State> TryClone for BitMap<N, S> {
     /// # Complexity
     /// Linear in the retained chunks, the kept commits and their entries, and the edited and captured chunks.
     fn try_clone(&self) -> Result<Self, AllocError> {
-        Ok(BitMap {
-            current: self.current.try_clone()?,
-            commits: self.commits.try_clone()?,
-            last: self.last,
-            state: self.state.copied()?,
-        })
+        Ok(BitMap { current: self.current.try_clone()?, commits: self.commits.try_clone()?, last: self.last, state: self.state.copied()? })
     }
 }

@@ -4,6 +4,18 @@
 #[allow(unused_imports)]
 use crate::support::prelude::*;
 /// The error of `Read::read_cfg`. The bytes to read from are then unchanged.
+///
+/// # Examples
+///
+/// ```
+/// use mortarpink::bitmap::BitMap;
+/// use mortarpink::bitmap::codec::{CodecError, RangeCfg};
+///
+/// let bytes = BitMap::<8>::ones(9).encode();
+/// let error = BitMap::<8>::decode(&mut bytes.as_slice(), &RangeCfg::at_most(8)).unwrap_err();
+/// assert!(matches!(error, CodecError::InvalidLength(9)));
+/// assert_eq!(error.to_string(), "the length 9 is out of range");
+/// ```
 #[derive(Debug)]
 pub enum CodecError {
     /// The bytes end before the encoding does: in one of its numbers, or in its chunks.

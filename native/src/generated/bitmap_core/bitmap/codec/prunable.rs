@@ -16,10 +16,9 @@ use crate::support::prelude::*;
 fn count_part<const N: usize>(text: &[u8]) -> Result<(usize, u64, &[u8]), CodecError> {
     let (front, body) = text.split_first_chunk::<8>().ok_or(CodecError::EndOfBuffer)?;
     let count = u64::from_be_bytes(*front);
-    let pruned_bits = chunk_width::<N>().checked_mul(count).ok_or(CodecError::Invalid(
-        "Prunable",
-        "pruned_chunks would overflow when computing pruned_bits",
-    ))?;
+    let pruned_bits = chunk_width::<N>()
+        .checked_mul(count)
+        .ok_or(CodecError::Invalid("Prunable", "pruned_chunks would overflow when computing pruned_bits"))?;
     Ok((count as usize, pruned_bits, body))
 }
 
@@ -28,10 +27,7 @@ fn pruned_parts<'a, const N: usize>(text: &'a [u8], range: &RangeCfg) -> Result<
     let (pruned_chunks, pruned_bits, body) = count_part::<N>(text)?;
     let (len, chunks, rest) = parts::<N>(body, range)?;
     if pruned_bits.checked_add(len).is_none() {
-        return Err(CodecError::Invalid(
-            "Prunable",
-            "total bitmap length (pruned + unpruned) would overflow u64",
-        ));
+        return Err(CodecError::Invalid("Prunable", "total bitmap length (pruned + unpruned) would overflow u64"));
     }
     Ok((pruned_chunks, len, chunks, rest))
 }

@@ -6,6 +6,17 @@ use crate::support::prelude::*;
 /// The lengths that a read admits, in bits. For a bitmap with a pruned prefix, only retained bits count.
 ///
 /// The head of the module `codec` has an example.
+///
+/// # Examples
+///
+/// ```
+/// use mortarpink::bitmap::BitMap;
+/// use mortarpink::bitmap::codec::RangeCfg;
+///
+/// let bytes = BitMap::<8>::ones(9).encode();
+/// assert!(BitMap::<8>::decode(&mut bytes.as_slice(), &RangeCfg::between(1, 9)).is_ok());
+/// assert!(BitMap::<8>::decode(&mut bytes.as_slice(), &RangeCfg::between(1, 8)).is_err());
+/// ```
 #[derive(Clone, Copy, Debug, PartialEq, Eq)]
 pub struct RangeCfg {
     low: u64,
@@ -18,6 +29,14 @@ impl RangeCfg {
     /// Admits every length.
     ///
     /// Does not allocate; constant time.
+    ///
+    /// # Examples
+    ///
+    /// ```
+    /// use mortarpink::bitmap::codec::RangeCfg;
+    ///
+    /// assert!(RangeCfg::any().contains(0) && RangeCfg::any().contains(u64::MAX));
+    /// ```
     pub fn any() -> Self {
         RangeCfg::between(0, u64::MAX)
     }
@@ -25,6 +44,14 @@ impl RangeCfg {
     /// Admits only the length `n`.
     ///
     /// Does not allocate; constant time.
+    ///
+    /// # Examples
+    ///
+    /// ```
+    /// use mortarpink::bitmap::codec::RangeCfg;
+    ///
+    /// assert!(RangeCfg::exact(9).contains(9) && !RangeCfg::exact(9).contains(8));
+    /// ```
     pub fn exact(n: u64) -> Self {
         RangeCfg::between(n, n)
     }
@@ -32,6 +59,14 @@ impl RangeCfg {
     /// Admits the lengths from `n` on, `n` included.
     ///
     /// Does not allocate; constant time.
+    ///
+    /// # Examples
+    ///
+    /// ```
+    /// use mortarpink::bitmap::codec::RangeCfg;
+    ///
+    /// assert!(RangeCfg::at_least(9).contains(9) && !RangeCfg::at_least(9).contains(8));
+    /// ```
     pub fn at_least(n: u64) -> Self {
         RangeCfg::between(n, u64::MAX)
     }
@@ -39,6 +74,14 @@ impl RangeCfg {
     /// Admits the lengths up to `n`, `n` included.
     ///
     /// Does not allocate; constant time.
+    ///
+    /// # Examples
+    ///
+    /// ```
+    /// use mortarpink::bitmap::codec::RangeCfg;
+    ///
+    /// assert!(RangeCfg::at_most(9).contains(9) && !RangeCfg::at_most(9).contains(10));
+    /// ```
     pub fn at_most(n: u64) -> Self {
         RangeCfg::between(0, n)
     }
@@ -46,6 +89,15 @@ impl RangeCfg {
     /// Admits the lengths from `a` to `b`, both included. If `a > b`, it admits none.
     ///
     /// Does not allocate; constant time.
+    ///
+    /// # Examples
+    ///
+    /// ```
+    /// use mortarpink::bitmap::codec::RangeCfg;
+    ///
+    /// let range = RangeCfg::between(1, 9);
+    /// assert!(range.contains(1) && range.contains(9) && !range.contains(0));
+    /// ```
     pub fn between(a: u64, b: u64) -> Self {
         RangeCfg { low: a, high: b }
     }
@@ -53,6 +105,14 @@ impl RangeCfg {
     /// Returns whether the range admits a length of `n` bits.
     ///
     /// Does not allocate; constant time.
+    ///
+    /// # Examples
+    ///
+    /// ```
+    /// use mortarpink::bitmap::codec::RangeCfg;
+    ///
+    /// assert!(RangeCfg::exact(9).contains(9));
+    /// ```
     pub fn contains(&self, n: u64) -> bool {
         self.low <= n && n <= self.high
     }

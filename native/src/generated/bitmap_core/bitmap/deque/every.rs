@@ -76,11 +76,7 @@ fn combine_some<B: Bitwise, const N: usize>(chunks: &mut [[u8; N]], others: &[[u
 pub fn are_equal<const N: usize>(a: &VecDeque<[u8; N]>, b: &VecDeque<[u8; N]>) -> bool {
     let (a_front, a_back) = slices(a);
     let (b_front, b_back) = slices(b);
-    if a_front.len() <= b_front.len() {
-        runs_equal(a_front, a_back, b_front, b_back)
-    } else {
-        runs_equal(b_front, b_back, a_front, a_back)
-    }
+    if a_front.len() <= b_front.len() { runs_equal(a_front, a_back, b_front, b_back) } else { runs_equal(b_front, b_back, a_front, a_back) }
 }
 
 // Whether `front` followed by `back` equals `longer` followed by `rest`. `front` is no longer than `longer`.

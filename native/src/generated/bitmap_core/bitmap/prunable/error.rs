@@ -4,6 +4,15 @@
 #[allow(unused_imports)]
 use crate::support::prelude::*;
 /// The error that `Prunable::new_with_pruned_chunks` returns.
+///
+/// # Examples
+///
+/// ```
+/// use mortarpink::bitmap::Prunable;
+/// use mortarpink::bitmap::prunable::Error;
+///
+/// assert_eq!(Prunable::<8>::new_with_pruned_chunks(usize::MAX).unwrap_err(), Error::PrunedChunksOverflow);
+/// ```
 #[derive(Clone, Copy, Debug, PartialEq, Eq)]
 pub enum Error {
     /// The number of pruned bits does not fit `u64`.

@@ -19,6 +19,17 @@ use crate::support::prelude::*;
 /// After the last position, `next` always returns `None`. No call of `next` allocates.
 ///
 /// The head of the module `readable` has an example.
+///
+/// # Examples
+///
+/// ```
+/// use mortarpink::bitmap::{BitMap, Readable};
+///
+/// let bitmap = BitMap::<8>::from([false, true, true, false]);
+/// assert!(bitmap.ones_iter().eq([1, 2]));
+/// assert!(bitmap.zeros_iter_from(0).eq([0, 3]));
+/// ```
+#[derive(Debug)]
 pub struct OnesIter<'a, B: Readable<N>, const N: usize> {
     readable: &'a B,
     // The end of the range, at most the length.
@@ -30,6 +41,7 @@ pub struct OnesIter<'a, B: Readable<N>, const N: usize> {
     cursor: Cursor<N>,
 }
 
+#[derive(Debug)]
 struct Cursor<const N: usize> {
     // For contracts only: where the range begins.
     first: u64,
@@ -133,14 +145,7 @@ impl<'a, B: Readable<N>, const N: usize> OnesIter<'a, B, N> {
                 end,
                 wanted,
                 run: &[],
-                cursor: Cursor {
-                    first: position,
-                    base: end,
-                    word: 0,
-                    next: end,
-                    chunk: [0; N],
-                    loads: 0,
-                },
+                cursor: Cursor { first: position, base: end, word: 0, next: end, chunk: [0; N], loads: 0 },
             };
         }
         let base = word_base::<N>(position);

@@ -23,6 +23,24 @@ use crate::support::prelude::*;
 /// To read a few bits, this is cheaper than `get_at_commit`. To read many bits of a state with many commits after it, an index helps
 /// (`CleanBitMap::indexed`), or `get_at_commit`: it costs a copy of the current bitmap and one pass over the later records, and then each
 /// read takes constant time.
+///
+/// # Examples
+///
+/// ```
+/// use mortarpink::bitmap::historical::CleanBitMap;
+/// use mortarpink::bitmap::Readable;
+///
+/// let bitmap = CleanBitMap::<4>::new().apply_batch(1, |batch| {
+///     batch.push(true).push(false);
+/// })?;
+/// let bitmap = bitmap.apply_batch(2, |batch| {
+///     batch.set_bit(0, false).push(true);
+/// })?;
+/// let past = bitmap.at(1).unwrap();
+/// assert_eq!((past.len(), past.count_ones_range(0..2)), (2, 1));
+/// # Ok::<(), mortarpink::bitmap::historical::Error>(())
+/// ```
+#[derive(Debug)]
 pub struct AtCommit<'a, const N: usize> {
     of: &'a BitMap<N, Clean>,
     number: u64,
@@ -82,6 +100,24 @@ impl<const N: usize> BitMap<N, Clean> {
     /// # Complexity
     ///
     /// Per kept commit, constant; per entry of the kept reverse records, logarithmic in the entries of the index.
+    ///
+    /// # Examples
+    ///
+    /// ```
+    /// use mortarpink::bitmap::historical::CleanBitMap;
+    /// use mortarpink::bitmap::Readable;
+    ///
+    /// let bitmap = CleanBitMap::<4>::new().apply_batch(1, |batch| {
+    ///     batch.push(true).push(false);
+    /// })?;
+    /// let bitmap = bitmap.apply_batch(2, |batch| {
+    ///     batch.set_bit(0, false).push(true);
+    /// })?;
+    /// // Past states are now read by one search per chunk.
+    /// let bitmap = bitmap.indexed().map_err(|(_, error)| error)?;
+    /// assert!(bitmap.at(1).unwrap().get_bit(0));
+    /// # Ok::<(), mortarpink::bitmap::historical::Error>(())
+    /// ```
     pub fn indexed(mut self) -> Result<CleanBitMap<N>, (CleanBitMap<N>, AllocError)> {
         let _ = self.current.len();
         let alloc = self.state.its_allocator();
@@ -100,6 +136,23 @@ impl<const N: usize> BitMap<N, Clean> {
     /// # Complexity
     ///
     /// Linear in the entries of the index.
+    ///
+    /// # Examples
+    ///
+    /// ```
+    /// use mortarpink::bitmap::historical::CleanBitMap;
+    /// use mortarpink::bitmap::Readable;
+    ///
+    /// let bitmap = CleanBitMap::<4>::new().apply_batch(1, |batch| {
+    ///     batch.push(true).push(false);
+    /// })?;
+    /// let bitmap = bitmap.apply_batch(2, |batch| {
+    ///     batch.set_bit(0, false).push(true);
+    /// })?;
+    /// let bitmap = bitmap.indexed().map_err(|(_, error)| error)?.without_index();
+    /// assert!(bitmap.at(1).unwrap().get_bit(0));
+    /// # Ok::<(), mortarpink::bitmap::historical::Error>(())
+    /// ```
     pub fn without_index(mut self) -> CleanBitMap<N> {
         self.commits.drop_index();
         self
@@ -111,19 +164,30 @@ impl<const N: usize> BitMap<N, Clean> {
     ///
     /// # Complexity
     /// A search among the kept commits: logarithmic in them. `AtCommit` says what a read costs.
+    ///
+    /// # Examples
+    ///
+    /// ```
+    /// use mortarpink::bitmap::historical::CleanBitMap;
+    /// use mortarpink::bitmap::Readable;
+    ///
+    /// let bitmap = CleanBitMap::<4>::new().apply_batch(1, |batch| {
+    ///     batch.push(true).push(false);
+    /// })?;
+    /// let bitmap = bitmap.apply_batch(2, |batch| {
+    ///     batch.set_bit(0, false).push(true);
+    /// })?;
+    /// assert!(bitmap.at(1).unwrap().get_bit(0));
+    /// assert!(bitmap.at(3).is_none());
+    /// # Ok::<(), mortarpink::bitmap::historical::Error>(())
+    /// ```
     pub fn at(&self, number: u64) -> Option<AtCommit<'_, N>> {
         let _ = self.current.len();
         if !self.commit_exists(number) {
             return None;
         }
         let (len, pruned) = self.extent_at(number);
-        Some(AtCommit {
-            of: self,
-            number,
-            past: self.commits.past(number),
-            len,
-            pruned,
-        })
+        Some(AtCommit { of: self, number, past: self.commits.past(number), len, pruned })
     }
 
     // Returns the length and the number of pruned chunks that the last commit up to a number left.
@@ -158,12 +222,7 @@ impl<'a, const N: usize> Readable<N> for AtCommit<'a, N> {
     }
 
     fn get_chunk(&self, chunk: usize) -> [u8; N] {
-        assert!(
-            self.pruned_chunks() <= chunk,
-            "chunk {} is pruned (pruned_chunks: {})",
-            chunk,
-            self.pruned_chunks()
-        );
+        assert!(self.pruned_chunks() <= chunk, "chunk {} is pruned (pruned_chunks: {})", chunk, self.pruned_chunks());
         assert!(
             (chunk as u64) < self.len().div_ceil(8 * N as u64),
             "chunk {} out of bounds (chunks: {})",

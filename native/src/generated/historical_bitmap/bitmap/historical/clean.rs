@@ -68,31 +68,54 @@ impl<const N: usize> BitMap<N, Clean> {
     pub fn from_bitmap_within(alloc: Global, bitmap: Prunable<N>) -> Self {
         // The prover learns the width from this call.
         let _ = bitmap.len();
-        BitMap {
-            current: bitmap,
-            commits: CommitList::new_within(alloc),
-            last: None,
-            state: Clean::new_within(alloc),
-        }
+        BitMap { current: bitmap, commits: CommitList::new_within(alloc), last: None, state: Clean::new_within(alloc) }
     }
 
     /// Turns the bitmap into a batch with no pending edits: the pending bitmap is the current one, and no chunk is marked.
     ///
     /// Does not allocate; constant time.
+    ///
+    /// # Examples
+    ///
+    /// ```
+    /// use mortarpink::bitmap::historical::CleanBitMap;
+    ///
+    /// let mut batch = CleanBitMap::<4>::new().into_dirty();
+    /// batch.push(true);
+    /// assert_eq!(batch.abort().len(), 0);
+    /// ```
     #[inline]
     pub fn into_dirty(self) -> BitMap<N, Dirty<N>> {
         let state = Dirty::new_within(self.state.its_allocator(), &self.current);
-        BitMap {
-            current: self.current,
-            commits: self.commits,
-            last: self.last,
-            state,
-        }
+        BitMap { current: self.current, commits: self.commits, last: self.last, state }
+    }
+
+    /// Returns the allocator from which edits and commits of the bitmap allocate.
+    ///
+    /// Does not allocate; constant time.
+    #[doc(hidden)]
+    pub fn its_allocator(&self) -> Global {
+        self.state.its_allocator()
     }
 
     /// Returns the current bitmap.
     ///
     /// Does not allocate; constant time.
+    ///
+    /// # Examples
+    ///
+    /// ```
+    /// use mortarpink::bitmap::historical::CleanBitMap;
+    ///
+    /// let bitmap = CleanBitMap::<4>::new().apply_batch(1, |batch| {
+    ///     batch.push(true).push(false);
+    /// })?;
+    /// let bitmap = bitmap.apply_batch(2, |batch| {
+    ///     batch.set_bit(0, false).push(true);
+    /// })?;
+    /// assert_eq!(bitmap.current().count_ones(), 1);
+    /// # Ok::<(), mortarpink::bitmap::historical::Error>(())
+    /// ```
     pub fn current(&self) -> &Prunable<N> {
         &self.current
     }
@@ -100,6 +123,18 @@ impl<const N: usize> BitMap<N, Clean> {
     /// Returns the length of the current bitmap in bits. Pruned bits count.
     ///
     /// Does not allocate; constant time.
+    ///
+    /// # Examples
+    ///
+    /// ```
+    /// use mortarpink::bitmap::historical::CleanBitMap;
+    ///
+    /// let bitmap = CleanBitMap::<4>::new().apply_batch(1, |batch| {
+    ///     batch.push(true).push(false);
+    /// })?;
+    /// assert_eq!(bitmap.len(), 2);
+    /// # Ok::<(), mortarpink::bitmap::historical::Error>(())
+    /// ```
     pub fn len(&self) -> u64 {
         self.current.len()
     }
@@ -107,6 +142,14 @@ impl<const N: usize> BitMap<N, Clean> {
     /// Returns whether the length of the current bitmap is 0. A bitmap with pruned bits is not empty.
     ///
     /// Does not allocate; constant time.
+    ///
+    /// # Examples
+    ///
+    /// ```
+    /// use mortarpink::bitmap::historical::CleanBitMap;
+    ///
+    /// assert!(CleanBitMap::<4>::new().is_empty());
+    /// ```
     pub fn is_empty(&self) -> bool {
         self.current.is_empty()
     }
@@ -114,6 +157,15 @@ impl<const N: usize> BitMap<N, Clean> {
     /// Returns the number of pruned chunks of the current bitmap.
     ///
     /// Does not allocate; constant time.
+    ///
+    /// # Examples
+    ///
+    /// ```
+    /// use mortarpink::bitmap::historical::CleanBitMap;
+    ///
+    /// assert_eq!(CleanBitMap::<4>::new_with_pruned_chunks(3)?.pruned_chunks(), 3);
+    /// # Ok::<(), mortarpink::bitmap::historical::Error>(())
+    /// ```
     pub fn pruned_chunks(&self) -> usize {
         self.current.pruned_chunks()
     }
@@ -125,6 +177,18 @@ impl<const N: usize> BitMap<N, Clean> {
     /// # Panics
     ///
     /// Panics if `bit` is pruned, or not below the length.
+    ///
+    /// # Examples
+    ///
+    /// ```
+    /// use mortarpink::bitmap::historical::CleanBitMap;
+    ///
+    /// let bitmap = CleanBitMap::<4>::new().apply_batch(1, |batch| {
+    ///     batch.push(true).push(false);
+    /// })?;
+    /// assert!(bitmap.get_bit(0) && !bitmap.get_bit(1));
+    /// # Ok::<(), mortarpink::bitmap::historical::Error>(())
+    /// ```
     pub fn get_bit(&self, bit: u64) -> bool {
         assert!(self.pruned_chunks() as u64 * (8 * N as u64) <= bit, "bit pruned: {}", bit);
         assert!(bit < self.len(), "bit {} out of bounds (len: {})", bit, self.len());
@@ -139,6 +203,18 @@ impl<const N: usize> BitMap<N, Clean> {
     /// # Panics
     ///
     /// Panics if `bit` is pruned, or not below the length.
+    ///
+    /// # Examples
+    ///
+    /// ```
+    /// use mortarpink::bitmap::historical::CleanBitMap;
+    ///
+    /// let bitmap = CleanBitMap::<4>::new().apply_batch(1, |batch| {
+    ///     batch.push(true).push(false);
+    /// })?;
+    /// assert_eq!(bitmap.get_chunk_containing(1), &[1, 0, 0, 0]);
+    /// # Ok::<(), mortarpink::bitmap::historical::Error>(())
+    /// ```
     pub fn get_chunk_containing(&self, bit: u64) -> &[u8; N] {
         assert!(self.pruned_chunks() as u64 * (8 * N as u64) <= bit, "bit pruned: {}", bit);
         assert!(bit < self.len(), "bit {} out of bounds (len: {})", bit, self.len());

@@ -64,10 +64,7 @@ fn has_number<const N: usize>(commits: &VecDeque<(u64, CommitDiff<N>)>, number: 
 impl<const N: usize> CommitList<N> {
     // Returns a list of no commits. Does not allocate.
     pub(crate) fn new_within(alloc: Global) -> Self {
-        CommitList {
-            commits: VecDeque::new_within(alloc),
-            index: None,
-        }
+        CommitList { commits: VecDeque::new_within(alloc), index: None }
     }
 
     // Returns the number of commits.
@@ -170,10 +167,7 @@ impl<const N: usize> TryClone for CommitList<N> {
     // Returns an equal list, with a copy of the index, if there is one.
     // Allocates for the commits, their entries and the entries of the index, and fails if that fails.
     fn try_clone(&self) -> Result<Self, AllocError> {
-        Ok(CommitList {
-            commits: self.commits.try_clone()?,
-            index: self.index.try_clone()?,
-        })
+        Ok(CommitList { commits: self.commits.try_clone()?, index: self.index.try_clone()? })
     }
 }
 

@@ -17,6 +17,22 @@ use crate::support::prelude::*;
 /// An iterator over the commit numbers in a list of numbered values, in the order of the list, each once.
 ///
 /// After the last number, `next` returns `None`, however often it is called.
+///
+/// # Examples
+///
+/// ```
+/// use mortarpink::bitmap::historical::CleanBitMap;
+///
+/// let bitmap = CleanBitMap::<4>::new().apply_batch(1, |batch| {
+///     batch.push(true).push(false);
+/// })?;
+/// let bitmap = bitmap.apply_batch(2, |batch| {
+///     batch.set_bit(0, false).push(true);
+/// })?;
+/// assert_eq!(bitmap.commits().last(), Some(2));
+/// # Ok::<(), mortarpink::bitmap::historical::Error>(())
+/// ```
+#[derive(Debug)]
 pub struct CommitNumbers<'a, V> {
     commits: Iter<'a, (u64, V)>,
 }
@@ -36,6 +52,22 @@ impl<'a, V> Iterator for CommitNumbers<'a, V> {
 }
 
 /// An iterator over the numbers of the kept commits of a historical bitmap, ascending, each once.
+///
+/// # Examples
+///
+/// ```
+/// use mortarpink::bitmap::historical::{CleanBitMap, Commits};
+///
+/// /// Returns how many numbers are left out between the kept commits.
+/// fn gaps<const N: usize>(commits: Commits<'_, N>) -> u64 {
+///     let numbers: Vec<u64> = commits.collect();
+///     numbers.windows(2).map(|pair| pair[1] - pair[0] - 1).sum()
+/// }
+///
+/// let bitmap = CleanBitMap::<4>::new().apply_batch(1, |_| ())?.apply_batch(4, |_| ())?;
+/// assert_eq!(gaps(bitmap.commits()), 2);
+/// # Ok::<(), mortarpink::bitmap::historical::Error>(())
+/// ```
 pub type Commits<'a, const N: usize> = CommitNumbers<'a, CommitDiff<N>>;
 
 // Undoes the reverse records past a number, the newest first.
@@ -95,11 +127,28 @@ impl<const N: usize> BitMap<N, Clean> {
     /// `AllocError` if an allocation fails. A number that is not kept is no error.
     ///
     /// # Memory
-    /// Allocates the bitmap, and temporarily the chunks that later commits pruned. Does not allocate if the number is not kept.
+    /// Allocates the bitmap, and temporarily the chunks that later commits pruned and whose bytes their records keep.
+    /// Does not allocate if the number is not kept.
     ///
     /// # Complexity
     /// Linear in the retained chunks of the current bitmap, plus the reverse records past the number and their entries.
     /// Logarithmic in the kept commits if the number is not kept.
+    ///
+    /// # Examples
+    ///
+    /// ```
+    /// use mortarpink::bitmap::historical::CleanBitMap;
+    ///
+    /// let bitmap = CleanBitMap::<4>::new().apply_batch(1, |batch| {
+    ///     batch.push(true).push(false);
+    /// })?;
+    /// let bitmap = bitmap.apply_batch(2, |batch| {
+    ///     batch.set_bit(0, false).push(true);
+    /// })?;
+    /// assert!(bitmap.try_get_at_commit(1)?.unwrap().get_bit(0));
+    /// assert!(bitmap.try_get_at_commit(3)?.is_none());
+    /// # Ok::<(), mortarpink::bitmap::historical::Error>(())
+    /// ```
     pub fn try_get_at_commit(&self, number: u64) -> Result<Option<Prunable<N>>, AllocError> {
         if !self.commit_exists(number) {
             return Ok(None);
@@ -120,6 +169,21 @@ impl<const N: usize> BitMap<N, Clean> {
     ///
     /// # Complexity
     /// Constant for the latest commit and for a number above it; else logarithmic in the kept commits.
+    ///
+    /// # Examples
+    ///
+    /// ```
+    /// use mortarpink::bitmap::historical::CleanBitMap;
+    ///
+    /// let bitmap = CleanBitMap::<4>::new().apply_batch(1, |batch| {
+    ///     batch.push(true).push(false);
+    /// })?;
+    /// let bitmap = bitmap.apply_batch(2, |batch| {
+    ///     batch.set_bit(0, false).push(true);
+    /// })?;
+    /// assert!(bitmap.commit_exists(2) && !bitmap.commit_exists(3));
+    /// # Ok::<(), mortarpink::bitmap::historical::Error>(())
+    /// ```
     pub fn commit_exists(&self, number: u64) -> bool {
         if is_past(self.last, number) {
             return false;
@@ -130,6 +194,21 @@ impl<const N: usize> BitMap<N, Clean> {
     /// Returns the greatest number of a kept commit, or `None` if no commit is kept.
     ///
     /// Does not allocate; constant time.
+    ///
+    /// # Examples
+    ///
+    /// ```
+    /// use mortarpink::bitmap::historical::CleanBitMap;
+    ///
+    /// let bitmap = CleanBitMap::<4>::new().apply_batch(1, |batch| {
+    ///     batch.push(true).push(false);
+    /// })?;
+    /// let bitmap = bitmap.apply_batch(2, |batch| {
+    ///     batch.set_bit(0, false).push(true);
+    /// })?;
+    /// assert_eq!(bitmap.latest_commit(), Some(2));
+    /// # Ok::<(), mortarpink::bitmap::historical::Error>(())
+    /// ```
     pub fn latest_commit(&self) -> Option<u64> {
         self.commits.last_number()
     }
@@ -137,13 +216,47 @@ impl<const N: usize> BitMap<N, Clean> {
     /// Returns the least number of a kept commit, or `None` if no commit is kept.
     ///
     /// Does not allocate; constant time.
+    ///
+    /// # Examples
+    ///
+    /// ```
+    /// use mortarpink::bitmap::historical::CleanBitMap;
+    ///
+    /// let bitmap = CleanBitMap::<4>::new().apply_batch(1, |batch| {
+    ///     batch.push(true).push(false);
+    /// })?;
+    /// let bitmap = bitmap.apply_batch(2, |batch| {
+    ///     batch.set_bit(0, false).push(true);
+    /// })?;
+    /// assert_eq!(bitmap.earliest_commit(), Some(1));
+    /// # Ok::<(), mortarpink::bitmap::historical::Error>(())
+    /// ```
     pub fn earliest_commit(&self) -> Option<u64> {
         self.commits.first_number()
     }
 
     /// Returns the number last committed or rewound to, even if its commit is not kept, or `None` if there is none.
     ///
-    /// A commit's number has to be above it. Does not allocate; constant time.
+    /// If any commit is kept, it is the greatest number of a kept commit. A commit's number has to be above it.
+    ///
+    /// Does not allocate; constant time.
+    ///
+    /// # Examples
+    ///
+    /// ```
+    /// use mortarpink::bitmap::historical::CleanBitMap;
+    ///
+    /// let bitmap = CleanBitMap::<4>::new().apply_batch(1, |batch| {
+    ///     batch.push(true).push(false);
+    /// })?;
+    /// let bitmap = bitmap.apply_batch(2, |batch| {
+    ///     batch.set_bit(0, false).push(true);
+    /// })?;
+    /// let mut bitmap = bitmap;
+    /// bitmap.clear_history();
+    /// assert_eq!((bitmap.last_number(), bitmap.latest_commit()), (Some(2), None));
+    /// # Ok::<(), mortarpink::bitmap::historical::Error>(())
+    /// ```
     pub fn last_number(&self) -> Option<u64> {
         self.last
     }
@@ -154,10 +267,23 @@ impl<const N: usize> BitMap<N, Clean> {
     ///
     /// # Complexity
     /// Constant; a whole pass is linear in the kept commits.
+    ///
+    /// # Examples
+    ///
+    /// ```
+    /// use mortarpink::bitmap::historical::CleanBitMap;
+    ///
+    /// let bitmap = CleanBitMap::<4>::new().apply_batch(1, |batch| {
+    ///     batch.push(true).push(false);
+    /// })?;
+    /// let bitmap = bitmap.apply_batch(2, |batch| {
+    ///     batch.set_bit(0, false).push(true);
+    /// })?;
+    /// assert!(bitmap.commits().eq([1, 2]));
+    /// # Ok::<(), mortarpink::bitmap::historical::Error>(())
+    /// ```
     pub fn commits(&self) -> Commits<'_, N> {
-        CommitNumbers {
-            commits: self.commits.iter(),
-        }
+        CommitNumbers { commits: self.commits.iter() }
     }
 
     /// Returns an iterator over the numbers of the kept commits that are at least `number`, ascending, each once.
@@ -166,10 +292,23 @@ impl<const N: usize> BitMap<N, Clean> {
     ///
     /// # Complexity
     /// Logarithmic in the kept commits; a whole pass is linear in the commits that it returns. The earlier commits are not visited.
+    ///
+    /// # Examples
+    ///
+    /// ```
+    /// use mortarpink::bitmap::historical::CleanBitMap;
+    ///
+    /// let bitmap = CleanBitMap::<4>::new().apply_batch(1, |batch| {
+    ///     batch.push(true).push(false);
+    /// })?;
+    /// let bitmap = bitmap.apply_batch(2, |batch| {
+    ///     batch.set_bit(0, false).push(true);
+    /// })?;
+    /// assert!(bitmap.commits_from(2).eq([2]));
+    /// # Ok::<(), mortarpink::bitmap::historical::Error>(())
+    /// ```
     pub fn commits_from(&self, number: u64) -> Commits<'_, N> {
-        CommitNumbers {
-            commits: self.commits.iter_from(number),
-        }
+        CommitNumbers { commits: self.commits.iter_from(number) }
     }
 
     /// Drops the commits whose numbers are below `number`, and returns how many were dropped.
@@ -178,6 +317,23 @@ impl<const N: usize> BitMap<N, Clean> {
     ///
     /// # Complexity
     /// At most linear in the dropped commits and the entries of their reverse records, which are freed. The other commits are not visited.
+    ///
+    /// # Examples
+    ///
+    /// ```
+    /// use mortarpink::bitmap::historical::CleanBitMap;
+    ///
+    /// let bitmap = CleanBitMap::<4>::new().apply_batch(1, |batch| {
+    ///     batch.push(true).push(false);
+    /// })?;
+    /// let bitmap = bitmap.apply_batch(2, |batch| {
+    ///     batch.set_bit(0, false).push(true);
+    /// })?;
+    /// let mut bitmap = bitmap;
+    /// assert_eq!(bitmap.prune_commits_before(2), 1);
+    /// assert!(bitmap.commits().eq([2]));
+    /// # Ok::<(), mortarpink::bitmap::historical::Error>(())
+    /// ```
     pub fn prune_commits_before(&mut self, number: u64) -> usize {
         let before = self.commits.len();
         drop_before(&mut self.commits, number);
@@ -194,12 +350,29 @@ impl<const N: usize> BitMap<N, Clean> {
     /// The bitmap is returned unchanged with the error.
     ///
     /// # Memory
-    /// Allocates temporarily the old bytes of each chunk that is restored, and the chunks that were pruned since. Allocates the chunks by
-    /// which the bitmap grows, at either end, if there is no capacity for them. Does not allocate if the number is not kept.
+    /// Allocates temporarily the old bytes of each chunk that is restored, and the chunks of the bitmap at that commit that were pruned since.
+    /// Allocates the chunks by which the bitmap grows, at either end, if there is no capacity for them. Does not allocate if the number is
+    /// not kept.
     ///
     /// # Complexity
     /// A search among the kept commits. Per entry of the reverse records past the number, logarithmic in the restored chunks. Per dropped
     /// commit, constant. The length of the bitmap does not matter, except that the retained chunks may be moved in memory if the bitmap grows.
+    ///
+    /// # Examples
+    ///
+    /// ```
+    /// use mortarpink::bitmap::historical::CleanBitMap;
+    ///
+    /// let bitmap = CleanBitMap::<4>::new().apply_batch(1, |batch| {
+    ///     batch.push(true).push(false);
+    /// })?;
+    /// let bitmap = bitmap.apply_batch(2, |batch| {
+    ///     batch.set_bit(0, false).push(true);
+    /// })?;
+    /// let Ok(bitmap) = bitmap.rewind_to(1) else { panic!("commit 1 is kept") };
+    /// assert_eq!((bitmap.len(), bitmap.latest_commit()), (2, Some(1)));
+    /// # Ok::<(), mortarpink::bitmap::historical::Error>(())
+    /// ```
     pub fn rewind_to(mut self, number: u64) -> Result<CleanBitMap<N>, (CleanBitMap<N>, RewindError)> {
         if !self.commit_exists(number) {
             return Err((self, RewindError::NoSuchCommit));
@@ -210,12 +383,7 @@ impl<const N: usize> BitMap<N, Clean> {
             return Err((self, RewindError::Memory(AllocError)));
         };
         drop_past(&mut self.commits, number);
-        Ok(BitMap {
-            current: self.current,
-            commits: self.commits,
-            last: Some(number),
-            state: self.state,
-        })
+        Ok(BitMap { current: self.current, commits: self.commits, last: Some(number), state: self.state })
     }
 
     /// Drops all commits.
@@ -224,6 +392,23 @@ impl<const N: usize> BitMap<N, Clean> {
     ///
     /// # Complexity
     /// At most linear in the kept commits and the entries of their reverse records, which are freed.
+    ///
+    /// # Examples
+    ///
+    /// ```
+    /// use mortarpink::bitmap::historical::CleanBitMap;
+    ///
+    /// let bitmap = CleanBitMap::<4>::new().apply_batch(1, |batch| {
+    ///     batch.push(true).push(false);
+    /// })?;
+    /// let bitmap = bitmap.apply_batch(2, |batch| {
+    ///     batch.set_bit(0, false).push(true);
+    /// })?;
+    /// let mut bitmap = bitmap;
+    /// bitmap.clear_history();
+    /// assert_eq!((bitmap.commits().count(), bitmap.len()), (0, 3));
+    /// # Ok::<(), mortarpink::bitmap::historical::Error>(())
+    /// ```
     pub fn clear_history(&mut self) {
         self.commits.clear();
     }
@@ -235,6 +420,22 @@ impl<const N: usize> BitMap<N, Clean> {
     ///
     /// # Complexity
     /// Visits every kept commit.
+    ///
+    /// # Examples
+    ///
+    /// ```
+    /// use mortarpink::bitmap::historical::CleanBitMap;
+    ///
+    /// let bitmap = CleanBitMap::<4>::new().apply_batch(1, |batch| {
+    ///     batch.push(true).push(false);
+    /// })?;
+    /// let bitmap = bitmap.apply_batch(2, |batch| {
+    ///     batch.set_bit(0, false).push(true);
+    /// })?;
+    /// // The second commit keeps the old bytes of the one chunk that it changed.
+    /// assert!(bitmap.reverse_entries() >= 1);
+    /// # Ok::<(), mortarpink::bitmap::historical::Error>(())
+    /// ```
     pub fn reverse_entries(&self) -> u128 {
         count_entries(&self.commits)
     }

@@ -17,15 +17,12 @@ use crate::support::ops::Range;
 use crate::support::prelude::*;
 
 // Checks that a commit may have a number, given the last one.
-fn check_number(last: Option<u64>, number: u64) -> Result<(), Error> {
+pub(crate) fn check_number(last: Option<u64>, number: u64) -> Result<(), Error> {
     if number == u64::MAX {
         return Err(Error::ReservedCommitNumber);
     }
     match last {
-        Some(previous) if number <= previous => Err(Error::NonMonotonicCommit {
-            previous,
-            attempted: number,
-        }),
+        Some(previous) if number <= previous => Err(Error::NonMonotonicCommit { previous, attempted: number }),
         _ => Ok(()),
     }
 }
@@ -41,6 +38,16 @@ impl<const N: usize> BitMap<N, Dirty<N>> {
     /// Returns the pending length in bits, pruned bits included.
     ///
     /// Does not allocate; constant time.
+    ///
+    /// # Examples
+    ///
+    /// ```
+    /// use mortarpink::bitmap::historical::CleanBitMap;
+    ///
+    /// let mut batch = CleanBitMap::<4>::new().into_dirty();
+    /// batch.push(true).push(false);
+    /// assert_eq!(batch.len(), 2);
+    /// ```
     #[inline]
     pub fn len(&self) -> u64 {
         let _ = self.current.len();
@@ -50,6 +57,14 @@ impl<const N: usize> BitMap<N, Dirty<N>> {
     /// Returns whether the pending length is 0. A bitmap with pruned bits is not empty.
     ///
     /// Does not allocate; constant time.
+    ///
+    /// # Examples
+    ///
+    /// ```
+    /// use mortarpink::bitmap::historical::CleanBitMap;
+    ///
+    /// assert!(CleanBitMap::<4>::new().into_dirty().is_empty());
+    /// ```
     pub fn is_empty(&self) -> bool {
         self.len() == 0
     }
@@ -57,8 +72,40 @@ impl<const N: usize> BitMap<N, Dirty<N>> {
     /// Returns the pending number of pruned chunks.
     ///
     /// Does not allocate; constant time.
+    ///
+    /// # Examples
+    ///
+    /// ```
+    /// use mortarpink::bitmap::historical::CleanBitMap;
+    ///
+    /// let mut batch = CleanBitMap::<1>::new_with_pruned_chunks(2)?.into_dirty();
+    /// batch.push_byte(1).prune_to_bit(24);
+    /// assert_eq!(batch.pruned_chunks(), 3);
+    /// # Ok::<(), mortarpink::bitmap::historical::Error>(())
+    /// ```
     pub fn pruned_chunks(&self) -> usize {
         self.state.pruned_chunks()
+    }
+
+    /// Returns the number last committed or rewound to, even if its commit is not kept, or `None` if there is none.
+    ///
+    /// The number of the commit has to be above it. Does not allocate; constant time.
+    ///
+    /// # Examples
+    ///
+    /// ```
+    /// use mortarpink::bitmap::historical::CleanBitMap;
+    ///
+    /// let mut bitmap = CleanBitMap::<4>::new().apply_batch(6, |batch| {
+    ///     batch.push(true);
+    /// })?;
+    /// bitmap.clear_history();
+    /// // The batch needs a number above 6.
+    /// assert_eq!(bitmap.into_dirty().last_number(), Some(6));
+    /// # Ok::<(), mortarpink::bitmap::historical::Error>(())
+    /// ```
+    pub fn last_number(&self) -> Option<u64> {
+        self.last
     }
 
     /// Returns the pending bit at the absolute position `bit`, which the pending bitmap retains.
@@ -74,6 +121,16 @@ impl<const N: usize> BitMap<N, Dirty<N>> {
     /// # Panics
     ///
     /// Panics if `bit` is pruned, or not below the length.
+    ///
+    /// # Examples
+    ///
+    /// ```
+    /// use mortarpink::bitmap::historical::CleanBitMap;
+    ///
+    /// let mut batch = CleanBitMap::<4>::new().into_dirty();
+    /// batch.push(true).push(false);
+    /// assert!(batch.get_bit(0) && !batch.get_bit(1));
+    /// ```
     pub fn get_bit(&self, bit: u64) -> bool {
         assert!(
             self.pruned_chunks() as u64 * (8 * N as u64) <= bit,
@@ -102,6 +159,17 @@ impl<const N: usize> BitMap<N, Dirty<N>> {
     /// # Panics
     ///
     /// Panics if `bit` is pruned, or not below the length.
+    ///
+    /// # Examples
+    ///
+    /// ```
+    /// use mortarpink::bitmap::historical::CleanBitMap;
+    ///
+    /// let mut batch = CleanBitMap::<4>::new().into_dirty();
+    /// batch.push(true).push(false);
+    /// // The chunk that has position 1.
+    /// assert_eq!(batch.get_chunk(1), [1, 0, 0, 0]);
+    /// ```
     pub fn get_chunk(&self, bit: u64) -> [u8; N] {
         assert!(
             self.pruned_chunks() as u64 * (8 * N as u64) <= bit,
@@ -172,17 +240,8 @@ impl<const N: usize> BitMap<N, Dirty<N>> {
     /// Panics if the range starts below the first position that is not pruned; or if the range ends after the length.
     #[doc(hidden)]
     pub fn set_range_unchained(&mut self, range: Range<u64>, value: bool) -> Result<(), AllocError> {
-        assert!(
-            self.pruned_chunks() as u64 * (8 * N as u64) <= range.start,
-            "range start {} is pruned",
-            range.start
-        );
-        assert!(
-            range.end <= self.len(),
-            "range end {} out of bounds (len: {})",
-            range.end,
-            self.len()
-        );
+        assert!(self.pruned_chunks() as u64 * (8 * N as u64) <= range.start, "range start {} is pruned", range.start);
+        assert!(range.end <= self.len(), "range end {} out of bounds (len: {})", range.end, self.len());
 
         let _ = self.current.len();
         self.state.try_set_range(&self.current, range.start, range.end, value)
@@ -292,12 +351,7 @@ impl<const N: usize> BitMap<N, Dirty<N>> {
     /// Panics if `bit` is above the length.
     #[doc(hidden)]
     pub fn prune_to_bit_unchained(&mut self, bit: u64) -> Result<(), AllocError> {
-        assert!(
-            bit <= self.len(),
-            "cannot prune to bit {}: beyond projected length ({})",
-            bit,
-            self.len()
-        );
+        assert!(bit <= self.len(), "cannot prune to bit {}: beyond projected length ({})", bit, self.len());
 
         let _ = self.current.len();
         self.state.prune(&self.current, chunk_index::<N>(bit))
@@ -316,12 +370,20 @@ impl<const N: usize> BitMap<N, Dirty<N>> {
     /// # Panics
     ///
     /// Panics if no bit is retained.
+    ///
+    /// # Examples
+    ///
+    /// ```
+    /// use mortarpink::bitmap::historical::CleanBitMap;
+    ///
+    /// let mut batch = CleanBitMap::<4>::new().into_dirty();
+    /// batch.push(true).push(false);
+    /// assert!(!batch.pop());
+    /// assert_eq!(batch.len(), 1);
+    /// ```
     #[inline]
     pub fn pop(&mut self) -> bool {
-        assert!(
-            self.pruned_chunks() as u64 * (8 * N as u64) < self.len(),
-            "cannot pop from empty bitmap"
-        );
+        assert!(self.pruned_chunks() as u64 * (8 * N as u64) < self.len(), "cannot pop from empty bitmap");
 
         let _ = self.current.len();
         match self.state.pop_cached() {
@@ -361,14 +423,20 @@ impl<const N: usize> BitMap<N, Dirty<N>> {
     /// # Complexity
     ///
     /// At most linear in the edited and captured chunks, which are freed. Captured chunks are the copies that pruning makes.
+    ///
+    /// # Examples
+    ///
+    /// ```
+    /// use mortarpink::bitmap::historical::CleanBitMap;
+    ///
+    /// let mut batch = CleanBitMap::<4>::new().into_dirty();
+    /// batch.push(true).push(false);
+    /// let bitmap = batch.abort();
+    /// assert!(bitmap.is_empty());
+    /// ```
     pub fn abort(self) -> CleanBitMap<N> {
         let state = Clean::new_within(self.state.its_allocator());
-        BitMap {
-            current: self.current,
-            commits: self.commits,
-            last: self.last,
-            state,
-        }
+        BitMap { current: self.current, commits: self.commits, last: self.last, state }
     }
 
     /// Makes the pending bitmap current, and keeps it as commit `number`. The other commits are unchanged.
@@ -395,6 +463,21 @@ impl<const N: usize> BitMap<N, Dirty<N>> {
     /// Unless the edited chunks outside the appended run were first edited in ascending order, also one pass over the nodes of the trie that finds them.
     /// A `set_range` that ran out of memory leaves the nodes of the chunks that it had inserted, which are visited too.
     /// Independent of the bitmap's length and of the number of kept commits.
+    ///
+    /// # Examples
+    ///
+    /// ```
+    /// use mortarpink::bitmap::historical::CleanBitMap;
+    ///
+    /// let mut batch = CleanBitMap::<4>::new().into_dirty();
+    /// batch.push(true).push(false);
+    /// let Ok(bitmap) = batch.try_commit(1) else { panic!("out of memory") };
+    ///
+    /// // The number of a commit rises. After an error the batch goes on.
+    /// let Err((batch, error)) = bitmap.into_dirty().try_commit(1) else { panic!() };
+    /// assert_eq!(error.to_string(), "commit number (1) is not above the previous one (1)");
+    /// assert!(batch.try_commit(2).is_ok());
+    /// ```
     #[inline(always)]
     pub fn try_commit(mut self, number: u64) -> Result<CleanBitMap<N>, (DirtyBitMap<N>, Error)> {
         if let Err(why) = check_number(self.last, number) {
@@ -405,12 +488,7 @@ impl<const N: usize> BitMap<N, Dirty<N>> {
             let Ok(()) = keep_current(&self.current, &mut self.commits, number, alloc) else {
                 return Err((self, Error::Memory(AllocError)));
             };
-            return Ok(BitMap {
-                current: self.current,
-                commits: self.commits,
-                last: Some(number),
-                state: Clean::new_within(alloc),
-            });
+            return Ok(BitMap { current: self.current, commits: self.commits, last: Some(number), state: Clean::new_within(alloc) });
         }
         self.commit_edits(number)
     }
@@ -433,12 +511,7 @@ impl<const N: usize> BitMap<N, Dirty<N>> {
         let pruned = self.state.pruned_chunks();
         let edited = self.state.into_edited();
         overwrite(&mut self.current, len, edited, pruned);
-        Ok(BitMap {
-            current: self.current,
-            commits: self.commits,
-            last: Some(number),
-            state: Clean::new_within(alloc),
-        })
+        Ok(BitMap { current: self.current, commits: self.commits, last: Some(number), state: Clean::new_within(alloc) })
     }
 }
 
@@ -462,6 +535,18 @@ impl<const N: usize> BitMap<N, Dirty<N>> {
     /// # Panics
     ///
     /// Panics if `bit` is pruned, or not below the length.
+    ///
+    /// # Examples
+    ///
+    /// ```
+    /// use mortarpink::bitmap::historical::CleanBitMap;
+    ///
+    /// let mut batch = CleanBitMap::<1>::new().into_dirty();
+    /// batch.push_byte(1);
+    /// batch.try_set_bit(2, true)?;
+    /// assert_eq!(batch.get_chunk(0), [0b0000_0101]);
+    /// # Ok::<(), mortarpink::AllocError>(())
+    /// ```
     #[inline]
     pub fn try_set_bit(&mut self, bit: u64, value: bool) -> Result<Edit<'_, N>, AllocError> {
         assert!(
@@ -498,18 +583,21 @@ impl<const N: usize> BitMap<N, Dirty<N>> {
     /// # Panics
     ///
     /// Panics if the range starts below the first position that is not pruned; or if the range ends after the length.
+    ///
+    /// # Examples
+    ///
+    /// ```
+    /// use mortarpink::bitmap::historical::CleanBitMap;
+    ///
+    /// let mut batch = CleanBitMap::<1>::new().into_dirty();
+    /// batch.push_byte(1);
+    /// batch.try_set_range(1..4, true)?;
+    /// assert_eq!(batch.get_chunk(0), [0b0000_1111]);
+    /// # Ok::<(), mortarpink::AllocError>(())
+    /// ```
     pub fn try_set_range(&mut self, range: Range<u64>, value: bool) -> Result<Edit<'_, N>, AllocError> {
-        assert!(
-            self.pruned_chunks() as u64 * (8 * N as u64) <= range.start,
-            "range start {} is pruned",
-            range.start
-        );
-        assert!(
-            range.end <= self.len(),
-            "range end {} out of bounds (len: {})",
-            range.end,
-            self.len()
-        );
+        assert!(self.pruned_chunks() as u64 * (8 * N as u64) <= range.start, "range start {} is pruned", range.start);
+        assert!(range.end <= self.len(), "range end {} out of bounds (len: {})", range.end, self.len());
 
         self.set_range_unchained(range, value)?;
         Ok(Lent::new_within(self))
@@ -533,6 +621,17 @@ impl<const N: usize> BitMap<N, Dirty<N>> {
     /// # Panics
     ///
     /// Panics if the new length does not fit `u64`.
+    ///
+    /// # Examples
+    ///
+    /// ```
+    /// use mortarpink::bitmap::historical::CleanBitMap;
+    ///
+    /// let mut batch = CleanBitMap::<1>::new().into_dirty();
+    /// batch.try_push(true)?;
+    /// assert!(batch.get_bit(0));
+    /// # Ok::<(), mortarpink::AllocError>(())
+    /// ```
     #[inline]
     pub fn try_push(&mut self, value: bool) -> Result<Edit<'_, N>, AllocError> {
         assert!(self.len() <= u64::MAX - 1, "length overflows u64");
@@ -559,6 +658,17 @@ impl<const N: usize> BitMap<N, Dirty<N>> {
     /// # Panics
     ///
     /// Panics if the new length does not fit `u64`.
+    ///
+    /// # Examples
+    ///
+    /// ```
+    /// use mortarpink::bitmap::historical::CleanBitMap;
+    ///
+    /// let mut batch = CleanBitMap::<1>::new().into_dirty();
+    /// batch.try_push_byte(3)?;
+    /// assert_eq!(batch.get_chunk(0), [3]);
+    /// # Ok::<(), mortarpink::AllocError>(())
+    /// ```
     pub fn try_push_byte(&mut self, byte: u8) -> Result<Edit<'_, N>, AllocError> {
         assert!(self.len() <= u64::MAX - 8, "length overflows u64");
 
@@ -583,6 +693,17 @@ impl<const N: usize> BitMap<N, Dirty<N>> {
     /// # Panics
     ///
     /// Panics if the new length does not fit `u64`.
+    ///
+    /// # Examples
+    ///
+    /// ```
+    /// use mortarpink::bitmap::historical::CleanBitMap;
+    ///
+    /// let mut batch = CleanBitMap::<1>::new().into_dirty();
+    /// batch.try_push_chunk(&[3])?;
+    /// assert_eq!(batch.get_chunk(0), [3]);
+    /// # Ok::<(), mortarpink::AllocError>(())
+    /// ```
     pub fn try_push_chunk(&mut self, chunk: &[u8; N]) -> Result<Edit<'_, N>, AllocError> {
         assert!(self.len() <= u64::MAX - (8 * N as u64), "length overflows u64");
 
@@ -609,13 +730,20 @@ impl<const N: usize> BitMap<N, Dirty<N>> {
     /// # Panics
     ///
     /// Panics if `bit` is above the length.
+    ///
+    /// # Examples
+    ///
+    /// ```
+    /// use mortarpink::bitmap::historical::CleanBitMap;
+    ///
+    /// let mut batch = CleanBitMap::<1>::new().into_dirty();
+    /// batch.push_byte(1);
+    /// batch.try_prune_to_bit(8)?;
+    /// assert_eq!(batch.pruned_chunks(), 1);
+    /// # Ok::<(), mortarpink::AllocError>(())
+    /// ```
     pub fn try_prune_to_bit(&mut self, bit: u64) -> Result<Edit<'_, N>, AllocError> {
-        assert!(
-            bit <= self.len(),
-            "cannot prune to bit {}: beyond projected length ({})",
-            bit,
-            self.len()
-        );
+        assert!(bit <= self.len(), "cannot prune to bit {}: beyond projected length ({})", bit, self.len());
 
         self.prune_to_bit_unchained(bit)?;
         Ok(Lent::new_within(self))

@@ -9,7 +9,18 @@ use crate::support::prelude::*;
 
 /// A guard that lends a value from one call of a chain to the next.
 ///
-/// With it, a call that fails can promise its callers an unchanged value; with a returned `&mut Self` it could not.
+/// # Examples
+///
+/// ```
+/// use mortarpink::bitmap::historical::CleanBitMap;
+///
+/// let mut batch = CleanBitMap::<4>::new().into_dirty();
+/// let edit = batch.try_push(true)?;
+/// // The batch is the field `on`.
+/// assert_eq!(edit.on.len(), 1);
+/// # Ok::<(), mortarpink::AllocError>(())
+/// ```
+#[derive(Debug)]
 pub struct Lent<'a, T> {
     /// The lent value.
     pub on: &'a mut T,
@@ -24,8 +35,20 @@ impl<'a, T> Lent<'a, T> {
 
 /// The dirty bitmap, as an edit returns it for the next edit: `batch.push(true)?.push(false)?`.
 ///
-/// Each call has the contract of the bitmap's call of the same name. If a call of a chain fails, the calls before it keep their effect.
+/// Each call does what the bitmap's call of the same name does. If a call of a chain fails, the calls before it keep their effect.
 /// The bitmap itself is the field `on`.
+///
+/// # Examples
+///
+/// ```
+/// use mortarpink::bitmap::historical::CleanBitMap;
+///
+/// let mut batch = CleanBitMap::<4>::new().into_dirty();
+/// // The edits that return an error chain by `?`.
+/// batch.try_push(true)?.try_push(false)?.try_set_bit(1, true)?;
+/// assert_eq!(batch.get_chunk(0), [3, 0, 0, 0]);
+/// # Ok::<(), mortarpink::AllocError>(())
+/// ```
 pub type Edit<'a, const N: usize> = Lent<'a, BitMap<N, Dirty<N>>>;
 
 impl<'a, const N: usize> Edit<'a, N> {
@@ -46,6 +69,17 @@ impl<'a, const N: usize> Edit<'a, N> {
     /// # Panics
     ///
     /// Panics if `bit` is pruned, or not below the length.
+    ///
+    /// # Examples
+    ///
+    /// ```
+    /// use mortarpink::bitmap::historical::CleanBitMap;
+    ///
+    /// let mut batch = CleanBitMap::<1>::new().into_dirty();
+    /// batch.try_push(true)?.try_set_bit(0, false)?;
+    /// assert!(!batch.get_bit(0));
+    /// # Ok::<(), mortarpink::AllocError>(())
+    /// ```
     pub fn try_set_bit(self, bit: u64, value: bool) -> Result<Edit<'a, N>, AllocError> {
         assert!(
             self.on.pruned_chunks() as u64 * (8 * N as u64) <= bit,
@@ -54,12 +88,7 @@ impl<'a, const N: usize> Edit<'a, N> {
             bit / (8 * N as u64),
             self.on.pruned_chunks()
         );
-        assert!(
-            bit < self.on.len(),
-            "cannot set bit {}: out of bounds (len: {})",
-            bit,
-            self.on.len()
-        );
+        assert!(bit < self.on.len(), "cannot set bit {}: out of bounds (len: {})", bit, self.on.len());
 
         let Lent { on } = self;
         on.try_set_bit(bit, value)
@@ -85,18 +114,20 @@ impl<'a, const N: usize> Edit<'a, N> {
     /// # Panics
     ///
     /// Panics if the range starts below the first position that is not pruned; or if the range ends after the length.
+    ///
+    /// # Examples
+    ///
+    /// ```
+    /// use mortarpink::bitmap::historical::CleanBitMap;
+    ///
+    /// let mut batch = CleanBitMap::<1>::new().into_dirty();
+    /// batch.try_push(true)?.try_set_range(0..1, false)?;
+    /// assert!(!batch.get_bit(0));
+    /// # Ok::<(), mortarpink::AllocError>(())
+    /// ```
     pub fn try_set_range(self, range: Range<u64>, value: bool) -> Result<Edit<'a, N>, AllocError> {
-        assert!(
-            self.on.pruned_chunks() as u64 * (8 * N as u64) <= range.start,
-            "range start {} is pruned",
-            range.start
-        );
-        assert!(
-            range.end <= self.on.len(),
-            "range end {} out of bounds (len: {})",
-            range.end,
-            self.on.len()
-        );
+        assert!(self.on.pruned_chunks() as u64 * (8 * N as u64) <= range.start, "range start {} is pruned", range.start);
+        assert!(range.end <= self.on.len(), "range end {} out of bounds (len: {})", range.end, self.on.len());
 
         let Lent { on } = self;
         on.try_set_range(range, value)
@@ -119,6 +150,17 @@ impl<'a, const N: usize> Edit<'a, N> {
     /// # Panics
     ///
     /// Panics if the new length does not fit `u64`.
+    ///
+    /// # Examples
+    ///
+    /// ```
+    /// use mortarpink::bitmap::historical::CleanBitMap;
+    ///
+    /// let mut batch = CleanBitMap::<1>::new().into_dirty();
+    /// batch.try_push(true)?.try_push(false)?;
+    /// assert_eq!(batch.get_chunk(0), [0b0000_0001]);
+    /// # Ok::<(), mortarpink::AllocError>(())
+    /// ```
     pub fn try_push(self, value: bool) -> Result<Edit<'a, N>, AllocError> {
         assert!(self.on.len() <= u64::MAX - 1, "length overflows u64");
 
@@ -143,6 +185,17 @@ impl<'a, const N: usize> Edit<'a, N> {
     /// # Panics
     ///
     /// Panics if the new length does not fit `u64`.
+    ///
+    /// # Examples
+    ///
+    /// ```
+    /// use mortarpink::bitmap::historical::CleanBitMap;
+    ///
+    /// let mut batch = CleanBitMap::<1>::new().into_dirty();
+    /// batch.try_push(true)?.try_push_byte(3)?;
+    /// assert_eq!(batch.get_chunk(0), [0b0000_0111]);
+    /// # Ok::<(), mortarpink::AllocError>(())
+    /// ```
     pub fn try_push_byte(self, byte: u8) -> Result<Edit<'a, N>, AllocError> {
         assert!(self.on.len() <= u64::MAX - 8, "length overflows u64");
 
@@ -167,6 +220,17 @@ impl<'a, const N: usize> Edit<'a, N> {
     /// # Panics
     ///
     /// Panics if the new length does not fit `u64`.
+    ///
+    /// # Examples
+    ///
+    /// ```
+    /// use mortarpink::bitmap::historical::CleanBitMap;
+    ///
+    /// let mut batch = CleanBitMap::<1>::new().into_dirty();
+    /// batch.try_push(true)?.try_push_chunk(&[3])?;
+    /// assert_eq!(batch.get_chunk(0), [0b0000_0111]);
+    /// # Ok::<(), mortarpink::AllocError>(())
+    /// ```
     pub fn try_push_chunk(self, chunk: &[u8; N]) -> Result<Edit<'a, N>, AllocError> {
         assert!(self.on.len() <= u64::MAX - (8 * N as u64), "length overflows u64");
 
@@ -191,13 +255,20 @@ impl<'a, const N: usize> Edit<'a, N> {
     /// # Panics
     ///
     /// Panics if `bit` is above the length.
+    ///
+    /// # Examples
+    ///
+    /// ```
+    /// use mortarpink::bitmap::historical::CleanBitMap;
+    ///
+    /// let mut batch = CleanBitMap::<1>::new().into_dirty();
+    /// batch.push_byte(1);
+    /// batch.try_push(true)?.try_prune_to_bit(9)?;
+    /// assert_eq!(batch.pruned_chunks(), 1);
+    /// # Ok::<(), mortarpink::AllocError>(())
+    /// ```
     pub fn try_prune_to_bit(self, bit: u64) -> Result<Edit<'a, N>, AllocError> {
-        assert!(
-            bit <= self.on.len(),
-            "cannot prune to bit {}: beyond projected length ({})",
-            bit,
-            self.on.len()
-        );
+        assert!(bit <= self.on.len(), "cannot prune to bit {}: beyond projected length ({})", bit, self.on.len());
 
         let Lent { on } = self;
         on.try_prune_to_bit(bit)

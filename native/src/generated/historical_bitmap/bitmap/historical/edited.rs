@@ -100,10 +100,7 @@ fn remove_from<const N: usize>(chunks: &mut ChunkMap<N>, from: usize) {
 impl<const N: usize> EditedChunks<N> {
     // Returns a collection without chunks. Does not allocate.
     pub(crate) fn new_within(alloc: Global) -> Self {
-        EditedChunks {
-            chunks: ChunkMap::new_within(alloc),
-            recent: 0,
-        }
+        EditedChunks { chunks: ChunkMap::new_within(alloc), recent: 0 }
     }
 
     // Returns the chunk at an index, if there is one.
@@ -227,10 +224,7 @@ impl<const N: usize> EditedChunks<N> {
 
     // Returns a copy. Allocates for its chunks.
     pub(crate) fn duplicate(&self) -> Result<Self, AllocError> {
-        Ok(EditedChunks {
-            chunks: self.chunks.duplicate()?,
-            recent: self.recent,
-        })
+        Ok(EditedChunks { chunks: self.chunks.duplicate()?, recent: self.recent })
     }
 
     // Returns the chunks as a map. Does not allocate.

@@ -7,6 +7,15 @@ use crate::support::alloc::AllocError;
 use crate::support::prelude::*;
 
 /// The error of a constructor, which is `PrunedChunksOverflow`, or of a commit, which is any other.
+///
+/// # Examples
+///
+/// ```
+/// use mortarpink::bitmap::historical::{CleanBitMap, Error};
+///
+/// let error = CleanBitMap::<4>::new().apply_batch(u64::MAX, |_| ()).unwrap_err();
+/// assert_eq!(error, Error::ReservedCommitNumber);
+/// ```
 #[derive(Clone, Copy, Debug, PartialEq, Eq)]
 pub enum Error {
     /// The commit's number is not above the last number.
@@ -45,6 +54,15 @@ impl core::fmt::Display for Error {
 impl core::error::Error for Error {}
 
 /// The error of `rewind_to`.
+///
+/// # Examples
+///
+/// ```
+/// use mortarpink::bitmap::historical::{CleanBitMap, RewindError};
+///
+/// let Err((bitmap, error)) = CleanBitMap::<4>::new().rewind_to(1) else { panic!() };
+/// assert_eq!((error, bitmap.len()), (RewindError::NoSuchCommit, 0));
+/// ```
 #[derive(Clone, Copy, Debug, PartialEq, Eq)]
 pub enum RewindError {
     /// No commit is kept under the number.
@@ -80,6 +98,15 @@ impl From<prunable::Error> for Error {
 }
 
 /// The error of `apply_batch`.
+///
+/// # Examples
+///
+/// ```
+/// use mortarpink::bitmap::historical::{ApplyError, CleanBitMap, DirtyBitMap};
+///
+/// let result = CleanBitMap::<4>::new().try_apply_batch(1, |_: &mut DirtyBitMap<4>| Err("no"));
+/// assert!(matches!(result, Err((_, ApplyError::Batch("no")))));
+/// ```
 #[derive(Debug)]
 pub enum ApplyError<E> {
     /// The closure returned `Err` with this error. Nothing was committed.

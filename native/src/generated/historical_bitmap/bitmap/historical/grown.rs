@@ -43,11 +43,7 @@ fn zeros_with<const N: usize>(bit: u64, value: bool) -> [u8; N] {
 impl<const N: usize> GrownChunks<N> {
     // Returns a collection without chunks. Does not allocate.
     pub(crate) fn new_within(alloc: Global) -> Self {
-        GrownChunks {
-            others: EditedChunks::new_within(alloc),
-            from: 0,
-            run: Vec::new_within(alloc),
-        }
+        GrownChunks { others: EditedChunks::new_within(alloc), from: 0, run: Vec::new_within(alloc) }
     }
 
     // Returns the chunk at an index, if there is one.
@@ -262,11 +258,7 @@ impl<const N: usize> GrownChunks<N> {
 
     // Returns a copy. Allocates for its chunks.
     pub(crate) fn duplicate(&self) -> Result<Self, AllocError> {
-        Ok(GrownChunks {
-            others: self.others.duplicate()?,
-            from: self.from,
-            run: self.run.try_clone()?,
-        })
+        Ok(GrownChunks { others: self.others.duplicate()?, from: self.from, run: self.run.try_clone()? })
     }
 
     // Returns the map of the other chunks, the first index of the run, and the run's chunks. Does not allocate.

@@ -17,6 +17,18 @@ use crate::support::prelude::*;
 /// For each chunk that `next` examines: a few searches among the edited chunks. It examines only marked chunks: those that the pending edits
 /// have edited, cut off or pruned. A whole pass takes at most one search more per chunk that the batch edited and then popped.
 /// The same holds of a chunk that a `set_range` had inserted when it ran out of memory.
+///
+/// # Examples
+///
+/// ```
+/// use mortarpink::bitmap::historical::CleanBitMap;
+///
+/// let mut batch = CleanBitMap::<4>::new().into_dirty();
+/// batch.push(true).push(false);
+/// let mut chunks = batch.changed_chunks();
+/// assert_eq!((chunks.next(), chunks.next()), (Some(0), None));
+/// ```
+#[derive(Debug)]
 pub struct PendingChanges<'a, const N: usize> {
     current: &'a Prunable<N>,
     edits: &'a Dirty<N>,
@@ -67,15 +79,20 @@ impl<const N: usize> BitMap<N, Dirty<N>> {
     /// A chunk differs if it is retained in only one of the bitmaps, or if its bytes differ. Bits past the length count as zero.
     ///
     /// Does not allocate; constant time. `PendingChanges` says what the iterator costs.
+    ///
+    /// # Examples
+    ///
+    /// ```
+    /// use mortarpink::bitmap::historical::CleanBitMap;
+    ///
+    /// let mut batch = CleanBitMap::<4>::new().into_dirty();
+    /// batch.push(true).push(false);
+    /// assert!(batch.changed_chunks().eq([0]));
+    /// ```
     pub fn changed_chunks(&self) -> PendingChanges<'_, N> {
         let end = chunk_count::<N>(self.current.len()).max(chunk_count::<N>(self.state.len()));
         let next = self.current.pruned_chunks();
-        PendingChanges {
-            current: &self.current,
-            edits: &self.state,
-            next,
-            end,
-        }
+        PendingChanges { current: &self.current, edits: &self.state, next, end }
     }
 }
 

@@ -21,12 +21,7 @@ impl<const N: usize> Readable<N> for BitMap<N, Dirty<N>> {
     }
 
     fn get_chunk(&self, chunk: usize) -> [u8; N] {
-        assert!(
-            self.pruned_chunks() <= chunk,
-            "chunk {} is pruned (pruned_chunks: {})",
-            chunk,
-            self.pruned_chunks()
-        );
+        assert!(self.pruned_chunks() <= chunk, "chunk {} is pruned (pruned_chunks: {})", chunk, self.pruned_chunks());
         assert!(
             (chunk as u64) < self.len().div_ceil(8 * N as u64),
             "chunk {} out of bounds (chunks: {})",

@@ -46,11 +46,7 @@ impl<const N: usize> ChunkDiff<N> {
 impl<const N: usize> CommitDiff<N> {
     // Returns a record without entries, and with capacity for `count` of them. Allocates once, or never if `count` is 0.
     pub(crate) fn with_capacity_within(alloc: Global, len: u64, pruned_chunks: usize, count: usize) -> Result<Self, AllocError> {
-        Ok(CommitDiff {
-            len,
-            pruned_chunks,
-            chunk_diffs: Vec::with_capacity_within(alloc, count)?,
-        })
+        Ok(CommitDiff { len, pruned_chunks, chunk_diffs: Vec::with_capacity_within(alloc, count)? })
     }
 
     // Appends an entry. If an allocation fails, the record is unchanged.
@@ -160,10 +156,6 @@ fn collect_between<const N: usize>(
 impl<const N: usize> TryClone for CommitDiff<N> {
     // Returns an equal record. Allocates for its entries, and fails if that fails.
     fn try_clone(&self) -> Result<Self, AllocError> {
-        Ok(CommitDiff {
-            len: self.len,
-            pruned_chunks: self.pruned_chunks,
-            chunk_diffs: self.chunk_diffs.try_clone()?,
-        })
+        Ok(CommitDiff { len: self.len, pruned_chunks: self.pruned_chunks, chunk_diffs: self.chunk_diffs.try_clone()? })
     }
 }

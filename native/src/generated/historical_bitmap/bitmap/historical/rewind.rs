@@ -14,8 +14,8 @@ use crate::support::prelude::*;
 
 // Turns the current bitmap into the one that the last commit up to a number left, of the given length and pruned count.
 //
-// Allocates temporarily the old bytes of each chunk that is restored, and the chunks pruned since; and the chunks by which the bitmap
-// grows, if there is no capacity for them. If an allocation fails, the bitmap is unchanged.
+// Allocates temporarily the old bytes of each chunk that is restored, and the chunks of the past bitmap pruned since; and the chunks by
+// which the bitmap grows, if there is no capacity for them. If an allocation fails, the bitmap is unchanged.
 pub(crate) fn rewind<const N: usize>(
     current: &mut Prunable<N>,
     commits: &CommitList<N>,
@@ -26,8 +26,7 @@ pub(crate) fn rewind<const N: usize>(
 ) -> Result<(), AllocError> {
     let _ = current.len();
     let chunks = gather(alloc, commits, number, pruned, chunk_count::<N>(len))?;
-    let prefix = zero_chunks(alloc, current.pruned_chunks() - pruned)?;
-    restore_extent(current, &prefix, len)?;
+    restore_extent(current, pruned, len, alloc)?;
     write_back(current, &chunks);
     Ok(())
 }
@@ -90,10 +89,30 @@ fn zero_chunks<const N: usize>(alloc: Global, count: usize) -> Result<Vec<[u8; N
     Ok(chunks)
 }
 
+// Returns a bitmap of zeros with a pruned count and a length. Allocates its retained chunks.
+fn zero_bitmap<const N: usize>(alloc: Global, pruned: usize, len: u64) -> Result<Prunable<N>, AllocError> {
+    let mut bitmap = Prunable::new_with_pruned_chunks_within(alloc, pruned).unwrap();
+    bitmap.try_extend_to(len)?;
+    Ok(bitmap)
+}
+
+// Gives the bitmap a pruned count and a length: it loses the bits past the length, and the bits that it lacked may have any value.
+//
+// If that leaves none of its bits, it is made anew, so that nothing is allocated for chunks past the length.
+// If an allocation fails, the bitmap is unchanged.
+fn restore_extent<const N: usize>(current: &mut Prunable<N>, pruned: usize, len: u64, alloc: Global) -> Result<(), AllocError> {
+    if chunk_count::<N>(len) < current.pruned_chunks() {
+        *current = zero_bitmap(alloc, pruned, len)?;
+        return Ok(());
+    }
+    let prefix = zero_chunks(alloc, current.pruned_chunks() - pruned)?;
+    widen(current, &prefix, len)
+}
+
 // Inserts chunks before the retained bits, and truncates the bitmap, or extends it with zeros, to a length.
 //
 // Extends first, since that can be undone if the chunks cannot be inserted. If an allocation fails, the bitmap is unchanged.
-fn restore_extent<const N: usize>(current: &mut Prunable<N>, prefix: &[[u8; N]], len: u64) -> Result<(), AllocError> {
+fn widen<const N: usize>(current: &mut Prunable<N>, prefix: &[[u8; N]], len: u64) -> Result<(), AllocError> {
     let before = grow(current, len)?;
     let Ok(()) = current.try_unprune(prefix) else {
         shrink_back(current, before);

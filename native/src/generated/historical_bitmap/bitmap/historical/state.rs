@@ -21,9 +21,31 @@ mod private {
 /// A state of a historical bitmap: `Clean` or `Dirty<N>`.
 ///
 /// The trait is sealed: no other type implements it.
+///
+/// # Examples
+///
+/// ```
+/// use mortarpink::bitmap::historical::{BitMap, CleanBitMap, State};
+///
+/// /// Copies a historical bitmap in either state.
+/// fn copied<S: State>(bitmap: &BitMap<8, S>) -> BitMap<8, S> {
+///     bitmap.clone()
+/// }
+///
+/// assert!(copied(&CleanBitMap::new().into_dirty()).is_empty());
+/// ```
 pub trait State: private::Sealed {}
 
 /// The state without pending edits.
+///
+/// # Examples
+///
+/// ```
+/// use mortarpink::bitmap::historical::{BitMap, Clean, CleanBitMap};
+///
+/// let bitmap: BitMap<8, Clean> = CleanBitMap::<8>::new();
+/// assert!(bitmap.is_empty());
+/// ```
 #[derive(Debug)]
 pub struct Clean {
     alloc: Global,

@@ -2,14 +2,36 @@
 //! Undoing a commit: from the bitmap after it and its reverse record, the bitmap before it.
 
 use crate::generated::bitmap_core::bitmap::Prunable;
+use crate::generated::bitmap_core::chunk::chunk_count;
 use crate::generated::historical_bitmap::bitmap::historical::record::{ChunkDiff, CommitDiff};
 use crate::support::alloc::AllocError;
 #[allow(unused_imports)]
 use crate::support::prelude::*;
 
-// Turns the bitmap after a commit into the one before it. Allocates for the chunks that it restores.
+// Turns the bitmap after a commit into the one before it. Allocates for the chunks that it restores, and for no others.
 // After an error the bitmap may have any value: it is a working copy.
 pub(crate) fn undo<const N: usize>(newer: &mut Prunable<N>, diff: &CommitDiff<N>) -> Result<(), AllocError> {
+    let _ = newer.len();
+    if chunk_count::<N>(diff.len()) < newer.pruned_chunks() {
+        *newer = rebuilt(diff)?;
+        return Ok(());
+    }
+    undo_in_steps(newer, diff)
+}
+
+// Returns the bitmap before a commit from its record alone, which keeps all of its chunks. Allocates for these.
+fn rebuilt<const N: usize>(diff: &CommitDiff<N>) -> Result<Prunable<N>, AllocError> {
+    let len = diff.len();
+    let end = chunk_count::<N>(len);
+    let chunks = diff.pruned_bytes(end)?;
+    let mut older = Prunable::new_with_pruned_chunks_within(*chunks.its_allocator(), end).unwrap();
+    older.try_unprune(&chunks)?;
+    older.truncate(len);
+    Ok(older)
+}
+
+// As `undo`, if the newer bitmap has at most as many pruned chunks as the older one has chunks.
+fn undo_in_steps<const N: usize>(newer: &mut Prunable<N>, diff: &CommitDiff<N>) -> Result<(), AllocError> {
     let len = diff.len();
     let pruned = newer.pruned_chunks();
     let prefix = diff.pruned_bytes(pruned)?;

@@ -21,6 +21,18 @@ impl<const N: usize> BitMap<N, Clean> {
     /// # Complexity
     ///
     /// A copy of one chunk.
+    ///
+    /// # Examples
+    ///
+    /// ```
+    /// use mortarpink::bitmap::historical::CleanBitMap;
+    ///
+    /// let bitmap = CleanBitMap::<4>::new().apply_batch(1, |batch| {
+    ///     batch.push(true).push(false);
+    /// })?;
+    /// assert_eq!((bitmap.retained_bytes(0), bitmap.retained_bytes(1)), (Some([1, 0, 0, 0]), None));
+    /// # Ok::<(), mortarpink::bitmap::historical::Error>(())
+    /// ```
     pub fn retained_bytes(&self, chunk: usize) -> Option<[u8; N]> {
         if chunk >= chunk_count::<N>(self.current.len()) {
             return None;
@@ -41,6 +53,16 @@ impl<const N: usize> BitMap<N, Dirty<N>> {
     /// # Complexity
     ///
     /// A copy of one chunk, and at most one search among the edited chunks.
+    ///
+    /// # Examples
+    ///
+    /// ```
+    /// use mortarpink::bitmap::historical::CleanBitMap;
+    ///
+    /// let mut batch = CleanBitMap::<4>::new().into_dirty();
+    /// batch.push(true).push(false);
+    /// assert_eq!((batch.retained_bytes(0), batch.retained_bytes(1)), (Some([1, 0, 0, 0]), None));
+    /// ```
     pub fn retained_bytes(&self, chunk: usize) -> Option<[u8; N]> {
         if chunk >= chunk_count::<N>(self.state.len()) {
             return None;
@@ -51,6 +73,16 @@ impl<const N: usize> BitMap<N, Dirty<N>> {
     /// Returns the number of chunks that the batch has pruned: those that are pruned in the pending bitmap, and not in the current one.
     ///
     /// Does not allocate; constant time.
+    ///
+    /// # Examples
+    ///
+    /// ```
+    /// use mortarpink::bitmap::historical::CleanBitMap;
+    ///
+    /// let mut batch = CleanBitMap::<1>::new().into_dirty();
+    /// batch.push_byte(1).push_byte(2).prune_to_bit(8);
+    /// assert_eq!(batch.newly_pruned_chunks(), 1);
+    /// ```
     pub fn newly_pruned_chunks(&self) -> usize {
         self.state.pruned_chunks() - self.current.pruned_chunks()
     }
@@ -78,12 +110,7 @@ impl<const N: usize> BitMap<N, Dirty<N>> {
     /// Panics if the chunk `index` has no retained bit.
     #[doc(hidden)]
     pub fn set_chunk_unchained(&mut self, index: usize, chunk: &[u8; N]) -> Result<(), AllocError> {
-        assert!(
-            self.pruned_chunks() <= index,
-            "chunk {} is pruned (pruned_chunks: {})",
-            index,
-            self.pruned_chunks()
-        );
+        assert!(self.pruned_chunks() <= index, "chunk {} is pruned (pruned_chunks: {})", index, self.pruned_chunks());
         assert!(
             (index as u64) < self.len().div_ceil(8 * N as u64),
             "chunk {} out of bounds (chunks: {})",
@@ -117,13 +144,20 @@ impl<const N: usize> BitMap<N, Dirty<N>> {
     /// # Panics
     ///
     /// Panics if the chunk `index` has no retained bit.
+    ///
+    /// # Examples
+    ///
+    /// ```
+    /// use mortarpink::bitmap::historical::CleanBitMap;
+    ///
+    /// let mut batch = CleanBitMap::<1>::new().into_dirty();
+    /// batch.push_byte(1);
+    /// batch.try_set_chunk(0, &[7])?;
+    /// assert_eq!(batch.get_chunk(0), [7]);
+    /// # Ok::<(), mortarpink::AllocError>(())
+    /// ```
     pub fn try_set_chunk(&mut self, index: usize, chunk: &[u8; N]) -> Result<Edit<'_, N>, AllocError> {
-        assert!(
-            self.pruned_chunks() <= index,
-            "chunk {} is pruned (pruned_chunks: {})",
-            index,
-            self.pruned_chunks()
-        );
+        assert!(self.pruned_chunks() <= index, "chunk {} is pruned (pruned_chunks: {})", index, self.pruned_chunks());
         assert!(
             (index as u64) < self.len().div_ceil(8 * N as u64),
             "chunk {} out of bounds (chunks: {})",
@@ -156,13 +190,19 @@ impl<'a, const N: usize> Edit<'a, N> {
     /// # Panics
     ///
     /// Panics if the chunk `index` has no retained bit.
+    ///
+    /// # Examples
+    ///
+    /// ```
+    /// use mortarpink::bitmap::historical::CleanBitMap;
+    ///
+    /// let mut batch = CleanBitMap::<1>::new().into_dirty();
+    /// batch.try_push(true)?.try_set_chunk(0, &[0])?;
+    /// assert!(!batch.get_bit(0));
+    /// # Ok::<(), mortarpink::AllocError>(())
+    /// ```
     pub fn try_set_chunk(self, index: usize, chunk: &[u8; N]) -> Result<Edit<'a, N>, AllocError> {
-        assert!(
-            self.on.pruned_chunks() <= index,
-            "chunk {} is pruned (pruned_chunks: {})",
-            index,
-            self.on.pruned_chunks()
-        );
+        assert!(self.on.pruned_chunks() <= index, "chunk {} is pruned (pruned_chunks: {})", index, self.on.pruned_chunks());
         assert!(
             (index as u64) < self.on.len().div_ceil(8 * N as u64),
             "chunk {} out of bounds (chunks: {})",
