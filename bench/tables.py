@@ -7,8 +7,8 @@ from itertools import product
 from math import exp, log
 from typing import Callable, NamedTuple
 
-from measure import Call, costs, ratio
-from programs import COPIES, FIXED, ORIGINAL, OURS, PERSISTENT, ROARING
+from measure import Call, costs, ratio, run
+from programs import COPIES, FIXED, NATIVE, ORIGINAL, OURS, PERSISTENT, ROARING
 
 LARGE, SMALL = 64 << 20, 1 << 20  # bytes of dense bitmaps
 HISTORICAL = 1 << 17  # bytes of historical bitmaps, which are 2^20 bits
@@ -43,6 +43,12 @@ ALONE = [Call("in_place_oldest", 200, 1000), Call("in_place_newest", 2000, 1000)
 KEPT = [Call("kept_commit", 20_000), Call("kept_window", 100_000), Call("kept_rewind", 100_000), Call("kept_rebuild", 500),
         Call("kept_get", 2000), Call("kept_scan", 5)]
 INDEXED = [Call("indexed_get", 500_000), Call("indexed_scan", 100)]
+# The calls of logs. One with units works on all of so many commits each time. `ENTRIES` prints the mean number of bytes of an entry.
+LOGS = [Call("log_commit", 20_000), Call("plain_commit", 20_000), Call("log_recover", 100, 1000), Call("log_make", 100, 1000),
+        Call("log_delta", 2000), Call("log_write_history", 10, 1000), Call("log_read_history", 100, 1000)]
+# Not measured: they write a history, whose time per commit grows with the kept commits.
+TOO_LONG = {("log_write_history", 100_000), ("log_read_history", 100_000)}
+ENTRIES = Call("log_bytes", 2000)
 
 # The groups of calls whose ratios to commonware-utils are in ratios.csv.
 DENSE_GROUPS = {
@@ -76,6 +82,14 @@ GROWTH = {
     "kept_rebuild": "get_at_commit of the oldest", "kept_get": "one bit of the oldest", "kept_scan": "set positions of the oldest",
     "indexed_get": "one bit of the oldest", "indexed_scan": "set positions of the oldest",
 }
+# The calls of logs as the table names them, and the pairs whose ratio it has.
+LOGGED = {
+    "log_commit": "commit of 100 sets with its entry, oldest dropped", "plain_commit": "the same without an entry",
+    "log_recover": "`recover`, commits of 10 sets", "log_make": "the same commits made without a log",
+    "log_delta": "`delta` between neighbours", "log_write_history": "`write_history`", "log_read_history": "`read_history`",
+}
+LOG_PAIRS = {"a commit with its entry, to one without": ("log_commit", "plain_commit"),
+             "`recover`, to making the commits": ("log_recover", "log_make")}
 KEEPS = {"keep_set_far": "1000 sets at random", "keep_set_near": "1000 sets, close together", "keep_push": "4096 pushes"}
 
 
@@ -94,6 +108,10 @@ class Session(NamedTuple):
         fewer = call._replace(times=max(call.times // self.divisor, 1))
         found = costs([self.programs[name] for name in names if name in self.programs], fewer, width, size, self.count, commits)
         return {name: cost._replace(seconds=cost.seconds * call.times / fewer.times) for name, cost in found.items()}
+
+    def printed(self, call, width, size, commits=()):
+        """What this project's program prints for a call."""
+        return run(self.programs[OURS], [call.name, width, size, max(call.times // self.divisor, 1), *commits]).checksum
 
 
 def say(*cells):
@@ -142,20 +160,20 @@ def grouped(groups, kind, ratios):
             yield {"bitmap": kind, "group": group, "measurements": len(values), "ratio": f"{mean(values):.2f}"}
 
 
-def pair(session, call, width, size):
-    """The ratio of this project's cost to that of commonware-utils."""
-    found = session.costs([OURS, ORIGINAL], call, width, size)
-    return ratio(found[OURS], found[ORIGINAL])
+def pair(session, program, call, width, size):
+    """The ratio of a program's cost to that of commonware-utils."""
+    found = session.costs([program, ORIGINAL], call, width, size)
+    return ratio(found[program], found[ORIGINAL])
 
 
-def dense(session):
+def dense(session, program=OURS):
     """Ratios of dense and pruned bitmaps to commonware-utils."""
     found = {}
     head("Ratio of times, by width and size", *(f"{width}, {size >> 20} MB" for size in (LARGE, SMALL) for width in WIDTHS))
     for name in [name for names in DENSE_GROUPS.values() for name in names.split()]:
         calls = [(size, call) for size, call in dense_calls([name]) if session.chosen([call])]
         if calls:
-            found[name] = [pair(session, call, width, size) for size, call in calls for width in WIDTHS]
+            found[name] = [pair(session, program, call, width, size) for size, call in calls for width in WIDTHS]
             say(f"`{name}`", *map(short, found[name]))
     return print_groups(DENSE_GROUPS, "dense and pruned", found)
 
@@ -169,19 +187,26 @@ def print_groups(groups, kind, ratios):
     return {"ratios": rows}
 
 
-def batches(session):
+def batches(session, program=OURS):
     """Ratios of historical bitmaps to commonware-utils: batches of edits, and other calls."""
     found = {}
     head("Edits", *(f"Batch {end}, width {width}" for end in ("aborted", "committed") for width in (32, 8, 4)))
     for title, calls in batch_calls(session):
         for call in session.chosen(calls):
-            found[call.name] = [pair(session, call, width, HISTORICAL) for width in (32, 8, 4)]
+            found[call.name] = [pair(session, program, call, width, HISTORICAL) for width in (32, 8, 4)]
         say(title, *(cell for call in calls for cell in (map(short, found[call.name]) if call.name in found else [""] * 3)))
     head("Other calls", "Width 32", "8", "4")
     for call in session.chosen(PAST):
-        found[call.name] = [pair(session, call, width, HISTORICAL) for width in (32, 8, 4)]
+        found[call.name] = [pair(session, program, call, width, HISTORICAL) for width in (32, 8, 4)]
         say(f"`{call.name}`", *map(short, found[call.name]))
     return print_groups(BATCH_GROUPS, "historical", found)
+
+
+def native(session):
+    """Ratios of the Rust crate in `native` to commonware-utils, as in `dense` and `batches`. Both are built together."""
+    dense(session, NATIVE)
+    batches(session, NATIVE)
+    return {}
 
 
 def microseconds(call, cost):
@@ -238,10 +263,14 @@ def peers(session):
     return {}
 
 
+def per_unit(call, cost):
+    """The nanoseconds per unit of a call."""
+    return max(cost.seconds, 0) * 1e9 / call.times / call.units
+
+
 def nanoseconds(session, call, width, size):
     """The nanoseconds of this project per unit of a call."""
-    cost = session.costs([OURS], call, width, size)[OURS]
-    return f"{max(cost.seconds, 0) * 1e9 / call.times / call.units:.3f}"
+    return f"{per_unit(call, session.costs([OURS], call, width, size)[OURS]):.3f}"
 
 
 def alone(session):
@@ -260,18 +289,48 @@ def alone(session):
     return {}
 
 
+def with_commits(call, kept):
+    """A call of logs on a bitmap with so many commits. If it works on all of them each time, it is called less often, and takes as long."""
+    return call if call.units == 1 else call._replace(times=max(call.times * call.units // kept, 1), units=kept)
+
+
+def log_costs(session, call):
+    """The costs of a call of logs by the number of commits, each with the call that has it. One that takes too long is left out."""
+    calls = {kept: with_commits(call, kept) for kept in COMMITS if (call.name, kept) not in TOO_LONG}
+    return {kept: (each, session.costs([OURS], each, 8, HISTORICAL, [kept])[OURS]) for kept, each in calls.items()}
+
+
+def logs(session):
+    """Times of commits with and without an entry in a log, and of what is made of many logged commits, of this project."""
+    columns, found = [f"{kept:,} commits" for kept in COMMITS], {}
+    head("Nanoseconds per commit or delta, width 8, 2^20 bits", *columns)
+    for call in session.chosen(LOGS):
+        found[call.name] = log_costs(session, call)
+        say(LOGGED[call.name], *(short(per_unit(*found[call.name][kept])) if kept in found[call.name] else "not measured" for kept in COMMITS))
+    head("Ratio of times", *columns)
+    for title, (first, second) in LOG_PAIRS.items():
+        if first in found and second in found:
+            say(title, *(short(ratio(found[first][kept][1], found[second][kept][1])) for kept in COMMITS))
+    head("Bytes", *columns)
+    for call in session.chosen([ENTRIES]):
+        say("entry of a commit of 100 sets", *(session.printed(call, 8, HISTORICAL, [kept]) for kept in COMMITS))
+    return {}
+
+
 class Table(NamedTuple):
     measure: Callable
-    needs: list  # the programs that it cannot do without, besides this project's
+    needs: list  # the programs that it cannot do without
     takes: list  # the programs that it measures if they are there
 
 
 TABLES = {
-    "dense": Table(dense, [ORIGINAL], []),
-    "batches": Table(batches, [ORIGINAL], []),
-    "growth": Table(growth, [], [ORIGINAL]),
-    "lengths": Table(lengths, [], []),
-    "commits": Table(commits, [COPIES, ROARING, PERSISTENT], []),
-    "peers": Table(peers, [FIXED, ROARING], []),
-    "alone": Table(alone, [], []),
+    "dense": Table(dense, [OURS, ORIGINAL], []),
+    "batches": Table(batches, [OURS, ORIGINAL], []),
+    "native": Table(native, [NATIVE, ORIGINAL], []),
+    "growth": Table(growth, [OURS], [ORIGINAL]),
+    "lengths": Table(lengths, [OURS], []),
+    "logs": Table(logs, [OURS], []),
+    "commits": Table(commits, [OURS, COPIES, ROARING, PERSISTENT], []),
+    "peers": Table(peers, [OURS, FIXED, ROARING], []),
+    "alone": Table(alone, [OURS], []),
 }

@@ -1,6 +1,8 @@
 //! The calls of `crates/bench` on the bitmaps of the Rust crate `commonware-utils`. Each prints the checksum that `crates/bench` prints.
 //!
 //! A call that this crate does not have is left out, apart from those of `kept`, which say what they do instead.
+//!
+//! The package `native` compiles the same sources with the Rust crate of this repository under the name `commonware_utils`.
 
 mod batches;
 mod dense;

@@ -7,6 +7,7 @@ mod edits;
 mod growth;
 mod historical;
 mod kept;
+mod logs;
 mod past;
 mod program;
 mod pruned;

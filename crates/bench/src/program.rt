@@ -3,7 +3,7 @@
 ghost use Rattle.std.specs.Prelude.{◌*◌, ◌^◌, ◌<◌, ◌≤◌, length, IfOk};
 
 use crate::call::{Call, named};
-use crate::{edits, growth, historical, kept, pruned, reads, searches};
+use crate::{edits, growth, historical, kept, logs, pruned, reads, searches};
 use bitmap_core::bitmap::BitMap;
 use std::alloc::{AllocError, Global};
 
@@ -188,6 +188,25 @@ fn run_kept(
     }
 }
 
+// Runs a call of a log, with the chunk width that an argument gives.
+fn run_log(
+    alloc: Global,
+    call: logs::Call,
+    width: &str,
+    bytes: u64,
+    commits: u64,
+    times: u64,
+) -> Result<u64, RunError> {
+    match width.as_bytes() {
+        b"1" => Ok(logs::run::<1>(alloc, call, bytes, commits, times)?),
+        b"3" => Ok(logs::run::<3>(alloc, call, bytes, commits, times)?),
+        b"4" => Ok(logs::run::<4>(alloc, call, bytes, commits, times)?),
+        b"8" => Ok(logs::run::<8>(alloc, call, bytes, commits, times)?),
+        b"32" => Ok(logs::run::<32>(alloc, call, bytes, commits, times)?),
+        _ => Err(RunError::Usage),
+    }
+}
+
 // Returns the number that an argument has.
 fn number(word: &str) -> Result<u64, RunError> {
     word.parse::<u64>().map_err(|_| RunError::Usage)
@@ -207,6 +226,9 @@ pub fn run(alloc: Global, words: &[String]) -> Result<u64, RunError> {
     }
     if let Some(commits) = commits {
         let commits = number(commits.as_str())?;
+        if let Some(call) = logs::named(call.as_str()) {
+            return run_log(alloc, call, width.as_str(), bytes, commits, times);
+        }
         let call = kept::named(call.as_str()).ok_or(RunError::Usage)?;
         return run_kept(alloc, call, width.as_str(), bytes, commits, times);
     }
