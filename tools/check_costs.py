@@ -2,7 +2,8 @@
 """Compares the guide's tables of costs with the public calls of the library crates.
 
 - Each public function of a public type, and each function of a public trait, is in a table whose heading names the type or the trait.
-- Each call that a table names is a function of a type or trait in that table's heading, its own or one of a trait that the type implements.
+- Each function that is exported by `log_frames` or `commit_log` and is of no type is in a table whose heading names the crate.
+- Each call that a table names is a function of a type, trait or crate in that table's heading, its own or one of a trait that the type implements.
 - No two rows are for the same call of the same type.
 
 The heading of a table's first column names the types. Laws are no calls: their costs are in their own documentation.
@@ -14,7 +15,8 @@ from pathlib import Path
 from typing import NamedTuple
 
 TOP = Path(__file__).resolve().parent.parent
-CRATES = ("bitmap_core", "historical_bitmap", "bitmap_session")
+CRATES = ("bitmap_core", "historical_bitmap", "log_frames", "commit_log", "bitmap_session")
+FREE = ("log_frames", "commit_log")  # the crates whose exported functions of no type are listed
 GUIDE = TOP / "docs/GUIDE.md"
 SECTION = "## What each call costs"
 HISTORICAL = {"BitMap<N, Clean>": ["CleanBitMap"], "BitMap<N, Dirty<N>>": ["DirtyBitMap"], "BitMap<N, S>": ["CleanBitMap", "DirtyBitMap"]}
@@ -30,10 +32,16 @@ class Row(NamedTuple):
     calls: list
 
 
-def sources():
-    """The texts of the library crates, without their laws."""
-    paths = [path for crate in CRATES for path in sorted((TOP / "crates" / crate / "src").rglob("*.rt"))]
+def sources(crate):
+    """The texts of a library crate, without its laws."""
+    paths = sorted((TOP / "crates" / crate / "src").rglob("*.rt"))
     return [path.read_text() for path in paths if not {"laws", "laws.rt"} & set(path.relative_to(TOP).parts)]
+
+
+def free_calls(crate):
+    """The exported functions of a crate that are of no type."""
+    exported = set(re.findall(r"\w+", " ".join(re.findall(r"^pub use ([^;]*);", (TOP / "crates" / crate / "src/lib.rt").read_text(), re.MULTILINE))))
+    return {(crate, name) for text in sources(crate) for name in re.findall(r"^pub fn (\w+)", text, re.MULTILINE) if name in exported}
 
 
 def blocks(text):
@@ -110,7 +118,9 @@ def errors_in(listed, calls):
 
 
 def main():
-    calls = public_calls(sources())
+    calls = public_calls([text for crate in CRATES for text in sources(crate)])
+    for crate in FREE:
+        calls.own.update(free_calls(crate))
     listed = list(rows(GUIDE.read_text()))
     errors = list(errors_in(listed, calls))
     for error in errors:
