@@ -97,8 +97,9 @@ fn push_history<const N: usize>(
 /// Allocates from the allocator of `out`: the history, temporarily the first kept state, and temporarily the base and one commit after another.
 ///
 /// # Complexity
-/// That of `get_at_commit` for the first kept state, and per pair of neighbouring kept states that of `changed_chunks`. Amortized linear in the
-/// bytes of the history.
+/// That of `get_at_commit` for the first kept state, per pair of neighbouring kept states that of `changed_chunks`, and per listed chunk a read of
+/// the newer state through `AtCommit`. In addition linear in the bytes of the history, amortized. Call `indexed` before if many commits are
+/// kept: without an index such a read looks through the reverse records of the later commits.
 pub fn write_history<const N: usize>(
     bitmap: &CleanBitMap<N>,
     out: &mut Vec<u8>,

@@ -7,8 +7,11 @@ use crate::support::prelude::*;
 
 // The first byte of each kind of entry.
 pub(crate) const COMMIT: u8 = 1;
+
 pub(crate) const REWIND: u8 = 2;
+
 pub(crate) const DROP_BEFORE: u8 = 3;
+
 pub(crate) const CLEAR: u8 = 5;
 
 /// Why bytes encode no entry.

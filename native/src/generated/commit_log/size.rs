@@ -50,7 +50,7 @@ fn state_size<const N: usize>(bitmap: &CleanBitMap<N>) -> u64 {
 /// It is the number of bytes that `write_history` appends. Does not allocate.
 ///
 /// # Complexity
-/// Per pair of neighbouring kept states that of `changed_chunks`.
+/// Per pair of neighbouring kept states that of `changed_chunks`, and per chunk that differs a read of the newer state through `AtCommit`.
 ///
 /// # Examples
 ///
