@@ -1,7 +1,7 @@
 use mortarpink_proved::{Bitmap, Error};
 
 /// Appends an event, prunes the chunks that end before the last 1,024 bits, and commits.
-/// Versions before the last 10 are dropped, so that their pruned chunks are freed too.
+/// Keeps at most 11 versions, so that the pruned chunks of the others are freed too.
 pub fn append(log: &mut Bitmap, event: bool, number: u64) -> Result<(), Error> {
     let mut batch = log.begin();
     batch.push(event)?;
