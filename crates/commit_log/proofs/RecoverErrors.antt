@@ -15,7 +15,7 @@ use Rattle.log_frames.proofs.Frames.{done, first, frame-torn, ok_is}
 use Rattle.log_frames.proofs.Headers.{header-again, length-header}
 use Rattle.historical_bitmap.specs.History.{kept_under}
 use Rattle.commit_log.specs.Accepted.{Accepts}
-use Rattle.commit_log.specs.Base.{Base, FitsBase, IsBaseError, base_kept, encode_base}
+use Rattle.commit_log.specs.Base.{Base, IsBaseError, base_kept, encode_base}
 use Rattle.commit_log.specs.Entries.{Entry, decode_entry, encode_entry}
 use Rattle.commit_log.specs.Entries.Entry.{Commit, Rewind}
 use Rattle.commit_log.specs.Kept.{Kept, after, after_all}
