@@ -21,7 +21,8 @@ These rewrites carry meaning. docs/NATIVE.md says what each relies on and which 
  5. An impl of `Clone`, which may fail in Rattle, is one of the support's `TryClone`; a derived `Clone` is also a `TryClone`.
  6. `.collect(alloc)` is `.collect_within(alloc)`.
  7. `fmt::Formatter<W>` over any writer is Rust's `fmt::Formatter<'_>`.
- 8. A derive of thiserror's `Error` is written out as impls of Display and Error. A type that derives `Drop` derives `Debug`, as Rust's users expect.
+ 8. A derive of thiserror's `Error` is written out as impls of Display and Error, and an error derives Clone, Copy, PartialEq and Eq too. The source
+    of an error is the error inside it or, if the message has the text of that one, the source of that one. A type that derives `Drop` derives `Debug`.
  9. `std`, `crate` and the names of crates at the start of a path are the support and the modules of this crate; each module imports the support's prelude.
 10. The default width of `BitMap` is that of the original crate.
 11. Modules of laws are left out, with links to them. Their code does nothing of its own; `--tests` has them.
@@ -118,10 +119,14 @@ def examples():
     return found
 
 
+def hand_written():
+    """The texts of the hand-written modules."""
+    return [path.read_text() for path in sorted((ROOT / "native/src").rglob("*.rs")) if GENERATED not in path.parents]
+
+
 def shown_names():
     """The names of generated items that the hand-written modules re-export, and the crates of which they re-export all."""
-    texts = [path.read_text() for path in sorted((ROOT / "native/src").rglob("*.rs")) if GENERATED not in path.parents]
-    found = [words for text in texts for words in re.findall(r"pub use crate::generated::([^;]+);", text)]
+    found = [words for text in hand_written() for words in re.findall(r"pub use crate::generated::([^;]+);", text)]
     return {name for words in found for name in re.findall(r"\w+", words.split("::")[-1])}, {words[:-3] for words in found if words.endswith("::*")}
 
 
@@ -151,6 +156,8 @@ class Erasure:
                 self.traits |= found
         texts = [text for crate in [*LIBRARY, *TESTS] for _, text in sources_of(crate)]
         self.formatted = {name for text in texts for name in re.findall(r"^impl.*\bDebug for (\w+)", text, re.M)}
+        self.errors = {name for text in texts for name in erasures.names_of_errors(text)}
+        self.errors |= {name for text in hand_written() for name in re.findall(r"^ *impl.* (?:core::)?error::Error for (\w+)", text, re.M)}
         self.laws = {law for crate in LIBRARY for law in laws_of(sources_of(crate))}
         self.examples, self.used, self.without_example = examples(), set(), []
         self.shown, self.shown_crates = shown_names()
@@ -243,7 +250,7 @@ class Erasure:
         error_names = erasures.erase_imports(tokens, self.counts)
         erasures.erase_models(tokens, self.counts)
         erasures.erase_final(tokens, self.counts)
-        erasures.rewrite_derives(tokens, error_names, self.formatted, self.counts)
+        erasures.rewrite_derives(tokens, error_names, self.formatted, self.errors, self.counts)
         erasures.erase_drop_bounds(tokens, self.counts)
         erasures.rewrite_clones(tokens, self.counts)
         erasures.rewrite_formatters(tokens, self.counts)

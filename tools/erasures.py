@@ -76,6 +76,11 @@ SENTENCES = {
     "A caller for any `N` calls `len()` before it iterates over set positions: the contract of `len` gives its proof the bound on `N`.": "",
     "With it, a call that fails can promise its callers an unchanged value; with a returned `&mut Self` it could not.": "",
     "Each call has the contract of the bitmap's call of the same name.": "Each call does what the bitmap's call of the same name does.",
+    # The names that these calls have in Rust.
+    "The error of `Read::read_cfg`.": "The error of `decode`.",
+    "The error of `apply_batch`.": "The error of `try_apply_batch`.",
+    "as an edit returns it for the next edit: `batch.push(true)?.push(false)?`.":
+        "as an edit returns it for the next edit: `batch.try_push(true)?.try_push(false)?`.",
     "Tests show that pushes up to `size` bits then do not allocate. No contract states it.": "Pushes up to `size` bits then do not allocate.",
     "Allocates from the allocator of `out`: the history,": "Allocates the history,",
     "Commits a batch, as `commit` does, and appends": "Commits a batch, as `try_commit` does, and appends",
@@ -84,6 +89,13 @@ SENTENCES = {
 }
 
 KNOWN_DERIVES = {"Clone", "Copy", "Debug", "Eq", "Hash", "Ord", "PartialEq", "PartialOrd"}
+
+# What an error derives in Rust, whatever it derives in Rattle. An error with a field that cannot be copied does not compile then.
+DERIVES_OF_ERRORS = ["Clone", "Copy", "Debug", "PartialEq", "Eq"]
+
+# Errors that do not derive thiserror's Error: the hand-written modules have their impls of Display and Error.
+HAND_WRITTEN_ERRORS = {"ApplyError"}
+
 KNOWN_ATTRIBUTES = {"allow", "cfg", "cold", "derive", "doc", "error", "inline", "test"}
 ERASED_ATTRIBUTES = {"cycle", "tactic"}
 KNOWN_MACROS = {"matches", "write", "writeln"}
@@ -208,10 +220,11 @@ def erase_drop_bounds(tokens, counts):
         counts["bound Drop"] += 1
 
 
-def rewrite_derives(tokens, error_names, formatted, counts):
+def rewrite_derives(tokens, error_names, formatted, errors, counts):
     """Takes thiserror's derive out of derives, and writes the error out. A derived `Clone` becomes a `TryClone` too.
 
-    `Drop` becomes `Debug`, but for the types in `formatted`, which have an impl of it.
+    `Drop` becomes `Debug`, but for the types in `formatted`, which have an impl of it. An error derives DERIVES_OF_ERRORS. `errors` has the names
+    of all types that are errors.
     """
     at = 0
     while at < len(tokens):
@@ -224,19 +237,29 @@ def rewrite_derives(tokens, error_names, formatted, counts):
         if set(kept) - KNOWN_DERIVES or "Clone" in kept and "Copy" not in kept:
             raise Unknown(f"a derive of {', '.join(kept)}", tokens[at].line,
                           "KNOWN_DERIVES in tools/erasures.py has what can be derived; a derived Clone needs a derived Copy, or write the impl")
+        named = tokens[item_of(tokens, closed, "struct", "enum")[1]].text
         if "Drop" in names:
             counts["derive of Drop"] += 1
-            kept += [] if "Debug" in kept or tokens[item_of(tokens, closed, "struct", "enum")[1]].text in formatted else ["Debug"]
+            kept += [] if "Debug" in kept or named in formatted else ["Debug"]
         if error_names & set(names):
             counts["derive of an error"] += 1
-            write_error(tokens, closed + 1)
+            write_error(tokens, closed + 1, errors)
         if "Clone" in kept:
             counts["derive of Clone"] += 1
             write_try_clone(tokens, closed + 1)
+        if error_names & set(names) or named in HAND_WRITTEN_ERRORS:
+            kept = DERIVES_OF_ERRORS + [name for name in kept if name not in DERIVES_OF_ERRORS]
         if kept:
             tokens[at:closed + 1] = [made(f"#[derive({', '.join(kept)})]", tokens[at].line)]
         else:
             del tokens[at:line_end(tokens, closed + 1)]
+
+
+def names_of_errors(text):
+    """The names of the types of a source that derive thiserror's Error."""
+    imported = re.search(r"^use thiserror::Error(?: as (\w+))?;", text, re.M)
+    found = re.findall(r"#\[derive\(([^)]*)\)\]\s*pub enum (\w+)", text) if imported else []
+    return {name for derives, name in found if (imported[1] or "Error") in re.findall(r"\w+", derives)}
 
 
 def item_of(tokens, at, *words):
@@ -265,37 +288,79 @@ def write_try_clone(tokens, at):
     tokens.insert(end_of_type(tokens, start), made(text, tokens[start].line))
 
 
-def write_error(tokens, at):
-    """Takes the `#[error(..)]` attributes of the enum at `at` away, and adds impls of Display and Error after it."""
+def write_error(tokens, at, errors):
+    """Takes the `#[error(..)]` attributes of the enum at `at` away, and adds impls of Display and Error after it. `errors` has the names of errors."""
     start, named = item_of(tokens, at, "enum")
-    opened, name, arms = until(tokens, start, "{"), tokens[named].text, []
+    opened, name, arms, sources = until(tokens, start, "{"), tokens[named].text, [], []
     at = opened + 1
     while at < closing(tokens, opened):
         if is_mark(tokens, at, "#") and is_name(tokens, at + 2, "error"):
             end = closing(tokens, at + 1)
             message = next(token.text for token in tokens[at:end] if token.kind == "string")
             del tokens[at:line_end(tokens, end + 1)]
-            arms.append(arm(tokens, name, following(tokens, at), message))
+            variant, fields = following(tokens, at), fields_of(tokens, following(tokens, at))
+            path = f"{name}::{tokens[variant].text}"
+            arms.append(arm(path, fields, message))
+            sources.append(arm_of_source(path, fields, message, errors, tokens[variant].line))
             at = until(tokens, at, ",", "}")
         at += 1
     text = (
         f"\n\nimpl core::fmt::Display for {name} {{\n    fn fmt(&self, f: &mut core::fmt::Formatter<'_>) -> core::fmt::Result {{\n"
-        f"        match self {{\n{''.join(arms)}        }}\n    }}\n}}\n\nimpl core::error::Error for {name} {{}}\n"
+        f"        match self {{\n{''.join(arms)}        }}\n    }}\n}}\n\nimpl core::error::Error for {name} {{{source_function(sources)}}}\n"
     )
     tokens.insert(closing(tokens, opened) + 1, made(text, tokens[start].line))
 
 
-def arm(tokens, name, variant, message):
-    """The arm of `Display::fmt` for the variant at `variant` and its message, which names its fields."""
+def fields_of(tokens, variant):
+    """The fields of the variant of an enum at `variant`: their names, which are numbers if they have none, with their types."""
     after = following(tokens, variant + 1)
-    fields, used = "", set(re.findall(r"\{(\w+)", message))
+    if not (is_mark(tokens, after, "(") or is_mark(tokens, after, "{")):
+        return {}
+    fields = [text_of(tokens, a, b) for a, b in separated(tokens, after + 1, closing(tokens, after))]
     if is_mark(tokens, after, "("):
-        count = len(separated(tokens, after + 1, closing(tokens, after)))
-        fields = "(" + ", ".join(f"field{k}" if str(k) in used else "_" for k in range(count)) + ")"
-        message = re.sub(r"\{(\d+)", r"{field\1", message)
-    elif is_mark(tokens, after, "{"):
-        fields = " { " + "".join(f"{field}, " for field in sorted(used)) + ".. }"
-    return f"            {name}::{tokens[variant].text}{fields} => write!(f, {message}),\n"
+        return {str(k): field for k, field in enumerate(fields)}
+    return {name.strip(): of.strip() for name, _, of in (field.partition(":") for field in fields)}
+
+
+def pattern(path, fields, used):
+    """The pattern of a variant that binds the fields in `used`. A field without a name is bound as `field` and its number."""
+    if not fields:
+        return path
+    if "0" in fields:
+        return f"{path}({', '.join(f'field{k}' if k in used else '_' for k in fields)})"
+    return f"{path} {{ {''.join(f'{field}, ' for field in sorted(used))}.. }}"
+
+
+def used_in(message):
+    """The fields that a message names."""
+    return set(re.findall(r"\{(\w+)", message))
+
+
+def arm(path, fields, message):
+    """The arm of `Display::fmt` for a variant and its message, which names its fields."""
+    used = used_in(message)
+    message = re.sub(r"\{(\d+)", r"{field\1", message)
+    return f"            {pattern(path, fields, used)} => write!(f, {message}),\n"
+
+
+def arm_of_source(path, fields, message, errors, line):
+    """The arm of `Error::source` for a variant: the error inside it or, if the message names that one, its source. None if no error is inside."""
+    inside = [field for field, of in fields.items() if of.split("::")[-1] in errors]
+    if not inside:
+        return None
+    if len(inside) > 1:
+        raise Unknown(f"the errors in `{path}`", line, "arm_of_source in tools/erasures.py has one error in a variant, which is its source")
+    bound = f"field{inside[0]}" if inside[0].isdigit() else inside[0]
+    source = f"core::error::Error::source({bound})" if inside[0] in used_in(message) else f"Some({bound})"
+    return f"            {pattern(path, fields, inside)} => {source},\n"
+
+
+def source_function(arms):
+    """The function `source` of an impl of Error, from the arms of the variants. Without an arm, the trait's own is right, which returns None."""
+    found = [arm for arm in arms if arm]
+    others = "            _ => None,\n" if len(found) < len(arms) else ""
+    head = "\n    fn source(&self) -> Option<&(dyn core::error::Error + 'static)> {\n        match self {\n"
+    return f"{head}{''.join(found)}{others}        }}\n    }}\n" if found else ""
 
 
 def rename_functions(tokens, counts):

@@ -37,6 +37,8 @@ HAND_WRITTEN = [
     Mutant("a batch that is out of memory reports a number", "native/src/bitmap/versions.rs", "            Err((_, Error::Memory(_))) => out_of_memory(),\n", ""),
     Mutant("a closure's batch is committed before it is edited", "native/src/bitmap/versions.rs", "        edit(&mut batch);\n        batch.commit(commit_number)\n",
            "        let mut other = batch.clone();\n        edit(&mut other);\n        batch.set_range(0..0, true);\n        batch.commit(commit_number)\n"),
+    Mutant("the error of a closure has no source", "native/src/bitmap/versions.rs", "ApplyError::Batch(error) => error.source(),", "ApplyError::Batch(_) => None,"),
+    Mutant("a range of lengths has the end that it leaves out", "native/src/bitmap/ranges.rs", "above.checked_sub(1)", "above.checked_sub(0)"),
 ]
 
 # Where the text of each erased source ends up, so that a mutant of the eraser can change it.
@@ -67,6 +69,8 @@ ERASER = [
            "            messages = [message for _, message in form.assertions]\n"),
     Mutant("the eraser exchanges the fields of an error", "tools/erasures.py", 'message = re.sub(r"\\{(\\d+)", r"{field\\1", message)',
            'message = re.sub(r"\\{(\\d+)", r"{field0", message).replace("is out of", "is in")'),
+    Mutant("the eraser leaves out the sources of errors", "tools/erasures.py", "    if not inside:\n", "    if inside is not None:\n"),
+    Mutant("the eraser makes a source of an error that the message has", "tools/erasures.py", "if inside[0] in used_in(message) else", "if False else"),
     Mutant("the eraser leaves the entry of a commit that fails", *rewriting(r"log\.cut_back\(len, place\);", "")),
     Mutant("the eraser takes each log for whole", *rewriting(r"torn: !rest\.is_empty\(\)", "torn: false")),
     Mutant("the eraser exchanges two digests", *rewriting(r"digest_of_replaced\(older, chunks\)", "digest_of(chunks)")),

@@ -23,8 +23,10 @@
 
 mod dense;
 mod pruned;
+mod ranges;
 mod versions;
 
+// The original crate has a struct `Iterator` too. `prelude` leaves it out, so that it does not hide Rust's trait.
 pub use crate::generated::bitmap_core::bitmap::{BitMap, DEFAULT_CHUNK_SIZE, Iterator, OnesIter, Prunable, Readable};
 
 pub mod prunable {

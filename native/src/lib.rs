@@ -2,7 +2,7 @@
 //! read the list as it was under that number, or go back to it.
 //!
 //! The module [`bitmap`] has the types of `commonware_utils::bitmap`, under the same names. The module [`log`] has the bytes from which such a
-//! bitmap is made again after a restart. The crate has no dependency and no `unsafe`.
+//! bitmap is made again after a restart. The module [`prelude`] has what most programs import. The crate has no dependency and no `unsafe`.
 //!
 //! ```
 //! use mortarpink::bitmap::Readable;
@@ -54,6 +54,27 @@ pub mod generated;
 pub mod log;
 #[doc(hidden)]
 pub mod support;
+
+pub mod prelude {
+    //! What most programs import: the bitmaps, the traits whose functions are called on them, and the error of allocations.
+    //!
+    //! It has no name of Rust's own prelude. `use mortarpink::bitmap::*` would hide the trait `Iterator` by the struct
+    //! [`bitmap::Iterator`](crate::bitmap::Iterator), which has its name from the original crate.
+    //!
+    //! ```
+    //! use mortarpink::prelude::*;
+    //!
+    //! /// Returns the positions of the first three set bits of any bitmap.
+    //! fn first_three(bitmap: &impl Readable<8>) -> impl Iterator<Item = u64> {
+    //!     bitmap.ones_iter_from(0).take(3)
+    //! }
+    //!
+    //! assert!(first_three(&BitMap::ones(9)).eq([0, 1, 2]));
+    //! ```
+    pub use crate::bitmap::historical::{CleanBitMap, DirtyBitMap};
+    pub use crate::bitmap::{BitMap, Prunable, Readable};
+    pub use crate::{AllocError, TryClone};
+}
 
 #[cfg(doctest)]
 #[doc = include_str!("../README.md")]

@@ -9,6 +9,7 @@ use mortarpink::{AllocError, log};
 use std::collections::hash_map::DefaultHasher;
 use std::fmt::Debug;
 use std::hash::{Hash, Hasher};
+use std::ops::Bound;
 use std::panic::{RefUnwindSafe, UnwindSafe};
 
 fn hash_of(value: &impl Hash) -> u64 {
@@ -198,4 +199,148 @@ fn errors_are_errors() -> Result<(), Box<dyn std::error::Error + Send + Sync>> {
     assert_eq!(std::io::Error::from(mortarpink::AllocError).kind(), std::io::ErrorKind::OutOfMemory);
     assert_eq!((bitmap.len(), clean.len()), (5, 64));
     Ok(())
+}
+
+/// Whether an error is copied, compared, and passed as a trait object between threads.
+fn is_usual_error<T: std::error::Error + Copy + Eq + Send + Sync + 'static>() {}
+
+#[test]
+fn all_errors_have_the_usual_traits() {
+    is_usual_error::<AllocError>();
+    is_usual_error::<CodecError>();
+    is_usual_error::<prunable::Error>();
+    is_usual_error::<Error>();
+    is_usual_error::<RewindError>();
+    is_usual_error::<ApplyError<AllocError>>();
+    is_usual_error::<log::DecodeError>();
+    is_usual_error::<log::EntryError>();
+    is_usual_error::<log::ApplyError>();
+    is_usual_error::<log::BaseError>();
+    is_usual_error::<log::DeltaError>();
+    is_usual_error::<log::Damage>();
+    is_usual_error::<log::RecoverError>();
+    is_usual_error::<log::HistoryError>();
+    is_usual_error::<log::frames::HeaderError>();
+    is_usual_error::<log::frames::Stop>();
+    assert_eq!(BitMap::<2>::decode(&mut &[0][..], &RangeCfg::any()), Err(CodecError::EndOfBuffer));
+}
+
+/// The texts of an error and of its sources, one after the other.
+fn texts(error: &dyn std::error::Error) -> Vec<String> {
+    std::iter::successors(Some(error), |error| error.source()).map(|error| error.to_string()).collect()
+}
+
+/// Each reason is in the text of an error or in its sources, and not in both.
+#[test]
+fn reasons_are_texts_or_sources() {
+    let (width, entry) = (log::frames::HeaderError::Width(4), log::EntryError::Decode(log::DecodeError::Short));
+    let (base, short) = (log::BaseError::State(CodecError::EndOfBuffer), log::DecodeError::Short.to_string());
+    let damaged = |damage| log::RecoverError::Damaged { at: 32, damage };
+    let cases: [(&dyn std::error::Error, &[&str]); 17] = [
+        (&AllocError, &["memory allocation failed"]),
+        (&Error::Memory(AllocError), &["out of memory", "memory allocation failed"]),
+        (&Error::ReservedCommitNumber, &["the commit number u64::MAX is reserved"]),
+        (&RewindError::Memory(AllocError), &["out of memory", "memory allocation failed"]),
+        (&RewindError::NoSuchCommit, &["no commit is kept under that number"]),
+        (&entry, &["the bytes encode no entry", &short]),
+        (&log::EntryError::Chunks, &["the chunks of the commit are not those that differ"]),
+        (&log::ApplyError::Entry(entry), &["the bitmap does not accept the entry", "the bytes encode no entry", &short]),
+        (&log::DeltaError::Change(entry), &["the bitmap does not accept the change of the delta", "the bytes encode no entry", &short]),
+        (&base, &["the state of the base: the bytes end too early"]),
+        (&log::BaseError::Memory(AllocError), &["out of memory", "memory allocation failed"]),
+        (&log::HistoryError::Base(base), &["the first frame has no base: the state of the base: the bytes end too early"]),
+        (&log::HistoryError::Entry(entry), &["a frame has no commit that the bitmap accepts", "the bytes encode no entry", &short]),
+        (
+            &log::RecoverError::Header(width),
+            &[
+                "the bytes do not begin with the header of a log of this width",
+                "the log has chunks of 4 bytes, which is not the width of the reader",
+            ],
+        ),
+        (&damaged(log::Damage::Head), &["the log is damaged at byte 32: the head of the frame is damaged"]),
+        (
+            &damaged(log::Damage::Base(base)),
+            &["the log is damaged at byte 32: the first frame has no base: the state of the base: the bytes end too early"],
+        ),
+        (&damaged(log::Damage::Entry(entry)), &["the log is damaged at byte 32: the bytes encode no entry", &short]),
+    ];
+    for (error, expected) in cases {
+        assert_eq!(texts(error), expected, "{error:?}");
+    }
+}
+
+/// Edits a bitmap by a closure that fails, and passes its error on.
+fn edit_that_fails() -> Result<CleanBitMap<4>, Box<dyn std::error::Error>> {
+    let edit = |_: &mut DirtyBitMap<4>| Err(Error::Memory(AllocError));
+    Ok(CleanBitMap::<4>::new().try_apply_batch(1, edit).map_err(|(_, error)| error)?)
+}
+
+#[test]
+fn errors_of_batches_are_errors() {
+    let error = edit_that_fails().unwrap_err();
+    assert_eq!(texts(&*error), ["the edits of the batch failed: out of memory", "memory allocation failed"]);
+    assert_eq!(error.downcast_ref(), Some(&ApplyError::Batch(Error::Memory(AllocError))));
+    let error: ApplyError<AllocError> = ApplyError::Commit(Error::Memory(AllocError));
+    assert_eq!(texts(&error), ["the commit failed: out of memory", "memory allocation failed"]);
+    let (_, error) = CleanBitMap::<4>::new().try_apply_batch(u64::MAX, |_| Ok::<(), &str>(())).unwrap_err();
+    assert_eq!(error.to_string(), "the commit failed: the commit number u64::MAX is reserved");
+}
+
+#[test]
+fn ranges_are_ranges_of_lengths() {
+    let past = |least| (Bound::Excluded(least), Bound::Unbounded);
+    assert_eq!(RangeCfg::from(..), RangeCfg::any());
+    assert_eq!(RangeCfg::from(3..), RangeCfg::at_least(3));
+    assert_eq!(RangeCfg::from(..=4096), RangeCfg::at_most(4096));
+    assert_eq!(RangeCfg::from(..4096), RangeCfg::at_most(4095));
+    assert_eq!(RangeCfg::from(3..=5), RangeCfg::between(3, 5));
+    assert_eq!(RangeCfg::from(3..5), RangeCfg::between(3, 4));
+    assert_eq!(RangeCfg::from(past(3)), RangeCfg::at_least(4));
+    for none in [RangeCfg::from(..0), RangeCfg::from(5..5), RangeCfg::from(past(u64::MAX))] {
+        assert!([0, 1, 4, 5, u64::MAX].iter().all(|length| !none.contains(*length)), "{none:?}");
+    }
+    let bytes = BitMap::<2>::ones(5).encode();
+    assert_eq!(BitMap::<2>::decode(&mut &bytes[..], &(..5).into()), Err(CodecError::InvalidLength(5)));
+    assert_eq!(BitMap::<2>::decode(&mut &bytes[..], &(..=5).into()), Ok(BitMap::ones(5)));
+}
+
+mod with_the_prelude {
+    use mortarpink::prelude::*;
+
+    /// The first and the last of some positions.
+    fn ends(mut positions: impl Iterator<Item = u64>) -> Option<(u64, u64)> {
+        let first = positions.next()?;
+        Some((first, positions.last().unwrap_or(first)))
+    }
+
+    #[test]
+    fn the_prelude_hides_no_name_of_rust() -> Result<(), AllocError> {
+        let bitmap = BitMap::<8>::from([false, true, true, false]).try_clone()?;
+        assert_eq!(ends(bitmap.ones_iter_from(0)), Some((1, 2)));
+        let clean = CleanBitMap::from_bitmap(Prunable::<8>::new());
+        let batch: DirtyBitMap<8> = clean.into_dirty();
+        assert_eq!((ends(batch.ones_iter_from(0)), batch.next_one(0)), (None, None));
+        Ok(())
+    }
+}
+
+/// After their end, iterators return `None` however often they are called.
+#[test]
+fn iterators_stay_at_their_end() {
+    fn ends(mut items: impl std::iter::FusedIterator) {
+        assert!(items.by_ref().count() > 0);
+        assert!((0..3).all(|_| items.next().is_none()));
+    }
+
+    let mut batch = CleanBitMap::<1>::new().into_dirty();
+    batch.push_byte(5).push_byte(6);
+    ends(batch.changed_chunks());
+    let bitmap = batch.commit(1).unwrap().apply_batch(2, |batch| {
+        batch.set_bit(0, false);
+    });
+    let bitmap = bitmap.unwrap();
+    ends(bitmap.commits());
+    ends(bitmap.changed_chunks(1, 2).unwrap());
+    ends(bitmap.current().ones_iter_from(0));
+    ends(BitMap::<1>::ones(9).iter());
 }

@@ -1,10 +1,14 @@
 //! Historical bitmaps: constructors, past states, and the edits of a batch that chain.
 
 use crate::bitmap::Prunable;
-use crate::bitmap::historical::{BitMap, Clean, CleanBitMap, Dirty, DirtyBitMap, Error, State};
+use crate::bitmap::historical::{
+    ApplyError, BitMap, ChangedChunks, Clean, CleanBitMap, CommitNumbers, Dirty, DirtyBitMap, Error, PendingChanges, State,
+};
 use crate::support::alloc::{Global, expect_memory, out_of_memory};
 use crate::support::clone::TryClone;
+use core::iter::FusedIterator;
 use core::ops::Range;
+use core::{error, fmt};
 
 /// Constructors. `N` has to be at least 1, and `8N` has to fit `u64`: otherwise they do not compile.
 impl<const N: usize> BitMap<N, Clean> {
@@ -320,5 +324,30 @@ impl<const N: usize> From<Prunable<N>> for BitMap<N, Clean> {
     /// Makes a historical bitmap of a bitmap, as `from_bitmap` does.
     fn from(bitmap: Prunable<N>) -> Self {
         CleanBitMap::from_bitmap(bitmap)
+    }
+}
+
+impl<V> FusedIterator for CommitNumbers<'_, V> {}
+
+impl<const N: usize> FusedIterator for ChangedChunks<'_, N> {}
+
+impl<const N: usize> FusedIterator for PendingChanges<'_, N> {}
+
+impl<E: fmt::Display> fmt::Display for ApplyError<E> {
+    fn fmt(&self, f: &mut fmt::Formatter<'_>) -> fmt::Result {
+        match self {
+            ApplyError::Batch(error) => write!(f, "the edits of the batch failed: {error}"),
+            ApplyError::Commit(error) => write!(f, "the commit failed: {error}"),
+        }
+    }
+}
+
+impl<E: error::Error> error::Error for ApplyError<E> {
+    /// Returns the source of the error inside, whose text is in that of this error.
+    fn source(&self) -> Option<&(dyn error::Error + 'static)> {
+        match self {
+            ApplyError::Batch(error) => error.source(),
+            ApplyError::Commit(error) => error::Error::source(error),
+        }
     }
 }

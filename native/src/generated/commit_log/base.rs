@@ -55,7 +55,7 @@ crate::support::clones_by_copy! { [] Past }
 /// assert!(matches!(read_base::<8>(b"no base"), Err(BaseError::Tag)));
 /// assert!(matches!(read_base::<8>(&[4, 0, 0]), Err(BaseError::Short)));
 /// ```
-#[derive(Debug)]
+#[derive(Clone, Copy, Debug, PartialEq, Eq)]
 pub enum BaseError {
     /// The first byte is not the tag of a base.
     Tag,
@@ -97,7 +97,15 @@ impl core::fmt::Display for BaseError {
     }
 }
 
-impl core::error::Error for BaseError {}
+impl core::error::Error for BaseError {
+    fn source(&self) -> Option<&(dyn core::error::Error + 'static)> {
+        match self {
+            BaseError::State(field0) => core::error::Error::source(field0),
+            BaseError::Memory(field0) => Some(field0),
+            _ => None,
+        }
+    }
+}
 
 // Returns the byte that says what is known.
 fn flag(past: Past) -> u8 {

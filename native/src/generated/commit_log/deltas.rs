@@ -86,7 +86,15 @@ impl core::fmt::Display for DeltaError {
     }
 }
 
-impl core::error::Error for DeltaError {}
+impl core::error::Error for DeltaError {
+    fn source(&self) -> Option<&(dyn core::error::Error + 'static)> {
+        match self {
+            DeltaError::Change(field0) => Some(field0),
+            DeltaError::Memory(field0) => Some(field0),
+            _ => None,
+        }
+    }
+}
 
 // The fields of a delta, as they are in its bytes.
 #[derive(Debug)]

@@ -47,7 +47,14 @@ impl core::fmt::Display for EntryError {
     }
 }
 
-impl core::error::Error for EntryError {}
+impl core::error::Error for EntryError {
+    fn source(&self) -> Option<&(dyn core::error::Error + 'static)> {
+        match self {
+            EntryError::Decode(field0) => Some(field0),
+            _ => None,
+        }
+    }
+}
 
 /// Why an entry was not applied.
 ///
@@ -79,7 +86,14 @@ impl core::fmt::Display for ApplyError {
     }
 }
 
-impl core::error::Error for ApplyError {}
+impl core::error::Error for ApplyError {
+    fn source(&self) -> Option<&(dyn core::error::Error + 'static)> {
+        match self {
+            ApplyError::Entry(field0) => Some(field0),
+            ApplyError::Memory(field0) => Some(field0),
+        }
+    }
+}
 
 impl From<AllocError> for ApplyError {
     fn from(error: AllocError) -> ApplyError {

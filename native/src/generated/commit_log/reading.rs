@@ -38,7 +38,7 @@ use crate::support::prelude::*;
 /// assert!(matches!(read_history::<8>(&mut &bytes[..], &any, &none), Err(HistoryError::Count(1))));
 /// # Ok::<(), mortarpink::bitmap::historical::Error>(())
 /// ```
-#[derive(Debug)]
+#[derive(Clone, Copy, Debug, PartialEq, Eq)]
 pub enum HistoryError {
     /// The bytes do not begin with the header of a history of this width.
     Header(HeaderError),
@@ -84,7 +84,17 @@ impl core::fmt::Display for HistoryError {
     }
 }
 
-impl core::error::Error for HistoryError {}
+impl core::error::Error for HistoryError {
+    fn source(&self) -> Option<&(dyn core::error::Error + 'static)> {
+        match self {
+            HistoryError::Header(field0) => Some(field0),
+            HistoryError::Base(field0) => core::error::Error::source(field0),
+            HistoryError::Entry(field0) => Some(field0),
+            HistoryError::Memory(field0) => Some(field0),
+            _ => None,
+        }
+    }
+}
 
 impl From<AllocError> for HistoryError {
     fn from(error: AllocError) -> HistoryError {

@@ -61,7 +61,7 @@ pub struct Recovered<const N: usize> {
 /// assert!(at == 32 && matches!(damage, Damage::Digest));
 /// # Ok::<(), mortarpink::AllocError>(())
 /// ```
-#[derive(Debug)]
+#[derive(Clone, Copy, Debug, PartialEq, Eq)]
 pub enum Damage {
     /// The head of the frame is not one that was written for this position.
     Head,
@@ -87,7 +87,15 @@ impl core::fmt::Display for Damage {
     }
 }
 
-impl core::error::Error for Damage {}
+impl core::error::Error for Damage {
+    fn source(&self) -> Option<&(dyn core::error::Error + 'static)> {
+        match self {
+            Damage::Base(field0) => core::error::Error::source(field0),
+            Damage::Entry(field0) => core::error::Error::source(field0),
+            _ => None,
+        }
+    }
+}
 
 /// Why a log was not recovered. The first error from the first byte on is reported.
 ///
@@ -103,7 +111,7 @@ impl core::error::Error for Damage {}
 /// assert!(matches!(recover::<8>(&log.bytes()[..89]), Err(RecoverError::NoBase)));
 /// # Ok::<(), mortarpink::AllocError>(())
 /// ```
-#[derive(Debug)]
+#[derive(Clone, Copy, Debug, PartialEq, Eq)]
 pub enum RecoverError {
     /// The bytes do not begin with the header of a log of this width.
     Header(HeaderError),
@@ -135,7 +143,16 @@ impl core::fmt::Display for RecoverError {
     }
 }
 
-impl core::error::Error for RecoverError {}
+impl core::error::Error for RecoverError {
+    fn source(&self) -> Option<&(dyn core::error::Error + 'static)> {
+        match self {
+            RecoverError::Header(field0) => Some(field0),
+            RecoverError::Damaged { damage, .. } => core::error::Error::source(damage),
+            RecoverError::Memory(field0) => Some(field0),
+            _ => None,
+        }
+    }
+}
 
 impl From<AllocError> for RecoverError {
     fn from(error: AllocError) -> RecoverError {

@@ -3,7 +3,7 @@
 
 #[allow(unused_imports)]
 use crate::support::prelude::*;
-/// The error of `Read::read_cfg`. The bytes to read from are then unchanged.
+/// The error of `decode`. The bytes to read from are then unchanged.
 ///
 /// # Examples
 ///
@@ -16,7 +16,7 @@ use crate::support::prelude::*;
 /// assert!(matches!(error, CodecError::InvalidLength(9)));
 /// assert_eq!(error.to_string(), "the length 9 is out of range");
 /// ```
-#[derive(Debug)]
+#[derive(Clone, Copy, Debug, PartialEq, Eq)]
 pub enum CodecError {
     /// The bytes end before the encoding does: in one of its numbers, or in its chunks.
     EndOfBuffer,

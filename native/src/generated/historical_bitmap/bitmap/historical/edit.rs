@@ -33,7 +33,7 @@ impl<'a, T> Lent<'a, T> {
     }
 }
 
-/// The dirty bitmap, as an edit returns it for the next edit: `batch.push(true)?.push(false)?`.
+/// The dirty bitmap, as an edit returns it for the next edit: `batch.try_push(true)?.try_push(false)?`.
 ///
 /// Each call does what the bitmap's call of the same name does. If a call of a chain fails, the calls before it keep their effect.
 /// The bitmap itself is the field `on`.

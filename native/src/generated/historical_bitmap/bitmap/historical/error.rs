@@ -51,7 +51,14 @@ impl core::fmt::Display for Error {
     }
 }
 
-impl core::error::Error for Error {}
+impl core::error::Error for Error {
+    fn source(&self) -> Option<&(dyn core::error::Error + 'static)> {
+        match self {
+            Error::Memory(field0) => Some(field0),
+            _ => None,
+        }
+    }
+}
 
 /// The error of `rewind_to`.
 ///
@@ -83,7 +90,14 @@ impl core::fmt::Display for RewindError {
     }
 }
 
-impl core::error::Error for RewindError {}
+impl core::error::Error for RewindError {
+    fn source(&self) -> Option<&(dyn core::error::Error + 'static)> {
+        match self {
+            RewindError::Memory(field0) => Some(field0),
+            _ => None,
+        }
+    }
+}
 
 impl From<AllocError> for Error {
     fn from(error: AllocError) -> Error {
@@ -97,7 +111,7 @@ impl From<prunable::Error> for Error {
     }
 }
 
-/// The error of `apply_batch`.
+/// The error of `try_apply_batch`.
 ///
 /// # Examples
 ///
@@ -107,7 +121,7 @@ impl From<prunable::Error> for Error {
 /// let result = CleanBitMap::<4>::new().try_apply_batch(1, |_: &mut DirtyBitMap<4>| Err("no"));
 /// assert!(matches!(result, Err((_, ApplyError::Batch("no")))));
 /// ```
-#[derive(Debug)]
+#[derive(Clone, Copy, Debug, PartialEq, Eq)]
 pub enum ApplyError<E> {
     /// The closure returned `Err` with this error. Nothing was committed.
     Batch(E),
