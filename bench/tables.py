@@ -92,6 +92,11 @@ LOG_PAIRS = {"a commit with its entry, to one without": ("log_commit", "plain_co
              "`recover`, to making the commits": ("log_recover", "log_make")}
 KEEPS = {"keep_set_far": "1000 sets at random", "keep_set_near": "1000 sets, close together", "keep_push": "4096 pushes"}
 
+# The names of the calls that tables measure.
+DENSE = [name for names in DENSE_GROUPS.values() for name in names.split()]
+BATCHES = [f"{end}_{edits}" for edits in EDITS for end in ("batch", "commit")]
+COMPARED = "count_ones flip_all and or xor equal clone get set ones_iter sparse_ones_iter".split()
+
 
 class Session(NamedTuple):
     programs: dict  # the programs by their names; one that cannot be built is not there
@@ -170,7 +175,7 @@ def dense(session, program=OURS):
     """Ratios of dense and pruned bitmaps to commonware-utils."""
     found = {}
     head("Ratio of times, by width and size", *(f"{width}, {size >> 20} MB" for size in (LARGE, SMALL) for width in WIDTHS))
-    for name in [name for names in DENSE_GROUPS.values() for name in names.split()]:
+    for name in DENSE:
         calls = [(size, call) for size, call in dense_calls([name]) if session.chosen([call])]
         if calls:
             found[name] = [pair(session, program, call, width, size) for size, call in calls for width in WIDTHS]
@@ -252,9 +257,8 @@ def commits(session):
 
 def peers(session):
     """Ratios of dense calls to fixedbitset and CRoaring."""
-    calls = "count_ones flip_all and or xor equal clone get set ones_iter sparse_ones_iter".split()
     head("Ratio of times, by width and size", "Peer", *(f"{width}, {size >> 20} MB" for size in (LARGE, SMALL) for width in (8, 32)))
-    for name in calls:
+    for name in COMPARED:
         runs = [(size, call) for size, call in dense_calls([name]) if session.chosen([call])]
         others = [FIXED, ROARING] if name.endswith("ones_iter") else [FIXED]
         found = [session.costs([OURS, *others], call, width, size) for size, call in runs for width in (8, 32)]
@@ -317,20 +321,26 @@ def logs(session):
     return {}
 
 
+def names_of(calls):
+    """The names of some calls."""
+    return [call.name for call in calls]
+
+
 class Table(NamedTuple):
     measure: Callable
+    calls: list  # the names of the calls that it measures
     needs: list  # the programs that it cannot do without
     takes: list  # the programs that it measures if they are there
 
 
 TABLES = {
-    "dense": Table(dense, [OURS, ORIGINAL], []),
-    "batches": Table(batches, [OURS, ORIGINAL], []),
-    "native": Table(native, [NATIVE, ORIGINAL], []),
-    "growth": Table(growth, [OURS], [ORIGINAL]),
-    "lengths": Table(lengths, [OURS], []),
-    "logs": Table(logs, [OURS], []),
-    "commits": Table(commits, [OURS, COPIES, ROARING, PERSISTENT], []),
-    "peers": Table(peers, [OURS, FIXED, ROARING], []),
-    "alone": Table(alone, [OURS], []),
+    "dense": Table(dense, DENSE, [OURS, ORIGINAL], []),
+    "batches": Table(batches, BATCHES + names_of(PAST), [OURS, ORIGINAL], []),
+    "native": Table(native, DENSE + BATCHES + names_of(PAST), [NATIVE, ORIGINAL], []),
+    "growth": Table(growth, names_of(KEPT + INDEXED), [OURS], [ORIGINAL]),
+    "lengths": Table(lengths, names_of(KEPT + INDEXED), [OURS], []),
+    "logs": Table(logs, names_of([*LOGS, ENTRIES]), [OURS], []),
+    "commits": Table(commits, list(KEEPS), [OURS, COPIES, ROARING, PERSISTENT], []),
+    "peers": Table(peers, COMPARED, [OURS, FIXED, ROARING], []),
+    "alone": Table(alone, FAST + SLOW + BATCHES + names_of(PAST + ALONE), [OURS], []),
 }

@@ -5,6 +5,7 @@
 #
 # Under PREFIX come the static and the shared library, the header, the file of pkg-config and the licence. Next to PREFIX
 # comes an archive of the same tree, which is the same byte for byte if it is made again from the same build.
+# If PREFIX is missing, it is made when there is something to put in it.
 #
 # With --built the library of crates/bitmap_c is not built again. It has to be newer than the sources.
 # With --after-gate it is built over the libraries that `rt ci` has just left in crates/*/out, and only crates/bitmap_c is
@@ -34,8 +35,15 @@ for tool in rt cc ld objcopy ar tar gzip; do
         exit 1
     fi
 done
-mkdir -p "$1"
-prefix=$(cd "$1" && pwd)
+prefix=$(realpath -ms "$1")
+above=$prefix
+while [[ ! -e $above ]]; do
+    above=$(dirname "$above")
+done
+if [[ ! -d $above || ! -w $above ]]; then
+    echo "package: $above is not a folder that can be written" >&2
+    exit 1
+fi
 cd "$(dirname "$0")/.."
 work=$(mktemp -d)
 trap 'rm -rf "$work"' EXIT
@@ -122,6 +130,7 @@ write_rest() {
 
 # Installs the tree, and writes its archive with sorted names, one owner and one time.
 install_tree() {
+    mkdir -p "$prefix"
     cp -dR --remove-destination "$tree/." "$prefix/"
     tar --sort=name --format=ustar --owner=0 --group=0 --numeric-owner --mtime='2026-01-01 00:00:00Z' \
         -C "$work" -cf - "$name" | gzip -9n >"$(dirname "$prefix")/$name.tar.gz"
