@@ -1,6 +1,6 @@
 -- The kept numbers stay strictly ascending, up to the last number.
 use Rattle.std.proofs.Common.{◌≡◌, ℕ, ◌-◌, ◌<◌, ◌≤◌, List, [], ◌∷◌, Bool, Option, Some, None, refl, sym, ap, subst, ◌∙◌, inl, inr, arith, length}
-use Rattle.std.specs.Prelude.{nat_le, slice_get, suc}
+use Rattle.std.specs.Prelude.{IfSome, nat_le, slice_get, suc}
 use Rattle.std.specs.List.{All, filter}
 use Rattle.std.specs.List.Sorted.{IsStrictlySortedBy}
 use Rattle.std.specs.Map.{keys_of}
@@ -11,7 +11,7 @@ use Rattle.std.proofs.lemmas.List.Elements.{All-head, All-weaker, All-filter, Al
 use Rattle.std.proofs.lemmas.List.Kept.{IsStrictlySortedBy-filter}
 use Rattle.std.proofs.lemmas.Map.Keys.{sorted_head, sorted_tail}
 use Rattle.bitmap_core.specs.PrunedBits.{PrunedBits}
-use Rattle.historical_bitmap.specs.History.{latest, RiseInNumber}
+use Rattle.historical_bitmap.specs.History.{LatestIsLast, latest, RiseInNumber}
 use Rattle.historical_bitmap.proofs.History.PastStates.{below}
 use Rattle.historical_bitmap.proofs.Pending.Record.{keys_push, sorted_push}
 use Rattle.bitmap_session.specs.declared.command.Command.{Command}
@@ -114,7 +114,7 @@ still_rises N same old new command reply e rise step =
     numbers_rise_on N old new (command ∷ []) (reply ∷ []) before (step_is_run N old new command reply step)
 
 -- the latest number of two or more commits is the latest of those after the first
-latest-cons : (e f : ℕ × PrunedBits) (es : History) → latest (e ∷ f ∷ es) ≡ latest (f ∷ es)
+pub latest-cons : (e f : ℕ × PrunedBits) (es : History) → latest (e ∷ f ∷ es) ≡ latest (f ∷ es)
 latest-cons e f es =
     let a : length (e ∷ f ∷ es) - 1 ≡ suc (length es) = omega arith in
     let b : length (f ∷ es) - 1 ≡ length es = omega arith in
@@ -139,3 +139,12 @@ latest_greatest (e ∷ f ∷ es) rise =
 -- the law of the latest number
 pub latest_is_greatest : LatestIsGreatest
 latest_is_greatest s rise = latest_greatest s.history rise.rise
+
+up_to_last : (found last : Option ℕ) (ks : List ℕ) → IfSome found (λ number. last ≡ Some number) → IsGreatestOf found ks → IsGreatestOf last ks
+up_to_last None last ks h g = rw g (of_none last)
+up_to_last (Some number) last ks h g = rw h g
+
+-- the numbers of a state rise if the kept numbers do, and the latest of them is the last number
+pub latest_is_last_rises : (s : State) → RiseInNumber s.history → LatestIsLast s.history s.last → HasRisingNumbers s
+latest_is_last_rises s rise ends =
+    record { rise = rise; last = up_to_last (latest s.history) s.last (keys_of s.history) ends (latest_greatest s.history rise) }

@@ -6,3 +6,4 @@ pub mod Moves
 pub mod KeptNumbers
 pub mod Rewinding
 pub mod Examples
+pub mod Saved

@@ -2,3 +2,4 @@ pub mod Replies
 pub mod Laws
 pub mod Machine
 pub mod Abstraction
+pub mod Saved

@@ -3,8 +3,18 @@
 //! Each law is the contract of a function with an empty body. A proof uses a law by calling its function.
 //! `Session::numbers_rise` is a law too: the kept numbers of every session rise.
 
-ghost use Rattle.bitmap_session.specs.Machine.{first_machine};
+ghost use Rattle.std.specs.Prelude.{◌≡◌, IfOk, IfErr, if◌then◌else◌, alloc_error};
+ghost use Rattle.commit_log.specs.Reading.{IsWithin, ranges};
+ghost use Rattle.commit_log.specs.declared.reading.HistoryError.TheVariants.{Memory as HistoryMemory};
+ghost use Rattle.bitmap_session.specs.Machine.{first_machine, is_dirty};
+ghost use Rattle.bitmap_session.specs.Saved.{IsOutside, IsUnreserved, kept_part};
+ghost use Rattle.bitmap_session.specs.declared.session.saved.SaveError.TheVariants.{InBatch, Memory};
 ghost use Rattle.bitmap_session.specs.Laws.{HasRisingNumbers, LatestIsGreatest, NoCommitsRise, NumbersRise, NumbersRiseOn, Rewinding, RunsJoin, StepIsRun, StepsAreRun};
+
+use crate::session::{SaveError, Session};
+use bitmap_core::bitmap::codec::RangeCfg;
+use commit_log::HistoryError;
+use std::alloc::Global;
 
 /// States that consecutive runs are one run.
 ///
@@ -54,3 +64,39 @@ pub fn kept_numbers_rise<const N: usize>()
 pub fn rewinding_restores<const N: usize>()
     ensures { Rewinding N }
 {}
+
+/// Saves a session, and loads what was saved.
+///
+/// The loaded session is outside a batch, and has the same current bitmap, the same kept bitmaps under the same numbers, and the
+/// same last number. By the clause `complete` it is loaded unless an allocation fails, if the ranges admit it.
+///
+/// The premise `IsUnreserved` is about a session that keeps no commit: its last number is not `u64::MAX`, which no commit has.
+///
+/// # Errors
+///
+/// Those of `Session::save`, and those of `Session::load`.
+pub fn a_saved_session_is_loaded<const N: usize>(
+    alloc: Global,
+    session: &Session<N>,
+    bits: &RangeCfg,
+    commits: &RangeCfg,
+) -> Result<Result<Session<N>, HistoryError>, SaveError>
+    ensures same { IsUnreserved session.now.state → IfOk result (λ loaded. IfOk loaded (λ s.
+        IsOutside s × (kept_part s.state ≡ kept_part session.now.state))) }
+    ensures complete { IsUnreserved session.now.state
+        → IsWithin (ranges bits.now commits.now) (kept_part session.now.state)
+        → IfOk result (λ loaded. IfErr loaded (λ e. e ≡ HistoryMemory alloc_error)) }
+    ensures refused { IfErr result (λ e. e
+        ≡ (if is_dirty session.now.state then InBatch else Memory alloc_error)) }
+{
+    session.fits_a_log();
+    let mut bytes = Vec::new(alloc);
+    match session.save(&mut bytes) {
+        Ok(()) => {
+            let _ = bytes.len();
+            let mut from = bytes.as_slice();
+            Ok(Session::load(alloc, &mut from, bits, commits))
+        }
+        Err(error) => Err(error),
+    }
+}

@@ -30,6 +30,10 @@
 //! ```
 //!
 //! The replies are `Done`, `Done`, `Done` and a `Snapshot` of the bitmap with one bit, unless an allocation fails.
+//!
+//! A session outlives its process by its history: its current bitmap, its kept commits and its last number. `Session::save`
+//! writes the history as bytes, and `Session::load` makes a session of it. `Session::delta` writes what brings a replica from one
+//! commit to a later one, and `Session::apply_delta` applies it.
 #![tactic(auto)]
 
 pub mod command;

@@ -2,6 +2,7 @@
 
 mod clean;
 mod dirty;
+mod saved;
 mod shown;
 
 ghost use Rattle.std.specs.Prelude.{◌≡◌, ◌+◌, ◌^◌, ◌<◌, ◌≤◌, List, [], ◌++◌, None, Some, length, map, if◌then◌else◌, option_copied, IfErr, IfOk, IfSome, IsOk, OnErr, OnOk, vec_len, vec_capacity};
@@ -17,6 +18,7 @@ ghost use Rattle.bitmap_session.specs.Laws.{HasRisingNumbers};
 
 use crate::command::Command;
 use crate::reply::{Refusal, Reply};
+pub use crate::session::saved::{ApplyDeltaError, SaveError};
 use bitmap_core::bitmap::Prunable;
 use bitmap_core::bitmap::codec::{CodecError, RangeCfg, Read};
 use historical_bitmap::bitmap::historical::{
