@@ -19,3 +19,5 @@ mod lists;
 mod methods;
 #[cfg(test)]
 mod read;
+#[cfg(test)]
+mod saved;
