@@ -239,7 +239,8 @@ pub fn recover<const N: usize>(alloc: Global, bytes: &[u8]) -> Result<Recovered<
     ensures taken { IfOk result (λ found. found.log.bytes ≡ []) }
     // How many bytes are good, and whether there are others.
     ensures good { IfOk result (λ found. found.log.place.at ≤ length bytes.now) }
-    ensures torn { IfOk result (λ found. Decides found.torn (found.log.place.at < length bytes.now)) }
+    ensures torn { IfOk result (λ found. Decides found.torn
+        (found.log.place.at < length bytes.now)) }
 
     // From a log: what all of its entries make.
     ensures whole { (base : Base) (entries : List WrittenEntry) → IsLog N base entries

@@ -79,7 +79,8 @@ fn keep_replaced<const N: usize>(
 ) -> Result<(), AllocError>
     requires pruned { bit_len N old.now ≤ pruned_bits N new.now }
     requires number { All (λ kept. kept < number) (keys_of commits.old) }
-    ensures ok { OnOk result (commits.new ≡ commits.old ++ (number, replaced_record N old.now new.now) ∷ []) }
+    ensures ok { OnOk result (commits.new
+        ≡ commits.old ++ (number, replaced_record N old.now new.now) ∷ []) }
     ensures err { OnErr result (commits.new ≡ commits.old) }
 {
     let _ = new.len();
@@ -118,13 +119,20 @@ impl<const N: usize> BitMap<N, Clean> {
     ) -> Result<CleanBitMap<N>, (CleanBitMap<N>, Error)>
         requires { bit_len N self.current ≤ pruned_bits N bitmap }
         ensures accepted { OnOk result (commit_error self.entry.last number ≡ None) }
-        ensures refused { IfErr result (λ e. e.1 ≡ unwrap_or (commit_error self.entry.last number) (Memory alloc_error)) }
+        ensures refused { IfErr result (λ e. e.1
+            ≡ unwrap_or (commit_error self.entry.last number) (Memory alloc_error)) }
         ensures unchanged { IfErr result (λ e. e.0 ≡ self.entry) }
         ensures current { IfOk result (λ b. b.current ≡ bitmap.entry) }
-        ensures history { IfOk result (λ b. history_of N b ≡ history_of N self.entry ++ (number, bitmap.entry) ∷ []) }
+        ensures history { IfOk result (λ b. history_of N b
+            ≡ history_of N self.entry ++ (number, bitmap.entry) ∷ []) }
         ensures earlier { IfOk result (λ b. before_latest b.commits ≡ self.entry.commits) }
         ensures last { IfOk result (λ b. b.last ≡ Some number) }
-        ensures costs { IfOk result (λ b. costs_of b ≡ costs_of self.entry ++ (number, length (retained_chunks N self.entry.current) + length (retained_chunks N bitmap.entry)) ∷ []) }
+        ensures costs { IfOk result (λ b. costs_of b ≡ costs_of self.entry
+            ++ (
+              number,
+              length (retained_chunks N self.entry.current)
+                  + length (retained_chunks N bitmap.entry),
+            ) ∷ []) }
     {
         if let Err(why) = check_number(self.last, number) {
             return Err((self, why));

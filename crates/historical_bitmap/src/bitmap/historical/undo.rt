@@ -38,7 +38,8 @@ pub(crate) fn undo<const N: usize>(
 fn rebuilt<const N: usize>(diff: &CommitDiff<N>) -> Result<Prunable<N>, AllocError>
     requires fits { 8 * N * diff.now.pruned ≤ diff.now.len }
     requires small { 8 * N * div_ceil diff.now.len (8 * N) < 2 ^ 64 }
-    requires kept { (i : ℕ) → diff.now.pruned ≤ i → 8 * N * i < diff.now.len → IsSome (kept diff.now i) }
+    requires kept { (i : ℕ) → diff.now.pruned ≤ i → 8 * N * i < diff.now.len
+        → IsSome (kept diff.now i) }
     requires sorted { IsStrictlySortedBy nat_cmp (keys_of diff.now.entries) }
     ensures { (newer : PrunedBits) → IfOk result (λ older. older ≡ before N diff.now newer) }
 {
