@@ -77,7 +77,7 @@ fn changes(
 
 /// Writes a page of the kept commit numbers from `from` on, ascending.
 ///
-/// `count` becomes how many are written.
+/// `count` becomes how many are written. Pages are as those of `mortarpink_ones`.
 ///
 /// # Errors
 ///
@@ -107,7 +107,8 @@ pub extern "C" fn mortarpink_commits(
 
 /// Writes a page of the indices, from `first` on, of the chunks that differ between the bitmaps at two commits.
 ///
-/// Indices count chunks. They are absolute and ascending. `count` becomes how many are written.
+/// Indices count chunks. They are absolute and ascending. A chunk that only one of the bitmaps retains differs. `count` becomes how many
+/// are written. Pages are as those of `mortarpink_ones`.
 ///
 /// # Errors
 ///

@@ -64,7 +64,8 @@ fn ones(any: &AnySession, from: u64, to: u64, out: &mut [u64], count: &mut usize
 
 /// Writes a page of the set positions of the current bitmap from `from` up to `to`, `to` excluded.
 ///
-/// The positions are in bits, absolute and ascending. `count` becomes how many are written.
+/// The positions are in bits, absolute and ascending; no pruned one is among them. `count` becomes how many are written, which is at most
+/// the length of `out`. The next page begins after the last position of this one. A page that is not full is the last.
 ///
 /// # Errors
 ///

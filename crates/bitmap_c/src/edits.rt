@@ -52,7 +52,7 @@ fn push(any: &mut AnySession, bit: bool) -> u32
 ///
 /// # Errors
 ///
-/// Returns `WRONG_MODE` outside a batch, `TOO_LONG` if the length would not fit `u64`, and `NO_MEMORY` if an allocation fails.
+/// Returns `WRONG_MODE` outside a batch, `TOO_LONG` if the length would pass 2^64 - 1, and `NO_MEMORY` if an allocation fails.
 ///
 /// # Memory
 ///
@@ -109,7 +109,7 @@ fn push_chunk(any: &mut AnySession, bytes: &[u8]) -> u32
 ///
 /// # Errors
 ///
-/// Returns `WRONG_SIZE` if the number of bytes is not the width. Otherwise as `mortarpink_push`.
+/// Returns `WRONG_SIZE` if the length of `bytes` is not the width. Otherwise as `mortarpink_push`.
 ///
 /// # Memory
 ///
@@ -117,7 +117,7 @@ fn push_chunk(any: &mut AnySession, bytes: &[u8]) -> u32
 ///
 /// # Complexity
 ///
-/// Linear in the width.
+/// Amortized linear in the width.
 #[unsafe(no_mangle)]
 pub extern "C" fn mortarpink_push_chunk(alloc: Global, bitmap: &mut Handle, bytes: &[u8]) -> u32
     ensures step { CallsChunk (length bytes.now) bitmap.old.value (λ N. Command.PushChunk bytes.now)
@@ -203,7 +203,7 @@ fn prune(any: &mut AnySession, position: u64) -> u32
 ///
 /// # Complexity
 ///
-/// Linear in the chunks pruned.
+/// Amortized linear in the chunks pruned.
 #[unsafe(no_mangle)]
 pub extern "C" fn mortarpink_prune(alloc: Global, bitmap: &mut Handle, position: u64) -> u32
     ensures step { Calls bitmap.old.value (λ N. Command.Prune position) (Reports result)
@@ -222,6 +222,8 @@ fn commit(any: &mut AnySession, number: u64, previous: &mut u64) -> u32
 
 /// Ends the batch: the pending bitmap becomes the current one, and is kept under the number.
 ///
+/// The number has to be above the last one that was committed or rewound to, even if that commit was dropped since.
+///
 /// # Errors
 ///
 /// Returns the first status that applies. The batch then goes on.
@@ -229,7 +231,7 @@ fn commit(any: &mut AnySession, number: u64, previous: &mut u64) -> u32
 /// | Status | If |
 /// |---|---|
 /// | `WRONG_MODE` | there is no batch |
-/// | `RESERVED_COMMIT_NUMBER` | the number is `u64::MAX` |
+/// | `RESERVED_COMMIT_NUMBER` | the number is 2^64 - 1 |
 /// | `NON_MONOTONIC_COMMIT` | the number is not above the last one |
 /// | `NO_MEMORY` | an allocation fails |
 ///
@@ -275,7 +277,7 @@ fn abort(any: &mut AnySession) -> u32
 ///
 /// # Complexity
 ///
-/// Linear in the chunks edited in the batch.
+/// Linear in the chunks that the batch edited or pruned.
 #[unsafe(no_mangle)]
 pub extern "C" fn mortarpink_abort(alloc: Global, bitmap: &mut Handle) -> u32
     ensures step { Calls bitmap.old.value (λ N. Command.Abort) (Reports result)

@@ -205,7 +205,11 @@ fn entries(any: &mut AnySession, entries: &mut u64) -> u32
     at_width!(any, session => run_entries(session, entries))
 }
 
-/// Writes the number of chunks in the reverse records of all kept commits to `entries`, or `u64::MAX` if it is above that.
+/// Writes the number of entries in the reverse records of all kept commits to `entries`, or 2^64 - 1 if there are more.
+///
+/// The record of a commit has at most one entry per chunk that its batch edited, removed or pruned, and at most one more. An entry has
+/// the old bytes of one chunk, or no bytes if the commit added the chunk. So `entries` is at least the number of old chunks that the
+/// history keeps. It is not the number of bytes that the history takes.
 ///
 /// # Errors
 ///
@@ -217,7 +221,7 @@ fn entries(any: &mut AnySession, entries: &mut u64) -> u32
 ///
 /// # Complexity
 ///
-/// Linear in the commits.
+/// Linear in the kept commits.
 #[unsafe(no_mangle)]
 pub extern "C" fn mortarpink_entries(alloc: Global, bitmap: &mut Handle, entries: &mut u64) -> u32
     ensures step { Calls bitmap.old.value (λ N. Command.Entries)

@@ -19,12 +19,18 @@ use bitmap_session::command::Command;
 use bitmap_session::session::Session;
 use std::alloc::{AllocError, Global};
 
-/// The version of this interface. The header has the same number.
+/// The version of this interface, which `mortarpink_version` returns.
 pub const VERSION: u32 = 1;
 
-/// Returns the version of this interface.
+/// Returns the `VERSION` of the library.
 ///
-/// Does not allocate; constant time.
+/// # Memory
+///
+/// Does not allocate.
+///
+/// # Complexity
+///
+/// Constant.
 #[unsafe(no_mangle)]
 pub extern "C" fn mortarpink_version() -> u32
     ensures { result ≡ VERSION }
@@ -67,7 +73,7 @@ fn fill(alloc: Global, bitmap: &mut Handle, any: AnySession) -> u32
 ///
 /// # Memory
 ///
-/// Allocates the session.
+/// Allocates the bitmap.
 ///
 /// # Complexity
 ///
@@ -157,7 +163,7 @@ fn report_error(error: &CodecError, length: &mut u64) -> u32
     }
 }
 
-/// Makes a bitmap from the encoding that the bytes begin with, in an empty handle: with chunks of `width` bytes and no commits.
+/// Makes a bitmap from the encoding that `bytes` begin with, in an empty handle: with chunks of `width` bytes and no commits.
 ///
 /// The number of retained bits is from `least` to `most`, both included. `used` becomes the size of the encoding in bytes.
 ///
@@ -176,7 +182,7 @@ fn report_error(error: &CodecError, length: &mut u64) -> u32
 ///
 /// # Memory
 ///
-/// Allocates the session and the chunks of its bitmap.
+/// Allocates the bitmap.
 ///
 /// # Complexity
 ///
@@ -215,7 +221,7 @@ pub extern "C" fn mortarpink_read(
     }
 }
 
-/// Frees the bitmap of a handle and its commits; the handle is empty afterwards.
+/// Frees the bitmap of a handle and its commits, with every block that its calls allocated; the handle is empty afterwards.
 ///
 /// # Errors
 ///
@@ -294,11 +300,11 @@ fn start(any: &mut AnySession, pruned_chunks: usize) -> u32
     at_width!(any, session => run(session, Command::Start(pruned_chunks)))
 }
 
-/// Replaces the bitmap by one with `pruned_chunks` pruned chunks, no bits, no commits and no last number.
+/// Replaces the bitmap by one with `pruned_chunks` pruned chunks, no bits, no commits and no last commit number.
 ///
 /// # Errors
 ///
-/// Returns `WRONG_MODE` in a batch, and `PRUNED_CHUNKS_OVERFLOW` if the number of pruned bits does not fit `u64`.
+/// Returns `WRONG_MODE` in a batch, and `PRUNED_CHUNKS_OVERFLOW` if the number of pruned bits would pass 2^64 - 1.
 ///
 /// # Memory
 ///
@@ -306,7 +312,7 @@ fn start(any: &mut AnySession, pruned_chunks: usize) -> u32
 ///
 /// # Complexity
 ///
-/// Linear in what is dropped.
+/// Linear in what is freed.
 #[unsafe(no_mangle)]
 pub extern "C" fn mortarpink_start(alloc: Global, bitmap: &mut Handle, pruned_chunks: usize) -> u32
     ensures step { Calls bitmap.old.value (λ N. Command.Start pruned_chunks) (Reports result)

@@ -35,8 +35,8 @@ fn push_bytes(any: &mut AnySession, bytes: &[u8], count: &mut usize) -> u32
 
 /// Appends the bits of the bytes in order, up to the first byte that is refused.
 ///
-/// `count` becomes the number of bytes appended, with every status but `EMPTY_HANDLE`. Without bytes the status is `DONE`, also
-/// outside a batch.
+/// `count` becomes the number of bytes appended, with every status but `EMPTY_HANDLE`. These bytes stay in the batch, so a caller goes
+/// on with the rest. If there are no bytes, the status is `DONE`, also outside a batch.
 ///
 /// # Errors
 ///

@@ -276,7 +276,8 @@ pub extern "C" fn mortarpink_chunk_at(
 
 /// Writes a page of the set positions of the bitmap at commit `number` from `from` up to `to`.
 ///
-/// The positions are in bits, absolute and ascending. `to` is excluded. `count` becomes how many are written.
+/// The positions are in bits, absolute and ascending. `to` is excluded. `count` becomes how many are written. Pages are as those of
+/// `mortarpink_ones`.
 ///
 /// # Errors
 ///

@@ -20,7 +20,13 @@ fn len(any: &AnySession, len: &mut u64) -> u32
 
 /// Writes the length in bits to `len`. Pruned bits count.
 ///
-/// Does not allocate; constant time.
+/// # Memory
+///
+/// Does not allocate.
+///
+/// # Complexity
+///
+/// Constant.
 #[unsafe(no_mangle)]
 pub extern "C" fn mortarpink_len(alloc: Global, bitmap: &mut Handle, len: &mut u64) -> u32
     ensures step { Calls bitmap.old.value (λ N. Command.Len) (ReportsNumber result len.old len.new)
@@ -39,7 +45,13 @@ fn pruned_chunks(any: &mut AnySession, chunks: &mut u64) -> u32
 
 /// Writes the number of pruned chunks to `chunks`.
 ///
-/// Does not allocate; constant time.
+/// # Memory
+///
+/// Does not allocate.
+///
+/// # Complexity
+///
+/// Constant.
 #[unsafe(no_mangle)]
 pub extern "C" fn mortarpink_pruned_chunks(
     alloc: Global,
@@ -104,7 +116,7 @@ fn chunk(any: &mut AnySession, position: u64, out: &mut [u8]) -> u32
 ///
 /// | Status | If |
 /// |---|---|
-/// | `WRONG_SIZE` | the size of `out` is not the width |
+/// | `WRONG_SIZE` | the length of `out` is not the width |
 /// | `OUT_OF_BOUNDS` | the position is not below the length |
 /// | `PRUNED` | the position is pruned |
 ///
@@ -140,9 +152,11 @@ fn encode(any: &mut AnySession, out: &mut [u8], size: &mut usize) -> u32
 
 /// Fills `out` with the encoding of the current bitmap, and writes the size of the encoding in bytes to `size`.
 ///
+/// A caller that does not know the size calls with an empty `out` first, whose pointer is not NULL either.
+///
 /// # Errors
 ///
-/// Returns `WRONG_MODE` in a batch, `NO_MEMORY` if an allocation fails, and `WRONG_SIZE` if the size of `out` is not that of the
+/// Returns `WRONG_MODE` in a batch, `NO_MEMORY` if an allocation fails, and `WRONG_SIZE` if the length of `out` is not the size of the
 /// encoding. `out` is then unchanged. `size` is written with `WRONG_SIZE` too, and otherwise unchanged.
 ///
 /// # Memory
@@ -179,7 +193,8 @@ fn encode_at(any: &mut AnySession, number: u64, out: &mut [u8], size: &mut usize
 ///
 /// # Errors
 ///
-/// Returns `NONE` if the commit is not kept. Otherwise as `mortarpink_encode`.
+/// Returns `NONE`, and not `NO_SUCH_COMMIT`, if no commit is kept under `number`. `size` and `out` are then unchanged. Otherwise as
+/// `mortarpink_encode`.
 ///
 /// # Memory
 ///
