@@ -1,17 +1,22 @@
-"""Compares the declarations of the C interface, and what else has to agree with them: the order of the refusals, the texts and the versions.
+"""Checks the declarations of the C interface, and what has to agree with them: the handle, the order of the refusals, the texts and the versions.
 
-A comparison is a case: its name, and what is wrong, or None.
+A check is a case: its name, and what is wrong, or None.
 """
 
 import re
 
-from declarations import HEADER, PREFIX, PYTHON, RUST, SOURCES, export_errors, header, python, rattle, rust, text_of, without_comments
+import interface
+from c_header import HEADER, TEMPLATE
+from declarations import SOURCES, STATUSES, TOP, Mistake, declared, sources
+from interface import PYTHON, RUST
 
 TEXTS = "bindings/c/status_text.c"
 SCRIPT = "docs/SCRIPT.md"
+CALLS_OF_RUST = "bindings/rust/src/ffi.rs"
+ERRORS_OF_PYTHON = "bindings/python/mortarpink/_errors.py"
 
-# The statuses that a binding leaves out, since no call of its own returns them.
-LEFT_OUT = {RUST: {"WRONG_MODE", "EMPTY_HANDLE", "FULL_HANDLE", "NO_SUCH_WIDTH"}, PYTHON: {"FULL_HANDLE"}}
+# The statuses that a binding does not name, since no call of its own returns them or since they are no errors.
+UNUSED = {CALLS_OF_RUST: {"WRONG_MODE", "EMPTY_HANDLE", "FULL_HANDLE", "NO_SUCH_WIDTH"}, ERRORS_OF_PYTHON: {"FULL_HANDLE", "NONE"}}
 
 # The version of the package.
 RELEASES = {
@@ -24,62 +29,72 @@ RELEASES = {
 HANDLES = {
     f"{SOURCES}/handle.rt": r"#\[repr\(C\)\]\n(?:#.*\n)*pub struct Handle \{\n    session: \*mut u8,\n    alloc: Global,\n    ghost value: \{[^{}]*\},\n\}",
     HEADER: r"typedef struct \{\s*void \*session;\s*\} mortarpink_bitmap;",
-    RUST: r"#\[repr\(C\)\]\s*(?:pub )?struct Handle \{\s*session: \*mut c_void,\s*\}",
+    RUST: r"#\[repr\(C\)\]\s*pub struct Handle \{\s*pub session: \*mut c_void,\s*\}",
     PYTHON: r"_fields_ = \[\(\"session\", ctypes\.c_void_p\)\]",
 }
 
-
-def same_function(one, other):
-    """Whether two functions are the same. Only names that both have are compared."""
-    if one.result != other.result or len(one.parameters) != len(other.parameters):
-        return False
-    return all(a.kind == b.kind and (a.name == b.name or None in (a.name, b.name)) for a, b in zip(one.parameters, other.parameters))
-
-
-def function_difference(name, wanted, found):
-    """How a function of another place differs from the header's, or None."""
-    one, other = wanted.functions.get(name), found.functions.get(name)
-    if one is None or other is None:
-        return f"{found.place if other is None else wanted.place} does not have it"
-    return None if same_function(one, other) else f"{found.place} has {other}, and {wanted.place} has {one}"
-
-
-def status_difference(name, wanted, found, left_out):
-    """How a status of another place differs from the header's, or None. A place may leave some out."""
-    one, other = wanted.statuses.get(name), found.statuses.get(name)
-    if other is None and name in left_out:
-        return None
-    if one is None or other is None:
-        return f"{found.status_place if other is None else wanted.status_place} does not have it"
-    return None if one == other else f"it is {other} in {found.status_place}, and {one} in {wanted.status_place}"
-
-
-def differences(wanted, found, without=(), left_out=()):
-    """The functions, statuses and version of another place beside the header's, as cases: a name and how they differ, or None.
-
-    The place has no functions `without`, and may leave out statuses.
-    """
-    for name in sorted({*wanted.functions, *found.functions} - {*without}):
-        yield f"{PREFIX}{name} in {found.place}", function_difference(name, wanted, found)
-    for name in sorted({*wanted.statuses, *found.statuses}):
-        yield f"the status {name} in {found.status_place}", status_difference(name, wanted, found, left_out)
-    is_same = found.version == wanted.version
-    yield f"the version in {found.place}", None if is_same else f"it is {found.version}, and {wanted.version} in {wanted.place}"
+# Changes of the sources, each with the generated files that it makes differ, or with words of the mistake: the file, the text after which the
+# first old text is replaced, the old text and the new one.
+ALL = {HEADER, RUST, PYTHON}
+CHANGES = [
+    ("making.rt", "fn mortarpink_new(", "width: u32", "width: u64", ALL),
+    ("making.rt", "fn mortarpink_new(", "width: u32", "width: u16", "the type `u16` of `width`"),
+    ("making.rt", "fn mortarpink_start(", ": usize", ": u64", ALL),
+    ("reads.rt", "fn mortarpink_get(", "bit: &mut u8", "bit: u8", ALL),
+    ("reads.rt", "fn mortarpink_encode(", "size: &mut usize", "size: &mut u64", ALL),
+    ("many.rt", "fn mortarpink_push_bytes(", "bytes: &[u8]", "bytes: &mut [u8]", ALL),
+    ("history.rt", "fn mortarpink_rewind(", "number: u64", "commit: u64", {HEADER, RUST}),
+    ("current.rt", "fn mortarpink_next_one(", "from: u64", "start: u64", "the documentation has `from`"),
+    ("commits.rt", "fn mortarpink_commits(", "count:", "len:", "`mortarpink_commits` has two parameters with one name in C"),
+    ("edits.rt", "", "fn mortarpink_pop(", "fn mortarpink_take(", "mortarpink.h.in has to name each function once"),
+    ("edits.rt", "", "fn mortarpink_pop(", "fn pop_bit(", "`pop_bit` has a name without mortarpink_"),
+    ("edits.rt", "mortarpink_pop(", ") -> u32", ") -> u64", "`mortarpink_pop` has a result that is not `u32`"),
+    ("edits.rt", "mortarpink_pop(", "ensures step", "requires step", "`mortarpink_pop` has a `requires`"),
+    ("edits.rt", "", 'extern "C" fn mortarpink_pop(', "fn mortarpink_pop(", "marks `no_mangle`"),
+    ("edits.rt", "", "/// Removes the last bit", "/// Removes a bit", {HEADER}),
+    ("edits.rt", "fn mortarpink_pop(", "/// # Complexity", "/// # Costs", "the section Costs"),
+    ("status.rt", "", "WRONG_SIZE: u32 = 18", "WRONG_SIZE: u32 = 19", ALL),
+    ("status.rt", "", "/// The position is pruned", "/// The position is gone", {HEADER}),
+    ("making.rt", "", "VERSION: u32 = 1", "VERSION: u32 = 2", ALL),
+]
 
 
-# Other agreements
+def text_of(path):
+    return (TOP / path).read_text()
+
+
+def differing(texts, changed):
+    """The generated files that a change of the texts of the sources makes differ, or the mistake."""
+    template = text_of(TEMPLATE)
+    files = interface.files_of(texts, template)
+    try:
+        return {path for path, made in interface.files_of(changed, template).items() if made != files[path]}
+    except Mistake as mistake:
+        return str(mistake)
+
+
+def change_cases():
+    """Whether changes of the sources are noticed."""
+    texts = sources()
+    for file, after, old, new, wanted in CHANGES:
+        path = f"{SOURCES}/{file}"
+        before, there, rest = texts[path].partition(after) if after else ("", "", texts[path])
+        found = differing(texts, {**texts, path: before + there + rest.replace(old, new, 1)}) if old in rest else "the old text is not there"
+        is_noticed = found == wanted if isinstance(wanted, set) else wanted in found
+        yield f"`{new}` for `{old}` in {file}", None if is_noticed else f"{found or 'it is not noticed'}, and not {wanted}"
+
+
+def use_cases(names):
+    """Whether the bindings name each status, so that each has its error."""
+    for place, unused in UNUSED.items():
+        text = text_of(place)
+        missing = sorted(name for name in names if name not in unused and not re.search(rf"\b{name}\b", text))
+        yield f"the statuses in {place}", f"it does not name {', '.join(missing)}" if missing else None
+
 
 def handle_cases():
     for place, pattern in HANDLES.items():
         yield f"the handle in {place}", None if re.search(pattern, text_of(place)) else "it is not one pointer, or not written as expected"
-
-
-def unread_cases(header):
-    """Whether each name of a function in the header and in the Rust block is one that was read."""
-    for place, pattern, functions in ((HEADER, rf"\b{PREFIX}(\w+)\s*\(", header.functions), (RUST, rf"fn {PREFIX}(\w+)", rust().functions)):
-        comment = r"/\*.*?\*/" if place == HEADER else r"//.*?$"
-        unread = {*re.findall(pattern, without_comments(text_of(place), comment))} - {*functions}
-        yield f"the functions in {place}", f"not read: {', '.join(sorted(unread))}" if unread else None
 
 
 def refusals():
@@ -90,24 +105,24 @@ def refusals():
     return [{name.upper().replace("-", "_") for name in group} for group in groups]
 
 
-def order_cases(header):
+def order_cases(statuses):
     """Whether the statuses after DONE follow the order of the refusals."""
-    names, at, groups = {number: name for name, number in header.statuses.items()}, 1, refusals()
+    names, at, groups = {number: name for name, number in statuses.items()}, 1, refusals()
     yield f"the refusals in {SCRIPT}", None if groups else "none was read"
     for group in groups:
         found, wanted = sorted(names.get(number, "none") for number in range(at, at + len(group))), sorted(group)
-        difference = f"{', '.join(found)} in {HEADER}, and {', '.join(wanted)} in {SCRIPT}"
+        difference = f"{', '.join(found)} in {STATUSES}, and {', '.join(wanted)} in {SCRIPT}"
         yield f"the status number {at} beside {SCRIPT}", None if found == wanted else difference
         at += len(group)
 
 
-def text_cases(header):
+def text_cases(statuses):
     """Whether there is a text for each status, whose numbers are 0, 1, 2 and so on."""
-    numbers = sorted(header.statuses.values())
-    yield f"the numbers of the statuses in {HEADER}", None if numbers == list(range(len(numbers))) else f"they are {numbers}"
+    numbers = sorted(statuses.values())
+    yield f"the numbers of the statuses in {STATUSES}", None if numbers == list(range(len(numbers))) else f"they are {numbers}"
     table = re.search(r"texts\[\] = \{(.*?)\};", text_of(TEXTS), re.DOTALL)
     count = len(re.findall(r"\"(?:[^\"\\]|\\.)+\"", table[1])) if table else 0
-    yield f"the texts in {TEXTS}", None if count == len(numbers) else f"{count} texts, and {len(numbers)} statuses in {HEADER}"
+    yield f"the texts in {TEXTS}", None if count == len(numbers) else f"{count} texts, and {len(numbers)} statuses in {STATUSES}"
 
 
 def release_cases():
@@ -120,11 +135,11 @@ def release_cases():
 
 
 def all_cases():
-    """Every comparison of the declarations, as cases."""
-    wanted = header()
-    yield from [(f"the exports in {SOURCES}", error) for error in export_errors()] or [(f"the exports in {SOURCES}", None)]
-    yield from differences(wanted, rattle(), without={"status_text"})
-    yield from differences(wanted, rust(), left_out=LEFT_OUT[RUST])
-    yield from differences(wanted, python(), left_out=LEFT_OUT[PYTHON])
-    for cases in (handle_cases(), unread_cases(wanted), order_cases(wanted), text_cases(wanted), release_cases()):
+    """Every check of the declarations, as cases. If the sources cannot be read, the other checks have nothing to compare."""
+    yield from interface.cases()
+    try:
+        statuses = declared().numbers
+    except Mistake:
+        return
+    for cases in (change_cases(), use_cases(statuses), handle_cases(), order_cases(statuses), text_cases(statuses), release_cases()):
         yield from cases

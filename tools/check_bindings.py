@@ -5,10 +5,10 @@ usage: check_bindings.py                  builds the library and installs it twi
        check_bindings.py --after-gate     the same, over the libraries that `rt ci` has just left
        check_bindings.py --built          the same, with the library that is built, if it is newer than its sources
        check_bindings.py --prefix DIR     takes the library that is installed in DIR
-       check_bindings.py --declarations   compares the declarations alone
+       check_bindings.py --declarations   checks the declarations alone
 
-- The declarations agree in the Rattle sources, the header, the Rust block and the Python table.
-- The libraries export the functions of the header and nothing else, and need only the memory functions of the C library.
+- The declarations in C, Rust and Python are those that tools/interface.py makes of the Rattle sources, and it notices each change of these.
+- The libraries export the declared functions and nothing else, and need only the memory functions of the C library.
 - Two packages of one build are the same byte for byte.
 - The header compiles as C99 and as C++11 without a warning. The C example prints what it should, with the static and with the shared library.
 - The C tests pass with sanitizers, under valgrind, and with failing allocations. The tests of the Rust crate and of the Python package pass.
@@ -29,8 +29,8 @@ from pathlib import Path
 from typing import NamedTuple
 
 import agreements
-import declarations
-from declarations import HEADER, PREFIX, TOP
+from c_header import HEADER
+from declarations import PREFIX, TOP, declared
 from replay import report
 
 TOOLS = ("cc", "cargo", "python3", "pkg-config", "nm")
@@ -143,10 +143,10 @@ def symbols(*words):
 
 
 def symbol_cases(place):
-    wanted = {f"{PREFIX}{name}" for name in declarations.header().functions}
+    wanted = {f"{PREFIX}{name}" for name in declared().functions}
     for file, words in ((place.static, ["--extern-only"]), (place.shared, ["--dynamic"])):
         found = {*symbols("--defined-only", *words, file)}
-        difference = f"missing: {sorted(wanted - found)}; not in the header: {sorted(found - wanted)}"
+        difference = f"missing: {sorted(wanted - found)}; not declared: {sorted(found - wanted)}"
         yield f"the functions of {file.name}", None if found == wanted else difference
         needed = {name for name, kind in symbols("--undefined-only", *words, file).items() if kind == "U"}
         yield f"the needs of {file.name}", f"it needs {sorted(needed - NEEDED)}" if needed - NEEDED else None

@@ -1,217 +1,188 @@
-"""The declarations of the C interface in the four places that have them: functions with their parameters, statuses, and the version.
+"""The declarations of the C interface, as the Rattle sources have them: the exported functions with their documentation, the statuses, the version.
 
-The places are the Rattle sources, the header, the Rust block of foreign functions, and the Python table. A parameter has the same kind in each:
+A parameter has one of these kinds:
 
-- `handle`
-- `u8`, `u32`, `u64`, `size`: a value
-- `u8 in`, `u8 out`, `u64 out`, `size out`: a pointer to one value
+- `handle`, or `read handle` if it is declared `const`
+- `u8`, `u32`, `u64`, `size`: a value; `status`: a number that may be a status
+- `u8 out`, `u64 out`, `size out`: a pointer to one value
 - `u8 array in`, `u8 array out`, `u64 array out`: a pointer to the elements; the next parameter is their `length`
 
-A type that is none of these is its own kind, so it differs from every other one.
+A function that takes a handle returns a `status`. tools/interface.py writes the declarations in C, Rust and Python.
 """
 
-import ast
 import re
+from functools import lru_cache
 from pathlib import Path
-from typing import NamedTuple, Optional
+from typing import NamedTuple
+
+from rattle_tokens import Unknown, closing, first_of_item, following, functions_of, is_name, preceding, separated, text_of, tokens_of, until
 
 TOP = Path(__file__).resolve().parent.parent
 SOURCES = "crates/bitmap_c/src"
-HEADER = "bindings/c/mortarpink.h"
-RUST = "bindings/rust/src/ffi.rs"
-PYTHON = "bindings/python/mortarpink/_library.py"
-ERRORS = "bindings/python/mortarpink/_errors.py"
+STATUSES = f"{SOURCES}/status.rt"
 PREFIX = "mortarpink_"
 
-KINDS_OF_RATTLE = {
+KINDS = {
     "&mut Handle": "handle", "u8": "u8", "u32": "u32", "u64": "u64", "usize": "size", "&mut u8": "u8 out", "&mut u64": "u64 out",
     "&mut usize": "size out", "&[u8]": "u8 array in", "&mut [u8]": "u8 array out", "&mut [u64]": "u64 array out",
 }
-KINDS_OF_C = {
-    "mortarpink_bitmap *": "handle", "uint8_t": "u8", "uint32_t": "u32", "uint64_t": "u64", "size_t": "size", "const uint8_t *": "u8 in",
-    "uint8_t *": "u8 out", "uint64_t *": "u64 out", "size_t *": "size out", "const char *": "text",
-}
-KINDS_OF_RUST = {
-    "*mut Handle": "handle", "u8": "u8", "u32": "u32", "u64": "u64", "usize": "size", "*const u8": "u8 in", "*mut u8": "u8 out",
-    "*mut u64": "u64 out", "*mut usize": "size out", "*const c_char": "text",
-}
-KINDS_OF_PYTHON = {
-    "ctypes.POINTER(Handle)": "handle", "ctypes.c_uint8": "u8", "ctypes.c_uint32": "u32", "ctypes.c_uint64": "u64", "ctypes.c_size_t": "size",
-    "ctypes.c_char_p": "u8 in", "ctypes.POINTER(U8)": "u8 out", "ctypes.POINTER(U64)": "u64 out", "ctypes.POINTER(SIZE)": "size out",
+
+# The kinds of handles.
+HANDLES = ("handle", "read handle")
+
+# The type of a parameter that C does not have: the allocator.
+ALLOCATOR = "Global"
+
+# The type of the result of each function.
+RESULT = "u32"
+
+# The functions that only read the bitmap of their first handle.
+READS = {
+    "clone", "len", "pruned_chunks", "get", "chunk", "ones", "next_one", "next_zero", "prev_one", "prev_zero", "count_ones", "select_one", "encode",
+    "len_at", "pruned_chunks_at", "get_at", "chunk_at", "ones_at", "next_one_at", "next_zero_at", "prev_one_at", "prev_zero_at", "count_ones_at",
+    "select_one_at", "encode_at", "commits", "exists", "latest", "earliest", "changed_chunks", "entries",
 }
 
-# The statuses whose exceptions have other names.
-NAMES_OF_PYTHON = {"CLOSED": "EMPTY_HANDLE"}
+# Whether these handles are declared `const`.
+CONST_READS = False
+
+
+class Mistake(Exception):
+    """What is wrong with the sources, with its place."""
 
 
 class Parameter(NamedTuple):
-    name: Optional[str]  # None in Python, whose table has no names
+    name: str
     kind: str
 
 
 class Function(NamedTuple):
+    name: str  # without the prefix
+    doc: list  # the lines of its documentation
     parameters: tuple
     result: str
 
-    def __str__(self):
-        shown = ", ".join(f"{name}: {kind}" if name else kind for name, kind in self.parameters)
-        return f"({shown}) -> {self.result}"
+
+class Constant(NamedTuple):
+    name: str
+    number: int
+    doc: list
 
 
 class Declarations(NamedTuple):
-    place: str
-    functions: dict  # by name, without the prefix
-    status_place: str
-    statuses: dict  # the numbers by name
-    version: Optional[int]
+    functions: dict  # by name
+    statuses: dict  # by name
+    version: Constant
+
+    @property
+    def numbers(self):
+        """The numbers of the statuses, by name."""
+        return {name: status.number for name, status in self.statuses.items()}
 
 
-def text_of(path):
-    return (TOP / path).read_text()
+# The one function of the library that is written in C, in bindings/c/status_text.c.
+STATUS_TEXT = Function(
+    "status_text", ["Returns a constant English text for a status, also for a number that is none."], (Parameter("status", "status"),), "text"
+)
 
 
-def without_comments(text, comment):
-    return re.sub(comment, " ", text, flags=re.DOTALL | re.MULTILINE)
+def doc_of(tokens, at):
+    """The lines of the documentation of the item that begins at `at`, or above its attributes."""
+    return [token.text[3:].removeprefix(" ") for token in tokens[first_of_item(tokens, at):at] if token.kind == "doc"]
 
 
-def number_of(pattern, text):
-    """The number that a pattern finds in a text, or None."""
-    found = re.search(pattern, text)
-    return int(found[1]) if found else None
+def extern_of(tokens, at):
+    """The index of the `extern` of a function whose name is at `at`, or None if C cannot call it."""
+    language = preceding(tokens, preceding(tokens, at - 1) - 1)
+    before = preceding(tokens, language - 1)
+    return before if language >= 0 and tokens[language].text == '"C"' and is_name(tokens, before, "extern") else None
 
 
-def with_arrays(parameters):
-    """The parameters, in which a pointer that a size follows is an array."""
-    found = list(parameters)
-    for at in range(1, len(found)):
-        (name, kind), after = found[at - 1], found[at]
-        if after.kind == "size" and kind in ("u8 in", "u8 out", "u64 out"):
-            found[at - 1 : at + 1] = [Parameter(name, kind.replace(" ", " array ")), Parameter(after.name, "length")]
-    return tuple(found)
-
-
-# The Rattle sources
-
-def rattle_parameters(text):
-    """The parameters in C of an exported function: the allocator is none, and a slice is two."""
-    for name, shown in re.findall(r"(\w+): ([^,]+)", " ".join(text.split())):
-        kind = KINDS_OF_RATTLE.get(shown.strip(), shown.strip())
-        if kind != "Global":
-            yield Parameter(name, kind)
+def parameters_of(tokens, opened, name):
+    """The parameters in C of a function, whose parenthesis opens at `opened`: the allocator is none, and a slice is two."""
+    is_const = CONST_READS and name in READS
+    for start, end in separated(tokens, opened + 1, closing(tokens, opened)):
+        parameter, _, shown = text_of(tokens, start, end).partition(": ")
+        if shown == ALLOCATOR:
+            continue
+        if shown not in KINDS:
+            raise Unknown(f"the type `{shown}` of `{parameter}`", tokens[opened].line, "KINDS in tools/declarations.py has the types of parameters")
+        kind = KINDS[shown]
+        if kind == "handle":
+            kind, is_const = "read handle" if is_const else kind, False
+        yield Parameter(parameter, kind)
         if " array " in kind:
             yield Parameter("len", "length")
 
 
-def rattle_exports(text):
-    """The exported functions of a source: each one's name, its function, and its clauses."""
-    for name, parameters, result, clauses in re.findall(r"\bextern \"C\" fn (\w+)\((.*?)\)(?: -> (\w+))?(.*?)^\{", text, re.DOTALL | re.MULTILINE):
-        yield name.removeprefix(PREFIX), Function(tuple(rattle_parameters(parameters)), KINDS_OF_RATTLE.get(result, result)), clauses
+def export_of(tokens, function, start):
+    """An exported function, whose `extern` is at `start`."""
+    opened = following(tokens, function.at + 1)
+    end = function.clauses[0] if function.clauses else function.opened
+    name, doc = function.name.removeprefix(PREFIX), doc_of(tokens, start)
+    parameters = tuple(parameters_of(tokens, opened, name))
+    wrong = {
+        f"a name without {PREFIX}": name == function.name,
+        "no documentation": not doc,
+        "two parameters with one name in C": len({parameter.name for parameter in parameters}) < len(parameters),
+        "a result that is not `u32`": text_of(tokens, closing(tokens, opened) + 1, end) != f"-> {RESULT}",
+        "a `requires`, which a caller in C can break": any(tokens[at].kind == "requires" for at in function.clauses),
+    }
+    for what in [what for what, is_so in wrong.items() if is_so]:
+        raise Unknown(f"`{function.name}` has {what}", tokens[function.at].line)
+    takes_handle = any(parameter.kind in HANDLES for parameter in parameters)
+    return Function(name, doc, parameters, "status" if takes_handle else KINDS[RESULT])
 
 
-def source_texts():
-    return [without_comments(path.read_text(), r"//.*?$") for path in sorted((TOP / SOURCES).rglob("*.rt"))]
+def exports_of(tokens):
+    """The exported functions of a source, in order."""
+    starts = [(function, extern_of(tokens, function.at)) for function in functions_of(tokens)]
+    exports = [export_of(tokens, function, start) for function, start in starts if start is not None]
+    marks = [at for at in range(len(tokens)) if is_name(tokens, at, "no_mangle")]
+    if len(marks) != len(exports):
+        raise Unknown(f"{len(marks)} marks `no_mangle` and {len(exports)} functions `extern \"C\"`", tokens[-1].line)
+    return exports
 
 
-def rattle():
-    text = "\n".join(source_texts())
-    functions = {name: function for name, function, _ in rattle_exports(text)}
-    statuses = {name: int(number) for name, number in re.findall(r"const (\w+): u32 = (\d+);", text) if name != "VERSION"}
-    return Declarations(SOURCES, functions, SOURCES, statuses, number_of(r"const VERSION: u32 = (\d+);", text))
+def constants_of(tokens):
+    """The public constants of a source that are numbers of the type `u32`."""
+    for at in range(len(tokens)):
+        if is_name(tokens, at, "const") and is_name(tokens, preceding(tokens, at - 1), "pub"):
+            name = following(tokens, at + 1)
+            found = re.fullmatch(r"(\w+): u32 = (\d+)", text_of(tokens, name, until(tokens, name, ";")))
+            if found:
+                yield Constant(found[1], int(found[2]), doc_of(tokens, at))
 
 
-def export_errors():
-    """What is wrong with the exports themselves: a requirement, which a caller in C can break, or a mark without a function that was read."""
-    for text in source_texts():
-        exports = list(rattle_exports(text))
-        yield from (f"{PREFIX}{name} has a `requires`" for name, _, clauses in exports if re.search(r"\brequires\b", clauses))
-        marks = len(re.findall(r"\bno_mangle\b", text))
-        if marks != len(exports):
-            yield f"{marks} marks `no_mangle`, and {len(exports)} exported functions: {', '.join(name for name, _, _ in exports)}"
+@lru_cache(maxsize=None)
+def declared_in(text):
+    """The exported functions and the constants of a source, each by name."""
+    tokens = tokens_of(text)
+    return {function.name: function for function in exports_of(tokens)}, {constant.name: constant for constant in constants_of(tokens)}
 
 
-# The header
-
-def c_kind(shown, aliases):
-    """The kind of a type in C, whose spaces do not matter."""
-    words = " ".join(shown.replace("*", " * ").split())
-    return KINDS_OF_C.get(aliases.get(words, words), words)
-
-
-def c_parameters(text, aliases):
-    for shown in text.split(","):
-        if shown.strip() != "void":
-            kind, name = re.fullmatch(r"\s*(.*?)(\w+)\s*", shown, re.DOTALL).groups()
-            yield Parameter(name, c_kind(kind, aliases))
-
-
-def header():
-    text = without_comments(text_of(HEADER), r"/\*.*?\*/")
-    aliases = {name: kind for kind, name in re.findall(r"typedef (\w+) (\w+);", text)}
-    found = re.findall(rf"([\w \t]+?[ *]+){PREFIX}(\w+)\(([^)]*)\)\s*;", text)
-    functions = {name: Function(with_arrays(c_parameters(given, aliases)), c_kind(result, aliases)) for result, name, given in found}
-    statuses = {name: int(number) for name, number in re.findall(r"\bMORTARPINK_(\w+) = (\d+)", text)}
-    return Declarations(HEADER, functions, HEADER, statuses, number_of(r"#define MORTARPINK_VERSION (\d+)", text))
+def declarations_of(texts):
+    """The declarations in the texts of sources, by path. Raises `Mistake`."""
+    functions, constants = {STATUS_TEXT.name: STATUS_TEXT}, {}
+    for path, text in texts.items():
+        try:
+            exports, constants[path] = declared_in(text)
+            functions |= exports
+        except Unknown as unknown:
+            raise Mistake(unknown.at(path)) from None
+    if not READS <= {*functions}:
+        raise Mistake(f"READS in tools/declarations.py: {SOURCES} does not export {', '.join(sorted(READS - {*functions}))}")
+    versions = [found["VERSION"] for found in constants.values() if "VERSION" in found]
+    if len(versions) != 1 or not constants.get(STATUSES):
+        raise Mistake(f"{SOURCES} has {len(versions)} constants VERSION, and {len(constants.get(STATUSES, ()))} statuses")
+    return Declarations(functions, constants[STATUSES], versions[0])
 
 
-# Rust
-
-def rust():
-    text = without_comments(text_of(RUST), r"//.*?$")
-    block = re.search(r"extern \"C\" \{(.*?)^\}", text, re.DOTALL | re.MULTILINE)
-    aliases = dict(re.findall(r"type (\w+) = (\w+);", text))
-    kind_of = lambda shown: KINDS_OF_RUST.get(aliases.get(shown, shown), shown)
-    functions = {}
-    for name, given, result in re.findall(r"fn (\w+)\((.*?)\)(?: -> (.*?))?;", block[1] if block else "", re.DOTALL):
-        parameters = [Parameter(word, kind_of(kind.strip())) for word, kind in re.findall(r"(\w+): ([^,]+)", given)]
-        functions[name.removeprefix(PREFIX)] = Function(with_arrays(parameters), kind_of(result.strip()))
-    statuses = {name: int(number) for name, number in re.findall(r"const (\w+): Status = (\d+);", text)}
-    return Declarations(RUST, functions, RUST, statuses, number_of(r"const VERSION: u32 = (\d+);", text))
+def sources():
+    """The texts of the sources, by path."""
+    return {path.relative_to(TOP).as_posix(): path.read_text() for path in sorted((TOP / SOURCES).rglob("*.rt"))}
 
 
-# Python
-
-def assigned(tree):
-    """What a module assigns to its names, as syntax trees."""
-    found = [(node.targets[0], node.value) for node in tree.body if isinstance(node, ast.Assign)]
-    found += [(node.target, node.value) for node in tree.body if isinstance(node, ast.AnnAssign)]
-    return {name.id: value for name, value in found if isinstance(name, ast.Name)}
-
-
-def python_calls(tree):
-    """The functions that are declared alone, by a call `_function(library, name, types, result)`: the name, the types and the result or None."""
-    for node in ast.walk(tree):
-        if isinstance(node, ast.Call) and ast.unparse(node.func) == "_function" and isinstance(node.args[1], ast.Constant):
-            yield node.args[1].value, node.args[2], node.args[3] if len(node.args) > 3 else None
-
-
-def python_functions(tree):
-    """The functions of the table, which return what `_function` declares unless it is given another result, and those that are declared alone."""
-    values = assigned(tree)
-    names = {name: KINDS_OF_PYTHON.get(ast.unparse(value), ast.unparse(value)) for name, value in values.items()}
-    table = values.get("FUNCTIONS", ast.Dict([], []))
-    results = [node.args.defaults[-1] for node in ast.walk(tree) if isinstance(node, ast.FunctionDef) and node.name == "_function"]
-    declared = [(key.value, types, None) for key, types in zip(table.keys, table.values)]
-    for name, types, result in [*declared, *python_calls(tree)]:
-        kinds = [names.get(ast.unparse(each), ast.unparse(each)) for each in types.elts]
-        shown = ast.unparse(result or results[0]) if result or results else "nothing"
-        kind = names.get(shown, shown)
-        yield name, Function(with_arrays([Parameter(None, each) for each in kinds]), "text" if kind == "u8 in" else kind)
-
-
-def python_statuses(tree):
-    """The statuses that are constants, and those of the exceptions, which have their names."""
-    for name, value in assigned(tree).items():
-        if isinstance(value, ast.Constant) and isinstance(value.value, int):
-            yield name, value.value
-    for node in tree.body:
-        for keyword in node.keywords if isinstance(node, ast.ClassDef) else ():
-            name = "_".join(re.findall(r"[A-Z][a-z]*", node.name.removesuffix("Error"))).upper()
-            if keyword.arg == "status":
-                yield NAMES_OF_PYTHON.get(name, name), ast.literal_eval(keyword.value)
-
-
-def python():
-    tree = ast.parse(text_of(PYTHON))
-    version = assigned(tree).get("VERSION")
-    statuses = dict(python_statuses(ast.parse(text_of(ERRORS))))
-    return Declarations(PYTHON, dict(python_functions(tree)), ERRORS, statuses, version and ast.literal_eval(version))
+def declared():
+    """The declarations as the sources are now."""
+    return declarations_of(sources())

@@ -17,6 +17,7 @@ from functools import lru_cache, partial
 
 from check_runs import RandomScript
 from counter import blocks_now
+from declarations import HANDLES
 from library import Handle, Library, Overrun, outcome
 from model import LAST, Bitmap, bytes_of
 from replay import report
@@ -341,8 +342,8 @@ class InterfaceScript(RandomScript):
         samples = {"u8": 1, "u32": 8, "u64": 0, "size": 0, "u8 array in": b"ab", "u8 array out": 2, "u64 array out": 3}
         for name, function in self.library.declared.functions.items():
             kinds = [kind for _, kind in function.parameters]
-            if kinds[:1] == ["handle"] and name not in ("new", "read"):
-                others = [Handle() if kind == "handle" else samples[kind] for kind in kinds[1:] if kind == "handle" or kind in samples]
+            if kinds and kinds[0] in HANDLES and name not in ("new", "read"):
+                others = [Handle() if kind in HANDLES else samples[kind] for kind in kinds[1:] if kind in HANDLES or kind in samples]
                 self.expect_of(Handle(), name, "EMPTY_HANDLE", *others)
 
     def free(self):
@@ -390,20 +391,20 @@ def check_forgotten(library):
 
 
 def text_cases(library):
-    """Whether each status has a text of its own, and another number the text of none; and whether the library has the header's version."""
+    """Whether each status has a text of its own, and another number the text of none; and whether the library has the declared version."""
     texts = [library.text(number) for number in sorted(library.names)]
     yield "the texts of the statuses", None if len({*texts}) == len(texts) and all(texts) else f"two are the same, or one is empty: {texts}"
     others = {library.text(number) for number in (len(texts), 1000, 2**32 - 1)}
     yield "the text of a number that is no status", None if len(others) == 1 and not others & {*texts} else f"{others}"
-    version = library.functions["version"]()
-    yield "the version", None if version == library.declared.version else f"it is {version}, and {library.declared.version} in the header"
+    version, wanted = library.functions["version"](), library.declared.version.number
+    yield "the version", None if version == wanted else f"it is {version}, and {wanted} in the sources"
 
 
 def coverage_cases(library, calls):
     """Whether each function that has a handle has succeeded, and each status has been returned."""
     statuses = {status for _, status in calls}
     for name, function in library.declared.functions.items():
-        if "handle" in [kind for _, kind in function.parameters]:
+        if any(kind in HANDLES for _, kind in function.parameters):
             yield f"the function {name}", None if calls[name, "DONE"] else "it never succeeds"
     for status in sorted({*library.declared.statuses} - NEVER):
         yield f"the status {status}", None if status in statuses else "no call returns it"

@@ -1,4 +1,4 @@
-"""Calls the shared library as the header declares it, and watches its outputs.
+"""Calls the shared library as its exports are declared, and watches its outputs.
 
 Before a call, each byte of its outputs and of the memory after each buffer has a mark. So the call is known to write what it should and nothing else.
 """
@@ -11,7 +11,7 @@ import declarations
 MARK = 0xA5
 AFTER = 16  # the marked bytes after each buffer
 
-VALUES = {"u8": ctypes.c_uint8, "u32": ctypes.c_uint32, "u64": ctypes.c_uint64, "size": ctypes.c_size_t}
+VALUES = {"u8": ctypes.c_uint8, "u32": ctypes.c_uint32, "status": ctypes.c_uint32, "u64": ctypes.c_uint64, "size": ctypes.c_size_t}
 
 
 class Handle(ctypes.Structure):
@@ -73,7 +73,7 @@ class Call:
         for name, kind in parameters:
             if kind in VALUES:
                 argument = next(given)
-            elif kind == "handle":
+            elif kind in declarations.HANDLES:
                 argument = ctypes.byref(next(given))
             elif kind == "length":
                 argument = length
@@ -116,8 +116,8 @@ def value_of(data, kind):
 
 class Library:
     def __init__(self, path):
-        self.declared, loaded = declarations.header(), ctypes.CDLL(str(path))
-        self.names = {number: name for name, number in self.declared.statuses.items()}
+        self.declared, loaded = declarations.declared(), ctypes.CDLL(str(path))
+        self.names = {number: name for name, number in self.declared.numbers.items()}
         self.functions = {name: getattr(loaded, f"{declarations.PREFIX}{name}") for name in self.declared.functions}
         for name, function in self.functions.items():
             self.declare(function, self.declared.functions[name])

@@ -1,6 +1,6 @@
 """The tokens of Rattle sources. They are those of Rust, and one token per clause and per ghost item, whose text is not Rust.
 
-Used by erase.py. A text that is no token raises `Unknown`, with its line.
+Used by erase.py and declarations.py. A text that is no token raises `Unknown`, with its line.
 """
 
 import re
@@ -57,7 +57,7 @@ def end_of_terms(text, start):
 
 
 def end_of_ghost_member(text, start):
-    """The index after a ghost member, which begins after the word `ghost`: a name, `: { .. }`, `= { .. }`, and a `;` if there is one."""
+    """The index after a ghost member, which begins after the word `ghost`: a name, `: { .. }`, `= { .. }`, and a `;` or `,` if there is one."""
     word = re.compile(r"\s*\w+\s*").match(text, start)
     if not word:
         raise Unknown("a ghost item without a name")
@@ -67,9 +67,9 @@ def end_of_ghost_member(text, start):
         if text[at] != "{":
             raise Unknown("a ghost member without braces")
         at = re.compile(r"\s*").match(text, end_of_terms(text, at)).end()
-    if text[at] not in ";}":
+    if text[at] not in ";,}":
         raise Unknown(f"a ghost member that ends with {text[at]!r}")
-    return at + (text[at] == ";")
+    return at + (text[at] in ";,")
 
 
 def ghost_or_name(text, start, end):

@@ -7,7 +7,6 @@ from types import TracebackType
 from typing import Iterator, Optional
 
 from ._errors import (
-    DONE,
     ClosedError,
     Error,
     InvalidError,
@@ -17,7 +16,7 @@ from ._errors import (
     WrongModeError,
     check,
 )
-from ._library import SIZE, U8, U64
+from ._interface import DONE, SIZE, U8, U64
 from ._session import MAX, Buffer, Caller, Session, ascending, bytes_of, position_of, u64
 
 

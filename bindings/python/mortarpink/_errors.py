@@ -4,11 +4,8 @@ from __future__ import annotations
 
 from typing import Optional
 
+from . import _interface
 from ._library import CALLS
-
-# The statuses that are not errors. Each error has its own.
-DONE = 0
-NONE = 14
 
 # The class of each status.
 BY_STATUS: dict[int, type[Error]] = {}
@@ -21,7 +18,7 @@ class Error(Exception):
     """
 
     # The status of the library, or DONE.
-    status = DONE
+    status = _interface.DONE
 
     # The number of bytes that `Batch.push_bytes` appended before the error.
     appended = 0
@@ -43,7 +40,7 @@ class Error(Exception):
         return ": ".join(text for text in texts if text)
 
 
-class WrongModeError(Error, RuntimeError, status=1):
+class WrongModeError(Error, RuntimeError, status=_interface.WRONG_MODE):
     """The bitmap is in a batch and the call needs that it is in none, or the call is one of a batch that has ended.
 
     `Bitmap.batch` begins a batch. `Batch.commit`, `Batch.abort` and the end of a `with` block end it.
@@ -53,27 +50,27 @@ class WrongModeError(Error, RuntimeError, status=1):
         return "" if self.args else "the bitmap is in a batch: Batch.commit, Batch.abort or the end of its with block ends it"
 
 
-class OutOfBoundsError(Error, IndexError, status=2):
+class OutOfBoundsError(Error, IndexError, status=_interface.OUT_OF_BOUNDS):
     """The position is at or past the length; for a prune, past it."""
 
 
-class PrunedError(Error, IndexError, status=3):
+class PrunedError(Error, IndexError, status=_interface.PRUNED):
     """The position is pruned."""
 
 
-class TooLongError(Error, OverflowError, status=4):
+class TooLongError(Error, OverflowError, status=_interface.TOO_LONG):
     """The length would pass 2^64 - 1."""
 
 
-class NoRetainedBitError(Error, IndexError, status=5):
+class NoRetainedBitError(Error, IndexError, status=_interface.NO_RETAINED_BIT):
     """There is no retained bit to pop."""
 
 
-class ReservedCommitNumberError(Error, ValueError, status=6):
+class ReservedCommitNumberError(Error, ValueError, status=_interface.RESERVED_COMMIT_NUMBER):
     """The commit number is 2^64 - 1."""
 
 
-class NonMonotonicCommitError(Error, ValueError, status=7):
+class NonMonotonicCommitError(Error, ValueError, status=_interface.NON_MONOTONIC_COMMIT):
     """The commit number is not above the last one."""
 
     @property
@@ -90,7 +87,7 @@ class NonMonotonicCommitError(Error, ValueError, status=7):
         return f"{self.attempted} after {self.previous}"
 
 
-class PrunedChunksOverflowError(Error, OverflowError, status=8):
+class PrunedChunksOverflowError(Error, OverflowError, status=_interface.PRUNED_CHUNKS_OVERFLOW):
     """The number of pruned bits would pass 2^64 - 1."""
 
 
@@ -98,11 +95,11 @@ class DecodeError(Error, ValueError):
     """The base of the errors of `Bitmap.from_bytes` and `Bitmap.decode` in their input."""
 
 
-class EndOfBufferError(DecodeError, status=9):
+class EndOfBufferError(DecodeError, status=_interface.END_OF_BUFFER):
     """The bytes end before the encoding does."""
 
 
-class InvalidLengthError(DecodeError, status=10):
+class InvalidLengthError(DecodeError, status=_interface.INVALID_LENGTH):
     """The encoded number of retained bits is out of range."""
 
     @property
@@ -114,34 +111,34 @@ class InvalidLengthError(DecodeError, status=10):
         return f"{self.length} retained bits"
 
 
-class InvalidError(DecodeError, status=11):
+class InvalidError(DecodeError, status=_interface.INVALID):
     """The bytes are not an encoding."""
 
 
-class NoSuchCommitError(Error, LookupError, status=12):
+class NoSuchCommitError(Error, LookupError, status=_interface.NO_SUCH_COMMIT):
     """No commit is kept under the number."""
 
 
-class NoMemoryError(Error, MemoryError, status=13):
+class NoMemoryError(Error, MemoryError, status=_interface.NO_MEMORY):
     """An allocation failed."""
 
 
-class ClosedError(Error, ValueError, status=15):
+class ClosedError(Error, ValueError, status=_interface.EMPTY_HANDLE):
     """The bitmap is closed."""
 
     def _text(self) -> str:
         return "the bitmap is closed"
 
 
-class NoSuchWidthError(Error, ValueError, status=17):
+class NoSuchWidthError(Error, ValueError, status=_interface.NO_SUCH_WIDTH):
     """The width is not 1, 8, 32 or 64."""
 
 
-class WrongSizeError(Error, ValueError, status=18):
+class WrongSizeError(Error, ValueError, status=_interface.WRONG_SIZE):
     """The chunk has the wrong size."""
 
 
 def check(status: int) -> None:
     """Raises the error of a status that has no details."""
-    if status != DONE:
+    if status != _interface.DONE:
         raise BY_STATUS[status]()

@@ -7,8 +7,9 @@ import weakref
 from operator import index
 from typing import Callable, Iterator, Optional, Union
 
-from ._errors import DONE, NONE, NoSuchCommitError, NoSuchWidthError, OutOfBoundsError, WrongSizeError, check
-from ._library import CALLS, SIZE, U8, U64, Handle
+from ._errors import NoSuchCommitError, NoSuchWidthError, OutOfBoundsError, WrongSizeError, check
+from ._interface import DONE, NONE, SIZE, U8, U64, Handle
+from ._library import CALLS
 
 # What holds bytes. Other objects that memoryview() accepts work as well.
 Buffer = Union[bytes, bytearray, memoryview]

@@ -1,4 +1,4 @@
-"""How the library is found, and its functions as the header declares them."""
+"""How the library is found, and whether the header has the declarations of the package."""
 
 import os
 import re
@@ -9,23 +9,25 @@ import unittest
 from pathlib import Path
 from unittest import mock
 
-from mortarpink import _library
-from mortarpink._errors import BY_STATUS, DONE, NONE
+from mortarpink import _interface, _library
+from mortarpink._errors import BY_STATUS
+from mortarpink._interface import DONE, NONE
 
 PACKAGE = Path(_library.__file__).parent
 HEADER = Path(__file__).parent.parent.parent / "c/mortarpink.h"
 
 # The types of arguments in C.
 TYPES = {
-    "mortarpink_bitmap *": _library.HANDLE,
-    "const uint8_t *": _library.BYTES,
-    "uint8_t *": _library.OUT_U8,
-    "uint64_t *": _library.OUT_U64,
-    "size_t *": _library.OUT_SIZE,
-    "uint8_t ": _library.U8,
-    "uint32_t ": _library.U32,
-    "uint64_t ": _library.U64,
-    "size_t ": _library.SIZE,
+    "mortarpink_bitmap *": _interface.HANDLE,
+    "const mortarpink_bitmap *": _interface.HANDLE,
+    "const uint8_t *": _interface.BYTES,
+    "uint8_t *": _interface.OUT_U8,
+    "uint64_t *": _interface.OUT_U64,
+    "size_t *": _interface.OUT_SIZE,
+    "uint8_t ": _interface.U8,
+    "uint32_t ": _interface.U32,
+    "uint64_t ": _interface.U64,
+    "size_t ": _interface.SIZE,
 }
 
 
@@ -86,7 +88,7 @@ class Header(unittest.TestCase):
         declared = {}
         for name, arguments in re.findall(r"^mortarpink_status mortarpink_(\w+)\(([^)]*)\);", self.text, re.MULTILINE):
             declared[name] = tuple(TYPES[re.sub(r"\w+$", "", argument.strip())] for argument in arguments.split(","))
-        self.assertEqual(_library.FUNCTIONS, declared)
+        self.assertEqual(_interface.FUNCTIONS, declared)
 
     def test_statuses(self):
         declared = {int(number): name for name, number in re.findall(r"MORTARPINK_(\w+) = (\d+)", self.text)}
@@ -96,4 +98,4 @@ class Header(unittest.TestCase):
         self.assertEqual({**names, 15: "ClosedError"}, {status: error.__name__ for status, error in BY_STATUS.items()})
 
     def test_version(self):
-        self.assertIn(f"#define MORTARPINK_VERSION {_library.VERSION}\n", self.text)
+        self.assertIn(f"#define MORTARPINK_VERSION {_interface.VERSION}\n", self.text)

@@ -1,4 +1,4 @@
-//! The C interface: its declarations, and a safe function per call.
+//! The C interface: its declarations, in [`interface`], and a safe function per call.
 //!
 //! This module has all unsafe code of the crate.
 //!
@@ -6,8 +6,8 @@
 //!
 //! Each call of the library is sound for the same reasons:
 //!
-//! - **Declarations.** They are those of the header of one version of the interface. A handle is
-//!   made only after the library reported this version.
+//! - **Declarations.** They are generated from the exports of the library, for one version of the
+//!   interface. A handle is made only after the library reported this version.
 //! - **Handles.** Only [`Session`] has a handle. The handle starts empty, is written by the library
 //!   alone, and is freed once, by `drop`. It is never copied: if a `Session` is moved, its old place
 //!   is not used again.
@@ -19,93 +19,16 @@
 //!   null and points to memory of its type. Outputs come from `&mut` references, so they overlap
 //!   neither each other nor the handle.
 
+// Some statuses are not in use: no call of this crate returns them.
+#[allow(dead_code)]
+mod interface;
+
 use std::cell::UnsafeCell;
-use std::ffi::{CStr, c_char, c_void};
+use std::ffi::CStr;
 use std::ptr;
 
 use crate::Error;
-
-/// The version of the interface that this module declares.
-const VERSION: u32 = 1;
-
-/// A handle of the library.
-#[repr(C)]
-struct Handle {
-    session: *mut c_void,
-}
-
-/// The outcome of a call.
-type Status = u32;
-
-const DONE: Status = 0;
-const OUT_OF_BOUNDS: Status = 2;
-const PRUNED: Status = 3;
-const TOO_LONG: Status = 4;
-const NO_RETAINED_BIT: Status = 5;
-const RESERVED_COMMIT_NUMBER: Status = 6;
-const NON_MONOTONIC_COMMIT: Status = 7;
-const PRUNED_CHUNKS_OVERFLOW: Status = 8;
-const END_OF_BUFFER: Status = 9;
-const INVALID_LENGTH: Status = 10;
-const INVALID: Status = 11;
-const NO_SUCH_COMMIT: Status = 12;
-const NO_MEMORY: Status = 13;
-const NONE: Status = 14;
-const WRONG_SIZE: Status = 18;
-
-#[rustfmt::skip]
-unsafe extern "C" {
-    fn mortarpink_version() -> u32;
-    fn mortarpink_status_text(status: Status) -> *const c_char;
-    fn mortarpink_new(bitmap: *mut Handle, width: u32) -> Status;
-    fn mortarpink_read(bitmap: *mut Handle, width: u32, least: u64, most: u64, bytes: *const u8, len: usize, used: *mut usize, length: *mut u64) -> Status;
-    fn mortarpink_free(bitmap: *mut Handle) -> Status;
-    fn mortarpink_clone(bitmap: *mut Handle, copy: *mut Handle) -> Status;
-    fn mortarpink_start(bitmap: *mut Handle, pruned_chunks: usize) -> Status;
-    fn mortarpink_begin(bitmap: *mut Handle) -> Status;
-    fn mortarpink_push(bitmap: *mut Handle, bit: u8) -> Status;
-    fn mortarpink_push_byte(bitmap: *mut Handle, byte: u8) -> Status;
-    fn mortarpink_push_bytes(bitmap: *mut Handle, bytes: *const u8, len: usize, count: *mut usize) -> Status;
-    fn mortarpink_push_chunk(bitmap: *mut Handle, bytes: *const u8, len: usize) -> Status;
-    fn mortarpink_pop(bitmap: *mut Handle, bit: *mut u8) -> Status;
-    fn mortarpink_set(bitmap: *mut Handle, position: u64, bit: u8) -> Status;
-    fn mortarpink_prune(bitmap: *mut Handle, position: u64) -> Status;
-    fn mortarpink_commit(bitmap: *mut Handle, number: u64, previous: *mut u64) -> Status;
-    fn mortarpink_abort(bitmap: *mut Handle) -> Status;
-    fn mortarpink_len(bitmap: *mut Handle, len: *mut u64) -> Status;
-    fn mortarpink_pruned_chunks(bitmap: *mut Handle, chunks: *mut u64) -> Status;
-    fn mortarpink_get(bitmap: *mut Handle, position: u64, bit: *mut u8) -> Status;
-    fn mortarpink_chunk(bitmap: *mut Handle, position: u64, out: *mut u8, len: usize) -> Status;
-    fn mortarpink_ones(bitmap: *mut Handle, from: u64, to: u64, out: *mut u64, len: usize, count: *mut usize) -> Status;
-    fn mortarpink_next_one(bitmap: *mut Handle, from: u64, position: *mut u64) -> Status;
-    fn mortarpink_next_zero(bitmap: *mut Handle, from: u64, position: *mut u64) -> Status;
-    fn mortarpink_prev_one(bitmap: *mut Handle, end: u64, position: *mut u64) -> Status;
-    fn mortarpink_prev_zero(bitmap: *mut Handle, end: u64, position: *mut u64) -> Status;
-    fn mortarpink_count_ones(bitmap: *mut Handle, from: u64, to: u64, count: *mut u64) -> Status;
-    fn mortarpink_select_one(bitmap: *mut Handle, k: u64, position: *mut u64) -> Status;
-    fn mortarpink_encode(bitmap: *mut Handle, out: *mut u8, len: usize, size: *mut usize) -> Status;
-    fn mortarpink_len_at(bitmap: *mut Handle, number: u64, len: *mut u64) -> Status;
-    fn mortarpink_pruned_chunks_at(bitmap: *mut Handle, number: u64, chunks: *mut u64) -> Status;
-    fn mortarpink_get_at(bitmap: *mut Handle, number: u64, position: u64, bit: *mut u8) -> Status;
-    fn mortarpink_chunk_at(bitmap: *mut Handle, number: u64, position: u64, out: *mut u8, len: usize) -> Status;
-    fn mortarpink_ones_at(bitmap: *mut Handle, number: u64, from: u64, to: u64, out: *mut u64, len: usize, count: *mut usize) -> Status;
-    fn mortarpink_next_one_at(bitmap: *mut Handle, number: u64, from: u64, position: *mut u64) -> Status;
-    fn mortarpink_next_zero_at(bitmap: *mut Handle, number: u64, from: u64, position: *mut u64) -> Status;
-    fn mortarpink_prev_one_at(bitmap: *mut Handle, number: u64, end: u64, position: *mut u64) -> Status;
-    fn mortarpink_prev_zero_at(bitmap: *mut Handle, number: u64, end: u64, position: *mut u64) -> Status;
-    fn mortarpink_count_ones_at(bitmap: *mut Handle, number: u64, from: u64, to: u64, count: *mut u64) -> Status;
-    fn mortarpink_select_one_at(bitmap: *mut Handle, number: u64, k: u64, position: *mut u64) -> Status;
-    fn mortarpink_encode_at(bitmap: *mut Handle, number: u64, out: *mut u8, len: usize, size: *mut usize) -> Status;
-    fn mortarpink_rewind(bitmap: *mut Handle, number: u64) -> Status;
-    fn mortarpink_commits(bitmap: *mut Handle, from: u64, out: *mut u64, len: usize, count: *mut usize) -> Status;
-    fn mortarpink_exists(bitmap: *mut Handle, number: u64, exists: *mut u8) -> Status;
-    fn mortarpink_latest(bitmap: *mut Handle, number: *mut u64) -> Status;
-    fn mortarpink_earliest(bitmap: *mut Handle, number: *mut u64) -> Status;
-    fn mortarpink_changed_chunks(bitmap: *mut Handle, from: u64, to: u64, first: u64, out: *mut u64, len: usize, count: *mut usize) -> Status;
-    fn mortarpink_drop_before(bitmap: *mut Handle, number: u64, dropped: *mut u64) -> Status;
-    fn mortarpink_clear(bitmap: *mut Handle) -> Status;
-    fn mortarpink_entries(bitmap: *mut Handle, entries: *mut u64) -> Status;
-}
+use interface::*;
 
 /// Calls a function of the library. The module says why that is sound.
 macro_rules! call {

@@ -1,4 +1,4 @@
-//! The statuses that the functions return. The header has the same numbers.
+//! The statuses that the functions return. The declarations in C, Rust and Python have their numbers from here.
 
 ghost use Rattle.std.specs.Prelude.{◌≡◌};
 ghost use Rattle.bitmap_session.specs.Abstraction.{reason};
@@ -13,25 +13,25 @@ pub const DONE: u32 = 0;
 /// The call needs a batch and there is none, or the reverse.
 pub const WRONG_MODE: u32 = 1;
 
-/// The position is not below the length; for a prune, it is above the length.
+/// The position is at or past the length; for a prune, past it.
 pub const OUT_OF_BOUNDS: u32 = 2;
 
 /// The position is pruned.
 pub const PRUNED: u32 = 3;
 
-/// The length in bits would not fit `u64`.
+/// The length in bits would pass 2^64 - 1.
 pub const TOO_LONG: u32 = 4;
 
 /// There is no retained bit to pop.
 pub const NO_RETAINED_BIT: u32 = 5;
 
-/// The commit number is `u64::MAX`.
+/// The commit number is 2^64 - 1.
 pub const RESERVED_COMMIT_NUMBER: u32 = 6;
 
 /// The commit number is not above the last one.
 pub const NON_MONOTONIC_COMMIT: u32 = 7;
 
-/// The number of pruned bits would not fit `u64`.
+/// The number of pruned bits would pass 2^64 - 1.
 pub const PRUNED_CHUNKS_OVERFLOW: u32 = 8;
 
 /// The bytes end before the encoding does.
