@@ -47,8 +47,13 @@ NEEDED = {"bcmp", "free", "malloc", "memcmp", "memcpy", "memmove", "memset", "re
 USER = """#include <mortarpink.h>
 #include <mortarpink.h>
 int main(void) {
+    static mortarpink_bitmap kept = MORTARPINK_INITIALIZER;
     mortarpink_bitmap bitmap = MORTARPINK_EMPTY;
-    return mortarpink_free(&bitmap) == MORTARPINK_EMPTY_HANDLE && mortarpink_version() == MORTARPINK_VERSION ? 0 : 1;
+    if (mortarpink_new(&bitmap, 8) != MORTARPINK_DONE) return 1;
+    kept = bitmap;
+    bitmap = MORTARPINK_EMPTY;
+    if (mortarpink_free(&bitmap) != MORTARPINK_EMPTY_HANDLE || mortarpink_free(&kept) != MORTARPINK_DONE) return 2;
+    return mortarpink_version() == MORTARPINK_VERSION ? 0 : 3;
 }
 """
 

@@ -13,13 +13,14 @@
  *
  * Ownership: a handle owns its bitmap from mortarpink_new, mortarpink_read or mortarpink_clone until
  * mortarpink_free. A handle starts as MORTARPINK_EMPTY, and only these functions write it. Do not copy a handle that
- * is not empty, except to move it: the old place is not used again. An empty handle is valid in every call, and a freed
- * handle is empty again.
+ * is not empty, except to move it: the old place is not used again, unless MORTARPINK_EMPTY is assigned to it. An empty
+ * handle is valid in every call, and a freed handle is empty again.
  *
  * What callers have to ensure. No call can check these rules, and the calls do what this header says only if the
  * program keeps all of them. Every other argument is checked.
  *
- * - Handles: the program keeps the rules of ownership above, and reads or writes the member of a handle only to move it.
+ * - Handles: the program keeps the rules of ownership above, and reads or writes a handle only to move it, or to make
+ *   an empty one.
  * - Pointers: no pointer is NULL, not even for a length of 0. Each points to memory of its type, with the alignment of
  *   that type: to one value, or to `len` elements if a length follows.
  * - Values: all of that memory holds a value when the call begins. Initialize outputs and buffers too.
@@ -67,8 +68,15 @@ typedef struct {
     void *session;
 } mortarpink_bitmap;
 
-/* The initializer of an empty handle. */
-#define MORTARPINK_EMPTY { 0 }
+/* An empty handle, as an expression: to initialize a handle, or to assign to one that owns nothing. */
+#ifdef __cplusplus
+#define MORTARPINK_EMPTY (mortarpink_bitmap())
+#else
+#define MORTARPINK_EMPTY ((mortarpink_bitmap)MORTARPINK_INITIALIZER)
+#endif
+
+/* The initializer of an empty handle, which is no expression. C needs it for a static handle. */
+#define MORTARPINK_INITIALIZER { 0 }
 
 typedef uint32_t mortarpink_status;
 

@@ -271,6 +271,30 @@ static void test_free(uint32_t width) {
     check_done(mortarpink_free(&bitmap));
 }
 
+/* A handle that is initialized with an empty one, or is assigned one, is empty. A moved bitmap is in the new place alone. */
+static void test_empty_values(uint32_t width) {
+    static mortarpink_bitmap kept = MORTARPINK_INITIALIZER;
+    struct {
+        mortarpink_bitmap bitmap;
+        int order;
+    } member = {MORTARPINK_EMPTY, 1};
+    mortarpink_bitmap handles[2] = {MORTARPINK_INITIALIZER, MORTARPINK_EMPTY};
+    check_unwritten(mortarpink_free(&kept), MORTARPINK_EMPTY_HANDLE);
+    check_unwritten(mortarpink_free(&member.bitmap), MORTARPINK_EMPTY_HANDLE);
+    check_unwritten(mortarpink_free(&handles[0]), MORTARPINK_EMPTY_HANDLE);
+    check_unwritten(mortarpink_free(&handles[1]), MORTARPINK_EMPTY_HANDLE);
+    check_equal(member.order, 1);
+
+    make(&handles[0], width, "101");
+    kept = handles[0];
+    handles[0] = MORTARPINK_EMPTY;
+    check_unwritten(mortarpink_len(&handles[0], &out.number), MORTARPINK_EMPTY_HANDLE);
+    check(has_bits(visible(&kept), "101"));
+    check_done(mortarpink_new(&handles[0], width));
+    check_done(mortarpink_free(&handles[0]));
+    check_done(mortarpink_free(&kept));
+}
+
 /* A copy has the bitmap, the commits, the last number and the batch, and changes alone. */
 static void test_clone(uint32_t width) {
     mortarpink_bitmap bitmap = MORTARPINK_EMPTY, copy = MORTARPINK_EMPTY;
@@ -903,6 +927,7 @@ static void test_width(uint32_t width) {
     test_unknown_commits(width);
     test_full_handle(width);
     test_free(width);
+    test_empty_values(width);
     test_clone(width);
     test_start(width);
     test_pushes(width);
