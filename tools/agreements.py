@@ -84,6 +84,13 @@ def change_cases():
         yield f"`{new}` for `{old}` in {file}", None if is_noticed else f"{found or 'it is not noticed'}, and not {wanted}"
 
 
+def file_cases():
+    """Whether a change of a generated file is noticed."""
+    for path, made in interface.files().items():
+        is_noticed = all(interface.difference(path, changed) for changed in (made.replace("get", "got", 1), made + "\n", made[:-1]))
+        yield f"a change of {path}", None if is_noticed else "it is not noticed"
+
+
 def use_cases(names):
     """Whether the bindings name each status, so that each has its error."""
     for place, unused in UNUSED.items():
@@ -135,11 +142,12 @@ def release_cases():
 
 
 def all_cases():
-    """Every check of the declarations, as cases. If the sources cannot be read, the other checks have nothing to compare."""
+    """Every check of the declarations, as cases. If the sources or the template have a mistake, the other checks have nothing to compare."""
     yield from interface.cases()
     try:
-        statuses = declared().numbers
+        interface.files()
     except Mistake:
         return
-    for cases in (change_cases(), use_cases(statuses), handle_cases(), order_cases(statuses), text_cases(statuses), release_cases()):
+    statuses = declared().numbers
+    for cases in (change_cases(), file_cases(), use_cases(statuses), handle_cases(), order_cases(statuses), text_cases(statuses), release_cases()):
         yield from cases

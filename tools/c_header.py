@@ -1,4 +1,4 @@
-"""Writes the header of the C interface: the template with a prototype and a comment per function, made of its Rattle documentation.
+"""Writes the header of the C interface: the template, with the prototype of each function and a comment that is made of its documentation.
 
 A line of the template that begins with `@` stands for declarations:
 
@@ -63,9 +63,8 @@ def joined(lines):
     return " ".join(text.split())
 
 
-def wrapped(text, indent):
-    """The lines of a paragraph. All but the first are indented."""
-    width = COLUMNS - len(" *  */")
+def wrapped(text, indent, width=COLUMNS - len(" *  */")):
+    """The lines of a text. All but the first are indented."""
     return textwrap.wrap(text, width, subsequent_indent=indent, break_long_words=False, break_on_hyphens=False)
 
 
@@ -129,11 +128,10 @@ def comment(doc):
 def prototype(function):
     """The prototype of a function. Parameters on further lines begin below the first one."""
     start = f"{TYPES[function.result]}{PREFIX}{function.name}("
-    parameters = [f"{TYPES[kind]}{name}" for name, kind in function.parameters] or ["void"]
-    unbroken = ", ".join(parameter.replace(" ", "\0") for parameter in parameters)
-    lines = textwrap.wrap(f"{start}{unbroken});".replace(start, start.replace(" ", "\0")), COLUMNS, subsequent_indent=" " * len(start),
-                          break_long_words=False, break_on_hyphens=False)
-    return "\n".join(lines).replace("\0", " ") + "\n"
+    parameters = ", ".join(f"{TYPES[kind]}{name}" for name, kind in function.parameters) or "void"
+    # Lines break after commas alone.
+    unbroken = f"{start}{parameters});".replace(" ", "\0").replace(",\0", ", ")
+    return "\n".join(wrapped(unbroken, " " * len(start), COLUMNS)).replace("\0", " ") + "\n"
 
 
 def declaration(name, declared):
