@@ -4,3 +4,4 @@ pub mod Replies
 pub mod Steps
 pub mod Sessions
 pub mod Laws
+pub mod Edits

@@ -26,7 +26,7 @@ either_side : (a b c : Bool) → (a ≡ true → b ≡ true) → (a || c) ≡ tr
 either_side true b c f h = rw (f refl) refl
 either_side false b c f h = rw h (or_true b)
 
-within_both : (xs ys zs : List ℕ) → IsWithin xs ys → IsWithin (xs ++ zs) (ys ++ zs)
+pub within_both : (xs ys zs : List ℕ) → IsWithin xs ys → IsWithin (xs ++ zs) (ys ++ zs)
 within_both xs ys zs w q h =
     let each = either_side (is_member nat_eq xs q) (is_member nat_eq ys q) (is_member nat_eq zs q) (w q) in
     rw is_member-append (each (rw is_member-append at h))

@@ -34,7 +34,7 @@ is_false false h = refl
 pub not_below : (len k : ℕ) → k ≤ len → nat_lt len k ≡ false
 not_below len k h = grind (arith, nat_tests)
 
-fits_u64 : (n : ℕ) → n < 2 ^ 64 → is_past_64 n ≡ false
+pub fits_u64 : (n : ℕ) → n < 2 ^ 64 → is_past_64 n ≡ false
 fits_u64 n h = ap not (lt-ltb n (2 ^ 64) h)
 
 pub not_zero : (n : ℕ) → 0 < n → (n == 0) ≡ false
@@ -183,7 +183,7 @@ as_run N old new e h = record {
 }
 
 -- a run of edits leads to the state of the machine, and marks no more chunks than the machine touches
-run_agrees : (N : ℕ) (old new : View PendingEdits) (these : List Edit)
+pub run_agrees : (N : ℕ) (old new : View PendingEdits) (these : List Edit)
     → IsRunOf N old these new
     → Agrees (dirty N new) (record {
       state = edited (dirty N old).state (after_all N (pending_of N old) these);
@@ -351,7 +351,7 @@ pub aborted : (N : ℕ) (old : View PendingEdits)
 aborted N old = inl (refl, (0, omega arith, itself _))
 
 -- a read in a batch touches no chunk
-still : (N : ℕ) (v : View PendingEdits) → Agrees (dirty N v) (record { state = (dirty N v).state; touched = marked_of N v ++ [] })
+pub still : (N : ℕ) (v : View PendingEdits) → Agrees (dirty N v) (record { state = (dirty N v).state; touched = marked_of N v ++ [] })
 still N v = record { same = refl; within = rw (append-nil (marked_of N v)) (λ q h. h) }
 
 pub len_shown : (N len : ℕ) (v : View PendingEdits) → len ≡ bit_len N (pending_of N v) → StepTo N Agrees (dirty N v) Len (Number len) (dirty N v)

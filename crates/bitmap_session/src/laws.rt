@@ -6,6 +6,7 @@
 ghost use Rattle.std.specs.Prelude.{◌≡◌, IfOk, IfErr, if◌then◌else◌, alloc_error};
 ghost use Rattle.commit_log.specs.Reading.{IsWithin, ranges};
 ghost use Rattle.commit_log.specs.declared.reading.HistoryError.TheVariants.{Memory as HistoryMemory};
+ghost use Rattle.bitmap_session.specs.Edits.{EditsAreRun};
 ghost use Rattle.bitmap_session.specs.Machine.{first_machine, is_dirty};
 ghost use Rattle.bitmap_session.specs.Saved.{IsOutside, IsUnreserved, kept_part};
 ghost use Rattle.bitmap_session.specs.declared.session.saved.SaveError.TheVariants.{InBatch, Memory};
@@ -36,6 +37,17 @@ pub fn consecutive_runs_join<const N: usize>()
 pub fn a_step_is_a_run<const N: usize>()
     ensures one { StepIsRun N }
     ensures many { StepsAreRun N }
+{}
+
+/// States that a call that edits many bits at once is a run of one command for each edit.
+///
+/// The methods `set_chunk`, `set_range`, `truncate`, `extend_to` and `push_bits` of `Session` promise `EditsTo`. An accepted call
+/// is a run of the commands that make its edits, one after another. A refused call is a run of no command. `set_many` promises
+/// consecutive steps, which are one run by `a_step_is_a_run`.
+///
+/// Does not allocate; constant time.
+pub fn edits_are_a_run<const N: usize>()
+    ensures { EditsAreRun N }
 {}
 
 /// States that the kept commit numbers stay strictly ascending, and that none is above the last number.

@@ -3,6 +3,7 @@
 use bitmap_core::bitmap::Prunable;
 use bitmap_core::bitmap::codec::CodecError;
 use historical_bitmap::bitmap::historical::{Error, RewindError};
+use std::alloc::AllocError;
 
 /// Why a command was refused.
 ///
@@ -61,6 +62,18 @@ impl From<Error> for Refusal {
             Error::PrunedChunksOverflow => Refusal::PrunedChunksOverflow,
             Error::Memory(_) => Refusal::NoMemory,
         }
+    }
+}
+
+impl From<AllocError> for Refusal {
+    ghost use Rattle.std.specs.Prelude.{◌≡◌};
+    ghost use Rattle.bitmap_session.specs.Abstraction.{reason};
+    ghost use Rattle.bitmap_session.specs.Replies.Refusal.{NoMemory};
+
+    ghost from_gives = { λ e r. reason r ≡ NoMemory };
+
+    fn from(_error: AllocError) -> Refusal {
+        Refusal::NoMemory
     }
 }
 

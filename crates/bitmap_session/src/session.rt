@@ -2,6 +2,7 @@
 
 mod clean;
 mod dirty;
+mod edits;
 mod saved;
 mod shown;
 

@@ -10,6 +10,8 @@ mod checks;
 #[cfg(test)]
 mod commands;
 #[cfg(test)]
+mod edits;
+#[cfg(test)]
 mod ends;
 #[cfg(test)]
 mod in_place;

@@ -16,8 +16,8 @@ use crate::session::shown::{check_position, decode};
 use historical_bitmap::bitmap::historical::DirtyBitMap;
 use std::alloc::Global;
 
-// Returns the number of pruned bits, which is the first retained position.
-fn pruned_bits<const N: usize>(bitmap: &DirtyBitMap<N>) -> u64
+/// Returns the number of pruned bits, which is the first retained position. Does not allocate; constant time.
+pub fn pruned_bits<const N: usize>(bitmap: &DirtyBitMap<N>) -> u64
     ensures { result ≡ spec.pruned_bits N (pending_of N bitmap.now) }
 {
     // The call shows the prover that the product fits u64.
@@ -25,8 +25,8 @@ fn pruned_bits<const N: usize>(bitmap: &DirtyBitMap<N>) -> u64
     8 * N as u64 * bitmap.pruned_chunks() as u64
 }
 
-// Returns whether the length fits u64 after an append of `more` bits.
-fn has_space<const N: usize>(bitmap: &DirtyBitMap<N>, more: u64) -> bool
+/// Returns whether the length fits u64 after an append of `more` bits. Does not allocate; constant time.
+pub fn has_space<const N: usize>(bitmap: &DirtyBitMap<N>, more: u64) -> bool
     ensures { result ≡ not (is_past_64 (bit_len N (pending_of N bitmap.now) + more)) }
 {
     bitmap.len() <= u64::MAX - more
