@@ -2,12 +2,13 @@
 
 from __future__ import annotations
 
+import weakref
+from copy import deepcopy
 from operator import index
 from types import TracebackType
-from typing import Iterator, Optional
+from typing import TYPE_CHECKING, Callable, Iterator, NoReturn, Optional
 
 from ._errors import (
-    DONE,
     ClosedError,
     Error,
     InvalidError,
@@ -18,7 +19,10 @@ from ._errors import (
     check,
 )
 from ._library import SIZE, U8, U64
-from ._session import MAX, Buffer, Caller, Session, ascending, bytes_of, position_of, u64
+from ._session import MAX, Caller, Session, bytes_of, nobody, position_of, u64
+
+if TYPE_CHECKING:
+    from _typeshed import ReadableBuffer
 
 
 class _Bits(Caller):
@@ -84,7 +88,7 @@ class _Reads(_Bits):
         It reads in pages. Positions that it has not read yet are those of the bitmap at the time of the next page.
         """
         stop = u64(stop)
-        return ascending(lambda least: self._page("ones", least, stop), u64(start))
+        return self._ascending(lambda least: self._page("ones", least, stop), u64(start))
 
     def next_one(self, start: int) -> Optional[int]:
         """Returns the least retained position, from `start` on, whose bit is 1, or None."""
@@ -117,6 +121,10 @@ class _Reads(_Bits):
         """
         return self._encoding("encode")
 
+    def __reduce__(self) -> NoReturn:
+        name = type(self).__name__
+        raise TypeError(f"a {name} cannot be pickled: pickle its encoding, bytes({name.lower()}), and decode it by Bitmap.from_bytes")
+
 
 class Version(_Reads):
     """The bitmap at a commit, read in place. `Bitmap.at` returns it.
@@ -137,6 +145,13 @@ class Version(_Reads):
         """The commit number."""
         return self._commit
 
+    def __copy__(self) -> Version:
+        return Version(self._session, self._commit)
+
+    def __deepcopy__(self, memo: dict[int, object]) -> Version:
+        """Returns the version of a copy of the bitmap and its commits."""
+        return Version(deepcopy(self._session, memo), self._commit)
+
     def __repr__(self) -> str:
         return f"<mortarpink.Version {self.number}>"
 
@@ -146,31 +161,21 @@ class Batch(_Bits):
 
     At the end of a `with` block the batch is committed if `Bitmap.batch` was given a number. Otherwise the batch is
     aborted, which drops its edits, unless the block has called `commit`. If the block or the commit raises an
-    exception, the batch is aborted. So is an open batch without references.
+    exception, the batch is aborted. So is an open batch without references. A batch cannot be copied.
     """
 
-    _open = False
-
-    def __init__(self, session: Session, number: Optional[int]) -> None:
+    def __init__(self, session: Session, number: Optional[int], owner: Optional[Callable[[], object]] = None) -> None:
         super().__init__(session)
         self._commit = number
-        check(session.status("begin"))
-        self._open = True
+        # Returns the object whose life is that of the open batch: this one, or the one whose `with` block has this one.
+        self._owner = weakref.ref(self) if owner is None else owner
 
     def _status(self, name: str, *arguments: object) -> int:
-        """Calls a function unless the batch has ended. Another batch may be open then."""
-        with self._session.lock:
-            if not self._open:
-                raise WrongModeError("the batch has ended: Bitmap.batch begins another one")
-            return self._session.status(name, *arguments)
+        return self._session.status_in_batch(self._owner, name, *arguments)
 
-    def _end(self, name: str, *arguments: object) -> int:
-        """Calls a function that ends the batch if it succeeds."""
-        with self._session.lock:
-            status = self._status(name, *arguments)
-            if status == DONE:
-                self._open = False
-            return status
+    def _is_open(self) -> bool:
+        """Returns whether the batch is open, or was so when the bitmap was closed."""
+        return self._session.owner is self._owner
 
     def push(self, bit: object) -> None:
         """Appends a bit, by its truth value. Raises TooLongError or NoMemoryError."""
@@ -181,7 +186,7 @@ class Batch(_Bits):
         (byte,) = bytes([byte])
         self._run("push_byte", byte)
 
-    def push_bytes(self, data: Buffer) -> None:
+    def push_bytes(self, data: ReadableBuffer) -> None:
         """Appends the bits of the bytes in order, up to the first byte that fails.
 
         Raises TooLongError or NoMemoryError, whose attribute `appended` is the number of bytes appended.
@@ -193,7 +198,7 @@ class Batch(_Bits):
             error.appended = count.value
             raise
 
-    def push_chunk(self, data: Buffer) -> None:
+    def push_chunk(self, data: ReadableBuffer) -> None:
         """Appends the bits of one chunk. Raises WrongSizeError, TooLongError or NoMemoryError."""
         data = bytes_of(data)
         self._run("push_chunk", data, len(data))
@@ -221,36 +226,33 @@ class Batch(_Bits):
         Raises ReservedCommitNumberError, NonMonotonicCommitError or NoMemoryError. The batch goes on then.
         """
         number, previous = u64(number), U64()
-        status = self._end("commit", number, previous)
+        status = self._session.end(self._owner, "commit", number, previous)
         if status == NonMonotonicCommitError.status:
             raise NonMonotonicCommitError(previous.value, number)
         check(status)
 
     def abort(self) -> None:
         """Ends the batch, and drops its edits."""
-        check(self._end("abort"))
+        check(self._session.end(self._owner, "abort"))
 
     def __enter__(self) -> Batch:
-        return self
+        """Returns another object for the batch, which the `with` statement alone owns: it is aborted if the end is not run."""
+        return Batch(self._session, self._commit, self._owner)
 
     def __exit__(
         self, kind: Optional[type[BaseException]], value: Optional[BaseException], traceback: Optional[TracebackType]
     ) -> None:
         try:
-            if kind is None and self._open and self._commit is not None:
+            if kind is None and self._commit is not None and self._is_open():
                 self.commit(self._commit)
         finally:
-            # The bitmap may be closed, which has ended the batch.
-            if self._open:
-                self._end("abort")
-                self._open = False
+            self._session.drop(self._owner)
 
-    def __del__(self) -> None:
-        if self._open:
-            self._session.abandon()
+    def __reduce__(self) -> NoReturn:
+        raise TypeError("a Batch cannot be copied or pickled: its edits are those of one bitmap")
 
     def __repr__(self) -> str:
-        return f"<mortarpink.Batch, {'open' if self._open else 'ended'}>"
+        return f"<mortarpink.Batch, {'open' if self._is_open() else 'ended'}>"
 
 
 class Bitmap(_Reads):
@@ -290,7 +292,7 @@ class Bitmap(_Reads):
         return bitmap
 
     @classmethod
-    def decode(cls, data: Buffer, width: int = 8, least: int = 0, most: int = MAX) -> tuple[Bitmap, int]:
+    def decode(cls, data: ReadableBuffer, width: int = 8, least: int = 0, most: int = MAX) -> tuple[Bitmap, int]:
         """Makes a bitmap, without commits, from the encoding that the bytes begin with.
 
         The number of retained bits is from `least` to `most`, both included. Returns the bitmap, and the number of
@@ -308,7 +310,7 @@ class Bitmap(_Reads):
         return cls._of(session), used.value
 
     @classmethod
-    def from_bytes(cls, data: Buffer, width: int = 8, least: int = 0, most: int = MAX) -> Bitmap:
+    def from_bytes(cls, data: ReadableBuffer, width: int = 8, least: int = 0, most: int = MAX) -> Bitmap:
         """Makes a bitmap, without commits, from its encoding: the reverse of `bytes(bitmap)`.
 
         The arguments and errors are those of `decode`. Raises InvalidError if bytes follow the encoding.
@@ -321,16 +323,14 @@ class Bitmap(_Reads):
 
     def copy(self) -> Bitmap:
         """Returns a copy of the bitmap and its commits. It is not in a batch. Raises NoMemoryError."""
-        copy = Session(self.width)
-        self._run("clone", copy.handle)
-        copy.status("abort")
-        return self._of(copy)
+        return self._of(self._session.copied())
 
     def __copy__(self) -> Bitmap:
         return self.copy()
 
-    def __deepcopy__(self, memo: object) -> Bitmap:
-        return self.copy()
+    def __deepcopy__(self, memo: dict[int, object]) -> Bitmap:
+        """Returns a copy. Versions that are copied in the same call are versions of the same copy."""
+        return self._of(deepcopy(self._session, memo))
 
     def close(self) -> None:
         """Frees the bitmap. Other calls raise ClosedError afterwards, a ValueError."""
@@ -356,7 +356,25 @@ class Bitmap(_Reads):
 
         Raises WrongModeError if there is a batch already.
         """
-        return Batch(self._session, None if commit is None else u64(commit))
+        batch = Batch(self._session, None if commit is None else u64(commit))
+        try:
+            check(self._session.begin(batch._owner))
+        except BaseException:
+            # A handler of a signal may have raised it after the batch began. The batch is in its traceback, so it has references.
+            if self._session.owner is batch._owner:
+                self._session.owner = nobody
+            raise
+        return batch
+
+    def abort(self) -> None:
+        """Ends the batch that the bitmap is in, if there is one, and drops its edits.
+
+        The batch ends whichever object or thread began it. Further calls of its Batch raise WrongModeError, and the end
+        of its `with` block does nothing. A program calls this when an exception may have left a batch open.
+        """
+        status = self._session.abort()
+        if status != WrongModeError.status:
+            check(status)
 
     def at(self, number: int) -> Version:
         """Returns the bitmap at a commit, to be read in place. Raises NoSuchCommitError, a LookupError."""
@@ -370,7 +388,7 @@ class Bitmap(_Reads):
 
         A page takes time logarithmic in the kept commits, plus linear in its numbers.
         """
-        return ascending(lambda least: self._page("commits", least), 0)
+        return self._ascending(lambda least: self._page("commits", least), 0)
 
     def commit_exists(self, number: int) -> bool:
         """Returns whether a commit is kept under the number."""
@@ -407,7 +425,7 @@ class Bitmap(_Reads):
         """
         older, newer = u64(older), u64(newer)
         try:
-            return ascending(lambda least: self._page("changed_chunks", older, newer, least), 0)
+            return self._ascending(lambda least: self._page("changed_chunks", older, newer, least), 0)
         except NoSuchCommitError:
             if older > newer:
                 raise NoSuchCommitError(f"the older number comes first, and {older} is above {newer}") from None
