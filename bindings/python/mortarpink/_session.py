@@ -2,6 +2,7 @@
 
 from __future__ import annotations
 
+import os
 import threading
 import weakref
 from operator import index
@@ -86,6 +87,7 @@ class Session:
         self._free = weakref.finalize(self, CALLS["free"], self.handle)
         # When the interpreter exits, a daemon thread may be in a call.
         self._free.atexit = False
+        SESSIONS[id(self)] = self
 
     def free(self) -> None:
         """Frees the bitmap. Later calls find the handle empty."""
@@ -94,6 +96,12 @@ class Session:
             if self._free.alive:
                 CALLS["free"](self.handle)
                 self._free.detach()
+
+    def lose(self) -> None:
+        """Closes the bitmap in the child of a fork, without freeing what a call of a thread of the parent was changing."""
+        self.closed = True
+        self._free.detach()
+        self.handle, self.lock = Handle(), threading.RLock()
 
     def copied(self) -> Session:
         """Returns a copy, which is not in a batch. Raises NoMemoryError."""
@@ -170,6 +178,43 @@ class Session:
                 elif status == UNKNOWN:
                     self.owner = nobody
             return status
+
+
+# The sessions by their identity, and those whose locks a fork has taken.
+SESSIONS: weakref.WeakValueDictionary[int, Session] = weakref.WeakValueDictionary()
+TAKEN: list[Session] = []
+
+
+def sessions() -> list[Session]:
+    """Returns the sessions in the order in which they were made. Forks in several threads take the locks in this order."""
+    found = (reference() for reference in SESSIONS.valuerefs())
+    return [session for session in found if session is not None]
+
+
+def take_locks() -> None:
+    """Waits before a fork until no other thread is in a call, since the child has only the thread that forks."""
+    for session in sessions():
+        session.lock.acquire()
+        TAKEN.append(session)
+
+
+def release_locks() -> None:
+    """Releases the locks after a fork, in the parent and in the child."""
+    while TAKEN:
+        TAKEN.pop().lock.release()
+
+
+def lose_sessions() -> None:
+    """Closes in the child what a thread of the parent has. There is none, unless a signal has ended the wait for the locks."""
+    for session in sessions():
+        if session.lock.acquire(blocking=False):
+            session.lock.release()
+        else:
+            session.lose()
+
+
+os.register_at_fork(before=take_locks, after_in_parent=release_locks, after_in_child=release_locks)
+os.register_at_fork(after_in_child=lose_sessions)
 
 
 class Caller:
