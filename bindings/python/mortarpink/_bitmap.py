@@ -3,10 +3,12 @@
 from __future__ import annotations
 
 import weakref
+from array import array
 from copy import deepcopy
+from ctypes import byref
 from operator import index
 from types import TracebackType
-from typing import TYPE_CHECKING, Callable, Iterator, NoReturn, Optional
+from typing import TYPE_CHECKING, Callable, Iterator, NoReturn, Optional, SupportsIndex, cast, overload
 
 from ._errors import (
     ClosedError,
@@ -15,6 +17,7 @@ from ._errors import (
     InvalidLengthError,
     NonMonotonicCommitError,
     NoSuchCommitError,
+    PrunedError,
     WrongModeError,
     check,
 )
@@ -22,7 +25,16 @@ from ._library import SIZE, U8, U64
 from ._session import MAX, Caller, Session, bytes_of, nobody, position_of, u64
 
 if TYPE_CHECKING:
-    from _typeshed import ReadableBuffer
+    from _typeshed import ReadableBuffer, WriteableBuffer
+
+# The number of bytes before the chunks of an encoding.
+HEAD = 16
+
+# An encoding has all retained chunks. It is read in place of single chunks, if at least one chunk of so many is wanted.
+SHARE = 16
+
+# The bits of each byte, the lowest first, as bytes.
+BITS = [bytes(byte >> place & 1 for place in range(8)) for byte in range(256)]
 
 
 class _Bits(Caller):
@@ -53,14 +65,74 @@ class _Bits(Caller):
     def __bool__(self) -> bool:
         return self.length > 0
 
-    def _from_start(self, position: int) -> int:
+    def _from_start(self, position: SupportsIndex) -> int:
         """Returns the position from the start of one that counts from the end if it is negative."""
         position = index(position)
         return position if position >= 0 else position + self.length
 
-    def __getitem__(self, position: int) -> bool:
-        """Returns the bit at a position. A negative position counts from the end."""
+    @overload
+    def __getitem__(self, position: SupportsIndex) -> bool: ...
+
+    @overload
+    def __getitem__(self, position: slice) -> list[bool]: ...
+
+    def __getitem__(self, position: SupportsIndex | slice) -> bool | list[bool]:
+        """Returns the bit at a position, or a list of the bits of a slice. A negative position counts from the end.
+
+        A slice ends at the length at the latest, as that of a list. Raises PrunedError if it has a pruned position.
+        """
+        if isinstance(position, slice):
+            return self._slice(position)
         return self.get(self._from_start(position))
+
+    def _slice(self, positions: slice) -> list[bool]:
+        """Returns the bits of a slice."""
+        with self._session.lock:
+            places = range(*positions.indices(self.length))
+            if not places or abs(places.step) > 1:
+                return [self.get(place) for place in places]
+            first, last = min(places[0], places[-1]), max(places[0], places[-1])
+            return cast("list[bool]", self.bools(first, last + 1)[:: places.step].tolist())
+
+    def packed(self, start: int = 0, stop: int = MAX) -> bytes:
+        """Returns the bits from `start` to `stop` (excluded), eight in a byte. The bit at `start` is the lowest of the first byte.
+
+        The range ends at the length at the latest. The bits of the last byte that are past its end are 0.
+
+        Raises PrunedError if the range has a pruned position, or NoMemoryError.
+        """
+        start, stop = u64(start), u64(stop)
+        with self._session.lock:
+            stop = min(stop, self.length)
+            if start >= stop:
+                return b""
+            bits = 8 * self.width
+            first = start // bits
+            chunks = self._chunks(first, -(-stop // bits))
+        value = int.from_bytes(chunks, "little") >> (start - first * bits) & (1 << (stop - start)) - 1
+        return value.to_bytes(-(-(stop - start) // 8), "little")
+
+    def bools(self, start: int = 0, stop: int = MAX) -> memoryview:
+        """Returns the bits from `start` to `stop` (excluded), one in a byte, as a view whose items are `bool`.
+
+        The range and the errors are those of `packed`.
+        """
+        with self._session.lock:
+            packed = self.packed(start, stop)
+            count = max(min(stop, self.length) - start, 0)
+        return memoryview(b"".join(map(BITS.__getitem__, packed))).cast("?")[:count]
+
+    def _chunks(self, first: int, last: int) -> bytes:
+        """Returns the bytes of the chunks from `first` to `last` (excluded), by one call if that takes less. The lock is held."""
+        pruned, bits = self.pruned_chunks, 8 * self.width
+        if first < pruned:
+            raise PrunedError()
+        retained = -(-self.length // bits) - pruned
+        is_in_batch = self._session.owner is not None
+        if is_in_batch or (last - first) * SHARE < retained:
+            return b"".join(self.chunk(bits * chunk) for chunk in range(first, last))
+        start = HEAD + (first - pruned) * self.width
+        return self._encoding("encode")[start : start + (last - first) * self.width]
 
     def get(self, position: int) -> bool:
         """Returns the bit at a position.
@@ -89,6 +161,33 @@ class _Reads(_Bits):
         """
         stop = u64(stop)
         return self._ascending(lambda least: self._page("ones", least, stop), u64(start))
+
+    def ones_array(self, start: int = 0, stop: int = MAX) -> array[int]:
+        """Returns the set retained positions from `start` to `stop` (excluded), ascending, as an array of the type code `Q`.
+
+        All of them are read from the bitmap of one time, in two calls of the library.
+        """
+        with self._session.lock:
+            found = array("Q", bytes(8 * self.count_ones(start, stop)))
+            self.ones_into(found, start, stop)
+        return found
+
+    def ones_into(self, buffer: WriteableBuffer, start: int = 0, stop: int = MAX) -> int:
+        """Writes the set retained positions from `start` to `stop` (excluded) to a buffer, ascending, and returns how many.
+
+        It writes as many as the buffer has items. If it is full then, the next positions begin after the last one. The
+        items are unsigned integers of eight bytes: their format is `Q` or `L`. The buffer is contiguous. Until the call
+        returns, nothing else reads or writes it.
+
+        Raises TypeError if the buffer has other items, or cannot be written.
+        """
+        start, stop, count = u64(start), u64(stop), SIZE()
+        view = memoryview(buffer)
+        if view.itemsize != 8 or view.format.lstrip("@=<") not in ("Q", "L"):
+            raise TypeError(f"the items of the buffer are not unsigned integers of eight bytes: their format is {view.format!r}")
+        first = U64.from_buffer(view) if view.nbytes else U64()
+        self._run("ones", start, stop, byref(first), view.nbytes // 8, count)
+        return count.value
 
     def next_one(self, start: int) -> Optional[int]:
         """Returns the least retained position, from `start` on, whose bit is 1, or None."""
@@ -168,7 +267,7 @@ class Batch(_Bits):
         super().__init__(session)
         self._commit = number
         # Returns the object whose life is that of the open batch: this one, or the one whose `with` block has this one.
-        self._owner = weakref.ref(self) if owner is None else owner
+        self._owner: Callable[[], object] = owner or weakref.ref(self)
 
     def _status(self, name: str, *arguments: object) -> int:
         return self._session.status_in_batch(self._owner, name, *arguments)

@@ -6,7 +6,6 @@ import os
 import shutil
 import subprocess
 import sys
-import tarfile
 import tempfile
 import unittest
 import zipfile
@@ -90,9 +89,10 @@ class Distributions(unittest.TestCase):
     @unittest.skipUnless(os.uname().machine == "x86_64", "the tag is for another machine")
     def test_source_distribution(self):
         made = self.run_hook("build_sdist", library="none")
-        with tarfile.open(made) as archive:
-            archive.extractall(self.folder / "unpacked")
-        source = self.folder / "unpacked" / self.name
+        unpacked = self.folder / "unpacked"
+        unpacked.mkdir()
+        subprocess.run(["tar", "-xzf", made, "-C", unpacked], check=True)
+        source = unpacked / self.name
         tests = {path.relative_to(source) for path in source.glob("tests/**/*.py")}
         self.assertEqual(tests, {path.relative_to(SOURCE) for path in SOURCE.glob("tests/**/*.py")})
         self.assertEqual(list(source.rglob("*.so")), [])
