@@ -281,6 +281,7 @@ class Blocks(unittest.TestCase):
             lambda: ended.push(True), lambda: ended.push_byte(1), lambda: ended.push_bytes(b"1"), lambda: ended.push_chunk(b"1"),
             ended.pop, lambda: ended.set(0, True), lambda: ended.prune(0), lambda: ended.commit(9), ended.abort,
             lambda: len(ended), lambda: ended.pruned_chunks, lambda: ended[0], lambda: ended[-1], lambda: ended.chunk(0),
+            lambda: ended[:], ended.packed, ended.bools,
         )
         with self.bitmap.batch(2) as batch:
             for call in calls:
@@ -303,12 +304,13 @@ class Blocks(unittest.TestCase):
     def test_no_other_call_in_a_batch(self):
         bitmap, version = self.bitmap, self.bitmap.at(1)
         calls = (
-            bitmap.batch, bitmap.ones, lambda: bitmap.next_one(0), lambda: bitmap.next_zero(0), lambda: bitmap.prev_one(0),
+            bitmap.batch, bitmap.ones, bitmap.ones_array, lambda: bitmap.ones_into(array.array("Q")), lambda: bitmap.next_one(0), lambda: bitmap.next_zero(0), lambda: bitmap.prev_one(0),
             lambda: bitmap.prev_zero(0), bitmap.count_ones, lambda: bitmap.select_one(0), lambda: bytes(bitmap),
             lambda: bitmap.at(1), bitmap.commits, lambda: bitmap.commit_exists(1), lambda: bitmap.latest,
             lambda: bitmap.earliest, lambda: bitmap.entries, lambda: bitmap.changed_chunks(1, 1),
             lambda: bitmap.rewind_to(1), lambda: bitmap.drop_before(1), bitmap.clear,
             lambda: version.length, lambda: version.pruned_chunks, lambda: version[0], lambda: version.chunk(0), version.ones,
+            version.packed, version.bools, lambda: version[:], version.ones_array, lambda: version.ones_into(array.array("Q")),
             lambda: version.next_one(0), lambda: version.next_zero(0), lambda: version.prev_one(0),
             lambda: version.prev_zero(0), version.count_ones, lambda: version.select_one(0), lambda: bytes(version),
         )

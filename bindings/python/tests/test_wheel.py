@@ -17,15 +17,15 @@ import mortarpink
 SOURCE = Path(__file__).parent.parent
 IGNORED = shutil.ignore_patterns("build", "dist", "*.egg-info", "*.so", "__pycache__")
 
-# What setup.py needs.
-NEEDS = "import setuptools.build_meta\ntry: import setuptools.command.bdist_wheel\nexcept ImportError: import wheel.bdist_wheel"
+# Whether a Python has what pyproject.toml requires for a build. tools/check_bindings.py says so if none has it.
+NEEDS = "import setuptools.build_meta, wheel"
 
 # A library that needs two versions of glibc.
 LIBRARY = b"a library\0GLIBC_2.2.5\0GLIBC_2.14\0GLIBC_2.4\0"
 
 
 def builder():
-    """Returns a Python that has setuptools and what makes wheels, or None: the one of the tests, or that of the system."""
+    """Returns a Python that has setuptools and wheel, or None: the one of the tests, or that of the system."""
     pythons = (python for python in (sys.executable, "/usr/bin/python3") if Path(python).exists())
     return next((each for each in pythons if subprocess.run([each, "-c", NEEDS], capture_output=True).returncode == 0), None)
 
