@@ -5,7 +5,7 @@ from __future__ import annotations
 import os
 import threading
 import weakref
-from operator import index
+from operator import index, methodcaller
 from typing import TYPE_CHECKING, Callable, Iterator, Optional
 
 from ._errors import (
@@ -180,9 +180,9 @@ class Session:
             return status
 
 
-# The sessions by their identity, and those whose locks a fork has taken.
+# The sessions by their identity, and the locks that a fork has taken.
 SESSIONS: weakref.WeakValueDictionary[int, Session] = weakref.WeakValueDictionary()
-TAKEN: list[Session] = []
+TAKEN: list[threading._RLock] = []
 
 
 def sessions() -> list[Session]:
@@ -193,19 +193,24 @@ def sessions() -> list[Session]:
 
 def take_locks() -> None:
     """Waits before a fork until no other thread is in a call, since the child has only the thread that forks."""
-    for session in sessions():
-        session.lock.acquire()
-        TAKEN.append(session)
+    locks = [session.lock for session in sessions()]
+    # One call takes and notes the locks, so that no handler of a signal comes between the two.
+    TAKEN.extend(filter(methodcaller("acquire"), locks))
 
 
 def release_locks() -> None:
-    """Releases the locks after a fork, in the parent and in the child."""
+    """Releases the locks after a fork. It may be called again if a handler of a signal has raised an exception in it."""
     while TAKEN:
-        TAKEN.pop().lock.release()
+        try:
+            TAKEN[-1].release()
+        except RuntimeError:
+            pass  # released already
+        TAKEN.pop()
 
 
 def lose_sessions() -> None:
     """Closes in the child what a thread of the parent has. There is none, unless a signal has ended the wait for the locks."""
+    release_locks()
     for session in sessions():
         if session.lock.acquire(blocking=False):
             session.lock.release()
@@ -214,7 +219,7 @@ def lose_sessions() -> None:
 
 
 os.register_at_fork(before=take_locks, after_in_parent=release_locks, after_in_child=release_locks)
-os.register_at_fork(after_in_child=lose_sessions)
+os.register_at_fork(after_in_parent=release_locks, after_in_child=lose_sessions)
 
 
 class Caller:

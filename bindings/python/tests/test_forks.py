@@ -73,6 +73,34 @@ class Forks(unittest.TestCase):
         self.assertFalse(forking.is_alive())
         self.assertEqual(bitmap.count_ones(), 1)
 
+    def test_a_signal_while_a_fork_waits(self):
+        """No lock stays taken in the parent, and the child has what no thread uses."""
+        printed = run_script(
+            "import os, signal, sys, threading, warnings",
+            "warnings.simplefilter('ignore')",
+            "sys.unraisablehook = lambda raised: print(raised.exc_type.__name__, flush=True)",
+            "used, free = Bitmap(), Bitmap()",
+            "taken, end = threading.Event(), threading.Event()",
+            "def hold():",
+            "    with used._session.lock:",
+            "        taken.set()",
+            "        end.wait(60)",
+            "thread = threading.Thread(target=hold)",
+            "thread.start()",
+            "taken.wait()",
+            "signal.signal(signal.SIGALRM, signal.default_int_handler)",
+            "signal.setitimer(signal.ITIMER_REAL, 0.2)",
+            "process = os.fork()",
+            "if process == 0:",
+            "    print(free.length, used, flush=True)",
+            "    os._exit(0)",
+            "os.waitpid(process, 0)",
+            "end.set()",
+            "thread.join()",
+            "threading.Thread(target=lambda: print(free.length, used.length)).start()",
+        )
+        self.assertEqual(printed, ("KeyboardInterrupt\n0 <mortarpink.Bitmap, closed>\n0 0\n", ""))
+
     def test_a_bitmap_in_a_call_of_a_thread_is_closed_in_the_child(self):
         """What the child does if the fork has not waited."""
         bitmap, other, end = bitmap_of("1"), bitmap_of("1"), threading.Event()
