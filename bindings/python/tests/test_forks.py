@@ -89,7 +89,7 @@ class Forks(unittest.TestCase):
             "thread.start()",
             "taken.wait()",
             "signal.signal(signal.SIGALRM, signal.default_int_handler)",
-            "signal.setitimer(signal.ITIMER_REAL, 0.2)",
+            "signal.setitimer(signal.ITIMER_REAL, 1)",
             "process = os.fork()",
             "if process == 0:",
             "    print(free.length, used, flush=True)",
