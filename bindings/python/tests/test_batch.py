@@ -316,7 +316,7 @@ class Blocks(unittest.TestCase):
         )
         with bitmap.batch():
             for call in calls:
-                with self.assertRaisesRegex(WrongModeError, "^the bitmap is in a batch: Batch.commit, Batch.abort or "):
+                with self.assertRaisesRegex(WrongModeError, "^the bitmap is in a batch: Batch.commit, Batch.abort, Bitmap.abort or "):
                     call()
         self.unchanged()
 
