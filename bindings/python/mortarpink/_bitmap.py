@@ -368,8 +368,8 @@ class Bitmap(_Reads):
         >>> bitmap[0], bitmap.at(7)[0]
         (False, True)
 
-    In a batch, `length`, `pruned_chunks`, `get`, `chunk` and `[]` read the pending bitmap, and the other calls raise
-    WrongModeError. Only `copy` and `close` do not.
+    In a batch, `length`, `pruned_chunks`, `get`, `chunk`, `packed`, `bools` and `[]` read the pending bitmap, and the
+    other calls raise WrongModeError. Only `copy`, `abort` and `close` do not.
 
     Several threads may use a bitmap. Each call has it to itself, so calls of other threads wait. A batch is several
     calls: threads that begin batches on one bitmap need a lock of their own.
