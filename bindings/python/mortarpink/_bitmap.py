@@ -6,7 +6,8 @@ import weakref
 from array import array
 from copy import deepcopy
 from ctypes import byref
-from operator import index
+from functools import partial
+from operator import attrgetter, index
 from types import TracebackType
 from typing import TYPE_CHECKING, Callable, Iterator, NoReturn, Optional, SupportsIndex, cast, overload
 
@@ -255,6 +256,17 @@ class Version(_Reads):
         return f"<mortarpink.Version {self.number}>"
 
 
+class _Early(property):
+    """A method whose function is in each object. A `with` statement takes and calls the function without a step of Python.
+
+    So no handler of a signal comes between the statement and the function.
+    """
+
+    def __call__(self, batch: Batch, *arguments: object) -> object:
+        """Calls the function of an object, as `contextlib.ExitStack` does."""
+        return self.__get__(batch)(*arguments)
+
+
 class Batch(_Bits):
     """A batch of edits on a bitmap. `Bitmap.batch` begins it. Its reads are of the pending bitmap.
 
@@ -263,11 +275,20 @@ class Batch(_Bits):
     exception, the batch is aborted. So is an open batch without references. A batch cannot be copied.
     """
 
-    def __init__(self, session: Session, number: Optional[int], owner: Optional[Callable[[], object]] = None) -> None:
-        super().__init__(session)
-        self._commit = number
-        # Returns the object whose life is that of the open batch: this one, or the one whose `with` block has this one.
-        self._owner: Callable[[], object] = owner or weakref.ref(self)
+    _owner: Callable[[], object] = nobody
+
+    @classmethod
+    def _owning(cls, session: Session, number: Optional[int]) -> Batch:
+        """Returns a batch whose `with` block has another object for it.
+
+        The owner of the batch is the function that ends the block. This object has it, and then the `with` statement
+        alone. So the batch has no owner, and is aborted, if a handler of a signal raises an exception before the function
+        takes its first step. Neither the traceback nor the variable of the block has the owner.
+        """
+        batch, inner = cls(session), cls(session)
+        batch._enter, batch._exit = weakref.ref(inner), partial(inner._leave, number)
+        batch._owner = inner._owner = weakref.ref(batch._exit)
+        return batch
 
     def _status(self, name: str, *arguments: object) -> int:
         return self._session.status_in_batch(self._owner, name, *arguments)
@@ -334,16 +355,25 @@ class Batch(_Bits):
         """Ends the batch, and drops its edits."""
         check(self._session.end(self._owner, "abort"))
 
-    def __enter__(self) -> Batch:
-        """Returns another object for the batch, which the `with` statement alone owns: it is aborted if the end is not run."""
-        return Batch(self._session, self._commit, self._owner)
+    if TYPE_CHECKING:
+        _enter: Callable[[], Batch | None]
+        _exit: Callable[..., None]
 
-    def __exit__(
-        self, kind: Optional[type[BaseException]], value: Optional[BaseException], traceback: Optional[TracebackType]
-    ) -> None:
+        def __enter__(self) -> Batch: ...
+
+        def __exit__(
+            self, kind: type[BaseException] | None, value: BaseException | None, traceback: TracebackType | None
+        ) -> None: ...
+
+    else:
+        __enter__ = _Early(attrgetter("_enter"), doc="Returns the batch for the block of a `with` statement.")
+        __exit__ = _Early(attrgetter("_exit"), doc="Ends the batch at the end of the block.")
+
+    def _leave(self, number: Optional[int], kind: Optional[type[BaseException]], *_: object) -> None:
+        """Ends a `with` block, by a commit if it has a number and no exception."""
         try:
-            if kind is None and self._commit is not None and self._is_open():
-                self.commit(self._commit)
+            if kind is None and number is not None and self._is_open():
+                self.commit(number)
         finally:
             self._session.drop(self._owner)
 
@@ -455,11 +485,11 @@ class Bitmap(_Reads):
 
         Raises WrongModeError if there is a batch already.
         """
-        batch = Batch(self._session, None if commit is None else u64(commit))
+        batch = Batch._owning(self._session, None if commit is None else u64(commit))
         try:
             check(self._session.begin(batch._owner))
         except BaseException:
-            # A handler of a signal may have raised it after the batch began. The batch is in its traceback, so it has references.
+            # A handler of a signal may have raised it after the batch began. Its traceback has the batch.
             if self._session.owner is batch._owner:
                 self._session.owner = nobody
             raise

@@ -132,18 +132,18 @@ class Signals(unittest.TestCase):
         self.addCleanup(signal.signal, signal.SIGALRM, previous)
         self.bitmap = bitmap_of("")
 
-    def work(self):
-        """Commits batches of one bit, all of which are set, and keeps the last object of a block."""
-        while True:
-            with self.bitmap.batch(commit=self.bitmap.latest + 1) as self.batch:
-                self.batch.push(True)
-            self.bitmap.batch().push(True)
+    def commit_bit(self):
+        """Commits a batch of one bit, which is set, and keeps the object of the block."""
+        with self.bitmap.batch(commit=self.bitmap.latest + 1) as self.batch:
+            self.batch.push(True)
 
     def interrupted_work(self, seconds):
-        """Lets a signal interrupt the work after some time."""
+        """Lets a signal interrupt batches, with and without a block, after some time."""
         try:
             signal.setitimer(signal.ITIMER_REAL, seconds)
-            self.work()
+            while True:
+                self.commit_bit()
+                self.bitmap.batch().push(True)
         except Interrupt:
             pass
 
@@ -157,15 +157,16 @@ class Signals(unittest.TestCase):
                 batch.push(False)
         self.assertGreater(self.bitmap.latest, 1)
 
-    def test_abort_while_the_exception_is_handled(self):
+    def test_the_bitmap_is_usable_while_the_exception_is_handled(self):
         numbers = random.Random(8)
         for _ in range(self.TRIALS):
             try:
                 signal.setitimer(signal.ITIMER_REAL, numbers.uniform(20e-6, 120e-6))
-                self.work()
-            except Interrupt:
-                self.bitmap.abort()
+                while True:
+                    self.commit_bit()
+            except Interrupt as error:
                 self.assertEqual(self.bitmap.count_ones(), self.bitmap.latest - 1)
+                self.assertIsNotNone(error.__traceback__)
 
     def test_other_threads_go_on(self):
         """The lock is free after each signal."""
