@@ -2,9 +2,14 @@
 
 from __future__ import annotations
 
-from operator import index
+import weakref
+from array import array
+from copy import deepcopy
+from ctypes import byref
+from functools import partial
+from operator import attrgetter, index
 from types import TracebackType
-from typing import Iterator, Optional
+from typing import TYPE_CHECKING, Callable, Iterator, NoReturn, Optional, SupportsIndex, cast, overload
 
 from ._errors import (
     ClosedError,
@@ -13,11 +18,24 @@ from ._errors import (
     InvalidLengthError,
     NonMonotonicCommitError,
     NoSuchCommitError,
+    PrunedError,
     WrongModeError,
     check,
 )
-from ._interface import DONE, SIZE, U8, U64
-from ._session import MAX, Buffer, Caller, Session, ascending, bytes_of, position_of, u64
+from ._interface import SIZE, U8, U64
+from ._session import MAX, Caller, Session, bytes_of, nobody, position_of, u64
+
+if TYPE_CHECKING:
+    from _typeshed import ReadableBuffer, WriteableBuffer
+
+# The number of bytes before the chunks of an encoding.
+HEAD = 16
+
+# An encoding has all retained chunks. It is read in place of single chunks, if at least one chunk of so many is wanted.
+SHARE = 16
+
+# The bits of each byte, the lowest first, as bytes.
+BITS = [bytes(byte >> place & 1 for place in range(8)) for byte in range(256)]
 
 
 class _Bits(Caller):
@@ -48,14 +66,74 @@ class _Bits(Caller):
     def __bool__(self) -> bool:
         return self.length > 0
 
-    def _from_start(self, position: int) -> int:
+    def _from_start(self, position: SupportsIndex) -> int:
         """Returns the position from the start of one that counts from the end if it is negative."""
         position = index(position)
         return position if position >= 0 else position + self.length
 
-    def __getitem__(self, position: int) -> bool:
-        """Returns the bit at a position. A negative position counts from the end."""
+    @overload
+    def __getitem__(self, position: SupportsIndex) -> bool: ...
+
+    @overload
+    def __getitem__(self, position: slice) -> list[bool]: ...
+
+    def __getitem__(self, position: SupportsIndex | slice) -> bool | list[bool]:
+        """Returns the bit at a position, or a list of the bits of a slice. A negative position counts from the end.
+
+        A slice ends at the length at the latest, as that of a list. Raises PrunedError if it has a pruned position.
+        """
+        if isinstance(position, slice):
+            return self._slice(position)
         return self.get(self._from_start(position))
+
+    def _slice(self, positions: slice) -> list[bool]:
+        """Returns the bits of a slice."""
+        with self._session.lock:
+            places = range(*positions.indices(self.length))
+            if not places or abs(places.step) > 1:
+                return [self.get(place) for place in places]
+            first, last = min(places[0], places[-1]), max(places[0], places[-1])
+            return cast("list[bool]", self.bools(first, last + 1)[:: places.step].tolist())
+
+    def packed(self, start: int = 0, stop: int = MAX) -> bytes:
+        """Returns the bits from `start` to `stop` (excluded), eight in a byte. The bit at `start` is the lowest of the first byte.
+
+        The range ends at the length at the latest. The bits of the last byte that are past its end are 0.
+
+        Raises PrunedError if the range has a pruned position, or NoMemoryError.
+        """
+        start, stop = u64(start), u64(stop)
+        with self._session.lock:
+            stop = min(stop, self.length)
+            if start >= stop:
+                return b""
+            bits = 8 * self.width
+            first = start // bits
+            chunks = self._chunks(first, -(-stop // bits))
+        value = int.from_bytes(chunks, "little") >> (start - first * bits) & (1 << (stop - start)) - 1
+        return value.to_bytes(-(-(stop - start) // 8), "little")
+
+    def bools(self, start: int = 0, stop: int = MAX) -> memoryview:
+        """Returns the bits from `start` to `stop` (excluded), one in a byte, as a view whose items are `bool`.
+
+        The range and the errors are those of `packed`.
+        """
+        with self._session.lock:
+            packed = self.packed(start, stop)
+            count = max(min(stop, self.length) - start, 0)
+        return memoryview(b"".join(map(BITS.__getitem__, packed))).cast("?")[:count]
+
+    def _chunks(self, first: int, last: int) -> bytes:
+        """Returns the bytes of the chunks from `first` to `last` (excluded), by one call if that takes less. The lock is held."""
+        pruned, bits = self.pruned_chunks, 8 * self.width
+        if first < pruned:
+            raise PrunedError()
+        retained = -(-self.length // bits) - pruned
+        is_in_batch = self._session.owner is not None
+        if is_in_batch or (last - first) * SHARE < retained:
+            return b"".join(self.chunk(bits * chunk) for chunk in range(first, last))
+        start = HEAD + (first - pruned) * self.width
+        return self._encoding("encode")[start : start + (last - first) * self.width]
 
     def get(self, position: int) -> bool:
         """Returns the bit at a position.
@@ -83,7 +161,34 @@ class _Reads(_Bits):
         It reads in pages. Positions that it has not read yet are those of the bitmap at the time of the next page.
         """
         stop = u64(stop)
-        return ascending(lambda least: self._page("ones", least, stop), u64(start))
+        return self._ascending(lambda least: self._page("ones", least, stop), u64(start))
+
+    def ones_array(self, start: int = 0, stop: int = MAX) -> array[int]:
+        """Returns the set retained positions from `start` to `stop` (excluded), ascending, as an array of the type code `Q`.
+
+        All of them are read from the bitmap of one time, in two calls of the library.
+        """
+        with self._session.lock:
+            found = array("Q", bytes(8 * self.count_ones(start, stop)))
+            self.ones_into(found, start, stop)
+        return found
+
+    def ones_into(self, buffer: WriteableBuffer, start: int = 0, stop: int = MAX) -> int:
+        """Writes the set retained positions from `start` to `stop` (excluded) to a buffer, ascending, and returns how many.
+
+        It writes as many as the buffer has items. If it is full then, the next positions begin after the last one. The
+        items are unsigned integers of eight bytes: their format is `Q` or `L`. The buffer is contiguous. Until the call
+        returns, nothing else reads or writes it.
+
+        Raises TypeError if the buffer has other items, or cannot be written.
+        """
+        start, stop, count = u64(start), u64(stop), SIZE()
+        view = memoryview(buffer)
+        if view.itemsize != 8 or view.format.lstrip("@=<") not in ("Q", "L"):
+            raise TypeError(f"the items of the buffer are not unsigned integers of eight bytes: their format is {view.format!r}")
+        first = U64.from_buffer(view) if view.nbytes else U64()
+        self._run("ones", start, stop, byref(first), view.nbytes // 8, count)
+        return count.value
 
     def next_one(self, start: int) -> Optional[int]:
         """Returns the least retained position, from `start` on, whose bit is 1, or None."""
@@ -116,6 +221,10 @@ class _Reads(_Bits):
         """
         return self._encoding("encode")
 
+    def __reduce__(self) -> NoReturn:
+        name = type(self).__name__
+        raise TypeError(f"a {name} cannot be pickled: pickle its encoding, bytes({name.lower()}), and decode it by Bitmap.from_bytes")
+
 
 class Version(_Reads):
     """The bitmap at a commit, read in place. `Bitmap.at` returns it.
@@ -136,8 +245,26 @@ class Version(_Reads):
         """The commit number."""
         return self._commit
 
+    def __copy__(self) -> Version:
+        return Version(self._session, self._commit)
+
+    def __deepcopy__(self, memo: dict[int, object]) -> Version:
+        """Returns the version of a copy of the bitmap and its commits."""
+        return Version(deepcopy(self._session, memo), self._commit)
+
     def __repr__(self) -> str:
         return f"<mortarpink.Version {self.number}>"
+
+
+class _Early(property):
+    """A method whose function is in each object. A `with` statement takes and calls the function without a step of Python.
+
+    So no handler of a signal comes between the statement and the function.
+    """
+
+    def __call__(self, batch: Batch, *arguments: object) -> object:
+        """Calls the function of an object, as `contextlib.ExitStack` does."""
+        return self.__get__(batch)(*arguments)
 
 
 class Batch(_Bits):
@@ -145,31 +272,30 @@ class Batch(_Bits):
 
     At the end of a `with` block the batch is committed if `Bitmap.batch` was given a number. Otherwise the batch is
     aborted, which drops its edits, unless the block has called `commit`. If the block or the commit raises an
-    exception, the batch is aborted. So is an open batch without references.
+    exception, the batch is aborted. So is an open batch without references. A batch cannot be copied.
     """
 
-    _open = False
+    _owner: Callable[[], object] = nobody
 
-    def __init__(self, session: Session, number: Optional[int]) -> None:
-        super().__init__(session)
-        self._commit = number
-        check(session.status("begin"))
-        self._open = True
+    @classmethod
+    def _owning(cls, session: Session, number: Optional[int]) -> Batch:
+        """Returns a batch whose `with` block has another object for it.
+
+        The owner of the batch is the function that ends the block. This object has it, and then the `with` statement
+        alone. So the batch has no owner, and is aborted, if a handler of a signal raises an exception before the function
+        takes its first step. Neither the traceback nor the variable of the block has the owner.
+        """
+        batch, inner = cls(session), cls(session)
+        batch._enter, batch._exit = weakref.ref(inner), partial(inner._leave, number)
+        batch._owner = inner._owner = weakref.ref(batch._exit)
+        return batch
 
     def _status(self, name: str, *arguments: object) -> int:
-        """Calls a function unless the batch has ended. Another batch may be open then."""
-        with self._session.lock:
-            if not self._open:
-                raise WrongModeError("the batch has ended: Bitmap.batch begins another one")
-            return self._session.status(name, *arguments)
+        return self._session.status_in_batch(self._owner, name, *arguments)
 
-    def _end(self, name: str, *arguments: object) -> int:
-        """Calls a function that ends the batch if it succeeds."""
-        with self._session.lock:
-            status = self._status(name, *arguments)
-            if status == DONE:
-                self._open = False
-            return status
+    def _is_open(self) -> bool:
+        """Returns whether the batch is open, or was so when the bitmap was closed."""
+        return self._session.owner is self._owner
 
     def push(self, bit: object) -> None:
         """Appends a bit, by its truth value. Raises TooLongError or NoMemoryError."""
@@ -180,7 +306,7 @@ class Batch(_Bits):
         (byte,) = bytes([byte])
         self._run("push_byte", byte)
 
-    def push_bytes(self, data: Buffer) -> None:
+    def push_bytes(self, data: ReadableBuffer) -> None:
         """Appends the bits of the bytes in order, up to the first byte that fails.
 
         Raises TooLongError or NoMemoryError, whose attribute `appended` is the number of bytes appended.
@@ -192,7 +318,7 @@ class Batch(_Bits):
             error.appended = count.value
             raise
 
-    def push_chunk(self, data: Buffer) -> None:
+    def push_chunk(self, data: ReadableBuffer) -> None:
         """Appends the bits of one chunk. Raises WrongSizeError, TooLongError or NoMemoryError."""
         data = bytes_of(data)
         self._run("push_chunk", data, len(data))
@@ -220,36 +346,42 @@ class Batch(_Bits):
         Raises ReservedCommitNumberError, NonMonotonicCommitError or NoMemoryError. The batch goes on then.
         """
         number, previous = u64(number), U64()
-        status = self._end("commit", number, previous)
+        status = self._session.end(self._owner, "commit", number, previous)
         if status == NonMonotonicCommitError.status:
             raise NonMonotonicCommitError(previous.value, number)
         check(status)
 
     def abort(self) -> None:
         """Ends the batch, and drops its edits."""
-        check(self._end("abort"))
+        check(self._session.end(self._owner, "abort"))
 
-    def __enter__(self) -> Batch:
-        return self
+    if TYPE_CHECKING:
+        _enter: Callable[[], Batch | None]
+        _exit: Callable[..., None]
 
-    def __exit__(
-        self, kind: Optional[type[BaseException]], value: Optional[BaseException], traceback: Optional[TracebackType]
-    ) -> None:
+        def __enter__(self) -> Batch: ...
+
+        def __exit__(
+            self, kind: type[BaseException] | None, value: BaseException | None, traceback: TracebackType | None
+        ) -> None: ...
+
+    else:
+        __enter__ = _Early(attrgetter("_enter"), doc="Returns the batch for the block of a `with` statement.")
+        __exit__ = _Early(attrgetter("_exit"), doc="Ends the batch at the end of the block.")
+
+    def _leave(self, number: Optional[int], kind: Optional[type[BaseException]], *_: object) -> None:
+        """Ends a `with` block, by a commit if it has a number and no exception."""
         try:
-            if kind is None and self._open and self._commit is not None:
-                self.commit(self._commit)
+            if kind is None and number is not None and self._is_open():
+                self.commit(number)
         finally:
-            # The bitmap may be closed, which has ended the batch.
-            if self._open:
-                self._end("abort")
-                self._open = False
+            self._session.drop(self._owner)
 
-    def __del__(self) -> None:
-        if self._open:
-            self._session.abandon()
+    def __reduce__(self) -> NoReturn:
+        raise TypeError("a Batch cannot be copied or pickled: its edits are those of one bitmap")
 
     def __repr__(self) -> str:
-        return f"<mortarpink.Batch, {'open' if self._open else 'ended'}>"
+        return f"<mortarpink.Batch, {'open' if self._is_open() else 'ended'}>"
 
 
 class Bitmap(_Reads):
@@ -266,8 +398,8 @@ class Bitmap(_Reads):
         >>> bitmap[0], bitmap.at(7)[0]
         (False, True)
 
-    In a batch, `length`, `pruned_chunks`, `get`, `chunk` and `[]` read the pending bitmap, and the other calls raise
-    WrongModeError. Only `copy` and `close` do not.
+    In a batch, `length`, `pruned_chunks`, `get`, `chunk`, `packed`, `bools` and `[]` read the pending bitmap, and the
+    other calls raise WrongModeError. Only `copy`, `abort` and `close` do not.
 
     Several threads may use a bitmap. Each call has it to itself, so calls of other threads wait. A batch is several
     calls: threads that begin batches on one bitmap need a lock of their own.
@@ -289,7 +421,7 @@ class Bitmap(_Reads):
         return bitmap
 
     @classmethod
-    def decode(cls, data: Buffer, width: int = 8, least: int = 0, most: int = MAX) -> tuple[Bitmap, int]:
+    def decode(cls, data: ReadableBuffer, width: int = 8, least: int = 0, most: int = MAX) -> tuple[Bitmap, int]:
         """Makes a bitmap, without commits, from the encoding that the bytes begin with.
 
         The number of retained bits is from `least` to `most`, both included. Returns the bitmap, and the number of
@@ -307,7 +439,7 @@ class Bitmap(_Reads):
         return cls._of(session), used.value
 
     @classmethod
-    def from_bytes(cls, data: Buffer, width: int = 8, least: int = 0, most: int = MAX) -> Bitmap:
+    def from_bytes(cls, data: ReadableBuffer, width: int = 8, least: int = 0, most: int = MAX) -> Bitmap:
         """Makes a bitmap, without commits, from its encoding: the reverse of `bytes(bitmap)`.
 
         The arguments and errors are those of `decode`. Raises InvalidError if bytes follow the encoding.
@@ -320,16 +452,14 @@ class Bitmap(_Reads):
 
     def copy(self) -> Bitmap:
         """Returns a copy of the bitmap and its commits. It is not in a batch. Raises NoMemoryError."""
-        copy = Session(self.width)
-        self._run("clone", copy.handle)
-        copy.status("abort")
-        return self._of(copy)
+        return self._of(self._session.copied())
 
     def __copy__(self) -> Bitmap:
         return self.copy()
 
-    def __deepcopy__(self, memo: object) -> Bitmap:
-        return self.copy()
+    def __deepcopy__(self, memo: dict[int, object]) -> Bitmap:
+        """Returns a copy. Versions that are copied in the same call are versions of the same copy."""
+        return self._of(deepcopy(self._session, memo))
 
     def close(self) -> None:
         """Frees the bitmap. Other calls raise ClosedError afterwards, a ValueError."""
@@ -355,7 +485,25 @@ class Bitmap(_Reads):
 
         Raises WrongModeError if there is a batch already.
         """
-        return Batch(self._session, None if commit is None else u64(commit))
+        batch = Batch._owning(self._session, None if commit is None else u64(commit))
+        try:
+            check(self._session.begin(batch._owner))
+        except BaseException:
+            # A handler of a signal may have raised it after the batch began. Its traceback has the batch.
+            if self._session.owner is batch._owner:
+                self._session.owner = nobody
+            raise
+        return batch
+
+    def abort(self) -> None:
+        """Ends the batch that the bitmap is in, if there is one, and drops its edits.
+
+        The batch ends whichever object or thread began it. Further calls of its Batch raise WrongModeError, and the end
+        of its `with` block does nothing. A program calls this when an exception may have left a batch open.
+        """
+        status = self._session.abort()
+        if status != WrongModeError.status:
+            check(status)
 
     def at(self, number: int) -> Version:
         """Returns the bitmap at a commit, to be read in place. Raises NoSuchCommitError, a LookupError."""
@@ -369,7 +517,7 @@ class Bitmap(_Reads):
 
         A page takes time logarithmic in the kept commits, plus linear in its numbers.
         """
-        return ascending(lambda least: self._page("commits", least), 0)
+        return self._ascending(lambda least: self._page("commits", least), 0)
 
     def commit_exists(self, number: int) -> bool:
         """Returns whether a commit is kept under the number."""
@@ -406,7 +554,7 @@ class Bitmap(_Reads):
         """
         older, newer = u64(older), u64(newer)
         try:
-            return ascending(lambda least: self._page("changed_chunks", older, newer, least), 0)
+            return self._ascending(lambda least: self._page("changed_chunks", older, newer, least), 0)
         except NoSuchCommitError:
             if older > newer:
                 raise NoSuchCommitError(f"the older number comes first, and {older} is above {newer}") from None

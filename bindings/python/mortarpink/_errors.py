@@ -43,11 +43,11 @@ class Error(Exception):
 class WrongModeError(Error, RuntimeError, status=_interface.WRONG_MODE):
     """The bitmap is in a batch and the call needs that it is in none, or the call is one of a batch that has ended.
 
-    `Bitmap.batch` begins a batch. `Batch.commit`, `Batch.abort` and the end of a `with` block end it.
+    `Bitmap.batch` begins a batch. `Batch.commit`, `Batch.abort`, `Bitmap.abort` and the end of a `with` block end it.
     """
 
     def _text(self) -> str:
-        return "" if self.args else "the bitmap is in a batch: Batch.commit, Batch.abort or the end of its with block ends it"
+        return "" if self.args else "the bitmap is in a batch: Batch.commit, Batch.abort, Bitmap.abort or the end of its with block ends it"
 
 
 class OutOfBoundsError(Error, IndexError, status=_interface.OUT_OF_BOUNDS):

@@ -2,17 +2,29 @@
 
 from __future__ import annotations
 
+import os
 import threading
 import weakref
-from operator import index
-from typing import Callable, Iterator, Optional, Union
+from operator import index, methodcaller
+from typing import TYPE_CHECKING, Callable, Iterator, Optional
 
-from ._errors import NoSuchCommitError, NoSuchWidthError, OutOfBoundsError, WrongSizeError, check
+from ._errors import (
+    ClosedError,
+    NoSuchCommitError,
+    NoSuchWidthError,
+    OutOfBoundsError,
+    WrongModeError,
+    WrongSizeError,
+    check,
+)
 from ._interface import DONE, NONE, SIZE, U8, U64, Handle
 from ._library import CALLS
 
-# What holds bytes. Other objects that memoryview() accepts work as well.
-Buffer = Union[bytes, bytearray, memoryview]
+if TYPE_CHECKING:
+    from _typeshed import ReadableBuffer
+
+# No status of the library: the call has not returned.
+UNKNOWN = -1
 
 MAX = 2**64 - 1
 WIDTHS = (1, 8, 32, 64)
@@ -38,28 +50,28 @@ def position_of(value: int) -> int:
     raise OutOfBoundsError()
 
 
-def bytes_of(data: Buffer) -> bytes:
-    """Returns the bytes of a buffer, which need not be contiguous. Copies them, unless they cannot change."""
-    return data if type(data) is bytes else bytes(memoryview(data))
+def bytes_of(data: ReadableBuffer) -> bytes:
+    """Returns the bytes of a buffer, which need not be contiguous. Copies them, unless they cannot change.
+
+    Raises TypeError unless the items of the buffer are single bytes: their format is `B`, `b` or `c`.
+    """
+    if type(data) is bytes:
+        return data
+    view = memoryview(data)
+    if view.format.lstrip("@=<>!") not in ("B", "b", "c"):
+        raise TypeError(f"the items of the buffer are not single bytes: their format is {view.format!r}")
+    return bytes(view)
 
 
-def ascending(read: Callable[[int], list[int]], start: int) -> Iterator[int]:
-    """Returns an iterator over the numbers from `start` on that `read` returns in pages. Reads the first page now."""
-
-    def numbers(page: list[int]) -> Iterator[int]:
-        while True:
-            yield from page
-            if len(page) < PAGE:
-                return
-            page = read(page[-1] + 1)
-
-    return numbers(read(start))
+def nobody() -> None:
+    """The owner of a batch that no object owns, as a weak reference to an object that is gone."""
 
 
 class Session:
     """A handle, which is freed with the session. A lock gives each call the handle to itself.
 
-    The lock is reentrant, because a handler of a signal may run between the calls of a thread that holds it.
+    The lock is reentrant, because a handler of a signal may run between the calls of a thread that holds it. Its `with`
+    statements leave no lock taken when a handler raises an exception, since Python enters and leaves a lock at once.
     """
 
     def __init__(self, width: int) -> None:
@@ -68,28 +80,145 @@ class Session:
             raise NoSuchWidthError()
         self.handle = Handle()
         self.lock = threading.RLock()
-        self._abandoned = False
+        self.closed = False
+        # While there may be a batch: returns the object that owns it. If it returns None, the next call aborts the batch.
+        self.owner: Optional[Callable[[], object]] = None
         self._free = weakref.finalize(self, CALLS["free"], self.handle)
         # When the interpreter exits, a daemon thread may be in a call.
         self._free.atexit = False
+        SESSIONS[id(self)] = self
 
     def free(self) -> None:
         """Frees the bitmap. Later calls find the handle empty."""
         with self.lock:
-            self._free()
+            self.closed = True
+            if self._free.alive:
+                CALLS["free"](self.handle)
+                self._free.detach()
 
-    def abandon(self) -> None:
-        """Makes the next call abort the batch first. The garbage collector may call this at any time: it takes no lock."""
-        self._abandoned = True
+    def lose(self) -> None:
+        """Closes the bitmap in the child of a fork, without freeing what a call of a thread of the parent was changing."""
+        self.closed = True
+        self._free.detach()
+        self.handle, self.lock = Handle(), threading.RLock()
+
+    def copied(self) -> Session:
+        """Returns a copy, which is not in a batch. Raises NoMemoryError."""
+        copy = Session(self.width)
+        check(self.status("clone", copy.handle))
+        copy.abort()
+        return copy
+
+    def __deepcopy__(self, memo: object) -> Session:
+        return self.copied()
 
     def status(self, name: str, *arguments: object) -> int:
         """Calls a function, and returns its status."""
         with self.lock:
-            if self._abandoned:
-                self._abandoned = False
-                CALLS["abort"](self.handle)
+            self._settle()
             status: int = CALLS[name](self.handle, *arguments)
             return status
+
+    def _settle(self) -> None:
+        """Aborts a batch whose owner is gone. The lock is held."""
+        if self.owner is not None and self.owner() is None:
+            self.abort()
+
+    def begin(self, owner: Callable[[], object]) -> int:
+        """Begins a batch with an owner, unless there is a batch. Returns the status."""
+        with self.lock:
+            self._settle()
+            if self.owner is not None and not self.closed:
+                return WrongModeError.status
+            self.owner = owner
+            status: int = CALLS["begin"](self.handle)
+            return status
+
+    def abort(self) -> int:
+        """Aborts the batch, whoever owns it, and returns the status."""
+        with self.lock:
+            self.owner = nobody
+            status: int = CALLS["abort"](self.handle)
+            self.owner = None
+            return status
+
+    def drop(self, owner: Callable[[], object]) -> None:
+        """Aborts the batch of an owner, unless it has ended."""
+        with self.lock:
+            if self.owner is owner:
+                self.abort()
+
+    def _check_owner(self, owner: Callable[[], object]) -> None:
+        """Raises WrongModeError unless the batch of an owner is open. The lock is held."""
+        self._settle()
+        if self.owner is not owner:
+            raise WrongModeError("the batch has ended: Bitmap.batch begins another one")
+
+    def status_in_batch(self, owner: Callable[[], object], name: str, *arguments: object) -> int:
+        """Calls a function in the batch of an owner, and returns its status."""
+        with self.lock:
+            self._check_owner(owner)
+            status: int = CALLS[name](self.handle, *arguments)
+            return status
+
+    def end(self, owner: Callable[[], object], name: str, *arguments: object) -> int:
+        """Calls a function that ends the batch of an owner if it succeeds, and returns its status.
+
+        If a handler of a signal raises an exception before the status is known, the batch has ended too.
+        """
+        with self.lock:
+            self._check_owner(owner)
+            status = UNKNOWN
+            try:
+                status = CALLS[name](self.handle, *arguments)
+            finally:
+                if status == DONE:
+                    self.owner = None
+                elif status == UNKNOWN:
+                    self.owner = nobody
+            return status
+
+
+# The sessions by their identity, and the locks that a fork has taken.
+SESSIONS: weakref.WeakValueDictionary[int, Session] = weakref.WeakValueDictionary()
+TAKEN: list[threading._RLock] = []
+
+
+def sessions() -> list[Session]:
+    """Returns the sessions in the order in which they were made. Forks in several threads take the locks in this order."""
+    found = (reference() for reference in SESSIONS.valuerefs())
+    return [session for session in found if session is not None]
+
+
+def take_locks() -> None:
+    """Waits before a fork until no other thread is in a call, since the child has only the thread that forks."""
+    locks = [session.lock for session in sessions()]
+    # One call takes and notes the locks, so that no handler of a signal comes between the two.
+    TAKEN.extend(filter(methodcaller("acquire"), locks))
+
+
+def release_locks() -> None:
+    """Releases the locks after a fork. It may be called again if a handler of a signal has raised an exception in it."""
+    while TAKEN:
+        try:
+            TAKEN[-1].release()
+        except RuntimeError:
+            pass  # released already
+        TAKEN.pop()
+
+
+def lose_sessions() -> None:
+    """Closes in the child what a thread of the parent has. There is none, unless a signal has ended the wait for the locks."""
+    release_locks()
+    for session in sessions():
+        if session.lock.acquire(blocking=False):
+            session.lock.release()
+        else:
+            session.lose()
+
+
+os.register_at_fork(before=take_locks, after_in_parent=release_locks, after_in_child=release_locks)
+os.register_at_fork(after_in_parent=release_locks, after_in_child=lose_sessions)
 
 
 class Caller:
@@ -132,6 +261,22 @@ class Caller:
         page, count = Page(), SIZE()
         check(self._status(name, *arguments, page, PAGE, count))
         return page[: count.value]
+
+    def _ascending(self, read: Callable[[int], list[int]], start: int) -> Iterator[int]:
+        """Returns an iterator over the numbers from `start` on that `read` returns in pages. Reads the first page now."""
+        session = self._session
+
+        def numbers(page: list[int]) -> Iterator[int]:
+            while True:
+                for number in page:
+                    if session.closed:
+                        raise ClosedError()
+                    yield number
+                if len(page) < PAGE:
+                    return
+                page = read(page[-1] + 1)
+
+        return numbers(read(start))
 
     def _encoding(self, name: str) -> bytes:
         """Calls a function that encodes, and returns the encoding."""

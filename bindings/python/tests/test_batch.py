@@ -1,6 +1,11 @@
 """Batches of edits."""
 
+import array
+import contextlib
+import copy
+import ctypes
 import gc
+import pickle
 import unittest
 
 from mortarpink import (
@@ -67,9 +72,18 @@ class Edits(unittest.TestCase):
         self.batch.push_bytes(memoryview(b"\x01\x02")[::-1])
         self.assertEqual(self.committed(), ([0, 9, 18, 25, 32], 40))
 
-    def test_push_bytes_takes_buffers_of_other_items(self):
-        self.batch.push_bytes(memoryview(b"\x01\x00\x80\x00").cast("H"))
-        self.assertEqual(self.committed(), ([0, 23], 32))
+    def test_push_bytes_takes_buffers_of_single_bytes(self):
+        buffers = array.array("B", [1]), array.array("b", [-128]), memoryview(b"\x02").cast("c"), (ctypes.c_uint8 * 1)(4)
+        for data in buffers:
+            self.batch.push_bytes(data)
+        self.assertEqual(self.committed(), ([0, 15, 17, 26], 32))
+
+    def test_no_buffers_of_other_items(self):
+        for data in array.array("Q", [1, 2]), memoryview(b"12").cast("H"), memoryview(b"\0\1").cast("?"), (ctypes.c_uint32 * 2)():
+            for call in self.batch.push_bytes, self.batch.push_chunk, Bitmap.from_bytes, Bitmap.decode:
+                with self.assertRaisesRegex(TypeError, "^the items of the buffer are not single bytes: their format is '.+'$"):
+                    call(data)
+        self.assertEqual(len(self.batch), 0)
 
     def test_push_bytes_takes_no_text_and_no_number(self):
         for data in "a", 5, None, [1, 2]:
@@ -267,6 +281,7 @@ class Blocks(unittest.TestCase):
             lambda: ended.push(True), lambda: ended.push_byte(1), lambda: ended.push_bytes(b"1"), lambda: ended.push_chunk(b"1"),
             ended.pop, lambda: ended.set(0, True), lambda: ended.prune(0), lambda: ended.commit(9), ended.abort,
             lambda: len(ended), lambda: ended.pruned_chunks, lambda: ended[0], lambda: ended[-1], lambda: ended.chunk(0),
+            lambda: ended[:], ended.packed, ended.bools,
         )
         with self.bitmap.batch(2) as batch:
             for call in calls:
@@ -274,21 +289,34 @@ class Blocks(unittest.TestCase):
                     call()
             self.assertEqual(len(batch), 2)
 
+    def test_a_block_without_a_variable(self):
+        batch = self.bitmap.batch(commit=2)
+        with batch:
+            batch.push(True)
+        self.assertEqual((len(self.bitmap), self.bitmap.latest, repr(batch)), (3, 2, "<mortarpink.Batch, ended>"))
+
+    def test_a_stack_of_blocks(self):
+        with contextlib.ExitStack() as stack:
+            batch = stack.enter_context(self.bitmap.batch(commit=2))
+            batch.push(True)
+        self.assertEqual((len(self.bitmap), self.bitmap.latest), (3, 2))
+
     def test_no_other_call_in_a_batch(self):
         bitmap, version = self.bitmap, self.bitmap.at(1)
         calls = (
-            bitmap.batch, bitmap.ones, lambda: bitmap.next_one(0), lambda: bitmap.next_zero(0), lambda: bitmap.prev_one(0),
+            bitmap.batch, bitmap.ones, bitmap.ones_array, lambda: bitmap.ones_into(array.array("Q")), lambda: bitmap.next_one(0), lambda: bitmap.next_zero(0), lambda: bitmap.prev_one(0),
             lambda: bitmap.prev_zero(0), bitmap.count_ones, lambda: bitmap.select_one(0), lambda: bytes(bitmap),
             lambda: bitmap.at(1), bitmap.commits, lambda: bitmap.commit_exists(1), lambda: bitmap.latest,
             lambda: bitmap.earliest, lambda: bitmap.entries, lambda: bitmap.changed_chunks(1, 1),
             lambda: bitmap.rewind_to(1), lambda: bitmap.drop_before(1), bitmap.clear,
             lambda: version.length, lambda: version.pruned_chunks, lambda: version[0], lambda: version.chunk(0), version.ones,
+            version.packed, version.bools, lambda: version[:], version.ones_array, lambda: version.ones_into(array.array("Q")),
             lambda: version.next_one(0), lambda: version.next_zero(0), lambda: version.prev_one(0),
             lambda: version.prev_zero(0), version.count_ones, lambda: version.select_one(0), lambda: bytes(version),
         )
         with bitmap.batch():
             for call in calls:
-                with self.assertRaisesRegex(WrongModeError, "^the bitmap is in a batch: Batch.commit, Batch.abort or "):
+                with self.assertRaisesRegex(WrongModeError, "^the bitmap is in a batch: Batch.commit, Batch.abort, Bitmap.abort or "):
                     call()
         self.unchanged()
 
@@ -317,6 +345,14 @@ class Blocks(unittest.TestCase):
         gc.collect()
         with self.bitmap.batch(2) as batch:
             self.assertEqual(len(batch), 2)
+
+    def test_a_batch_cannot_be_copied(self):
+        with self.bitmap.batch(2) as batch:
+            for make in copy.copy, copy.deepcopy, pickle.dumps:
+                with self.assertRaisesRegex(TypeError, "^a Batch cannot be copied or pickled: "):
+                    make(batch)
+            batch.push(True)
+        self.assertEqual(len(self.bitmap), 3)
 
     def test_a_batch_that_ended_aborts_no_other(self):
         ended = self.bitmap.batch()

@@ -24,7 +24,7 @@ from support import MAX, bitmap_of, failing, run_script
 
 # The status of each exception, its base in Python and its text.
 EXPECTED = {
-    "WrongModeError": (1, RuntimeError, "the bitmap is in a batch: Batch.commit, Batch.abort or the end of its with block ends it"),
+    "WrongModeError": (1, RuntimeError, "the bitmap is in a batch: Batch.commit, Batch.abort, Bitmap.abort or the end of its with block ends it"),
     "OutOfBoundsError": (2, IndexError, "the position is out of bounds"),
     "PrunedError": (3, IndexError, "the position is pruned"),
     "TooLongError": (4, OverflowError, "the bitmap would be too long"),

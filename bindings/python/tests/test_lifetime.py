@@ -1,5 +1,6 @@
 """When bitmaps are freed, copies, and threads."""
 
+import array
 import copy
 import gc
 import pickle
@@ -8,7 +9,7 @@ import unittest
 import weakref
 from unittest import mock
 
-from mortarpink import Bitmap, ClosedError, NonMonotonicCommitError, WrongModeError
+from mortarpink import Bitmap, ClosedError, NonMonotonicCommitError, NoSuchCommitError, WrongModeError
 from mortarpink._library import CALLS
 from support import bitmap_of, run_script, with_versions
 
@@ -30,6 +31,7 @@ class Closing(unittest.TestCase):
             lambda: bitmap.select_one(0), lambda: bytes(bitmap), bitmap.copy, bitmap.batch, lambda: bitmap.at(1), bitmap.commits,
             lambda: bitmap.commit_exists(1), lambda: bitmap.latest, lambda: bitmap.earliest, lambda: bitmap.entries,
             lambda: bitmap.changed_chunks(1, 1), lambda: bitmap.rewind_to(1), lambda: bitmap.drop_before(1), bitmap.clear,
+            bitmap.abort, lambda: bitmap[:], bitmap.packed, bitmap.bools, bitmap.ones_array, lambda: bitmap.ones_into(array.array("Q")),
             lambda: version.length, lambda: version[0], version.ones, lambda: bytes(version),
         )
         for call in calls:
@@ -58,6 +60,20 @@ class Closing(unittest.TestCase):
         ones = bitmap.ones()
         bitmap.close()
         self.assertRaises(ClosedError, list, ones)
+
+    def test_close_in_a_page_of_an_iterator(self):
+        for make in Bitmap.ones, lambda bitmap: bitmap.at(3).ones(), Bitmap.commits, lambda bitmap: bitmap.changed_chunks(3, 9):
+            bitmap = with_versions()
+            numbers = make(bitmap)
+            bitmap.close()
+            self.assertRaises(ClosedError, next, numbers)
+
+    def test_an_iterator_that_ended_before_close(self):
+        bitmap = bitmap_of("11")
+        ones = bitmap.ones()
+        self.assertEqual(list(ones), [0, 1])
+        bitmap.close()
+        self.assertEqual(list(ones), [])
 
 
 class Freeing(unittest.TestCase):
@@ -140,8 +156,33 @@ class Copies(unittest.TestCase):
             batch.push(True)
             self.assertEqual(len(batch), 3)
 
+    def test_a_copy_of_a_version_is_of_the_same_bitmap(self):
+        bitmap = with_versions()
+        version = copy.copy(bitmap.at(3))
+        self.assertEqual((version.number, list(version.ones())), (3, [0, 2, 3]))
+        bitmap.clear()
+        self.assertRaises(NoSuchCommitError, version.count_ones)
+
+    def test_a_deep_copy_of_a_version_is_of_a_copy_of_the_bitmap(self):
+        bitmap = with_versions()
+        version = bitmap.at(3)
+        with bitmap.batch():
+            version = copy.deepcopy(version)
+        bitmap.close()
+        self.assertEqual((version.number, version.width, list(version.ones())), (3, 1, [0, 2, 3]))
+
+    def test_what_is_copied_together_stays_together(self):
+        bitmap = with_versions()
+        other, version = copy.deepcopy([bitmap, bitmap.at(3)])
+        other.clear()
+        self.assertRaises(NoSuchCommitError, version.count_ones)
+        self.assertEqual(list(bitmap.at(3).ones()), [0, 2, 3])
+
     def test_a_bitmap_cannot_be_pickled(self):
-        self.assertRaises((TypeError, ValueError), pickle.dumps, Bitmap())
+        bitmap = bitmap_of("1")
+        for value, text in (bitmap, r"^a Bitmap cannot be pickled: .*bytes\(bitmap\)"), (bitmap.at(1), r"^a Version cannot be pickled: .*bytes\(version\)"):
+            with self.assertRaisesRegex(TypeError, text):
+                pickle.dumps(value)
 
 
 class Threads(unittest.TestCase):

@@ -58,7 +58,7 @@ class Bits(unittest.TestCase):
                 return -1
 
         self.assertEqual((self.bitmap[True], self.bitmap[Last()]), (False, True))
-        for position in 1.0, "1", None, slice(0, 2):
+        for position in 1.0, "1", None, (0, 1):
             with self.assertRaises(TypeError):
                 self.bitmap[position]
 

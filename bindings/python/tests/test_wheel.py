@@ -1,88 +1,113 @@
-"""The wheel."""
+"""The wheel and the source distribution, which setuptools builds."""
 
 import base64
 import hashlib
-import importlib.util
 import os
-import sysconfig
+import shutil
+import subprocess
+import sys
 import tempfile
 import unittest
 import zipfile
+from email.parser import Parser
 from pathlib import Path
-from unittest import mock
 
 import mortarpink
 
 SOURCE = Path(__file__).parent.parent
+IGNORED = shutil.ignore_patterns("build", "dist", "*.egg-info", "*.so", "__pycache__")
+
+# Whether a Python has what pyproject.toml requires for a build. tools/check_bindings.py says so if none has it.
+NEEDS = "import setuptools.build_meta, wheel"
+
+# A library that needs two versions of glibc.
+LIBRARY = b"a library\0GLIBC_2.2.5\0GLIBC_2.14\0GLIBC_2.4\0"
 
 
-def backend():
-    """Returns the module that builds the wheel."""
-    spec = importlib.util.spec_from_file_location("backend", SOURCE / "backend.py")
-    module = importlib.util.module_from_spec(spec)
-    spec.loader.exec_module(module)
-    return module
+def builder():
+    """Returns a Python that has setuptools and wheel, or None: the one of the tests, or that of the system."""
+    pythons = (python for python in (sys.executable, "/usr/bin/python3") if Path(python).exists())
+    return next((each for each in pythons if subprocess.run([each, "-c", NEEDS], capture_output=True).returncode == 0), None)
 
 
-class Wheel(unittest.TestCase):
-    information = f"mortarpink-{mortarpink.__version__}.dist-info"
+BUILDER = builder()
+
+
+@unittest.skipUnless(BUILDER, "no Python with setuptools and wheel is found")
+class Distributions(unittest.TestCase):
+    name = f"mortarpink-{mortarpink.__version__}"
 
     def setUp(self):
         folder = tempfile.TemporaryDirectory()
         self.addCleanup(folder.cleanup)
-        self.prefix = Path(folder.name)
-        (self.prefix / "lib").mkdir()
-        (self.prefix / "lib/libmortarpink.so").write_bytes(b"a library")
+        self.folder = Path(folder.name)
+        (self.folder / "lib").mkdir()
+        (self.folder / "lib/libmortarpink.so").write_bytes(LIBRARY)
 
-    def build(self, folder="lib"):
-        """Builds the wheel with the library of a folder, and returns its path."""
-        with mock.patch.dict(os.environ, MORTARPINK_LIB_DIR=str(self.prefix / folder)):
-            return self.prefix / backend().build_wheel(str(self.prefix))
+    def run_hook(self, call, source=SOURCE, library="lib"):
+        """Calls a hook of setuptools on a copy of the sources, as pip does. Returns the path of what it makes, or its errors."""
+        copy = self.folder / f"copy{len(list(self.folder.iterdir()))}"
+        shutil.copytree(source, copy, ignore=IGNORED)
+        script = f"from setuptools import build_meta\nname = build_meta.{call}('made')\nprint(f'made {{name}}')"
+        environment = {**os.environ, "MORTARPINK_LIB_DIR": str(self.folder / library)}
+        done = subprocess.run([BUILDER, "-c", script], capture_output=True, text=True, env=environment, cwd=copy)
+        made = [line.removeprefix("made ") for line in done.stdout.splitlines() if line.startswith("made ")]
+        return copy / "made" / made[0] if made else done.stderr
 
-    def files(self):
-        """Builds the wheel, and returns its files."""
-        with zipfile.ZipFile(self.build()) as archive:
+    def files(self, wheel):
+        """Returns the files of a wheel."""
+        with zipfile.ZipFile(wheel) as archive:
             return {name: archive.read(name) for name in archive.namelist()}
 
-    def test_name_and_tag(self):
-        platform = sysconfig.get_platform().replace("-", "_")
-        self.assertEqual(self.build().name, f"mortarpink-{mortarpink.__version__}-py3-none-{platform}.whl")
-        lines = self.files()[f"{self.information}/WHEEL"].decode().splitlines()
-        self.assertIn(f"Tag: py3-none-{platform}", lines)
+    def check_wheel(self, wheel):
+        """Asserts that a wheel has the right name, tag, files and sums."""
+        self.assertEqual(wheel.name, f"{self.name}-py3-none-manylinux_2_14_x86_64.whl")
+        files, information = self.files(wheel), f"{self.name}.dist-info"
+        lines = files[f"{information}/WHEEL"].decode().splitlines()
+        self.assertIn("Tag: py3-none-manylinux_2_14_x86_64", lines)
         self.assertIn("Root-Is-Purelib: false", lines)
-
-    def test_files(self):
-        files = self.files()
-        self.assertEqual(files["mortarpink/libmortarpink.so"], b"a library")
+        self.assertEqual(files["mortarpink/libmortarpink.so"], LIBRARY)
+        self.assertEqual(files[f"{information}/LICENSE"], (SOURCE / "LICENSE").read_bytes())
         modules = {f"mortarpink/{path.name}" for path in (SOURCE / "mortarpink").glob("*.py")}
-        texts = {f"{self.information}/{name}" for name in ("METADATA", "WHEEL", "RECORD")}
-        self.assertEqual(set(files), modules | texts | {"mortarpink/py.typed", "mortarpink/libmortarpink.so"})
-        self.assertTrue(files[f"{self.information}/METADATA"].endswith((SOURCE / "README.md").read_bytes()))
+        package = {name for name in files if not name.startswith(information)}
+        self.assertEqual(package, modules | {"mortarpink/py.typed", "mortarpink/libmortarpink.so"})
+        for line in files[f"{information}/RECORD"].decode().splitlines():
+            name, digest, size = line.split(",")
+            if digest:
+                found = base64.urlsafe_b64encode(hashlib.sha256(files[name]).digest()).decode().rstrip("=")
+                self.assertEqual((digest, int(size)), (f"sha256={found}", len(files[name])))
+        return files[f"{information}/METADATA"].decode()
 
-    def test_record(self):
-        files = self.files()
-        record = files.pop(f"{self.information}/RECORD").decode().splitlines()
-        self.assertEqual(record.pop(), f"{self.information}/RECORD,,")
-        for line, (name, data) in zip(record, files.items()):
-            digest = base64.urlsafe_b64encode(hashlib.sha256(data).digest()).decode().rstrip("=")
-            self.assertEqual(line, f"{name},sha256={digest},{len(data)}")
-        self.assertEqual(len(record), len(files))
+    @unittest.skipUnless(os.uname().machine == "x86_64", "the tag is for another machine")
+    def test_wheel(self):
+        text = self.check_wheel(self.run_hook("build_wheel"))
+        metadata = Parser().parsestr(text)
+        self.assertEqual((metadata["Name"], metadata["Version"]), ("mortarpink", mortarpink.__version__))
+        self.assertEqual((metadata["License"], metadata["Requires-Python"]), ("Apache-2.0", ">=3.10"))
+        self.assertEqual(metadata.get_payload().strip(), (SOURCE / "README.md").read_text(encoding="utf-8").strip())
 
-    def test_licence(self):
-        folder = self.prefix / "share/licenses/mortarpink"
-        folder.mkdir(parents=True)
-        (folder / "LICENSE").write_bytes(b"a licence")
-        self.assertEqual(self.files()[f"{self.information}/LICENSE"], b"a licence")
+    @unittest.skipUnless(os.uname().machine == "x86_64", "the tag is for another machine")
+    def test_source_distribution(self):
+        made = self.run_hook("build_sdist", library="none")
+        unpacked = self.folder / "unpacked"
+        unpacked.mkdir()
+        subprocess.run(["tar", "-xzf", made, "-C", unpacked], check=True)
+        source = unpacked / self.name
+        tests = {path.relative_to(source) for path in source.glob("tests/**/*.py")}
+        self.assertEqual(tests, {path.relative_to(SOURCE) for path in SOURCE.glob("tests/**/*.py")})
+        self.assertEqual(list(source.rglob("*.so")), [])
+        self.check_wheel(self.run_hook("build_wheel", source))
 
     def test_the_same_files_make_the_same_wheel(self):
-        self.assertEqual(self.build().read_bytes(), self.build().read_bytes())
+        first, second = self.run_hook("build_wheel"), self.run_hook("build_wheel")
+        self.assertEqual(first.read_bytes(), second.read_bytes())
+
+    def test_an_editable_installation_has_the_library_beside_the_sources(self):
+        made = self.run_hook("build_editable")
+        self.assertEqual((made.parent.parent / "mortarpink/libmortarpink.so").read_bytes(), LIBRARY)
 
     def test_no_library(self):
-        for folder in "", ".":
-            with self.assertRaises(SystemExit) as caught:
-                self.build(folder)
-            wanted = "mortarpink: set MORTARPINK_LIB_DIR to the absolute path of the folder of libmortarpink.so"
-            self.assertEqual(str(caught.exception), wanted)
-        with mock.patch.dict(os.environ), self.assertRaises(SystemExit):
-            os.environ.pop("MORTARPINK_LIB_DIR", None)
-            backend().build_wheel(str(self.prefix))
+        wanted = "mortarpink: set MORTARPINK_LIB_DIR to the absolute path of the folder of libmortarpink.so\n"
+        for folder in "none", ".":
+            errors = self.run_hook("build_wheel", library=folder)
+            self.assertTrue(errors.endswith(wanted), errors)
