@@ -225,10 +225,12 @@ def check_mutant(place, mutant, erases):
         status, printed = place.run(sys.executable, "tools/erase.py", folder=copy)
         if status:
             return mutant.name, f"the eraser stops: {printed[-500:]}"
-    status, printed = place.run(*cargo("test", "--tests", "--no-run"), folder=copy / "native")
+    # A target of their own: cargo takes what it has built of a copy for the crate, unless a source is newer.
+    built = {"folder": copy / "native", "CARGO_TARGET_DIR": str(place.target / "mutants")}
+    status, printed = place.run(*cargo("test", "--tests", "--no-run"), **built)
     if status:
         return mutant.name, f"it does not compile: {printed[-500:]}"
-    status, printed = place.run(*cargo("test", "--tests"), folder=copy / "native")
+    status, printed = place.run(*cargo("test", "--tests"), **built)
     failed = re.findall(r"^test (\S+) \.\.\. FAILED$|process didn't exit successfully: \S+/(\w+)-|^(stopped after \d+ seconds)$", printed, re.M)
     names = ", ".join(sorted({"".join(found) for found in failed})[:3])
     print(f"{mutant.name}: noticed by {names or 'no test'}", flush=True)

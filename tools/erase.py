@@ -29,6 +29,7 @@ These rewrites carry meaning. docs/NATIVE.md says what each relies on and which 
 12. Examples of doc comments, which are in Rattle, are left out. Those of native/doc_examples.md are added. Sentences on proofs are left out or written
     anew (SENTENCES in erasures.py).
 13. The functions of logs that take the allocator first (WITHOUT_ALLOCATOR in erasures.py) take none, and their calls pass none.
+14. The fields of some types (VISIBLE_FIELDS) are visible in the crate, for traits that the hand-written modules implement.
 
 With `--tests` also those of erasures_of_tests.py: assertions and macros without the handle of the runtime, test functions without their
 argument, fallible operators as calls of functions, and paths of laws into private modules.
@@ -45,7 +46,7 @@ import tempfile
 import conditions
 import erasures
 import erasures_of_tests
-from rattle_tokens import Unknown, following, functions_of, is_name, preceding, tokens_of, until
+from rattle_tokens import Unknown, closing, following, functions_of, is_name, preceding, separated, tokens_of, until
 
 ROOT = pathlib.Path(__file__).resolve().parent.parent
 GENERATED = ROOT / "native/src/generated"
@@ -68,6 +69,9 @@ LAWS = "laws"
 
 # The default of a const parameter, by crate and type, as the original crate has it.
 DEFAULT_WIDTHS = {("bitmap_core", "BitMap"): "DEFAULT_CHUNK_SIZE"}
+
+# The types, by crate, whose fields the hand-written modules read: they implement a trait of Rust that Rattle lacks.
+VISIBLE_FIELDS = {("historical_bitmap", "CommitNumbers")}
 
 
 def sources_of(crate):
@@ -229,6 +233,7 @@ class Erasure:
         if crate in self.shown_crates:
             erasures.check_allocators(tokens, self.exported[crate])
         write_default_widths(tokens, crate)
+        show_fields(tokens, crate)
         erasures.check_known(tokens)
         return HEAD.format(where) + erasures.without_blank_runs("".join(token.text for token in tokens))
 
@@ -307,6 +312,16 @@ def write_default_widths(tokens, crate):
         if is_name(tokens, at, "struct") and (crate, tokens[at + 2].text) in DEFAULT_WIDTHS:
             end = until(tokens, at, ">")
             tokens.insert(end, erasures.made(f" = {DEFAULT_WIDTHS[crate, tokens[at + 2].text]}", tokens[at].line))
+
+
+def show_fields(tokens, crate):
+    """Makes the fields of the types in VISIBLE_FIELDS visible in the crate."""
+    for at in range(len(tokens)):
+        if is_name(tokens, at, "struct") and (crate, tokens[at + 2].text) in VISIBLE_FIELDS:
+            opened = until(tokens, at, "{")
+            for first, _ in reversed(separated(tokens, opened + 1, closing(tokens, opened))):
+                name = following(tokens, first)
+                tokens.insert(name, erasures.made("pub(crate) ", tokens[name].line))
 
 
 def rust_path(crate, path):

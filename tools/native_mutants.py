@@ -38,6 +38,7 @@ HAND_WRITTEN = [
     Mutant("a closure's batch is committed before it is edited", "native/src/bitmap/versions.rs", "        edit(&mut batch);\n        batch.commit(commit_number)\n",
            "        let mut other = batch.clone();\n        edit(&mut other);\n        batch.set_range(0..0, true);\n        batch.commit(commit_number)\n"),
     Mutant("the error of a closure has no source", "native/src/bitmap/versions.rs", "ApplyError::Batch(error) => error.source(),", "ApplyError::Batch(_) => None,"),
+    Mutant("the numbers of commits end with the first ones", "native/src/bitmap/versions.rs", "self.commits.next_back()", "self.commits.next()"),
     Mutant("a range of lengths has the end that it leaves out", "native/src/bitmap/ranges.rs", "above.checked_sub(1)", "above.checked_sub(0)"),
 ]
 

@@ -179,6 +179,25 @@ fn numbers_of_commits_rise() {
     assert_eq!(error.to_string(), "no commit is kept under that number");
 }
 
+/// Numbers are listed from both ends, also after the list of commits has wrapped around in memory.
+#[test]
+fn numbers_of_commits_are_listed_from_both_ends() {
+    let mut bitmap = CleanBitMap::<4>::new();
+    for number in 1..=40 {
+        bitmap = bitmap.apply_batch(number, |_| ()).unwrap();
+        bitmap.prune_commits_before(number.saturating_sub(6));
+    }
+    assert!(bitmap.commits().rev().eq((34..=40).rev()));
+    assert!(bitmap.commits_from(38).rev().eq([40, 39, 38]));
+    assert_eq!(bitmap.commits().rfind(|number| number % 5 == 0), Some(40));
+
+    let mut numbers = bitmap.commits();
+    assert_eq!((numbers.next(), numbers.next_back(), numbers.next_back()), (Some(34), Some(40), Some(39)));
+    assert!(numbers.by_ref().eq(35..=38));
+    assert_eq!((numbers.next(), numbers.next_back(), numbers.next_back()), (None, None, None));
+    assert_eq!(CleanBitMap::<4>::new().commits().next_back(), None);
+}
+
 #[test]
 fn wrong_bytes_are_errors() {
     let bytes = Prunable::<2>::new_with_pruned_chunks(1).unwrap().encode();

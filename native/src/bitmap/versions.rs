@@ -327,6 +327,16 @@ impl<const N: usize> From<Prunable<N>> for BitMap<N, Clean> {
     }
 }
 
+impl<V> DoubleEndedIterator for CommitNumbers<'_, V> {
+    /// Returns the last number that is left, or `None` if none is.
+    ///
+    /// Does not allocate; constant time.
+    #[inline]
+    fn next_back(&mut self) -> Option<u64> {
+        self.commits.next_back().map(|commit| commit.0)
+    }
+}
+
 impl<V> FusedIterator for CommitNumbers<'_, V> {}
 
 impl<const N: usize> FusedIterator for ChangedChunks<'_, N> {}

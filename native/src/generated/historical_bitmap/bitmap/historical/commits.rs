@@ -29,12 +29,12 @@ use crate::support::prelude::*;
 /// let bitmap = bitmap.apply_batch(2, |batch| {
 ///     batch.set_bit(0, false).push(true);
 /// })?;
-/// assert_eq!(bitmap.commits().last(), Some(2));
+/// assert!(bitmap.commits().rev().eq([2, 1]));
 /// # Ok::<(), mortarpink::bitmap::historical::Error>(())
 /// ```
 #[derive(Debug)]
 pub struct CommitNumbers<'a, V> {
-    commits: Iter<'a, (u64, V)>,
+    pub(crate) commits: Iter<'a, (u64, V)>,
 }
 
 impl<'a, V> Iterator for CommitNumbers<'a, V> {
