@@ -13,7 +13,6 @@ use Rattle.bitmap_session.specs.Replies.ReplyValue.{Bit, Done, Refused}
 use Rattle.bitmap_session.specs.Replies.Refusal.{NoMemory, OutOfBounds, Pruned}
 use Rattle.bitmap_session.specs.Replies as replies
 use Rattle.bitmap_session.specs.Abstraction.{reason}
-use Rattle.bitmap_session.specs.Laws.{StepsOn}
 use Rattle.bitmap_session.specs.Machine.{Agrees, Machine, RunsOn, State, edited, first, shown, shown_len, wants_batch, wants_space, when}
 
 -- why a call is refused, or none if it is accepted

@@ -5,14 +5,14 @@ use bitmap_core::bitmap::codec::CodecError;
 use historical_bitmap::bitmap::historical::{Error, RewindError};
 use std::alloc::AllocError;
 
-/// Why a command was refused.
+/// Why a command, or a call that edits many bits, was refused.
 ///
 /// If several reasons hold, the reply has the first of them in this order. A refused command has changed nothing.
 #[derive(Drop, Debug)]
 pub enum Refusal {
     /// The command needs a batch and there is none, or there is a batch and the command needs that there is none.
     WrongMode,
-    /// The position is not below the length. For `Prune`: the position is above the length.
+    /// The position is not below the length. For `Prune`, `truncate` and the end of a range: it is above the length.
     OutOfBounds,
     /// The position is below the first retained position.
     Pruned,

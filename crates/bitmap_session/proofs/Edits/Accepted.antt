@@ -8,7 +8,7 @@ use Rattle.std.proofs.lemmas.Nat.{mul-le}
 use Rattle.bitmap_bytes.specs.Chunk.{chunk_bit}
 use Rattle.bitmap_core.specs.PrunedBits.{PrunedBits, IsRetainedChunk, bit_len, popped, pruned_bits, pushed, set_at}
 use Rattle.bitmap_core.proofs.Pruned.Edits.{len_pushed}
-use Rattle.historical_bitmap.specs.Edits.{AllAccepted, Edit, chunk_end, pops, pushes, sets, sets_of}
+use Rattle.historical_bitmap.specs.Edits.{AllAccepted, chunk_end, pops, pushes, sets, sets_of}
 use Rattle.historical_bitmap.specs.Edits.Edit.{Set}
 use Rattle.historical_bitmap.specs.Lengths.{pushes_to}
 

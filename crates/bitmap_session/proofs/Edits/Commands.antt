@@ -6,7 +6,7 @@ use Rattle.std.proofs.lemmas.Bool.{cases_Bool, false≢true, lt-leb}
 use Rattle.bitmap_core.specs.PrunedBits.{PrunedBits, bit_len, pruned_bits}
 use Rattle.historical_bitmap.specs.Edits.{AllAccepted, Edit, IsAccepted, after, after_all, touched, touches}
 use Rattle.bitmap_session.specs.Edits.{EditCall, EditsAreRun, Makes, command_of, replies_to, reply_to}
-use Rattle.bitmap_session.specs.Machine.{Agrees, Machine, Run, RunsOn, State, Step, edited, first, is_dirty, shown, wants_batch}
+use Rattle.bitmap_session.specs.Machine.{Machine, Run, RunsOn, State, Step, edited, first, is_dirty, shown, wants_batch}
 use Rattle.bitmap_session.specs.Replies.{Refusal}
 use Rattle.bitmap_session.proofs.Edits.Calls.{EditsBy}
 use Rattle.bitmap_session.proofs.Simulates.{within_both}

@@ -1,7 +1,6 @@
 -- Calls that edit many bits at once, computed with chunks of one byte.
-use Rattle.std.specs.Prelude.{◌≡◌, true, false, List, [], ◌∷◌, Some, None}
+use Rattle.std.specs.Prelude.{◌≡◌, true, false, [], ◌∷◌, Some, None}
 use Rattle.std.proofs.Common.{refl}
-use Rattle.historical_bitmap.specs.Edits.{Edit}
 use Rattle.historical_bitmap.specs.Edits.Edit.{Push, Pop, Set, Prune}
 use Rattle.bitmap_session.specs.declared.command.Command.TheVariants as command
 use Rattle.bitmap_session.specs.Edits.{appends_bits, command_of, lengthens, replies_to, set_steps, sets_chunk, sets_range, shortens, stopped_steps, wants_chunk, wants_length, wants_range}

@@ -1,7 +1,6 @@
 use Rattle.std.proofs.Common.{get_or, refl}
 use Rattle.bitmap_session.specs.declared.command.Command.TheVariants.{Set}
 use Rattle.bitmap_session.specs.Abstraction.{reason}
-use Rattle.bitmap_session.specs.Edits.{set_steps}
 use Rattle.bitmap_session.specs.Replies.ReplyValue.{Refused}
 use Rattle.bitmap_session.proofs.Edits.Positions.{all_set, next_set, one_more, set_done}
 use Rattle.bitmap_session.proofs.session.Session.set_many.Goals as goal
