@@ -2,6 +2,7 @@
 
 mod clean;
 mod dirty;
+mod kept;
 mod reads;
 mod saved;
 mod shown;
