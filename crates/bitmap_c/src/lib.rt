@@ -41,3 +41,4 @@ mod queries;
 mod reads;
 mod run;
 mod status;
+mod versions;
