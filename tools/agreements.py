@@ -5,7 +5,8 @@ A comparison is a case: its name, and what is wrong, or None.
 
 import re
 
-from declarations import HEADER, PREFIX, PYTHON, RUST, SOURCES, export_errors, header, python, rattle, rust, text_of, without_comments
+from declarations import (HEADER, PREFIX, PYTHON, RUST, SOURCES, export_errors, header, header_reads, python, rattle, rust, rust_reads, source_reads,
+                          text_of, without_comments)
 
 TEXTS = "bindings/c/status_text.c"
 SCRIPT = "docs/SCRIPT.md"
@@ -82,6 +83,15 @@ def unread_cases(header):
         yield f"the functions in {place}", f"not read: {', '.join(sorted(unread))}" if unread else None
 
 
+def read_cases():
+    """Whether the functions that take a handle as `const` are those that only read the session."""
+    wanted = {*source_reads()}
+    yield f"the reads in {SOURCES}", None if wanted else "none was found"
+    for place, found in ((HEADER, {*header_reads()}), (RUST, {*rust_reads()})):
+        difference = f"`const` and no read: {sorted(found - wanted)}; a read and not `const`: {sorted(wanted - found)}"
+        yield f"the reads in {place}", None if found == wanted else difference
+
+
 def refusals():
     """The refusals of the script language, in order, each as a set of names of statuses: a decode error has several."""
     items = re.findall(r"^\d+\. `([a-z-]+)(?: ([a-z-]+))?", text_of(SCRIPT), re.MULTILINE)
@@ -126,5 +136,5 @@ def all_cases():
     yield from differences(wanted, rattle(), without={"status_text"})
     yield from differences(wanted, rust(), left_out=LEFT_OUT[RUST])
     yield from differences(wanted, python(), left_out=LEFT_OUT[PYTHON])
-    for cases in (handle_cases(), unread_cases(wanted), order_cases(wanted), text_cases(wanted), release_cases()):
+    for cases in (handle_cases(), unread_cases(wanted), read_cases(), order_cases(wanted), text_cases(wanted), release_cases()):
         yield from cases

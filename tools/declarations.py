@@ -28,11 +28,11 @@ KINDS_OF_RATTLE = {
     "&mut usize": "size out", "&[u8]": "u8 array in", "&mut [u8]": "u8 array out", "&mut [u64]": "u64 array out",
 }
 KINDS_OF_C = {
-    "mortarpink_bitmap *": "handle", "uint8_t": "u8", "uint32_t": "u32", "uint64_t": "u64", "size_t": "size", "const uint8_t *": "u8 in",
+    "mortarpink_bitmap *": "handle", "const mortarpink_bitmap *": "handle", "uint8_t": "u8", "uint32_t": "u32", "uint64_t": "u64", "size_t": "size", "const uint8_t *": "u8 in",
     "uint8_t *": "u8 out", "uint64_t *": "u64 out", "size_t *": "size out", "const char *": "text",
 }
 KINDS_OF_RUST = {
-    "*mut Handle": "handle", "u8": "u8", "u32": "u32", "u64": "u64", "usize": "size", "*const u8": "u8 in", "*mut u8": "u8 out",
+    "*mut Handle": "handle", "*const Handle": "handle", "u8": "u8", "u32": "u32", "u64": "u64", "usize": "size", "*const u8": "u8 in", "*mut u8": "u8 out",
     "*mut u64": "u64 out", "*mut usize": "size out", "*const c_char": "text",
 }
 KINDS_OF_PYTHON = {
@@ -129,7 +129,22 @@ def export_errors():
             yield f"{marks} marks `no_mangle`, and {len(exports)} exported functions: {', '.join(name for name, _, _ in exports)}"
 
 
+def source_reads():
+    """The names of the exports that read: each passes the session of its handle to a function that takes it as a `&`."""
+    for text in source_texts():
+        readers = {*re.findall(r"\bfn (\w+)\(\s*(?:alloc: Global,\s*)?any: &AnySession\b", text)}
+        for export in text.split("#[unsafe(no_mangle)]")[1:]:
+            called = re.search(r"in_handle!\(bitmap, any => (?:self::)?(\w+)\(", export)
+            if called and called[1] in readers:
+                yield re.search(rf"\bfn {PREFIX}(\w+)", export)[1]
+
+
 # The header
+
+def header_reads():
+    """The names of the functions whose first parameter is a handle that is `const`."""
+    return re.findall(rf"\b{PREFIX}(\w+)\(const {PREFIX}bitmap \*", without_comments(text_of(HEADER), r"/\*.*?\*/"))
+
 
 def c_kind(shown, aliases):
     """The kind of a type in C, whose spaces do not matter."""
@@ -154,6 +169,11 @@ def header():
 
 
 # Rust
+
+def rust_reads():
+    """The names of the functions whose first parameter is a handle that is `const`."""
+    return re.findall(rf"\bfn {PREFIX}(\w+)\(bitmap: \*const Handle", without_comments(text_of(RUST), r"//.*?$"))
+
 
 def rust():
     text = without_comments(text_of(RUST), r"//.*?$")

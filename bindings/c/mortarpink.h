@@ -10,10 +10,13 @@
  *     if (mortarpink_push(&bitmap, 1) == MORTARPINK_DONE) mortarpink_commit(&bitmap, 7, &previous);
  *     mortarpink_free(&bitmap);
  *
- * Ownership: a handle owns its bitmap from mortarpink_new, mortarpink_read or mortarpink_clone until
- * mortarpink_free. A handle starts as MORTARPINK_EMPTY, and only these functions write it. Do not copy a handle that
- * is not empty, except to move it: the old place is not used again. An empty handle is valid in every call, and a freed
- * handle is empty again.
+ * Ownership: a handle owns its bitmap from mortarpink_new, mortarpink_read, mortarpink_clone or mortarpink_checkout
+ * until mortarpink_free. A handle starts as MORTARPINK_EMPTY, and only these functions write it. Do not copy a handle
+ * that is not empty, except to move it: the old place is not used again. An empty handle is valid in every call, and
+ * a freed handle is empty again.
+ *
+ * Reads: a call that takes a handle as `const` writes neither the handle nor the bitmap that it owns. Every other call
+ * edits the bitmap, or may.
  *
  * What callers have to ensure. No call can check these rules, and the calls do what this header says only if the
  * program keeps all of them. Every other argument is checked.
@@ -23,11 +26,13 @@
  *   that type: to one value, or to `len` elements if a length follows.
  * - Values: all of that memory holds a value when the call begins. Initialize outputs and buffers too.
  * - Overlap: the memory of no two pointers of one call overlaps.
- * - Access: while a call runs, nothing else reads or writes the memory of its handles and outputs, or the bitmaps that
- *   the handles own. Nothing else writes the memory of its inputs.
- * - Threads: each handle is used by one call at a time, reads included. Calls on different handles may run at the same
- *   time. A handle goes to another thread in an ordered way: through a lock, the start or the join of a thread, or
- *   a sequentially consistent atomic.
+ * - Access: while a call runs, nothing else reads or writes the memory of its outputs, or of its handles and the bitmaps
+ *   that they own. But other calls that take a handle as `const` may read it and its bitmap while this one does too.
+ *   Nothing else writes the memory of its inputs.
+ * - Threads: any number of threads may read one bitmap at the same time, by calls that take its handle as `const`, while
+ *   no call edits it. An edit has the handle for itself. Calls on different handles may run at the same time. A handle
+ *   goes to another thread in an ordered way, and so does a bitmap after an edit: through a lock, the start or the join
+ *   of a thread, or a sequentially consistent atomic. That reads may run at the same time is tested, and not proved.
  * - Signals and forks: no call is made from a signal handler, or in the forked child of a process with threads.
  * - Memory: the program's malloc, realloc and free are from one allocator and work as the C standard says. malloc and
  *   realloc align a block to each power of two up to 16 that divides its size. The library allocates by malloc and
@@ -114,7 +119,12 @@ mortarpink_status mortarpink_read(mortarpink_bitmap *bitmap, uint32_t width, uin
 mortarpink_status mortarpink_free(mortarpink_bitmap *bitmap);
 
 /* Copies the bitmap, its commits and its batch into the empty handle `copy`. Linear in what is copied; allocates. */
-mortarpink_status mortarpink_clone(mortarpink_bitmap *bitmap, mortarpink_bitmap *copy);
+mortarpink_status mortarpink_clone(const mortarpink_bitmap *bitmap, mortarpink_bitmap *copy);
+
+/* Makes a bitmap of the one committed under `number`, in the empty handle `copy`: with no commits and no last commit
+ * number. Not in a batch. Returns MORTARPINK_NO_SUCH_COMMIT if that commit is not kept. Linear in the current bitmap,
+ * plus the commits after `number` and the chunks that they changed; allocates. */
+mortarpink_status mortarpink_checkout(const mortarpink_bitmap *bitmap, uint64_t number, mortarpink_bitmap *copy);
 
 /* Replaces the bitmap by one with so many pruned chunks, no bits, no commits and no last commit number. Not in a batch.
  * Linear in what is freed. */
@@ -163,46 +173,46 @@ mortarpink_status mortarpink_abort(mortarpink_bitmap *bitmap);
 /* ---- Reading: the pending bitmap in a batch, and the current one otherwise ---- */
 
 /* *len becomes the length in bits. */
-mortarpink_status mortarpink_len(mortarpink_bitmap *bitmap, uint64_t *len);
+mortarpink_status mortarpink_len(const mortarpink_bitmap *bitmap, uint64_t *len);
 
 /* *chunks becomes the number of pruned chunks. */
-mortarpink_status mortarpink_pruned_chunks(mortarpink_bitmap *bitmap, uint64_t *chunks);
+mortarpink_status mortarpink_pruned_chunks(const mortarpink_bitmap *bitmap, uint64_t *chunks);
 
 /* *bit becomes the bit at a position. Constant time. */
-mortarpink_status mortarpink_get(mortarpink_bitmap *bitmap, uint64_t position, uint8_t *bit);
+mortarpink_status mortarpink_get(const mortarpink_bitmap *bitmap, uint64_t position, uint8_t *bit);
 
 /* Fills `out` with the chunk of a position; its bits past the length are 0. `len` is the width, else
  * MORTARPINK_WRONG_SIZE. Linear in the width. */
-mortarpink_status mortarpink_chunk(mortarpink_bitmap *bitmap, uint64_t position, uint8_t *out, size_t len);
+mortarpink_status mortarpink_chunk(const mortarpink_bitmap *bitmap, uint64_t position, uint8_t *out, size_t len);
 
 
 /* ---- Reading the current bitmap; not in a batch ---- */
 
 /* Writes the set retained positions of a range to `out`, ascending, up to `len` of them; *count becomes how many. The
  * next page begins after the last one; a page that is not full is the last. Linear in the chunks that are read. */
-mortarpink_status mortarpink_ones(mortarpink_bitmap *bitmap, uint64_t from, uint64_t to, uint64_t *out, size_t len,
-                                  size_t *count);
+mortarpink_status mortarpink_ones(const mortarpink_bitmap *bitmap, uint64_t from, uint64_t to, uint64_t *out,
+                                  size_t len, size_t *count);
 
 /* *position becomes the least retained position, from `from` on, whose bit is 1 (0). Returns MORTARPINK_NONE if
  * there is none. Linear in the chunks that are read. */
-mortarpink_status mortarpink_next_one(mortarpink_bitmap *bitmap, uint64_t from, uint64_t *position);
-mortarpink_status mortarpink_next_zero(mortarpink_bitmap *bitmap, uint64_t from, uint64_t *position);
+mortarpink_status mortarpink_next_one(const mortarpink_bitmap *bitmap, uint64_t from, uint64_t *position);
+mortarpink_status mortarpink_next_zero(const mortarpink_bitmap *bitmap, uint64_t from, uint64_t *position);
 
 /* *position becomes the greatest retained position below `end` whose bit is 1 (0). Returns MORTARPINK_NONE if there
  * is none. Linear in the chunks that are read. */
-mortarpink_status mortarpink_prev_one(mortarpink_bitmap *bitmap, uint64_t end, uint64_t *position);
-mortarpink_status mortarpink_prev_zero(mortarpink_bitmap *bitmap, uint64_t end, uint64_t *position);
+mortarpink_status mortarpink_prev_one(const mortarpink_bitmap *bitmap, uint64_t end, uint64_t *position);
+mortarpink_status mortarpink_prev_zero(const mortarpink_bitmap *bitmap, uint64_t end, uint64_t *position);
 
 /* *count becomes the number of set retained positions in a range. Linear in the chunks of the range. */
-mortarpink_status mortarpink_count_ones(mortarpink_bitmap *bitmap, uint64_t from, uint64_t to, uint64_t *count);
+mortarpink_status mortarpink_count_ones(const mortarpink_bitmap *bitmap, uint64_t from, uint64_t to, uint64_t *count);
 
 /* *position becomes the set retained position number `k`, counted from 0. Returns MORTARPINK_NONE if there is none.
  * Linear in the retained chunks up to that of the position. */
-mortarpink_status mortarpink_select_one(mortarpink_bitmap *bitmap, uint64_t k, uint64_t *position);
+mortarpink_status mortarpink_select_one(const mortarpink_bitmap *bitmap, uint64_t k, uint64_t *position);
 
 /* Fills `out` with the encoding. *size becomes its size in bytes, also with MORTARPINK_WRONG_SIZE, which means that
  * `len` is not that size. Call with `len` 0 first; `out` is not NULL then either. Linear in the encoding; allocates. */
-mortarpink_status mortarpink_encode(mortarpink_bitmap *bitmap, uint8_t *out, size_t len, size_t *size);
+mortarpink_status mortarpink_encode(const mortarpink_bitmap *bitmap, uint8_t *out, size_t len, size_t *size);
 
 
 /* ---- Reading a past state in place; not in a batch ----
@@ -210,24 +220,29 @@ mortarpink_status mortarpink_encode(mortarpink_bitmap *bitmap, uint8_t *out, siz
  * As the calls without `_at`, on the bitmap committed under `number`. They return MORTARPINK_NO_SUCH_COMMIT if that
  * commit is not kept. Only mortarpink_encode_at returns MORTARPINK_NONE then, and leaves *size and `out` unchanged. Each
  * call searches the commits for `number`.
- * Then each chunk that is read costs a search of each commit after `number`. Only mortarpink_encode_at allocates. It is
- * linear in the current bitmap, plus the commits after `number` and the chunks that they changed. */
-mortarpink_status mortarpink_len_at(mortarpink_bitmap *bitmap, uint64_t number, uint64_t *len);
-mortarpink_status mortarpink_pruned_chunks_at(mortarpink_bitmap *bitmap, uint64_t number, uint64_t *chunks);
-mortarpink_status mortarpink_get_at(mortarpink_bitmap *bitmap, uint64_t number, uint64_t position, uint8_t *bit);
-mortarpink_status mortarpink_chunk_at(mortarpink_bitmap *bitmap, uint64_t number, uint64_t position, uint8_t *out,
+ * Then each chunk that is read costs a search of each commit after `number`, or one search if mortarpink_index has added
+ * an index. Only mortarpink_encode_at allocates. It is linear in the current bitmap, plus the commits after `number`
+ * and the chunks that they changed. */
+mortarpink_status mortarpink_len_at(const mortarpink_bitmap *bitmap, uint64_t number, uint64_t *len);
+mortarpink_status mortarpink_pruned_chunks_at(const mortarpink_bitmap *bitmap, uint64_t number, uint64_t *chunks);
+mortarpink_status mortarpink_get_at(const mortarpink_bitmap *bitmap, uint64_t number, uint64_t position, uint8_t *bit);
+mortarpink_status mortarpink_chunk_at(const mortarpink_bitmap *bitmap, uint64_t number, uint64_t position, uint8_t *out,
                                       size_t len);
-mortarpink_status mortarpink_ones_at(mortarpink_bitmap *bitmap, uint64_t number, uint64_t from, uint64_t to,
+mortarpink_status mortarpink_ones_at(const mortarpink_bitmap *bitmap, uint64_t number, uint64_t from, uint64_t to,
                                      uint64_t *out, size_t len, size_t *count);
-mortarpink_status mortarpink_next_one_at(mortarpink_bitmap *bitmap, uint64_t number, uint64_t from, uint64_t *position);
-mortarpink_status mortarpink_next_zero_at(mortarpink_bitmap *bitmap, uint64_t number, uint64_t from,
+mortarpink_status mortarpink_next_one_at(const mortarpink_bitmap *bitmap, uint64_t number, uint64_t from,
+                                         uint64_t *position);
+mortarpink_status mortarpink_next_zero_at(const mortarpink_bitmap *bitmap, uint64_t number, uint64_t from,
                                           uint64_t *position);
-mortarpink_status mortarpink_prev_one_at(mortarpink_bitmap *bitmap, uint64_t number, uint64_t end, uint64_t *position);
-mortarpink_status mortarpink_prev_zero_at(mortarpink_bitmap *bitmap, uint64_t number, uint64_t end, uint64_t *position);
-mortarpink_status mortarpink_count_ones_at(mortarpink_bitmap *bitmap, uint64_t number, uint64_t from, uint64_t to,
+mortarpink_status mortarpink_prev_one_at(const mortarpink_bitmap *bitmap, uint64_t number, uint64_t end,
+                                         uint64_t *position);
+mortarpink_status mortarpink_prev_zero_at(const mortarpink_bitmap *bitmap, uint64_t number, uint64_t end,
+                                          uint64_t *position);
+mortarpink_status mortarpink_count_ones_at(const mortarpink_bitmap *bitmap, uint64_t number, uint64_t from, uint64_t to,
                                            uint64_t *count);
-mortarpink_status mortarpink_select_one_at(mortarpink_bitmap *bitmap, uint64_t number, uint64_t k, uint64_t *position);
-mortarpink_status mortarpink_encode_at(mortarpink_bitmap *bitmap, uint64_t number, uint8_t *out, size_t len,
+mortarpink_status mortarpink_select_one_at(const mortarpink_bitmap *bitmap, uint64_t number, uint64_t k,
+                                           uint64_t *position);
+mortarpink_status mortarpink_encode_at(const mortarpink_bitmap *bitmap, uint64_t number, uint8_t *out, size_t len,
                                        size_t *size);
 
 
@@ -239,22 +254,22 @@ mortarpink_status mortarpink_rewind(mortarpink_bitmap *bitmap, uint64_t number);
 
 /* Writes the kept commit numbers from `from` on to `out`, ascending, up to `len` of them; *count becomes how many.
  * Pages as mortarpink_ones. Logarithmic in the kept commits, plus linear in the numbers written. */
-mortarpink_status mortarpink_commits(mortarpink_bitmap *bitmap, uint64_t from, uint64_t *out, size_t len,
+mortarpink_status mortarpink_commits(const mortarpink_bitmap *bitmap, uint64_t from, uint64_t *out, size_t len,
                                      size_t *count);
 
 /* *exists becomes 1 if a commit is kept under the number, and 0 otherwise. Logarithmic in the commits. */
-mortarpink_status mortarpink_exists(mortarpink_bitmap *bitmap, uint64_t number, uint8_t *exists);
+mortarpink_status mortarpink_exists(const mortarpink_bitmap *bitmap, uint64_t number, uint8_t *exists);
 
 /* *number becomes the greatest (least) kept commit number. Returns MORTARPINK_NONE if there is none. Constant time. */
-mortarpink_status mortarpink_latest(mortarpink_bitmap *bitmap, uint64_t *number);
-mortarpink_status mortarpink_earliest(mortarpink_bitmap *bitmap, uint64_t *number);
+mortarpink_status mortarpink_latest(const mortarpink_bitmap *bitmap, uint64_t *number);
+mortarpink_status mortarpink_earliest(const mortarpink_bitmap *bitmap, uint64_t *number);
 
 /* Writes the indices of the chunks that differ between the bitmaps at two commits to `out`, ascending: those from
  * `first` on, up to `len` of them; *count becomes how many. A chunk that only one of them retains differs. Pages as
  * mortarpink_ones. Returns MORTARPINK_NO_SUCH_COMMIT unless both commits are kept and `from` is at most `to`. Two
  * searches of the kept commits. Each chunk examined costs a search of each commit after `from`; no chunk before `first`
  * is examined, and none after the last one written if the page is full. */
-mortarpink_status mortarpink_changed_chunks(mortarpink_bitmap *bitmap, uint64_t from, uint64_t to, uint64_t first,
+mortarpink_status mortarpink_changed_chunks(const mortarpink_bitmap *bitmap, uint64_t from, uint64_t to, uint64_t first,
                                             uint64_t *out, size_t len, size_t *count);
 
 /* Drops the commits below the number; *dropped becomes how many. Linear in what is dropped. */
@@ -263,12 +278,19 @@ mortarpink_status mortarpink_drop_before(mortarpink_bitmap *bitmap, uint64_t num
 /* Drops all commits. Linear in what is dropped. */
 mortarpink_status mortarpink_clear(mortarpink_bitmap *bitmap);
 
+/* Adds an index of the kept commits, or drops it if `on` is 0. With the index, a read of a chunk at a commit searches
+ * once, however many commits are kept. Calls that add and drop commits keep the index, a copy of the bitmap has a copy of
+ * it, and mortarpink_start drops it. A commit then also allocates its entries in the index. Nothing that a call returns
+ * depends on the index. Per chunk whose old bytes a kept commit has, logarithmic in their number; allocates unless `on`
+ * is 0. */
+mortarpink_status mortarpink_index(mortarpink_bitmap *bitmap, uint8_t on);
+
 /* *entries becomes the number of entries in the reverse records of all kept commits, or 2^64 - 1 if there are more. The
  * record of a commit has at most one entry per chunk that its batch edited, removed or pruned, and at most one more. An
  * entry has the old bytes of one chunk, or no bytes if the commit added the chunk. So *entries is at least the number of
  * old chunks that the history keeps. It is not the number of bytes that the history takes. Linear in the kept
  * commits. */
-mortarpink_status mortarpink_entries(mortarpink_bitmap *bitmap, uint64_t *entries);
+mortarpink_status mortarpink_entries(const mortarpink_bitmap *bitmap, uint64_t *entries);
 
 #ifdef __cplusplus
 }

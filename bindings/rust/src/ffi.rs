@@ -11,10 +11,12 @@
 //! - **Handles.** Only [`Session`] has a handle. The handle starts empty, is written by the library
 //!   alone, and is freed once, by `drop`. It is never copied: if a `Session` is moved, its old place
 //!   is not used again.
-//! - **One call at a time.** The library takes each handle for itself, reads included. A `Session`
-//!   is not `Sync`, so all calls through `&Session` are on one thread. The library calls nothing
-//!   of this crate, so a call ends before the next one starts. That is why a read may take
-//!   `&self`: the handle is in an [`UnsafeCell`], and no reference to it exists at any time.
+//! - **Edits alone, reads together.** A call that takes a handle as `const` writes neither the handle
+//!   nor the bitmap, and any number of threads may make such calls at the same time. The methods
+//!   that take `&self` make such calls, so a `Session` is `Sync`. The library calls nothing of this
+//!   crate, so a call of one thread ends before its next one starts. The handle is in an
+//!   [`UnsafeCell`], and no reference to it exists at any time. Only [`Session::settle`] makes an edit
+//!   through `&self`, at a time at which no thread reads.
 //! - **Pointers.** Each other pointer comes from a reference or a slice of the caller, so it is not
 //!   null and points to memory of its type. Outputs come from `&mut` references, so they overlap
 //!   neither each other nor the handle.
@@ -22,6 +24,8 @@
 use std::cell::UnsafeCell;
 use std::ffi::{CStr, c_char, c_void};
 use std::ptr;
+use std::sync::atomic::{AtomicBool, Ordering};
+use std::sync::{Mutex, PoisonError};
 
 use crate::Error;
 
@@ -60,7 +64,8 @@ unsafe extern "C" {
     fn mortarpink_new(bitmap: *mut Handle, width: u32) -> Status;
     fn mortarpink_read(bitmap: *mut Handle, width: u32, least: u64, most: u64, bytes: *const u8, len: usize, used: *mut usize, length: *mut u64) -> Status;
     fn mortarpink_free(bitmap: *mut Handle) -> Status;
-    fn mortarpink_clone(bitmap: *mut Handle, copy: *mut Handle) -> Status;
+    fn mortarpink_clone(bitmap: *const Handle, copy: *mut Handle) -> Status;
+    fn mortarpink_checkout(bitmap: *const Handle, number: u64, copy: *mut Handle) -> Status;
     fn mortarpink_start(bitmap: *mut Handle, pruned_chunks: usize) -> Status;
     fn mortarpink_begin(bitmap: *mut Handle) -> Status;
     fn mortarpink_push(bitmap: *mut Handle, bit: u8) -> Status;
@@ -72,39 +77,40 @@ unsafe extern "C" {
     fn mortarpink_prune(bitmap: *mut Handle, position: u64) -> Status;
     fn mortarpink_commit(bitmap: *mut Handle, number: u64, previous: *mut u64) -> Status;
     fn mortarpink_abort(bitmap: *mut Handle) -> Status;
-    fn mortarpink_len(bitmap: *mut Handle, len: *mut u64) -> Status;
-    fn mortarpink_pruned_chunks(bitmap: *mut Handle, chunks: *mut u64) -> Status;
-    fn mortarpink_get(bitmap: *mut Handle, position: u64, bit: *mut u8) -> Status;
-    fn mortarpink_chunk(bitmap: *mut Handle, position: u64, out: *mut u8, len: usize) -> Status;
-    fn mortarpink_ones(bitmap: *mut Handle, from: u64, to: u64, out: *mut u64, len: usize, count: *mut usize) -> Status;
-    fn mortarpink_next_one(bitmap: *mut Handle, from: u64, position: *mut u64) -> Status;
-    fn mortarpink_next_zero(bitmap: *mut Handle, from: u64, position: *mut u64) -> Status;
-    fn mortarpink_prev_one(bitmap: *mut Handle, end: u64, position: *mut u64) -> Status;
-    fn mortarpink_prev_zero(bitmap: *mut Handle, end: u64, position: *mut u64) -> Status;
-    fn mortarpink_count_ones(bitmap: *mut Handle, from: u64, to: u64, count: *mut u64) -> Status;
-    fn mortarpink_select_one(bitmap: *mut Handle, k: u64, position: *mut u64) -> Status;
-    fn mortarpink_encode(bitmap: *mut Handle, out: *mut u8, len: usize, size: *mut usize) -> Status;
-    fn mortarpink_len_at(bitmap: *mut Handle, number: u64, len: *mut u64) -> Status;
-    fn mortarpink_pruned_chunks_at(bitmap: *mut Handle, number: u64, chunks: *mut u64) -> Status;
-    fn mortarpink_get_at(bitmap: *mut Handle, number: u64, position: u64, bit: *mut u8) -> Status;
-    fn mortarpink_chunk_at(bitmap: *mut Handle, number: u64, position: u64, out: *mut u8, len: usize) -> Status;
-    fn mortarpink_ones_at(bitmap: *mut Handle, number: u64, from: u64, to: u64, out: *mut u64, len: usize, count: *mut usize) -> Status;
-    fn mortarpink_next_one_at(bitmap: *mut Handle, number: u64, from: u64, position: *mut u64) -> Status;
-    fn mortarpink_next_zero_at(bitmap: *mut Handle, number: u64, from: u64, position: *mut u64) -> Status;
-    fn mortarpink_prev_one_at(bitmap: *mut Handle, number: u64, end: u64, position: *mut u64) -> Status;
-    fn mortarpink_prev_zero_at(bitmap: *mut Handle, number: u64, end: u64, position: *mut u64) -> Status;
-    fn mortarpink_count_ones_at(bitmap: *mut Handle, number: u64, from: u64, to: u64, count: *mut u64) -> Status;
-    fn mortarpink_select_one_at(bitmap: *mut Handle, number: u64, k: u64, position: *mut u64) -> Status;
-    fn mortarpink_encode_at(bitmap: *mut Handle, number: u64, out: *mut u8, len: usize, size: *mut usize) -> Status;
+    fn mortarpink_len(bitmap: *const Handle, len: *mut u64) -> Status;
+    fn mortarpink_pruned_chunks(bitmap: *const Handle, chunks: *mut u64) -> Status;
+    fn mortarpink_get(bitmap: *const Handle, position: u64, bit: *mut u8) -> Status;
+    fn mortarpink_chunk(bitmap: *const Handle, position: u64, out: *mut u8, len: usize) -> Status;
+    fn mortarpink_ones(bitmap: *const Handle, from: u64, to: u64, out: *mut u64, len: usize, count: *mut usize) -> Status;
+    fn mortarpink_next_one(bitmap: *const Handle, from: u64, position: *mut u64) -> Status;
+    fn mortarpink_next_zero(bitmap: *const Handle, from: u64, position: *mut u64) -> Status;
+    fn mortarpink_prev_one(bitmap: *const Handle, end: u64, position: *mut u64) -> Status;
+    fn mortarpink_prev_zero(bitmap: *const Handle, end: u64, position: *mut u64) -> Status;
+    fn mortarpink_count_ones(bitmap: *const Handle, from: u64, to: u64, count: *mut u64) -> Status;
+    fn mortarpink_select_one(bitmap: *const Handle, k: u64, position: *mut u64) -> Status;
+    fn mortarpink_encode(bitmap: *const Handle, out: *mut u8, len: usize, size: *mut usize) -> Status;
+    fn mortarpink_len_at(bitmap: *const Handle, number: u64, len: *mut u64) -> Status;
+    fn mortarpink_pruned_chunks_at(bitmap: *const Handle, number: u64, chunks: *mut u64) -> Status;
+    fn mortarpink_get_at(bitmap: *const Handle, number: u64, position: u64, bit: *mut u8) -> Status;
+    fn mortarpink_chunk_at(bitmap: *const Handle, number: u64, position: u64, out: *mut u8, len: usize) -> Status;
+    fn mortarpink_ones_at(bitmap: *const Handle, number: u64, from: u64, to: u64, out: *mut u64, len: usize, count: *mut usize) -> Status;
+    fn mortarpink_next_one_at(bitmap: *const Handle, number: u64, from: u64, position: *mut u64) -> Status;
+    fn mortarpink_next_zero_at(bitmap: *const Handle, number: u64, from: u64, position: *mut u64) -> Status;
+    fn mortarpink_prev_one_at(bitmap: *const Handle, number: u64, end: u64, position: *mut u64) -> Status;
+    fn mortarpink_prev_zero_at(bitmap: *const Handle, number: u64, end: u64, position: *mut u64) -> Status;
+    fn mortarpink_count_ones_at(bitmap: *const Handle, number: u64, from: u64, to: u64, count: *mut u64) -> Status;
+    fn mortarpink_select_one_at(bitmap: *const Handle, number: u64, k: u64, position: *mut u64) -> Status;
+    fn mortarpink_encode_at(bitmap: *const Handle, number: u64, out: *mut u8, len: usize, size: *mut usize) -> Status;
     fn mortarpink_rewind(bitmap: *mut Handle, number: u64) -> Status;
-    fn mortarpink_commits(bitmap: *mut Handle, from: u64, out: *mut u64, len: usize, count: *mut usize) -> Status;
-    fn mortarpink_exists(bitmap: *mut Handle, number: u64, exists: *mut u8) -> Status;
-    fn mortarpink_latest(bitmap: *mut Handle, number: *mut u64) -> Status;
-    fn mortarpink_earliest(bitmap: *mut Handle, number: *mut u64) -> Status;
-    fn mortarpink_changed_chunks(bitmap: *mut Handle, from: u64, to: u64, first: u64, out: *mut u64, len: usize, count: *mut usize) -> Status;
+    fn mortarpink_commits(bitmap: *const Handle, from: u64, out: *mut u64, len: usize, count: *mut usize) -> Status;
+    fn mortarpink_exists(bitmap: *const Handle, number: u64, exists: *mut u8) -> Status;
+    fn mortarpink_latest(bitmap: *const Handle, number: *mut u64) -> Status;
+    fn mortarpink_earliest(bitmap: *const Handle, number: *mut u64) -> Status;
+    fn mortarpink_changed_chunks(bitmap: *const Handle, from: u64, to: u64, first: u64, out: *mut u64, len: usize, count: *mut usize) -> Status;
     fn mortarpink_drop_before(bitmap: *mut Handle, number: u64, dropped: *mut u64) -> Status;
     fn mortarpink_clear(bitmap: *mut Handle) -> Status;
-    fn mortarpink_entries(bitmap: *mut Handle, entries: *mut u64) -> Status;
+    fn mortarpink_index(bitmap: *mut Handle, on: u8) -> Status;
+    fn mortarpink_entries(bitmap: *const Handle, entries: *mut u64) -> Status;
 }
 
 /// Calls a function of the library. The module says why that is sound.
@@ -173,12 +179,23 @@ fn check(status: Status) -> Result<(), Error> {
 }
 
 /// A bitmap with its commits. Reads take `at`: a commit number, or `None` for the current bitmap.
+///
+/// Outside the methods of a batch, a caller calls [`settle`](Session::settle) before its first read.
 pub struct Session {
     handle: UnsafeCell<Handle>,
+    /// Whether there is a batch.
+    in_batch: AtomicBool,
+    /// Held by the thread that ends a leaked batch.
+    settling: Mutex<()>,
 }
 
 // SAFETY: The memory of a handle comes from `malloc`, and no call keeps anything per thread.
 unsafe impl Send for Session {}
+
+// SAFETY: The methods that take `&self` make calls that only read. The header promises that any number
+// of threads may make them at the same time while no call edits the bitmap. The edits take `&mut self`,
+// so no other call runs beside them. `settle` is the exception, and says why it is sound.
+unsafe impl Sync for Session {}
 
 impl Drop for Session {
     fn drop(&mut self) {
@@ -197,7 +214,11 @@ impl Session {
             "the library mortarpink has another version of the interface"
         );
         let session = ptr::null_mut();
-        Session { handle: UnsafeCell::new(Handle { session }) }
+        Session {
+            handle: UnsafeCell::new(Handle { session }),
+            in_batch: AtomicBool::new(false),
+            settling: Mutex::new(()),
+        }
     }
 
     pub fn new(width: u32) -> Result<Session, Error> {
@@ -224,6 +245,12 @@ impl Session {
     pub fn try_clone(&self) -> Result<Session, Error> {
         let copy = Session::empty();
         check(call!(mortarpink_clone(self.handle.get(), copy.handle.get())))?;
+        Ok(copy)
+    }
+
+    pub fn checkout(&self, number: u64) -> Result<Session, Error> {
+        let copy = Session::empty();
+        check(call!(mortarpink_checkout(self.handle.get(), number, copy.handle.get())))?;
         Ok(copy)
     }
 
@@ -266,6 +293,7 @@ impl Session {
 impl Session {
     pub fn begin(&mut self) {
         always(call!(mortarpink_begin(self.handle.get())));
+        *self.in_batch.get_mut() = true;
     }
 
     pub fn push(&mut self, bit: bool) -> Result<(), Error> {
@@ -304,12 +332,27 @@ impl Session {
         let mut previous = 0;
         match call!(mortarpink_commit(self.handle.get(), number, &mut previous)) {
             NON_MONOTONIC_COMMIT => Err(Error::NonMonotonicCommit { previous, attempted: number }),
-            status => check(status),
+            status => {
+                check(status)?;
+                *self.in_batch.get_mut() = false;
+                Ok(())
+            }
         }
     }
 
-    pub fn abort(&self) {
-        always(call!(mortarpink_abort(self.handle.get())));
+    /// Aborts the batch, if there is one.
+    ///
+    /// There is one if a batch ends, which borrows the session mutably, or if it was leaked. Then this
+    /// is the first call of each thread that has the session: it waits here until the batch is aborted.
+    /// So no thread reads while one of them aborts it.
+    pub fn settle(&self) {
+        if self.in_batch.load(Ordering::Acquire) {
+            let _alone = self.settling.lock().unwrap_or_else(PoisonError::into_inner);
+            if self.in_batch.load(Ordering::Acquire) {
+                always(call!(mortarpink_abort(self.handle.get())));
+                self.in_batch.store(false, Ordering::Release);
+            }
+        }
     }
 }
 
@@ -418,6 +461,10 @@ impl Session {
 
     pub fn clear(&mut self) {
         always(call!(mortarpink_clear(self.handle.get())));
+    }
+
+    pub fn set_indexed(&mut self, on: bool) -> Result<(), Error> {
+        check(call!(mortarpink_index(self.handle.get(), on.into())))
     }
 
     pub fn entries(&self) -> u64 {
