@@ -12,6 +12,7 @@ usage: check_bindings.py                  builds the library and installs it twi
 - Two packages of one build are the same byte for byte.
 - The header compiles as C99 and as C++11 without a warning. The C example prints what it should, with the static and with the shared library.
 - The C tests pass with sanitizers, under valgrind, and with failing allocations. The tests of the Rust crate and of the Python package pass.
+- The calls that take a handle as `const` write neither the handle nor the bitmap, and threads may make them at the same time.
 - Random scripts through the C interface give what the reference model gives, and free what they allocate (tools/check_frees.py).
 
 A run without valgrind, a C++ compiler, clippy, or a Python with setuptools and wheel leaves out what needs it, and says so.
@@ -38,7 +39,8 @@ SECONDS = 3600  # the most that one command may take
 WARNINGS = ("-Wall", "-Wextra", "-Wpedantic", "-Werror")
 SANITIZERS = ("-g", "-fsanitize=address,undefined", "-fno-sanitize-recover=all")
 LEAKS = ("env", "ASAN_OPTIONS=detect_leaks=1")
-C_TESTS = {"calls": "checks", "allocation_failures": "runs"}
+WRAPPED = ("-Wl,--wrap=malloc,--wrap=realloc,--wrap=free",)  # gives the library the memory functions of the program
+C_TESTS = {"calls": "checks", "allocation_failures": "runs", "readonly": "checks", "threads": "checks"}
 
 # What the libraries may need of the C library.
 NEEDED = {"bcmp", "free", "malloc", "memcmp", "memcpy", "memmove", "memset", "realloc"}
@@ -209,6 +211,10 @@ def c_test_cases(place):
     if has_valgrind:
         yield c_test(place, "calls", "under valgrind", ["-g"], valgrind)
     yield c_test(place, "allocation_failures", "with the static library")
+    yield c_test(place, "readonly", "with memory that is read-only", WRAPPED)
+    yield c_test(place, "threads", "with four threads", ["-pthread"])
+    for tool in ("helgrind", "drd") if has_valgrind else ():
+        yield c_test(place, "threads", f"under {tool}", ["-g", "-pthread"], ["valgrind", "--quiet", f"--tool={tool}", "--error-exitcode=9"])
 
 
 # The bindings

@@ -201,7 +201,7 @@ class InterfaceScript(RandomScript):
 
     def extra_steps(self):
         return [self.search, self.search, self.search, self.count_ones, self.read_past, self.read_past, self.page_of_commits, self.page_of_changes,
-                self.use_wrong_arguments, self.push_in_one_call, *[self.clone] * (self.random.random() < 0.1)]
+                self.use_wrong_arguments, self.push_in_one_call, *[self.clone, self.checkout, self.index] * (self.random.random() < 0.1)]
 
     def any_number(self):
         return self.kept_number(list(self.state.history))
@@ -317,6 +317,22 @@ class InterfaceScript(RandomScript):
         self.expect("clone", "FULL_HANDLE", copy)
         self.handle, other = self.random.sample([self.handle, copy], 2)
         self.spare = other, self.state
+
+    def checkout(self):
+        """Makes a bitmap of the one at a commit, and goes on with either. The other one is compared with what it was, later."""
+        number, copy = self.any_number(), Handle()
+        status, bitmap = self.view(number)
+        self.expect("checkout", status, number, copy)
+        if status != "DONE":
+            return self.expect_of(copy, "free", "EMPTY_HANDLE")
+        self.expect("checkout", "FULL_HANDLE", number, copy)
+        self.check_spare()
+        made = copy, self.state._replace(current=bitmap, history={}, last=None)
+        (self.handle, self.state), self.spare = self.random.sample([(self.handle, self.state), made], 2)
+
+    def index(self):
+        """Adds an index of the kept commits, or drops it. The calls after that do what they did without it."""
+        self.expect("index", "DONE" if self.state.pending is None else "WRONG_MODE", self.random.choice([0, 1, 1, 255]))
 
     def check_spare(self):
         """Reads the bitmap that was set aside, with its commits, and frees it."""

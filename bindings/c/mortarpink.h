@@ -11,10 +11,13 @@
  *     if (mortarpink_push(&bitmap, 1) == MORTARPINK_DONE) mortarpink_commit(&bitmap, 7, &previous);
  *     mortarpink_free(&bitmap);
  *
- * Ownership: a handle owns its bitmap from mortarpink_new, mortarpink_read or mortarpink_clone until
- * mortarpink_free. A handle starts as MORTARPINK_EMPTY, and only these functions write it. Do not copy a handle that
- * is not empty, except to move it: the old place is not used again, unless MORTARPINK_EMPTY is assigned to it. An empty
- * handle is valid in every call, and a freed handle is empty again.
+ * Ownership: a handle owns its bitmap from mortarpink_new, mortarpink_read, mortarpink_clone or mortarpink_checkout
+ * until mortarpink_free. A handle starts as MORTARPINK_EMPTY, and only these functions write it. Do not copy a handle
+ * that is not empty, except to move it: the old place is not used again, unless MORTARPINK_EMPTY is assigned to it. An
+ * empty handle is valid in every call, and a freed handle is empty again.
+ *
+ * Reads: a call that takes a handle as `const` writes neither the handle nor the bitmap that it owns. Every other call
+ * edits the bitmap, or may.
  *
  * What callers have to ensure. No call can check these rules, and the calls do what this header says only if the
  * program keeps all of them. Every other argument is checked.
@@ -25,11 +28,13 @@
  *   that type: to one value, or to `len` elements if a length follows.
  * - Values: all of that memory holds a value when the call begins. Initialize outputs and buffers too.
  * - Overlap: the memory of no two pointers of one call overlaps.
- * - Access: while a call runs, nothing else reads or writes the memory of its handles and outputs, or the bitmaps that
- *   the handles own. Nothing else writes the memory of its inputs.
- * - Threads: each handle is used by one call at a time, reads included. Calls on different handles may run at the same
- *   time. A handle goes to another thread in an ordered way: through a lock, the start or the join of a thread, or
- *   a sequentially consistent atomic.
+ * - Access: while a call runs, nothing else reads or writes the memory of its outputs, or of its handles and the bitmaps
+ *   that they own. But other calls that take a handle as `const` may read it and its bitmap while this one does too.
+ *   Nothing else writes the memory of its inputs.
+ * - Threads: any number of threads may read one bitmap at the same time, by calls that take its handle as `const`, while
+ *   no call edits it. An edit has the handle for itself. Calls on different handles may run at the same time. A handle
+ *   goes to another thread in an ordered way, and so does a bitmap after an edit: through a lock, the start or the join
+ *   of a thread, or a sequentially consistent atomic. That reads may run at the same time is tested, and not proved.
  * - Signals and forks: no call is made from a signal handler, or in the forked child of a process with threads.
  * - Memory: the program's malloc, realloc and free are from one allocator and work as the C standard says. malloc and
  *   realloc align a block to each power of two up to 16 that divides its size. The library allocates by malloc and
@@ -144,6 +149,18 @@ mortarpink_status mortarpink_free(mortarpink_bitmap *bitmap);
  *   MORTARPINK_FULL_HANDLE if `copy` is not, and MORTARPINK_NO_MEMORY if an allocation fails.
  * Cost: linear in what is copied. Allocates what it copies. */
 mortarpink_status mortarpink_clone(mortarpink_bitmap *bitmap, mortarpink_bitmap *copy);
+
+/* Makes a bitmap of its own of the bitmap at commit `number`, in the empty handle `copy`: with no commits and no
+ * last number.
+ * Errors: returns the first status that applies. `copy` is then unchanged.
+ * - MORTARPINK_EMPTY_HANDLE if `bitmap` is empty
+ * - MORTARPINK_FULL_HANDLE if `copy` is not empty
+ * - MORTARPINK_WRONG_MODE if there is a batch
+ * - MORTARPINK_NO_SUCH_COMMIT if no commit is kept under `number`
+ * - MORTARPINK_NO_MEMORY if an allocation fails
+ * Cost: linear in the current bitmap, plus the commits after `number` and the chunks that they changed. Allocates
+ *   the session and its bitmap. */
+mortarpink_status mortarpink_checkout(mortarpink_bitmap *bitmap, uint64_t number, mortarpink_bitmap *copy);
 
 /* Replaces the bitmap by one with `pruned_chunks` pruned chunks, no bits, no commits and no last commit number.
  * Errors: returns MORTARPINK_WRONG_MODE in a batch, and MORTARPINK_PRUNED_CHUNKS_OVERFLOW if the number of pruned
@@ -298,7 +315,8 @@ mortarpink_status mortarpink_encode(mortarpink_bitmap *bitmap, uint8_t *out, siz
 /* ---- Reading a past state in place; not in a batch ----
  *
  * As the calls without `_at`, on the bitmap committed under `number`. Each call searches the commits for `number`. Then
- * each chunk that is read costs a search of each commit after `number`. Only mortarpink_encode_at allocates. */
+ * each chunk that is read costs a search of each commit after `number`, or one search if mortarpink_index has added an
+ * index. Only mortarpink_encode_at allocates. */
 
 /* Writes the length of the bitmap at commit `number`, in bits, to *len. Pruned bits count.
  * Errors: returns MORTARPINK_WRONG_MODE in a batch, and MORTARPINK_NO_SUCH_COMMIT if no commit is kept under
@@ -443,6 +461,16 @@ mortarpink_status mortarpink_drop_before(mortarpink_bitmap *bitmap, uint64_t num
  * Errors: returns MORTARPINK_WRONG_MODE in a batch.
  * Cost: linear in what is dropped. */
 mortarpink_status mortarpink_clear(mortarpink_bitmap *bitmap);
+
+/* Adds an index of the kept commits if `on` is not 0, and drops it if `on` is 0. With the index, a read of a chunk
+ * at a commit searches once, however many commits are kept. Commits, rewinds, and calls that drop commits keep the
+ * index, and a copy of the bitmap has a copy of it. Nothing that a call returns depends on the index.
+ * Errors: returns MORTARPINK_WRONG_MODE in a batch, and MORTARPINK_NO_MEMORY if an allocation fails. Nothing has
+ *   changed then.
+ * Cost: per chunk whose old bytes a kept commit has, logarithmic in their number. Linear in the index if it is
+ *   dropped. Allocates the index: an entry per chunk whose old bytes a kept commit has, with these bytes. Does not
+ *   allocate if `on` is 0. */
+mortarpink_status mortarpink_index(mortarpink_bitmap *bitmap, uint8_t on);
 
 /* Writes the number of entries in the reverse records of all kept commits to *entries, or 2^64 - 1 if there are
  * more. The record of a commit has at most one entry per chunk that its batch edited, removed or pruned, and at most

@@ -183,6 +183,14 @@ static mortarpink_status clone(struct subject *subject) {
     return mortarpink_clone(&subject->bitmap, &subject->copy);
 }
 
+static mortarpink_status checkout_1(struct subject *subject) {
+    return mortarpink_checkout(&subject->bitmap, 1, &subject->copy);
+}
+
+static mortarpink_status add_index(struct subject *subject) {
+    return mortarpink_index(&subject->bitmap, 1);
+}
+
 static mortarpink_status free_copy(struct subject *subject) {
     return mortarpink_free(&subject->copy);
 }
@@ -214,7 +222,8 @@ static step *const steps[] = {
     make,      begin,      push,     push_byte, push_chunk, push_chunk, push_chunk, commit_1,
     begin,     set_first,  push,     clone,     set_second, prune,      push_byte,  commit_2,
     free_copy, clone,      encode,   begin,     set_third,  commit_3,   encode_1,   free_copy,
-    read_copy, rewind_to_1, free_copy, clone,
+    read_copy, rewind_to_1, free_copy, clone,     free_copy,  checkout_1, add_index,  begin,
+    set_first, commit_2,   free_copy, clone,
 };
 
 enum { STEPS = sizeof steps / sizeof *steps, STEPS_TO_COMMIT_3 = 22 };
@@ -340,6 +349,7 @@ static void read_in_place(mortarpink_bitmap *bitmap) {
     check_done(mortarpink_commits(bitmap, 0, numbers, NUMBERS, &count));
     check_done(mortarpink_changed_chunks(bitmap, 1, 3, 0, numbers, NUMBERS, &count));
     check_done(mortarpink_entries(bitmap, &number));
+    check_done(mortarpink_index(bitmap, 0));
     check_done(mortarpink_drop_before(bitmap, 2, &number));
     check_done(mortarpink_begin(bitmap));
     check_done(mortarpink_pop(bitmap, &bit));

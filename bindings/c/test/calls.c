@@ -164,6 +164,9 @@ static void check_past_reads(mortarpink_bitmap *bitmap, uint64_t number, mortarp
 }
 
 static void check_commit_calls(mortarpink_bitmap *bitmap, mortarpink_status status) {
+    mortarpink_bitmap copy = MORTARPINK_EMPTY;
+    check_unwritten(mortarpink_checkout(bitmap, 1, &copy), status);
+    check_unwritten(mortarpink_free(&copy), MORTARPINK_EMPTY_HANDLE);
     check_unwritten(mortarpink_start(bitmap, 1), status);
     check_unwritten(mortarpink_begin(bitmap), status);
     check_unwritten(mortarpink_rewind(bitmap, 1), status);
@@ -174,6 +177,8 @@ static void check_commit_calls(mortarpink_bitmap *bitmap, mortarpink_status stat
     check_unwritten(mortarpink_changed_chunks(bitmap, 1, 1, 0, out.numbers, 8, &out.size), status);
     check_unwritten(mortarpink_drop_before(bitmap, 1, &out.number), status);
     check_unwritten(mortarpink_clear(bitmap), status);
+    check_unwritten(mortarpink_index(bitmap, 1), status);
+    check_unwritten(mortarpink_index(bitmap, 0), status);
     check_unwritten(mortarpink_entries(bitmap, &out.number), status);
 }
 
@@ -218,13 +223,15 @@ static void test_modes(uint32_t width) {
 }
 
 static void test_unknown_commits(uint32_t width) {
-    mortarpink_bitmap bitmap = MORTARPINK_EMPTY;
+    mortarpink_bitmap bitmap = MORTARPINK_EMPTY, copy = MORTARPINK_EMPTY;
     make(&bitmap, width, "1");
     commit(&bitmap, 1);
     check_past_reads(&bitmap, 0, MORTARPINK_NO_SUCH_COMMIT);
     check_past_reads(&bitmap, 2, MORTARPINK_NO_SUCH_COMMIT);
     check_past_reads(&bitmap, UINT64_MAX, MORTARPINK_NO_SUCH_COMMIT);
     check_unwritten(mortarpink_rewind(&bitmap, 2), MORTARPINK_NO_SUCH_COMMIT);
+    check_unwritten(mortarpink_checkout(&bitmap, 2, &copy), MORTARPINK_NO_SUCH_COMMIT);
+    check_unwritten(mortarpink_free(&copy), MORTARPINK_EMPTY_HANDLE);
     check_done(mortarpink_free(&bitmap));
 }
 
@@ -251,6 +258,7 @@ static void test_full_handle(uint32_t width) {
     check_unwritten(mortarpink_new(&bitmap, width), MORTARPINK_FULL_HANDLE);
     check_unwritten(mortarpink_read(&bitmap, width, 0, 9, bytes, 16, &out.size, &out.number), MORTARPINK_FULL_HANDLE);
     check_unwritten(mortarpink_clone(&other, &bitmap), MORTARPINK_FULL_HANDLE);
+    check_unwritten(mortarpink_checkout(&other, 1, &bitmap), MORTARPINK_FULL_HANDLE);
     check(has_bits(visible(&bitmap), "01"));
     check(has_bits(visible(&other), "1"));
     check_done(mortarpink_free(&bitmap));
@@ -318,6 +326,33 @@ static void test_clone(uint32_t width) {
     check_bit(mortarpink_exists(&bitmap, 5, &out.bit), 0);
     check_done(mortarpink_free(&bitmap));
     check(has_bits(at_commit(&copy, 5), "0101"));
+    check_done(mortarpink_free(&copy));
+}
+
+/* A bitmap of a commit has its bits and nothing else, and changes alone. */
+static void test_checkout(uint32_t width) {
+    mortarpink_bitmap bitmap = MORTARPINK_EMPTY, copy = MORTARPINK_EMPTY;
+    make(&bitmap, width, "110");
+    commit(&bitmap, 4);
+    check_done(mortarpink_begin(&bitmap));
+    check_done(mortarpink_set(&bitmap, 0, 0));
+    push_text(&bitmap, "1");
+    commit(&bitmap, 5);
+    check_done(mortarpink_checkout(&bitmap, 4, &copy));
+    check(has_bits(visible(&copy), "110"));
+    check_none(mortarpink_latest(&copy, &out.number));
+    check_number(mortarpink_entries(&copy, &out.number), 0);
+    check_done(mortarpink_begin(&copy));
+    push_text(&copy, "0");
+    commit(&copy, 0);
+    check(has_bits(at_commit(&copy, 0), "1100"));
+    check(has_bits(visible(&bitmap), "0101"));
+    check(has_bits(at_commit(&bitmap, 4), "110"));
+    check_bit(mortarpink_exists(&bitmap, 0, &out.bit), 0);
+    check_done(mortarpink_free(&copy));
+    check_done(mortarpink_checkout(&bitmap, 5, &copy));
+    check_done(mortarpink_free(&bitmap));
+    check(has_bits(visible(&copy), "0101"));
     check_done(mortarpink_free(&copy));
 }
 
@@ -791,6 +826,45 @@ static void test_rewind(void) {
     check_done(mortarpink_free(&bitmap));
 }
 
+/* Checks those commits of `make_commits` that are kept from a number on. */
+static void check_indexed(mortarpink_bitmap *bitmap, uint64_t from) {
+    if (from <= 3) check(has_bits(at_commit(bitmap, 3), "10"));
+    if (from <= 5) check_number(mortarpink_count_ones_at(bitmap, 5, 0, 99, &out.number), 65);
+    check_number(mortarpink_count_ones_at(bitmap, 9, 0, 99, &out.number), 64);
+    check_bit(mortarpink_get_at(bitmap, 9, 65, &out.bit), 0);
+    check_number(mortarpink_next_zero_at(bitmap, 9, 2, &out.number), 65);
+}
+
+/* The reads of commits are the same with an index, which the calls that change the commits keep. */
+static void test_index(void) {
+    mortarpink_bitmap bitmap = MORTARPINK_EMPTY, copy = MORTARPINK_EMPTY;
+    make_commits(&bitmap);
+    check_done(mortarpink_index(&bitmap, 1));
+    check_done(mortarpink_index(&bitmap, 255));
+    check_indexed(&bitmap, 3);
+    check_done(mortarpink_begin(&bitmap));
+    check_done(mortarpink_set(&bitmap, 0, 0));
+    commit(&bitmap, 12);
+    check_indexed(&bitmap, 3);
+    check_bit(mortarpink_get_at(&bitmap, 9, 0, &out.bit), 1);
+    check_done(mortarpink_clone(&bitmap, &copy));
+    check_indexed(&copy, 3);
+    check_done(mortarpink_rewind(&bitmap, 9));
+    check_indexed(&bitmap, 3);
+    check_number(mortarpink_drop_before(&bitmap, 5, &out.number), 1);
+    check_indexed(&bitmap, 5);
+    check_done(mortarpink_index(&bitmap, 0));
+    check_done(mortarpink_index(&bitmap, 0));
+    check_indexed(&bitmap, 5);
+    check_done(mortarpink_index(&bitmap, 1));
+    check_done(mortarpink_clear(&bitmap));
+    check_none(mortarpink_latest(&bitmap, &out.number));
+    check_number(mortarpink_count_ones(&bitmap, 0, 99, &out.number), 64);
+    check_indexed(&copy, 3);
+    check_done(mortarpink_free(&bitmap));
+    check_done(mortarpink_free(&copy));
+}
+
 /* Dropped commits leave the current bitmap, and their numbers are not used again. */
 static void test_dropping(void) {
     const uint64_t kept[] = {5, 9};
@@ -929,6 +1003,7 @@ static void test_width(uint32_t width) {
     test_free(width);
     test_empty_values(width);
     test_clone(width);
+    test_checkout(width);
     test_start(width);
     test_pushes(width);
     test_chunks(width);
@@ -952,6 +1027,7 @@ int main(void) {
     test_changed_chunks();
     test_commit_numbers();
     test_rewind();
+    test_index();
     test_dropping();
     return finish("checks", checks, failures);
 }

@@ -53,6 +53,7 @@ FUNCTIONS: dict[str, tuple[Any, ...]] = {
     "read": (HANDLE, U32, U64, U64, BYTES, SIZE, OUT_SIZE, OUT_U64),
     "free": (HANDLE,),
     "clone": (HANDLE, HANDLE),
+    "checkout": (HANDLE, U64, HANDLE),
     "start": (HANDLE, SIZE),
     "begin": (HANDLE,),
     "push": (HANDLE, U8),
@@ -96,6 +97,7 @@ FUNCTIONS: dict[str, tuple[Any, ...]] = {
     "changed_chunks": (HANDLE, U64, U64, U64, OUT_U64, SIZE, OUT_SIZE),
     "drop_before": (HANDLE, U64, OUT_U64),
     "clear": (HANDLE,),
+    "index": (HANDLE, U8),
     "entries": (HANDLE, OUT_U64),
 }
 

@@ -42,7 +42,6 @@ impl<'a> Batch<'a> {
     /// Begins a batch. The bitmap is not in one.
     pub(crate) fn begin(bitmap: &'a mut Bitmap) -> Batch<'a> {
         bitmap.session.begin();
-        bitmap.in_batch.set(true);
         Batch { bitmap }
     }
 
@@ -156,10 +155,7 @@ impl<'a> Batch<'a> {
     /// ```
     pub fn try_commit(self, number: u64) -> Result<(), CommitError<'a>> {
         match self.bitmap.session.commit(number) {
-            Ok(()) => {
-                self.bitmap.in_batch.set(false);
-                Ok(())
-            }
+            Ok(()) => Ok(()),
             Err(error) => Err(CommitError { batch: self, error }),
         }
     }
@@ -209,7 +205,7 @@ impl Batch<'_> {
 
 impl Drop for Batch<'_> {
     fn drop(&mut self) {
-        self.bitmap.settle();
+        self.bitmap.session.settle();
     }
 }
 

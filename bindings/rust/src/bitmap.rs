@@ -1,4 +1,3 @@
-use std::cell::Cell;
 use std::fmt;
 use std::ops::RangeBounds;
 
@@ -12,20 +11,26 @@ use crate::{Batch, ChangedChunks, Chunk, Commits, Error, Ones, Version, Width, r
 ///
 /// # Memory
 ///
-/// Reads do not allocate, except for [`to_bytes`](Bitmap::to_bytes).
+/// Reads do not allocate, except for [`to_bytes`](Bitmap::to_bytes), [`try_clone`](Bitmap::try_clone)
+/// and [`checkout`](Bitmap::checkout).
 ///
 /// # Threads
 ///
-/// A bitmap is `Send`, so it may move to another thread. It is not `Sync`, because the library takes
-/// a bitmap for itself during each call, reads included. This does not compile:
+/// A bitmap is `Send` and `Sync`: it may move to another thread, and any number of threads may read
+/// it at the same time, since reads take `&self`. Edits take `&mut self`, so nothing reads meanwhile.
+/// That reads may run at the same time is tested, and not proved.
 ///
-/// ```compile_fail,E0277
+/// ```
 /// use mortarpink_proved::{Bitmap, Width};
 ///
-/// let bitmap = Bitmap::new(Width::Bytes8).unwrap();
+/// let mut bitmap = Bitmap::new(Width::Bytes8)?;
+/// bitmap.begin().commit(1)?;
+/// let version = bitmap.at(1)?;
 /// std::thread::scope(|scope| {
-///     scope.spawn(|| bitmap.len());
+///     scope.spawn(|| assert!(bitmap.is_empty()));
+///     scope.spawn(|| assert!(version.is_empty()));
 /// });
+/// # Ok::<(), mortarpink_proved::Error>(())
 /// ```
 ///
 /// # Examples
@@ -47,14 +52,12 @@ use crate::{Batch, ChangedChunks, Chunk, Commits, Error, Ones, Version, Width, r
 pub struct Bitmap {
     pub(crate) session: Session,
     pub(crate) width: Width,
-    /// Whether the session is in a batch. Out of `Batch`, it is so only if a batch was leaked.
-    pub(crate) in_batch: Cell<bool>,
 }
 
 /// Making, encoding and copying.
 impl Bitmap {
     fn from_session(session: Session, width: Width) -> Bitmap {
-        Bitmap { session, width, in_batch: Cell::new(false) }
+        Bitmap { session, width }
     }
 
     /// Makes an empty bitmap.
@@ -177,21 +180,14 @@ impl Bitmap {
         Ok(Bitmap::from_session(session, self.width))
     }
 
-    /// Aborts the batch, if there is one.
-    pub(crate) fn settle(&self) {
-        if self.in_batch.replace(false) {
-            self.session.abort();
-        }
-    }
-
-    /// Returns the session, out of a batch.
+    /// Returns the session, out of a batch. It is in one here only if a batch was leaked.
     fn settled(&self) -> &Session {
-        self.settle();
+        self.session.settle();
         &self.session
     }
 
     fn settled_mut(&mut self) -> &mut Session {
-        self.settle();
+        self.session.settle();
         &mut self.session
     }
 }
@@ -361,7 +357,7 @@ impl Bitmap {
     /// If an earlier batch was leaked, for example by [`std::mem::forget`], the next call on the
     /// bitmap aborts it.
     pub fn begin(&mut self) -> Batch<'_> {
-        self.settle();
+        self.session.settle();
         Batch::begin(self)
     }
 
@@ -389,6 +385,76 @@ impl Bitmap {
             return Err(Error::NoSuchCommit);
         }
         Ok(Version::new(session, self.width, number))
+    }
+
+    /// Makes a bitmap of its own of the one at a commit. It has no commits.
+    ///
+    /// # Errors
+    ///
+    /// - [`Error::NoSuchCommit`] if no commit is kept under the number.
+    /// - [`Error::NoMemory`] if an allocation fails.
+    ///
+    /// # Complexity
+    ///
+    /// Linear in the current bitmap, plus the later commits and the chunks that they changed.
+    ///
+    /// # Examples
+    ///
+    /// ```
+    /// use mortarpink_proved::{Bitmap, Width};
+    ///
+    /// let mut bitmap = Bitmap::new(Width::Bytes8)?;
+    /// for number in [1, 2] {
+    ///     let mut batch = bitmap.begin();
+    ///     batch.push(true)?;
+    ///     batch.commit(number)?;
+    /// }
+    ///
+    /// let mut branch = bitmap.checkout(1)?;
+    /// let mut batch = branch.begin();
+    /// batch.push(false)?;
+    /// batch.commit(1)?;
+    /// assert!(branch.ones(..).eq([0]));
+    /// assert!(bitmap.ones(..).eq([0, 1]));
+    /// # Ok::<(), mortarpink_proved::Error>(())
+    /// ```
+    pub fn checkout(&self, number: u64) -> Result<Bitmap, Error> {
+        let session = self.settled().checkout(number)?;
+        Ok(Bitmap::from_session(session, self.width))
+    }
+
+    /// Adds an index of the kept commits if `on` is true, and drops it otherwise.
+    ///
+    /// With the index, a read of a chunk at a commit searches once, however many commits are kept.
+    /// Commits, rewinds and calls that drop commits keep the index, and a copy of the bitmap has a copy
+    /// of it. A commit then also allocates its entries in the index. Nothing that a call returns
+    /// depends on the index.
+    ///
+    /// # Errors
+    ///
+    /// [`Error::NoMemory`] if an allocation fails.
+    ///
+    /// # Complexity
+    ///
+    /// Per chunk whose old bytes a kept commit has, logarithmic in their number.
+    ///
+    /// # Examples
+    ///
+    /// ```
+    /// use mortarpink_proved::{Bitmap, Width};
+    ///
+    /// let mut bitmap = Bitmap::new(Width::Bytes8)?;
+    /// bitmap.set_indexed(true)?;
+    /// for number in 1..100 {
+    ///     let mut batch = bitmap.begin();
+    ///     batch.push(number % 2 == 1)?;
+    ///     batch.commit(number)?;
+    /// }
+    /// assert!(bitmap.at(4)?.ones(..).eq([0, 2]));
+    /// # Ok::<(), mortarpink_proved::Error>(())
+    /// ```
+    pub fn set_indexed(&mut self, on: bool) -> Result<(), Error> {
+        self.settled_mut().set_indexed(on)
     }
 
     /// Returns an iterator over the numbers of the kept commits, ascending.

@@ -11,10 +11,12 @@
 //! - **Handles.** Only [`Session`] has a handle. The handle starts empty, is written by the library
 //!   alone, and is freed once, by `drop`. It is never copied: if a `Session` is moved, its old place
 //!   is not used again.
-//! - **One call at a time.** The library takes each handle for itself, reads included. A `Session`
-//!   is not `Sync`, so all calls through `&Session` are on one thread. The library calls nothing
-//!   of this crate, so a call ends before the next one starts. That is why a read may take
-//!   `&self`: the handle is in an [`UnsafeCell`], and no reference to it exists at any time.
+//! - **Edits alone, reads together.** A call that takes a handle as `const` writes neither the handle
+//!   nor the bitmap, and any number of threads may make such calls at the same time. The methods
+//!   that take `&self` make such calls, so a `Session` is `Sync`. The library calls nothing of this
+//!   crate, so a call of one thread ends before its next one starts. The handle is in an
+//!   [`UnsafeCell`], and no reference to it exists at any time. Only [`Session::settle`] makes an edit
+//!   through `&self`, at a time at which no thread reads.
 //! - **Pointers.** Each other pointer comes from a reference or a slice of the caller, so it is not
 //!   null and points to memory of its type. Outputs come from `&mut` references, so they overlap
 //!   neither each other nor the handle.
@@ -26,6 +28,8 @@ mod interface;
 use std::cell::UnsafeCell;
 use std::ffi::CStr;
 use std::ptr;
+use std::sync::atomic::{AtomicBool, Ordering};
+use std::sync::{Mutex, PoisonError};
 
 use crate::Error;
 use interface::*;
@@ -96,12 +100,23 @@ fn check(status: Status) -> Result<(), Error> {
 }
 
 /// A bitmap with its commits. Reads take `at`: a commit number, or `None` for the current bitmap.
+///
+/// Outside the methods of a batch, a caller calls [`settle`](Session::settle) before its first read.
 pub struct Session {
     handle: UnsafeCell<Handle>,
+    /// Whether there is a batch.
+    in_batch: AtomicBool,
+    /// Held by the thread that ends a leaked batch.
+    settling: Mutex<()>,
 }
 
 // SAFETY: The memory of a handle comes from `malloc`, and no call keeps anything per thread.
 unsafe impl Send for Session {}
+
+// SAFETY: The methods that take `&self` make calls that only read. The header promises that any number
+// of threads may make them at the same time while no call edits the bitmap. The edits take `&mut self`,
+// so no other call runs beside them. `settle` is the exception, and says why it is sound.
+unsafe impl Sync for Session {}
 
 impl Drop for Session {
     fn drop(&mut self) {
@@ -120,7 +135,11 @@ impl Session {
             "the library mortarpink has another version of the interface"
         );
         let session = ptr::null_mut();
-        Session { handle: UnsafeCell::new(Handle { session }) }
+        Session {
+            handle: UnsafeCell::new(Handle { session }),
+            in_batch: AtomicBool::new(false),
+            settling: Mutex::new(()),
+        }
     }
 
     pub fn new(width: u32) -> Result<Session, Error> {
@@ -147,6 +166,12 @@ impl Session {
     pub fn try_clone(&self) -> Result<Session, Error> {
         let copy = Session::empty();
         check(call!(mortarpink_clone(self.handle.get(), copy.handle.get())))?;
+        Ok(copy)
+    }
+
+    pub fn checkout(&self, number: u64) -> Result<Session, Error> {
+        let copy = Session::empty();
+        check(call!(mortarpink_checkout(self.handle.get(), number, copy.handle.get())))?;
         Ok(copy)
     }
 
@@ -189,6 +214,7 @@ impl Session {
 impl Session {
     pub fn begin(&mut self) {
         always(call!(mortarpink_begin(self.handle.get())));
+        *self.in_batch.get_mut() = true;
     }
 
     pub fn push(&mut self, bit: bool) -> Result<(), Error> {
@@ -227,12 +253,27 @@ impl Session {
         let mut previous = 0;
         match call!(mortarpink_commit(self.handle.get(), number, &mut previous)) {
             NON_MONOTONIC_COMMIT => Err(Error::NonMonotonicCommit { previous, attempted: number }),
-            status => check(status),
+            status => {
+                check(status)?;
+                *self.in_batch.get_mut() = false;
+                Ok(())
+            }
         }
     }
 
-    pub fn abort(&self) {
-        always(call!(mortarpink_abort(self.handle.get())));
+    /// Aborts the batch, if there is one.
+    ///
+    /// There is one if a batch ends, which borrows the session mutably, or if it was leaked. Then this
+    /// is the first call of each thread that has the session: it waits here until the batch is aborted.
+    /// So no thread reads while one of them aborts it.
+    pub fn settle(&self) {
+        if self.in_batch.load(Ordering::Acquire) {
+            let _alone = self.settling.lock().unwrap_or_else(PoisonError::into_inner);
+            if self.in_batch.load(Ordering::Acquire) {
+                always(call!(mortarpink_abort(self.handle.get())));
+                self.in_batch.store(false, Ordering::Release);
+            }
+        }
     }
 }
 
@@ -341,6 +382,10 @@ impl Session {
 
     pub fn clear(&mut self) {
         always(call!(mortarpink_clear(self.handle.get())));
+    }
+
+    pub fn set_indexed(&mut self, on: bool) -> Result<(), Error> {
+        check(call!(mortarpink_index(self.handle.get(), on.into())))
     }
 
     pub fn entries(&self) -> u64 {

@@ -53,7 +53,9 @@
 //! | [`Bitmap::rewind_to`] | per chunk that the dropped commits changed, logarithmic in their number |
 //! | [`Bitmap::drop_before`], [`Bitmap::clear`] | linear in what is dropped |
 //! | [`Bitmap::entries`] | linear in the commits |
-//! | a chunk read through a [`Version`] | a search of each later commit |
+//! | [`Bitmap::checkout`] | linear in the current bitmap, plus the later commits and the chunks that they changed |
+//! | [`Bitmap::set_indexed`] | per chunk whose old bytes a kept commit has, logarithmic in their number |
+//! | a chunk read through a [`Version`] | a search of each later commit, or one search if the bitmap is indexed |
 //!
 //! # Finding the library
 //!

@@ -15,7 +15,8 @@ use crate::{Chunk, Error, Ones, Width, range};
 ///
 /// # Complexity
 ///
-/// Each chunk that is read costs a search of each commit after this one.
+/// Each chunk that is read costs a search of each commit after this one, or one search if the bitmap
+/// is indexed by [`Bitmap::set_indexed`](crate::Bitmap::set_indexed).
 ///
 /// # Examples
 ///

@@ -27,21 +27,18 @@ macro_rules! assert_not {
     };
 }
 
-assert_not!(Bitmap: Sync);
 assert_not!(Bitmap: Clone);
-assert_not!(Batch<'static>: Sync);
-assert_not!(CommitError<'static>: Sync);
-assert_not!(Version<'static>: Send);
-assert_not!(Ones<'static>: Send);
-assert_not!(Commits<'static>: Send);
-assert_not!(ChangedChunks<'static>: Send);
 
 const _: fn() = || {
-    fn is_send<T: Send>() {}
+    fn is_shared<T: Send + Sync>() {}
     fn is_plain<T: Send + Sync + Copy + 'static>() {}
-    is_send::<Bitmap>();
-    is_send::<Batch<'_>>();
-    is_send::<CommitError<'_>>();
+    is_shared::<Bitmap>();
+    is_shared::<Batch<'_>>();
+    is_shared::<ChangedChunks<'_>>();
+    is_shared::<CommitError<'_>>();
+    is_shared::<Commits<'_>>();
+    is_shared::<Ones<'_>>();
+    is_shared::<Version<'_>>();
     is_plain::<Chunk>();
     is_plain::<Error>();
     is_plain::<PushBytesError>();

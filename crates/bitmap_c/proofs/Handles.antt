@@ -185,3 +185,9 @@ module _ {M : Type 1} {𝓤 : Ura M} {𝓛 : Logic 𝓤} {K : Type 0} {Γ : List
   occupied k a null_ptr y e s = absurd e
   occupied k a (block_ptr b o) None e s = impossible k
   occupied k a (block_ptr b o) (Some x) e s = s x refl
+
+  -- a handle with a null pointer is empty, and stays owned
+  pub still_empty : K → (a : Global) (p : Ptr) (y : Option R.Denot) → T (ptr_same (ptr_val p) vnull) → (y ≡ None → Seq K 𝓛 (‵ (owned R a p y) ∷ Γ) G) → Seq K 𝓛 (‵ (owned R a p y) ∷ Γ) G
+  still_empty k a null_ptr None e s = s refl
+  still_empty k a null_ptr (Some x) e s = impossible k
+  still_empty k a (block_ptr b o) y e s = absurd e

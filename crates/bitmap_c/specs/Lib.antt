@@ -1,5 +1,6 @@
 pub mod Calls
 pub mod Handles
+pub mod Lends
 pub mod Making
 pub mod Pages
 pub mod Reads

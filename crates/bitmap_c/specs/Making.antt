@@ -1,11 +1,13 @@
 -- What the calls do that make, read and copy a session.
-use Rattle.std.specs.Prelude.{◌≡◌, ℕ, Bool, ◌&&◌, ◌⊎◌, List, [], length, Option, None, Some, nat_le, MatchBool, MatchOption}
+use Rattle.std.specs.Prelude.{◌≡◌, ℕ, Bool, true, ◌&&◌, ◌⊎◌, List, length, Option, None, Some, nat_le, MatchBool, MatchOption}
+use Rattle.std.specs.Option.{option_map}
 use Rattle.bitmap_core.specs.Decoding.{DecodeError, pruned_error, pruned_in}
 use Rattle.bitmap_core.specs.Decoding.DecodeError.{InvalidLength}
 use Rattle.bitmap_core.specs.Encoding.{pruned_encoding}
-use Rattle.bitmap_session.specs.Machine.{Machine, first_machine}
+use Rattle.historical_bitmap.specs.History.{kept_under}
+use Rattle.bitmap_session.specs.Machine.{Machine, checkout_refusal, first_machine, machine_with, wants_no_batch}
 use Rattle.bitmap_c.specs.declared.any.AnySession.{AnySession}
-use Rattle.bitmap_c.specs.Statuses.{decode_status}
+use Rattle.bitmap_c.specs.Statuses.{decode_status, refusal_status}
 use Rattle.bitmap_c.specs.Widths.{is_width, machine, width}
 
 -- an empty handle gets a session with the property, with DONE, or stays empty, with NO_MEMORY
@@ -32,16 +34,33 @@ Copies None copy status new = (status ≡ 15) × (new ≡ copy)
 Copies (Some old) (Some copy) status new = (status ≡ 16) × (new ≡ Some copy)
 Copies (Some old) None status new = Fills (IsCopy old) status new
 
+-- a session has the width of another one, and the bitmap that the other one keeps under a number, without a batch, commits and a last number
+abbrev pub IsVersion : AnySession → ℕ → AnySession → Type 0
+IsVersion old number made =
+    (width made ≡ width old) × (Some (machine made) ≡ option_map machine_with (kept_under (machine old).state.history number))
+
+-- as Copies, with the bitmap that the session keeps under a number, or the status of why there is none
+abbrev pub ChecksOut : Option AnySession → ℕ → Option AnySession → ℕ → Option AnySession → Type 0
+ChecksOut None number copy status new = (status ≡ 15) × (new ≡ copy)
+ChecksOut (Some old) number (Some copy) status new = (status ≡ 16) × (new ≡ Some copy)
+ChecksOut (Some old) number None status new = MatchOption (checkout_refusal (machine old).state number)
+    (Fills (IsVersion old number) status new)
+    (λ refusal. (status ≡ refusal_status refusal) × (new ≡ None))
+
+-- adding an index, or dropping it, has the status EMPTY_HANDLE of an empty handle, and WRONG_MODE in a batch; otherwise it is DONE, or NO_MEMORY if the index was to be added
+abbrev pub Indexes : Option AnySession → Bool → ℕ → Type 0
+Indexes None on status = status ≡ 15
+Indexes (Some old) on status = MatchOption (wants_no_batch (machine old).state)
+    ((status ≡ 0) ⊎ ((on ≡ true) × (status ≡ 13)))
+    (λ refusal. status ≡ refusal_status refusal)
+
 -- a number of bits is from `least` to `most`, both included
 abbrev pub between : ℕ → ℕ → ℕ → Bool
 between least most bits = nat_le least bits && nat_le bits most
 
 -- the machine with the bitmap that the bytes encode, without a batch, commits and a last number
 abbrev pub read_machine : List ℕ → Machine
-read_machine bytes = record {
-  state = record { current = pruned_in bytes; pending = None; history = []; costs = []; last = None };
-  touched = [];
-}
+read_machine bytes = machine_with (pruned_in bytes)
 
 -- the number of bytes of the encoding that the bytes begin with
 abbrev pub encoding_size : ℕ → List ℕ → ℕ

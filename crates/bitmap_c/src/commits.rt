@@ -6,11 +6,10 @@ ghost use Rattle.bitmap_c.specs.Reads.{of_handle};
 ghost use Rattle.bitmap_c.specs.Widths.{machine, width};
 
 use crate::any::AnySession;
-use crate::handle::{Handle, put, take};
+use crate::handle::Handle;
 use crate::pages::write_page;
 use crate::status::{DONE, EMPTY_HANDLE, NO_SUCH_COMMIT, WRONG_MODE};
 use bitmap_session::session::Session;
-use std::alloc::Global;
 
 // Writes a page of the kept commit numbers that are at least `from`.
 fn numbers_of<const N: usize>(
@@ -92,7 +91,6 @@ fn changes(
 /// Logarithmic in the kept commits, plus linear in the numbers written.
 #[unsafe(no_mangle)]
 pub extern "C" fn mortarpink_commits(
-    alloc: Global,
     bitmap: &mut Handle,
     from: u64,
     out: &mut [u64],
@@ -102,7 +100,7 @@ pub extern "C" fn mortarpink_commits(
     ensures page { ReturnsPage result count.old count.new out.old out.new
         (of_handle bitmap.old.value (λ N m. numbers_read m from)) }
 {
-    in_handle!(alloc, bitmap, any => numbers(&any, from, out, count))
+    in_handle!(bitmap, any => numbers(any, from, out, count))
 }
 
 /// Writes a page of the indices, from `first` on, of the chunks that differ between the bitmaps at two commits.
@@ -125,7 +123,6 @@ pub extern "C" fn mortarpink_commits(
 /// from `first` on with an entry in a commit after `from` and up to `to`. If `out` is full, it stops at the last one written.
 #[unsafe(no_mangle)]
 pub extern "C" fn mortarpink_changed_chunks(
-    alloc: Global,
     bitmap: &mut Handle,
     from: u64,
     to: u64,
@@ -137,5 +134,5 @@ pub extern "C" fn mortarpink_changed_chunks(
     ensures page { ReturnsPage result count.old count.new out.old out.new
         (of_handle bitmap.old.value (λ N m. changes_read N m from to first)) }
 {
-    in_handle!(alloc, bitmap, any => changes(&any, from, to, first, out, count))
+    in_handle!(bitmap, any => changes(any, from, to, first, out, count))
 }

@@ -7,12 +7,11 @@ ghost use Rattle.bitmap_c.specs.Reads.{Returns, found, queried, read_current, se
 ghost use Rattle.bitmap_c.specs.Widths.{machine, width};
 
 use crate::any::AnySession;
-use crate::handle::{Handle, put, take};
+use crate::handle::Handle;
 use crate::pages::write_ones;
 use crate::queries::{Query, number_read};
 use crate::status::{DONE, EMPTY_HANDLE, NONE, WRONG_MODE};
 use bitmap_session::session::Session;
-use std::alloc::Global;
 
 // Writes the number that a query reads of the current bitmap.
 fn number_of<const N: usize>(session: &Session<N>, query: Query, out: &mut u64) -> u32
@@ -80,7 +79,6 @@ fn ones(any: &AnySession, from: u64, to: u64, out: &mut [u64], count: &mut usize
 /// Linear in the chunks that are read.
 #[unsafe(no_mangle)]
 pub extern "C" fn mortarpink_ones(
-    alloc: Global,
     bitmap: &mut Handle,
     from: u64,
     to: u64,
@@ -91,7 +89,7 @@ pub extern "C" fn mortarpink_ones(
     ensures page { ReturnsPage result count.old count.new out.old out.new
         (read_current bitmap.old.value (λ N b. ones_read N b from to)) }
 {
-    in_handle!(alloc, bitmap, any => ones(&any, from, to, out, count))
+    in_handle!(bitmap, any => ones(any, from, to, out, count))
 }
 
 /// Writes the least retained position of the current bitmap, from `from` on, whose bit is 1, to `position`.
@@ -110,17 +108,12 @@ pub extern "C" fn mortarpink_ones(
 ///
 /// Linear in the chunks that are read.
 #[unsafe(no_mangle)]
-pub extern "C" fn mortarpink_next_one(
-    alloc: Global,
-    bitmap: &mut Handle,
-    from: u64,
-    position: &mut u64,
-) -> u32
+pub extern "C" fn mortarpink_next_one(bitmap: &mut Handle, from: u64, position: &mut u64) -> u32
     ensures same { bitmap.new.value ≡ bitmap.old.value }
     ensures read { Returns result position.old position.new
         (read_current bitmap.old.value (λ N b. found (next_one N b from))) }
 {
-    in_handle!(alloc, bitmap, any => number(&any, Query::NextOne(from), position))
+    in_handle!(bitmap, any => number(any, Query::NextOne(from), position))
 }
 
 /// Writes the least retained position of the current bitmap, from `from` on, whose bit is 0, to `position`.
@@ -139,17 +132,12 @@ pub extern "C" fn mortarpink_next_one(
 ///
 /// Linear in the chunks that are read.
 #[unsafe(no_mangle)]
-pub extern "C" fn mortarpink_next_zero(
-    alloc: Global,
-    bitmap: &mut Handle,
-    from: u64,
-    position: &mut u64,
-) -> u32
+pub extern "C" fn mortarpink_next_zero(bitmap: &mut Handle, from: u64, position: &mut u64) -> u32
     ensures same { bitmap.new.value ≡ bitmap.old.value }
     ensures read { Returns result position.old position.new
         (read_current bitmap.old.value (λ N b. found (next_zero N b from))) }
 {
-    in_handle!(alloc, bitmap, any => number(&any, Query::NextZero(from), position))
+    in_handle!(bitmap, any => number(any, Query::NextZero(from), position))
 }
 
 /// Writes the greatest retained position of the current bitmap, below `end`, whose bit is 1, to `position`.
@@ -168,17 +156,12 @@ pub extern "C" fn mortarpink_next_zero(
 ///
 /// Linear in the chunks that are read.
 #[unsafe(no_mangle)]
-pub extern "C" fn mortarpink_prev_one(
-    alloc: Global,
-    bitmap: &mut Handle,
-    end: u64,
-    position: &mut u64,
-) -> u32
+pub extern "C" fn mortarpink_prev_one(bitmap: &mut Handle, end: u64, position: &mut u64) -> u32
     ensures same { bitmap.new.value ≡ bitmap.old.value }
     ensures read { Returns result position.old position.new
         (read_current bitmap.old.value (λ N b. found (prev_one N b end))) }
 {
-    in_handle!(alloc, bitmap, any => number(&any, Query::PrevOne(end), position))
+    in_handle!(bitmap, any => number(any, Query::PrevOne(end), position))
 }
 
 /// Writes the greatest retained position of the current bitmap, below `end`, whose bit is 0, to `position`.
@@ -197,17 +180,12 @@ pub extern "C" fn mortarpink_prev_one(
 ///
 /// Linear in the chunks that are read.
 #[unsafe(no_mangle)]
-pub extern "C" fn mortarpink_prev_zero(
-    alloc: Global,
-    bitmap: &mut Handle,
-    end: u64,
-    position: &mut u64,
-) -> u32
+pub extern "C" fn mortarpink_prev_zero(bitmap: &mut Handle, end: u64, position: &mut u64) -> u32
     ensures same { bitmap.new.value ≡ bitmap.old.value }
     ensures read { Returns result position.old position.new
         (read_current bitmap.old.value (λ N b. found (prev_zero N b end))) }
 {
-    in_handle!(alloc, bitmap, any => number(&any, Query::PrevZero(end), position))
+    in_handle!(bitmap, any => number(any, Query::PrevZero(end), position))
 }
 
 /// Writes the number of set retained positions of the current bitmap from `from` up to `to` to `count`.
@@ -227,7 +205,6 @@ pub extern "C" fn mortarpink_prev_zero(
 /// Linear in the chunks of the range.
 #[unsafe(no_mangle)]
 pub extern "C" fn mortarpink_count_ones(
-    alloc: Global,
     bitmap: &mut Handle,
     from: u64,
     to: u64,
@@ -237,7 +214,7 @@ pub extern "C" fn mortarpink_count_ones(
     ensures read { Returns result count.old count.new
         (read_current bitmap.old.value (λ N b. Ok (ones_count N b from to))) }
 {
-    in_handle!(alloc, bitmap, any => number(&any, Query::CountOnes(from, to), count))
+    in_handle!(bitmap, any => number(any, Query::CountOnes(from, to), count))
 }
 
 /// Writes the set retained position of the current bitmap with `k` such positions below it to `position`.
@@ -256,15 +233,10 @@ pub extern "C" fn mortarpink_count_ones(
 ///
 /// Linear in the retained chunks up to that of the position.
 #[unsafe(no_mangle)]
-pub extern "C" fn mortarpink_select_one(
-    alloc: Global,
-    bitmap: &mut Handle,
-    k: u64,
-    position: &mut u64,
-) -> u32
+pub extern "C" fn mortarpink_select_one(bitmap: &mut Handle, k: u64, position: &mut u64) -> u32
     ensures same { bitmap.new.value ≡ bitmap.old.value }
     ensures read { Returns result position.old position.new
         (read_current bitmap.old.value (λ N b. found (select_one N b k))) }
 {
-    in_handle!(alloc, bitmap, any => number(&any, Query::SelectOne(k), position))
+    in_handle!(bitmap, any => number(any, Query::SelectOne(k), position))
 }

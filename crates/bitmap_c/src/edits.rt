@@ -5,13 +5,12 @@ ghost use Rattle.bitmap_c.specs.Calls.{Calls, CallsChunk, ServesAny, ServesAnyCh
 ghost use Rattle.bitmap_c.specs.Reports.{Reports, ReportsBit, ReportsPrevious};
 
 use crate::any::AnySession;
-use crate::handle::{Handle, put, take};
+use crate::handle::Handle;
 use crate::run::{
     run, run_commit, run_pop, run_prune, run_push, run_push_byte, run_push_chunk, run_set,
 };
 use crate::status::{EMPTY_HANDLE, WRONG_SIZE};
 use bitmap_session::command::Command;
-use std::alloc::Global;
 
 #[tactic(auto, unfolding(crate::specs::Calls::ServesAny))]
 fn begin(any: &mut AnySession) -> u32
@@ -34,11 +33,11 @@ fn begin(any: &mut AnySession) -> u32
 ///
 /// Constant.
 #[unsafe(no_mangle)]
-pub extern "C" fn mortarpink_begin(alloc: Global, bitmap: &mut Handle) -> u32
+pub extern "C" fn mortarpink_begin(bitmap: &mut Handle) -> u32
     ensures step { Calls bitmap.old.value (λ N. Command.Begin) (Reports result)
         (result ≡ EMPTY_HANDLE) bitmap.new.value }
 {
-    in_handle!(alloc, bitmap, any => begin(&mut any))
+    in_handle!(bitmap, any => begin(any))
 }
 
 #[tactic(auto, unfolding(crate::specs::Calls::ServesAny))]
@@ -62,11 +61,11 @@ fn push(any: &mut AnySession, bit: bool) -> u32
 ///
 /// Amortized constant.
 #[unsafe(no_mangle)]
-pub extern "C" fn mortarpink_push(alloc: Global, bitmap: &mut Handle, bit: u8) -> u32
+pub extern "C" fn mortarpink_push(bitmap: &mut Handle, bit: u8) -> u32
     ensures step { Calls bitmap.old.value (λ N. Command.Push (not (bit == 0))) (Reports result)
         (result ≡ EMPTY_HANDLE) bitmap.new.value }
 {
-    in_handle!(alloc, bitmap, any => push(&mut any, bit != 0))
+    in_handle!(bitmap, any => push(any, bit != 0))
 }
 
 #[tactic(auto, unfolding(crate::specs::Calls::ServesAny))]
@@ -90,11 +89,11 @@ fn push_byte(any: &mut AnySession, byte: u8) -> u32
 ///
 /// Amortized constant.
 #[unsafe(no_mangle)]
-pub extern "C" fn mortarpink_push_byte(alloc: Global, bitmap: &mut Handle, byte: u8) -> u32
+pub extern "C" fn mortarpink_push_byte(bitmap: &mut Handle, byte: u8) -> u32
     ensures step { Calls bitmap.old.value (λ N. Command.PushByte byte) (Reports result)
         (result ≡ EMPTY_HANDLE) bitmap.new.value }
 {
-    in_handle!(alloc, bitmap, any => push_byte(&mut any, byte))
+    in_handle!(bitmap, any => push_byte(any, byte))
 }
 
 #[tactic(auto, unfolding(crate::specs::Calls::ServesAnyChunk))]
@@ -119,11 +118,11 @@ fn push_chunk(any: &mut AnySession, bytes: &[u8]) -> u32
 ///
 /// Amortized linear in the width.
 #[unsafe(no_mangle)]
-pub extern "C" fn mortarpink_push_chunk(alloc: Global, bitmap: &mut Handle, bytes: &[u8]) -> u32
+pub extern "C" fn mortarpink_push_chunk(bitmap: &mut Handle, bytes: &[u8]) -> u32
     ensures step { CallsChunk (length bytes.now) bitmap.old.value (λ N. Command.PushChunk bytes.now)
         (Reports result) (result ≡ EMPTY_HANDLE) (result ≡ WRONG_SIZE) bitmap.new.value }
 {
-    in_handle!(alloc, bitmap, any => push_chunk(&mut any, bytes))
+    in_handle!(bitmap, any => push_chunk(any, bytes))
 }
 
 #[tactic(auto, unfolding(crate::specs::Calls::ServesAny))]
@@ -147,11 +146,11 @@ fn pop(any: &mut AnySession, bit: &mut u8) -> u32
 ///
 /// Constant.
 #[unsafe(no_mangle)]
-pub extern "C" fn mortarpink_pop(alloc: Global, bitmap: &mut Handle, bit: &mut u8) -> u32
+pub extern "C" fn mortarpink_pop(bitmap: &mut Handle, bit: &mut u8) -> u32
     ensures step { Calls bitmap.old.value (λ N. Command.Pop) (ReportsBit result bit.old bit.new)
         ((result ≡ EMPTY_HANDLE) × (bit.new ≡ bit.old)) bitmap.new.value }
 {
-    in_handle!(alloc, bitmap, any => pop(&mut any, bit))
+    in_handle!(bitmap, any => pop(any, bit))
 }
 
 #[tactic(auto, unfolding(crate::specs::Calls::ServesAny))]
@@ -176,11 +175,11 @@ fn set(any: &mut AnySession, position: u64, bit: bool) -> u32
 ///
 /// Amortized constant.
 #[unsafe(no_mangle)]
-pub extern "C" fn mortarpink_set(alloc: Global, bitmap: &mut Handle, position: u64, bit: u8) -> u32
+pub extern "C" fn mortarpink_set(bitmap: &mut Handle, position: u64, bit: u8) -> u32
     ensures step { Calls bitmap.old.value (λ N. Command.Set position (not (bit == 0)))
         (Reports result) (result ≡ EMPTY_HANDLE) bitmap.new.value }
 {
-    in_handle!(alloc, bitmap, any => set(&mut any, position, bit != 0))
+    in_handle!(bitmap, any => set(any, position, bit != 0))
 }
 
 #[tactic(auto, unfolding(crate::specs::Calls::ServesAny))]
@@ -205,11 +204,11 @@ fn prune(any: &mut AnySession, position: u64) -> u32
 ///
 /// Amortized linear in the chunks pruned.
 #[unsafe(no_mangle)]
-pub extern "C" fn mortarpink_prune(alloc: Global, bitmap: &mut Handle, position: u64) -> u32
+pub extern "C" fn mortarpink_prune(bitmap: &mut Handle, position: u64) -> u32
     ensures step { Calls bitmap.old.value (λ N. Command.Prune position) (Reports result)
         (result ≡ EMPTY_HANDLE) bitmap.new.value }
 {
-    in_handle!(alloc, bitmap, any => prune(&mut any, position))
+    in_handle!(bitmap, any => prune(any, position))
 }
 
 #[tactic(auto, unfolding(crate::specs::Calls::ServesAny))]
@@ -245,17 +244,12 @@ fn commit(any: &mut AnySession, number: u64, previous: &mut u64) -> u32
 ///
 /// Amortized linear in the chunks that the batch edited, pruned or removed.
 #[unsafe(no_mangle)]
-pub extern "C" fn mortarpink_commit(
-    alloc: Global,
-    bitmap: &mut Handle,
-    number: u64,
-    previous: &mut u64,
-) -> u32
+pub extern "C" fn mortarpink_commit(bitmap: &mut Handle, number: u64, previous: &mut u64) -> u32
     ensures step { Calls bitmap.old.value (λ N. Command.Commit number)
         (ReportsPrevious result previous.old previous.new)
         ((result ≡ EMPTY_HANDLE) × (previous.new ≡ previous.old)) bitmap.new.value }
 {
-    in_handle!(alloc, bitmap, any => commit(&mut any, number, previous))
+    in_handle!(bitmap, any => commit(any, number, previous))
 }
 
 #[tactic(auto, unfolding(crate::specs::Calls::ServesAny))]
@@ -279,9 +273,9 @@ fn abort(any: &mut AnySession) -> u32
 ///
 /// Linear in the chunks that the batch edited or pruned.
 #[unsafe(no_mangle)]
-pub extern "C" fn mortarpink_abort(alloc: Global, bitmap: &mut Handle) -> u32
+pub extern "C" fn mortarpink_abort(bitmap: &mut Handle) -> u32
     ensures step { Calls bitmap.old.value (λ N. Command.Abort) (Reports result)
         (result ≡ EMPTY_HANDLE) bitmap.new.value }
 {
-    in_handle!(alloc, bitmap, any => abort(&mut any))
+    in_handle!(bitmap, any => abort(any))
 }

@@ -1,6 +1,7 @@
-//! Handles: empty, or with a session. This module has the crate's only unsafe code.
+//! Handles: empty, or with a session, which a call borrows in its place. This module has the crate's only unsafe code.
 
 ghost use Rattle.std.specs.Prelude.{◌≡◌, Option, None, Some};
+ghost use Rattle.std.specs.Borrow.{sem, LendsIf};
 ghost use Rattle.std.specs.Option.{option_map};
 ghost use Rattle.bitmap_c.specs.Handles.{owned};
 ghost use Rattle.bitmap_c.specs.contracts.any.AnySession.{the_row};
@@ -56,6 +57,23 @@ impl Handle {
             session: session as *mut u8,
             alloc,
         }
+    }
+
+    ghost use Rattle.bitmap_c.specs.Lends.{with_session};
+    ghost use Rattle.bitmap_c.specs.contracts.handle.Handle.{the_row as handle_row};
+
+    /// Borrows the session of a handle in its place, or returns `None` if the handle is empty. Writes nothing, and does not allocate.
+    pub fn session_mut(&mut self) -> Option<&mut AnySession>
+        ensures* writes_back { sem 𝓛 (LendsIf handle_row the_row self.entry result
+            (with_session self.old) self.old) }
+        ensures value { option_map (λ s. s.now) result ≡ self.old.value }
+    {
+        let session = self.session;
+        if session.is_null() {
+            return None;
+        }
+        // The pointer is not null, so the handle owns a session there.
+        unsafe { Some(&mut *(session as *mut AnySession)) }
     }
 
     /// Returns the box of a handle, or `None` if the handle is empty. Nothing is moved, copied or allocated.

@@ -5,11 +5,10 @@ ghost use Rattle.bitmap_c.specs.Calls.{Calls, ServesAny};
 ghost use Rattle.bitmap_c.specs.Reports.{Reports, ReportsBit, ReportsEntries, ReportsNumber};
 
 use crate::any::AnySession;
-use crate::handle::{Handle, put, take};
-use crate::run::{run, run_bit, run_entries, run_number};
+use crate::handle::Handle;
+use crate::run::{run, run_earliest, run_entries, run_exists, run_latest, run_number};
 use crate::status::EMPTY_HANDLE;
 use bitmap_session::command::Command;
-use std::alloc::Global;
 
 #[tactic(auto, unfolding(crate::specs::Calls::ServesAny))]
 fn rewind(any: &mut AnySession, number: u64) -> u32
@@ -32,19 +31,19 @@ fn rewind(any: &mut AnySession, number: u64) -> u32
 ///
 /// Per chunk that the dropped commits changed, logarithmic in their number. If the bitmap grows, it may also move in memory.
 #[unsafe(no_mangle)]
-pub extern "C" fn mortarpink_rewind(alloc: Global, bitmap: &mut Handle, number: u64) -> u32
+pub extern "C" fn mortarpink_rewind(bitmap: &mut Handle, number: u64) -> u32
     ensures step { Calls bitmap.old.value (λ N. Command.Rewind number) (Reports result)
         (result ≡ EMPTY_HANDLE) bitmap.new.value }
 {
-    in_handle!(alloc, bitmap, any => rewind(&mut any, number))
+    in_handle!(bitmap, any => rewind(any, number))
 }
 
 #[tactic(auto, unfolding(crate::specs::Calls::ServesAny))]
-fn exists(any: &mut AnySession, number: u64, exists: &mut u8) -> u32
-    ensures { ServesAny any.old (λ N. Command.Exists number)
-        (ReportsBit result exists.old exists.new) any.new }
+fn exists(any: &AnySession, number: u64, exists: &mut u8) -> u32
+    ensures { ServesAny any.now (λ N. Command.Exists number)
+        (ReportsBit result exists.old exists.new) any.now }
 {
-    at_width!(any, session => run_bit(session, Command::Exists(number), exists))
+    at_width!(any, session => run_exists(session, number, exists))
 }
 
 /// Writes 1 to `exists` if a commit is kept under the number, and 0 otherwise.
@@ -61,25 +60,20 @@ fn exists(any: &mut AnySession, number: u64, exists: &mut u8) -> u32
 ///
 /// Logarithmic in the commits.
 #[unsafe(no_mangle)]
-pub extern "C" fn mortarpink_exists(
-    alloc: Global,
-    bitmap: &mut Handle,
-    number: u64,
-    exists: &mut u8,
-) -> u32
+pub extern "C" fn mortarpink_exists(bitmap: &mut Handle, number: u64, exists: &mut u8) -> u32
     ensures step { Calls bitmap.old.value (λ N. Command.Exists number)
         (ReportsBit result exists.old exists.new)
         ((result ≡ EMPTY_HANDLE) × (exists.new ≡ exists.old)) bitmap.new.value }
 {
-    in_handle!(alloc, bitmap, any => self::exists(&mut any, number, exists))
+    in_handle!(bitmap, any => self::exists(any, number, exists))
 }
 
 #[tactic(auto, unfolding(crate::specs::Calls::ServesAny))]
-fn latest(any: &mut AnySession, number: &mut u64) -> u32
-    ensures { ServesAny any.old (λ N. Command.Latest)
-        (ReportsNumber result number.old number.new) any.new }
+fn latest(any: &AnySession, number: &mut u64) -> u32
+    ensures { ServesAny any.now (λ N. Command.Latest)
+        (ReportsNumber result number.old number.new) any.now }
 {
-    at_width!(any, session => run_number(session, Command::Latest, number))
+    at_width!(any, session => run_latest(session, number))
 }
 
 /// Writes the greatest kept commit number to `number`.
@@ -96,20 +90,20 @@ fn latest(any: &mut AnySession, number: &mut u64) -> u32
 ///
 /// Constant.
 #[unsafe(no_mangle)]
-pub extern "C" fn mortarpink_latest(alloc: Global, bitmap: &mut Handle, number: &mut u64) -> u32
+pub extern "C" fn mortarpink_latest(bitmap: &mut Handle, number: &mut u64) -> u32
     ensures step { Calls bitmap.old.value (λ N. Command.Latest)
         (ReportsNumber result number.old number.new)
         ((result ≡ EMPTY_HANDLE) × (number.new ≡ number.old)) bitmap.new.value }
 {
-    in_handle!(alloc, bitmap, any => latest(&mut any, number))
+    in_handle!(bitmap, any => latest(any, number))
 }
 
 #[tactic(auto, unfolding(crate::specs::Calls::ServesAny))]
-fn earliest(any: &mut AnySession, number: &mut u64) -> u32
-    ensures { ServesAny any.old (λ N. Command.Earliest)
-        (ReportsNumber result number.old number.new) any.new }
+fn earliest(any: &AnySession, number: &mut u64) -> u32
+    ensures { ServesAny any.now (λ N. Command.Earliest)
+        (ReportsNumber result number.old number.new) any.now }
 {
-    at_width!(any, session => run_number(session, Command::Earliest, number))
+    at_width!(any, session => run_earliest(session, number))
 }
 
 /// Writes the least kept commit number to `number`.
@@ -126,12 +120,12 @@ fn earliest(any: &mut AnySession, number: &mut u64) -> u32
 ///
 /// Constant.
 #[unsafe(no_mangle)]
-pub extern "C" fn mortarpink_earliest(alloc: Global, bitmap: &mut Handle, number: &mut u64) -> u32
+pub extern "C" fn mortarpink_earliest(bitmap: &mut Handle, number: &mut u64) -> u32
     ensures step { Calls bitmap.old.value (λ N. Command.Earliest)
         (ReportsNumber result number.old number.new)
         ((result ≡ EMPTY_HANDLE) × (number.new ≡ number.old)) bitmap.new.value }
 {
-    in_handle!(alloc, bitmap, any => earliest(&mut any, number))
+    in_handle!(bitmap, any => earliest(any, number))
 }
 
 #[tactic(auto, unfolding(crate::specs::Calls::ServesAny))]
@@ -156,17 +150,12 @@ fn drop_before(any: &mut AnySession, number: u64, dropped: &mut u64) -> u32
 ///
 /// Linear in what is dropped.
 #[unsafe(no_mangle)]
-pub extern "C" fn mortarpink_drop_before(
-    alloc: Global,
-    bitmap: &mut Handle,
-    number: u64,
-    dropped: &mut u64,
-) -> u32
+pub extern "C" fn mortarpink_drop_before(bitmap: &mut Handle, number: u64, dropped: &mut u64) -> u32
     ensures step { Calls bitmap.old.value (λ N. Command.DropBefore number)
         (ReportsNumber result dropped.old dropped.new)
         ((result ≡ EMPTY_HANDLE) × (dropped.new ≡ dropped.old)) bitmap.new.value }
 {
-    in_handle!(alloc, bitmap, any => drop_before(&mut any, number, dropped))
+    in_handle!(bitmap, any => drop_before(any, number, dropped))
 }
 
 #[tactic(auto, unfolding(crate::specs::Calls::ServesAny))]
@@ -190,17 +179,17 @@ fn clear(any: &mut AnySession) -> u32
 ///
 /// Linear in what is dropped.
 #[unsafe(no_mangle)]
-pub extern "C" fn mortarpink_clear(alloc: Global, bitmap: &mut Handle) -> u32
+pub extern "C" fn mortarpink_clear(bitmap: &mut Handle) -> u32
     ensures step { Calls bitmap.old.value (λ N. Command.Clear) (Reports result)
         (result ≡ EMPTY_HANDLE) bitmap.new.value }
 {
-    in_handle!(alloc, bitmap, any => clear(&mut any))
+    in_handle!(bitmap, any => clear(any))
 }
 
 #[tactic(auto, unfolding(crate::specs::Calls::ServesAny))]
-fn entries(any: &mut AnySession, entries: &mut u64) -> u32
-    ensures { ServesAny any.old (λ N. Command.Entries)
-        (ReportsEntries result entries.old entries.new) any.new }
+fn entries(any: &AnySession, entries: &mut u64) -> u32
+    ensures { ServesAny any.now (λ N. Command.Entries)
+        (ReportsEntries result entries.old entries.new) any.now }
 {
     at_width!(any, session => run_entries(session, entries))
 }
@@ -223,10 +212,10 @@ fn entries(any: &mut AnySession, entries: &mut u64) -> u32
 ///
 /// Linear in the kept commits.
 #[unsafe(no_mangle)]
-pub extern "C" fn mortarpink_entries(alloc: Global, bitmap: &mut Handle, entries: &mut u64) -> u32
+pub extern "C" fn mortarpink_entries(bitmap: &mut Handle, entries: &mut u64) -> u32
     ensures step { Calls bitmap.old.value (λ N. Command.Entries)
         (ReportsEntries result entries.old entries.new)
         ((result ≡ EMPTY_HANDLE) × (entries.new ≡ entries.old)) bitmap.new.value }
 {
-    in_handle!(alloc, bitmap, any => self::entries(&mut any, entries))
+    in_handle!(bitmap, any => self::entries(any, entries))
 }

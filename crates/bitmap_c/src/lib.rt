@@ -20,15 +20,13 @@ macro_rules! at_width {
     };
 }
 
-// Evaluates an expression with the session of a handle; the status of an empty handle is that it is empty.
+// Evaluates an expression with the session of a handle, in its place; the status of an empty handle is that it is empty.
 macro_rules! in_handle {
-    ($alloc:expr, $handle:expr, $any:ident => $body:expr) => {{
-        let Some(mut $any) = take($alloc, $handle) else {
+    ($handle:expr, $any:ident => $body:expr) => {{
+        let Some($any) = $handle.session_mut() else {
             return EMPTY_HANDLE;
         };
-        let status = $body;
-        put($handle, $any);
-        status
+        $body
     }};
 }
 
@@ -46,3 +44,4 @@ mod queries;
 mod reads;
 mod run;
 mod status;
+mod versions;

@@ -38,20 +38,21 @@ pub extern "C" fn mortarpink_version() -> u32
     VERSION
 }
 
-// Returns whether a handle has a session.
-fn is_full(alloc: Global, bitmap: &mut Handle) -> bool
+/// Returns whether a handle has a session. Does not allocate.
+pub fn is_full(bitmap: &mut Handle) -> bool
     ensures full { result ≡ is_some bitmap.old.value }
     ensures unchanged { bitmap.new.value ≡ bitmap.old.value }
 {
-    let Some(any) = take(alloc, bitmap) else {
+    let Some(_) = bitmap.session_mut() else {
         return false;
     };
-    put(bitmap, any);
     true
 }
 
-// Puts a session into an empty handle, in an allocation of its own.
-fn fill(alloc: Global, bitmap: &mut Handle, any: AnySession) -> u32
+/// Puts a session into an empty handle, in an allocation of its own.
+///
+/// Returns `NO_MEMORY` if the allocation fails. The handle then stays empty.
+pub fn fill(alloc: Global, bitmap: &mut Handle, any: AnySession) -> u32
     requires empty { bitmap.old.value ≡ None }
     ensures { Fills (IsCopy any) result bitmap.new.value }
 {
@@ -82,7 +83,7 @@ fn fill(alloc: Global, bitmap: &mut Handle, any: AnySession) -> u32
 pub extern "C" fn mortarpink_new(alloc: Global, bitmap: &mut Handle, width: u32) -> u32
     ensures made { Makes bitmap.old.value width result bitmap.new.value }
 {
-    if is_full(alloc, bitmap) {
+    if is_full(bitmap) {
         return FULL_HANDLE;
     }
     let Some(any) = new_session(alloc, width) else {
@@ -205,7 +206,7 @@ pub extern "C" fn mortarpink_read(
         then length_or (pruned_error width (between least most) bytes.now) length.old
         else length.old) }
 {
-    if is_full(alloc, bitmap) {
+    if is_full(bitmap) {
         return FULL_HANDLE;
     }
     match read_any(alloc, width, least, most, bytes) {
@@ -262,7 +263,7 @@ fn copied(any: &AnySession) -> Result<AnySession, AllocError>
 fn copy_into(alloc: Global, any: &AnySession, copy: &mut Handle) -> u32
     ensures { Copies (Some any.now) copy.old.value result copy.new.value }
 {
-    if is_full(alloc, copy) {
+    if is_full(copy) {
         return FULL_HANDLE;
     }
     match copied(any) {
@@ -290,7 +291,7 @@ pub extern "C" fn mortarpink_clone(alloc: Global, bitmap: &mut Handle, copy: &mu
     ensures unchanged { bitmap.new.value ≡ bitmap.old.value }
     ensures copied { Copies bitmap.old.value copy.old.value result copy.new.value }
 {
-    in_handle!(alloc, bitmap, any => copy_into(alloc, &any, copy))
+    in_handle!(bitmap, any => copy_into(alloc, any, copy))
 }
 
 #[tactic(auto, unfolding(crate::specs::Calls::ServesAny))]
@@ -314,9 +315,9 @@ fn start(any: &mut AnySession, pruned_chunks: usize) -> u32
 ///
 /// Linear in what is freed.
 #[unsafe(no_mangle)]
-pub extern "C" fn mortarpink_start(alloc: Global, bitmap: &mut Handle, pruned_chunks: usize) -> u32
+pub extern "C" fn mortarpink_start(bitmap: &mut Handle, pruned_chunks: usize) -> u32
     ensures step { Calls bitmap.old.value (λ N. Command.Start pruned_chunks) (Reports result)
         (result ≡ EMPTY_HANDLE) bitmap.new.value }
 {
-    in_handle!(alloc, bitmap, any => start(&mut any, pruned_chunks))
+    in_handle!(bitmap, any => start(any, pruned_chunks))
 }

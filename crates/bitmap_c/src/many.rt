@@ -4,11 +4,10 @@ ghost use Rattle.bitmap_bytes.specs.Chunk.{IsWidth};
 ghost use Rattle.bitmap_c.specs.Calls.{CallsPushBytes, PushesAnyBytes, PushesBytes};
 
 use crate::any::AnySession;
-use crate::handle::{Handle, put, take};
+use crate::handle::Handle;
 use crate::run::run_push_byte;
 use crate::status::{DONE, EMPTY_HANDLE};
 use bitmap_session::session::Session;
-use std::alloc::Global;
 
 // Pushes the bytes in order, up to the first one that is refused. Returns its status, and writes the number of bytes pushed.
 #[tactic(auto, unfolding(crate::specs::Calls::PushesBytes))]
@@ -50,14 +49,9 @@ fn push_bytes(any: &mut AnySession, bytes: &[u8], count: &mut usize) -> u32
 ///
 /// Linear in the bytes.
 #[unsafe(no_mangle)]
-pub extern "C" fn mortarpink_push_bytes(
-    alloc: Global,
-    bitmap: &mut Handle,
-    bytes: &[u8],
-    count: &mut usize,
-) -> u32
+pub extern "C" fn mortarpink_push_bytes(bitmap: &mut Handle, bytes: &[u8], count: &mut usize) -> u32
     ensures pushed { CallsPushBytes bitmap.old.value bytes.now count.old count.new
         result bitmap.new.value }
 {
-    in_handle!(alloc, bitmap, any => push_bytes(&mut any, bytes, count))
+    in_handle!(bitmap, any => push_bytes(any, bytes, count))
 }

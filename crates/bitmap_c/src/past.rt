@@ -7,7 +7,7 @@ ghost use Rattle.bitmap_c.specs.Reads.{Returns, bit_read, chunk_read, found, que
 ghost use Rattle.bitmap_c.specs.Widths.{machine, width};
 
 use crate::any::AnySession;
-use crate::handle::{Handle, put, take};
+use crate::handle::Handle;
 use crate::pages::write_ones;
 use crate::queries::{Query, number_read};
 use crate::status::{
@@ -16,7 +16,6 @@ use crate::status::{
 use bitmap_core::bitmap::Readable;
 use bitmap_core::chunk::chunk_index;
 use bitmap_session::session::Session;
-use std::alloc::Global;
 
 // Writes the number that a query reads of the bitmap at a commit.
 fn number_of<const N: usize>(session: &Session<N>, number: u64, query: Query, out: &mut u64) -> u32
@@ -159,17 +158,12 @@ fn any_ones(
 ///
 /// A search among the kept commits.
 #[unsafe(no_mangle)]
-pub extern "C" fn mortarpink_len_at(
-    alloc: Global,
-    bitmap: &mut Handle,
-    number: u64,
-    len: &mut u64,
-) -> u32
+pub extern "C" fn mortarpink_len_at(bitmap: &mut Handle, number: u64, len: &mut u64) -> u32
     ensures same { bitmap.new.value ≡ bitmap.old.value }
     ensures read { Returns result len.old len.new
         (read_commit bitmap.old.value number (λ N b. Ok b.len)) }
 {
-    in_handle!(alloc, bitmap, any => any_number(&any, number, Query::Len, len))
+    in_handle!(bitmap, any => any_number(any, number, Query::Len, len))
 }
 
 /// Writes the number of pruned chunks of the bitmap at commit `number` to `chunks`.
@@ -187,7 +181,6 @@ pub extern "C" fn mortarpink_len_at(
 /// A search among the kept commits.
 #[unsafe(no_mangle)]
 pub extern "C" fn mortarpink_pruned_chunks_at(
-    alloc: Global,
     bitmap: &mut Handle,
     number: u64,
     chunks: &mut u64,
@@ -196,7 +189,7 @@ pub extern "C" fn mortarpink_pruned_chunks_at(
     ensures read { Returns result chunks.old chunks.new
         (read_commit bitmap.old.value number (λ N b. Ok b.pruned)) }
 {
-    in_handle!(alloc, bitmap, any => any_number(&any, number, Query::PrunedChunks, chunks))
+    in_handle!(bitmap, any => any_number(any, number, Query::PrunedChunks, chunks))
 }
 
 /// Writes the bit at a position of the bitmap at commit `number` to `bit`, as 0 or 1.
@@ -223,7 +216,6 @@ pub extern "C" fn mortarpink_pruned_chunks_at(
 /// A search of each commit after `number`.
 #[unsafe(no_mangle)]
 pub extern "C" fn mortarpink_get_at(
-    alloc: Global,
     bitmap: &mut Handle,
     number: u64,
     position: u64,
@@ -233,7 +225,7 @@ pub extern "C" fn mortarpink_get_at(
     ensures read { Returns result bit.old bit.new
         (read_commit bitmap.old.value number (λ N b. bit_read N b position)) }
 {
-    in_handle!(alloc, bitmap, any => any_bit(&any, number, position, bit))
+    in_handle!(bitmap, any => any_bit(any, number, position, bit))
 }
 
 /// Fills `out` with the chunk of a position of the bitmap at commit `number`.
@@ -261,7 +253,6 @@ pub extern "C" fn mortarpink_get_at(
 /// A search of each commit after `number`.
 #[unsafe(no_mangle)]
 pub extern "C" fn mortarpink_chunk_at(
-    alloc: Global,
     bitmap: &mut Handle,
     number: u64,
     position: u64,
@@ -271,7 +262,7 @@ pub extern "C" fn mortarpink_chunk_at(
     ensures read { Returns result out.old out.new
         (read_commit bitmap.old.value number (λ N b. chunk_read N b position (length out.old))) }
 {
-    in_handle!(alloc, bitmap, any => any_chunk(&any, number, position, out))
+    in_handle!(bitmap, any => any_chunk(any, number, position, out))
 }
 
 /// Writes a page of the set positions of the bitmap at commit `number` from `from` up to `to`.
@@ -292,7 +283,6 @@ pub extern "C" fn mortarpink_chunk_at(
 /// Linear in the chunks that are read. Each chunk that is read costs a search of each commit after `number`.
 #[unsafe(no_mangle)]
 pub extern "C" fn mortarpink_ones_at(
-    alloc: Global,
     bitmap: &mut Handle,
     number: u64,
     from: u64,
@@ -304,7 +294,7 @@ pub extern "C" fn mortarpink_ones_at(
     ensures page { ReturnsPage result count.old count.new out.old out.new
         (read_commit bitmap.old.value number (λ N b. ones_read N b from to)) }
 {
-    in_handle!(alloc, bitmap, any => any_ones(&any, number, from, to, out, count))
+    in_handle!(bitmap, any => any_ones(any, number, from, to, out, count))
 }
 
 /// Writes the least retained position, from `from` on, whose bit at commit `number` is 1, to `position`.
@@ -325,7 +315,6 @@ pub extern "C" fn mortarpink_ones_at(
 /// Linear in the chunks that are read. Each chunk that is read costs a search of each commit after `number`.
 #[unsafe(no_mangle)]
 pub extern "C" fn mortarpink_next_one_at(
-    alloc: Global,
     bitmap: &mut Handle,
     number: u64,
     from: u64,
@@ -335,7 +324,7 @@ pub extern "C" fn mortarpink_next_one_at(
     ensures read { Returns result position.old position.new
         (read_commit bitmap.old.value number (λ N b. found (next_one N b from))) }
 {
-    in_handle!(alloc, bitmap, any => any_number(&any, number, Query::NextOne(from), position))
+    in_handle!(bitmap, any => any_number(any, number, Query::NextOne(from), position))
 }
 
 /// Writes the least retained position, from `from` on, whose bit at commit `number` is 0, to `position`.
@@ -356,7 +345,6 @@ pub extern "C" fn mortarpink_next_one_at(
 /// Linear in the chunks that are read. Each chunk that is read costs a search of each commit after `number`.
 #[unsafe(no_mangle)]
 pub extern "C" fn mortarpink_next_zero_at(
-    alloc: Global,
     bitmap: &mut Handle,
     number: u64,
     from: u64,
@@ -366,7 +354,7 @@ pub extern "C" fn mortarpink_next_zero_at(
     ensures read { Returns result position.old position.new
         (read_commit bitmap.old.value number (λ N b. found (next_zero N b from))) }
 {
-    in_handle!(alloc, bitmap, any => any_number(&any, number, Query::NextZero(from), position))
+    in_handle!(bitmap, any => any_number(any, number, Query::NextZero(from), position))
 }
 
 /// Writes the greatest retained position, below `end`, whose bit at commit `number` is 1, to `position`.
@@ -387,7 +375,6 @@ pub extern "C" fn mortarpink_next_zero_at(
 /// Linear in the chunks that are read. Each chunk that is read costs a search of each commit after `number`.
 #[unsafe(no_mangle)]
 pub extern "C" fn mortarpink_prev_one_at(
-    alloc: Global,
     bitmap: &mut Handle,
     number: u64,
     end: u64,
@@ -397,7 +384,7 @@ pub extern "C" fn mortarpink_prev_one_at(
     ensures read { Returns result position.old position.new
         (read_commit bitmap.old.value number (λ N b. found (prev_one N b end))) }
 {
-    in_handle!(alloc, bitmap, any => any_number(&any, number, Query::PrevOne(end), position))
+    in_handle!(bitmap, any => any_number(any, number, Query::PrevOne(end), position))
 }
 
 /// Writes the greatest retained position, below `end`, whose bit at commit `number` is 0, to `position`.
@@ -418,7 +405,6 @@ pub extern "C" fn mortarpink_prev_one_at(
 /// Linear in the chunks that are read. Each chunk that is read costs a search of each commit after `number`.
 #[unsafe(no_mangle)]
 pub extern "C" fn mortarpink_prev_zero_at(
-    alloc: Global,
     bitmap: &mut Handle,
     number: u64,
     end: u64,
@@ -428,7 +414,7 @@ pub extern "C" fn mortarpink_prev_zero_at(
     ensures read { Returns result position.old position.new
         (read_commit bitmap.old.value number (λ N b. found (prev_zero N b end))) }
 {
-    in_handle!(alloc, bitmap, any => any_number(&any, number, Query::PrevZero(end), position))
+    in_handle!(bitmap, any => any_number(any, number, Query::PrevZero(end), position))
 }
 
 /// Writes the number of set retained positions at commit `number` from `from` up to `to` to `count`.
@@ -448,7 +434,6 @@ pub extern "C" fn mortarpink_prev_zero_at(
 /// Linear in the chunks of the range. Each chunk that is read costs a search of each commit after `number`.
 #[unsafe(no_mangle)]
 pub extern "C" fn mortarpink_count_ones_at(
-    alloc: Global,
     bitmap: &mut Handle,
     number: u64,
     from: u64,
@@ -459,7 +444,7 @@ pub extern "C" fn mortarpink_count_ones_at(
     ensures read { Returns result count.old count.new
         (read_commit bitmap.old.value number (λ N b. Ok (ones_count N b from to))) }
 {
-    in_handle!(alloc, bitmap, any => any_number(&any, number, Query::CountOnes(from, to), count))
+    in_handle!(bitmap, any => any_number(any, number, Query::CountOnes(from, to), count))
 }
 
 /// Writes the retained position set at commit `number` with `k` such positions below it to `position`.
@@ -480,7 +465,6 @@ pub extern "C" fn mortarpink_count_ones_at(
 /// Linear in the retained chunks up to that of the position. Each chunk that is read costs a search of each commit after `number`.
 #[unsafe(no_mangle)]
 pub extern "C" fn mortarpink_select_one_at(
-    alloc: Global,
     bitmap: &mut Handle,
     number: u64,
     k: u64,
@@ -490,5 +474,5 @@ pub extern "C" fn mortarpink_select_one_at(
     ensures read { Returns result position.old position.new
         (read_commit bitmap.old.value number (λ N b. found (select_one N b k))) }
 {
-    in_handle!(alloc, bitmap, any => any_number(&any, number, Query::SelectOne(k), position))
+    in_handle!(bitmap, any => any_number(any, number, Query::SelectOne(k), position))
 }

@@ -5,11 +5,10 @@ ghost use Rattle.bitmap_c.specs.Calls.{Calls, CallsChunk, ServesAny, ServesAnyCh
 ghost use Rattle.bitmap_c.specs.Reports.{ReportsBit, ReportsBytes, ReportsChunk, ReportsNumber};
 
 use crate::any::AnySession;
-use crate::handle::{Handle, put, take};
-use crate::run::{run_bytes, run_chunk, run_get, run_len, run_number};
+use crate::handle::Handle;
+use crate::run::{run_chunk, run_encode, run_encode_at, run_get, run_len, run_pruned_chunks};
 use crate::status::{EMPTY_HANDLE, WRONG_SIZE};
 use bitmap_session::command::Command;
-use std::alloc::Global;
 
 #[tactic(auto, unfolding(crate::specs::Calls::ServesAny))]
 fn len(any: &AnySession, len: &mut u64) -> u32
@@ -28,19 +27,19 @@ fn len(any: &AnySession, len: &mut u64) -> u32
 ///
 /// Constant.
 #[unsafe(no_mangle)]
-pub extern "C" fn mortarpink_len(alloc: Global, bitmap: &mut Handle, len: &mut u64) -> u32
+pub extern "C" fn mortarpink_len(bitmap: &mut Handle, len: &mut u64) -> u32
     ensures step { Calls bitmap.old.value (λ N. Command.Len) (ReportsNumber result len.old len.new)
         ((result ≡ EMPTY_HANDLE) × (len.new ≡ len.old)) bitmap.new.value }
 {
-    in_handle!(alloc, bitmap, any => self::len(&any, len))
+    in_handle!(bitmap, any => self::len(any, len))
 }
 
 #[tactic(auto, unfolding(crate::specs::Calls::ServesAny))]
-fn pruned_chunks(any: &mut AnySession, chunks: &mut u64) -> u32
-    ensures { ServesAny any.old (λ N. Command.PrunedChunks)
-        (ReportsNumber result chunks.old chunks.new) any.new }
+fn pruned_chunks(any: &AnySession, chunks: &mut u64) -> u32
+    ensures { ServesAny any.now (λ N. Command.PrunedChunks)
+        (ReportsNumber result chunks.old chunks.new) any.now }
 {
-    at_width!(any, session => run_number(session, Command::PrunedChunks, chunks))
+    at_width!(any, session => run_pruned_chunks(session, chunks))
 }
 
 /// Writes the number of pruned chunks to `chunks`.
@@ -53,16 +52,12 @@ fn pruned_chunks(any: &mut AnySession, chunks: &mut u64) -> u32
 ///
 /// Constant.
 #[unsafe(no_mangle)]
-pub extern "C" fn mortarpink_pruned_chunks(
-    alloc: Global,
-    bitmap: &mut Handle,
-    chunks: &mut u64,
-) -> u32
+pub extern "C" fn mortarpink_pruned_chunks(bitmap: &mut Handle, chunks: &mut u64) -> u32
     ensures step { Calls bitmap.old.value (λ N. Command.PrunedChunks)
         (ReportsNumber result chunks.old chunks.new)
         ((result ≡ EMPTY_HANDLE) × (chunks.new ≡ chunks.old)) bitmap.new.value }
 {
-    in_handle!(alloc, bitmap, any => pruned_chunks(&mut any, chunks))
+    in_handle!(bitmap, any => pruned_chunks(any, chunks))
 }
 
 #[tactic(auto, unfolding(crate::specs::Calls::ServesAny))]
@@ -87,23 +82,18 @@ fn get(any: &AnySession, position: u64, bit: &mut u8) -> u32
 ///
 /// Constant.
 #[unsafe(no_mangle)]
-pub extern "C" fn mortarpink_get(
-    alloc: Global,
-    bitmap: &mut Handle,
-    position: u64,
-    bit: &mut u8,
-) -> u32
+pub extern "C" fn mortarpink_get(bitmap: &mut Handle, position: u64, bit: &mut u8) -> u32
     ensures step { Calls bitmap.old.value (λ N. Command.Get position)
         (ReportsBit result bit.old bit.new) ((result ≡ EMPTY_HANDLE) × (bit.new ≡ bit.old)) bitmap.new.value }
 {
-    in_handle!(alloc, bitmap, any => get(&any, position, bit))
+    in_handle!(bitmap, any => get(any, position, bit))
 }
 
 #[tactic(auto, unfolding(crate::specs::Calls::ServesAnyChunk))]
-fn chunk(any: &mut AnySession, position: u64, out: &mut [u8]) -> u32
-    ensures { ServesAnyChunk (length out.old) any.old (λ N. Command.Chunk position)
+fn chunk(any: &AnySession, position: u64, out: &mut [u8]) -> u32
+    ensures { ServesAnyChunk (length out.old) any.now (λ N. Command.Chunk position)
         (ReportsChunk result out.old out.new) ((result ≡ WRONG_SIZE) × (out.new ≡ out.old))
-        any.new }
+        any.now }
 {
     at_width!(any, session => run_chunk(session, position, out))
 }
@@ -128,26 +118,21 @@ fn chunk(any: &mut AnySession, position: u64, out: &mut [u8]) -> u32
 ///
 /// Linear in the width.
 #[unsafe(no_mangle)]
-pub extern "C" fn mortarpink_chunk(
-    alloc: Global,
-    bitmap: &mut Handle,
-    position: u64,
-    out: &mut [u8],
-) -> u32
+pub extern "C" fn mortarpink_chunk(bitmap: &mut Handle, position: u64, out: &mut [u8]) -> u32
     ensures step { CallsChunk (length out.old) bitmap.old.value (λ N. Command.Chunk position)
         (ReportsChunk result out.old out.new)
         ((result ≡ EMPTY_HANDLE) × (out.new ≡ out.old))
         ((result ≡ WRONG_SIZE) × (out.new ≡ out.old)) bitmap.new.value }
 {
-    in_handle!(alloc, bitmap, any => chunk(&mut any, position, out))
+    in_handle!(bitmap, any => chunk(any, position, out))
 }
 
 #[tactic(auto, unfolding(crate::specs::Calls::ServesAny))]
-fn encode(any: &mut AnySession, out: &mut [u8], size: &mut usize) -> u32
-    ensures { ServesAny any.old (λ N. Command.Encode)
-        (ReportsBytes result size.old size.new out.old out.new) any.new }
+fn encode(any: &AnySession, out: &mut [u8], size: &mut usize) -> u32
+    ensures { ServesAny any.now (λ N. Command.Encode)
+        (ReportsBytes result size.old size.new out.old out.new) any.now }
 {
-    at_width!(any, session => run_bytes(session, Command::Encode, out, size))
+    at_width!(any, session => run_encode(session, out, size))
 }
 
 /// Fills `out` with the encoding of the current bitmap, and writes the size of the encoding in bytes to `size`.
@@ -167,26 +152,21 @@ fn encode(any: &mut AnySession, out: &mut [u8], size: &mut usize) -> u32
 ///
 /// Linear in the encoding.
 #[unsafe(no_mangle)]
-pub extern "C" fn mortarpink_encode(
-    alloc: Global,
-    bitmap: &mut Handle,
-    out: &mut [u8],
-    size: &mut usize,
-) -> u32
+pub extern "C" fn mortarpink_encode(bitmap: &mut Handle, out: &mut [u8], size: &mut usize) -> u32
     ensures step { Calls bitmap.old.value (λ N. Command.Encode)
         (ReportsBytes result size.old size.new out.old out.new)
         ((result ≡ EMPTY_HANDLE) × (size.new ≡ size.old) × (out.new ≡ out.old))
         bitmap.new.value }
 {
-    in_handle!(alloc, bitmap, any => encode(&mut any, out, size))
+    in_handle!(bitmap, any => encode(any, out, size))
 }
 
 #[tactic(auto, unfolding(crate::specs::Calls::ServesAny))]
-fn encode_at(any: &mut AnySession, number: u64, out: &mut [u8], size: &mut usize) -> u32
-    ensures { ServesAny any.old (λ N. Command.EncodeAt number)
-        (ReportsBytes result size.old size.new out.old out.new) any.new }
+fn encode_at(any: &AnySession, number: u64, out: &mut [u8], size: &mut usize) -> u32
+    ensures { ServesAny any.now (λ N. Command.EncodeAt number)
+        (ReportsBytes result size.old size.new out.old out.new) any.now }
 {
-    at_width!(any, session => run_bytes(session, Command::EncodeAt(number), out, size))
+    at_width!(any, session => run_encode_at(session, number, out, size))
 }
 
 /// Fills `out` with the encoding of the bitmap at commit `number`, and writes the size of the encoding in bytes to `size`.
@@ -205,7 +185,6 @@ fn encode_at(any: &mut AnySession, number: u64, out: &mut [u8], size: &mut usize
 /// Linear in the current bitmap, plus the commits after `number` and the chunks that they changed.
 #[unsafe(no_mangle)]
 pub extern "C" fn mortarpink_encode_at(
-    alloc: Global,
     bitmap: &mut Handle,
     number: u64,
     out: &mut [u8],
@@ -216,5 +195,5 @@ pub extern "C" fn mortarpink_encode_at(
         ((result ≡ EMPTY_HANDLE) × (size.new ≡ size.old) × (out.new ≡ out.old))
         bitmap.new.value }
 {
-    in_handle!(alloc, bitmap, any => encode_at(&mut any, number, out, size))
+    in_handle!(bitmap, any => encode_at(any, number, out, size))
 }

@@ -116,15 +116,6 @@ pub fn run<const N: usize>(session: &mut Session<N>, command: Command<N>) -> u32
     reply_status(&session.serve(&command))
 }
 
-/// Runs a command, returns the status of its reply, and writes its bit.
-#[tactic(auto, unfolding(crate::specs::Calls::Serves, crate::specs::Reports::ReportsBit))]
-pub fn run_bit<const N: usize>(session: &mut Session<N>, command: Command<N>, bit: &mut u8) -> u32
-    requires width { IsWidth N }
-    ensures { Serves N session.old command.entry (ReportsBit result bit.old bit.new) session.new }
-{
-    report_bit(&session.serve(&command), bit)
-}
-
 /// Runs a command, returns the status of its reply, and writes its number.
 #[tactic(auto, unfolding(crate::specs::Calls::Serves, crate::specs::Reports::ReportsNumber))]
 pub fn run_number<const N: usize>(
@@ -139,21 +130,6 @@ pub fn run_number<const N: usize>(
     report_number(&session.serve(&command), number)
 }
 
-/// Runs a command, returns the status of its reply, and writes the size of its bytes, and the bytes if the buffer has this size.
-#[tactic(auto, unfolding(crate::specs::Calls::Serves))]
-pub fn run_bytes<const N: usize>(
-    session: &mut Session<N>,
-    command: Command<N>,
-    out: &mut [u8],
-    size: &mut usize,
-) -> u32
-    requires width { IsWidth N }
-    ensures { Serves N session.old command.entry
-        (ReportsBytes result size.old size.new out.old out.new) session.new }
-{
-    report_bytes(&session.serve(&command), out, size)
-}
-
 /// Runs `Commit`, returns the status of its reply, and writes the last number if the reply has one.
 #[tactic(auto, unfolding(crate::specs::Calls::Serves, crate::specs::Reports::ReportsPrevious))]
 pub fn run_commit<const N: usize>(session: &mut Session<N>, number: u64, previous: &mut u64) -> u32
@@ -164,28 +140,28 @@ pub fn run_commit<const N: usize>(session: &mut Session<N>, number: u64, previou
     report_previous(&session.serve(&Command::Commit(number)), previous)
 }
 
-/// Runs `Entries`, returns the status of its reply, and writes the number of entries.
+/// Runs `Entries` in place, returns the status of its reply, and writes the number of entries.
 #[tactic(auto, unfolding(crate::specs::Calls::Serves, crate::specs::Reports::ReportsEntries))]
-pub fn run_entries<const N: usize>(session: &mut Session<N>, entries: &mut u64) -> u32
+pub fn run_entries<const N: usize>(session: &Session<N>, entries: &mut u64) -> u32
     requires width { IsWidth N }
-    ensures { Serves N session.old Command.Entries (ReportsEntries result entries.old entries.new)
-        session.new }
+    ensures { Serves N session.now Command.Entries (ReportsEntries result entries.old entries.new)
+        session.now }
 {
-    report_entries(&session.serve(&Command::Entries), entries)
+    report_entries(&session.entries(), entries)
 }
 
-/// Runs `Chunk` if the buffer has the size of a chunk: returns the status of the reply, and writes its chunk.
+/// Runs `Chunk` in place if the buffer has the size of a chunk: returns the status of the reply, and writes its chunk.
 #[tactic(auto, unfolding(crate::specs::Calls::Serves, crate::specs::Calls::ServesChunk, crate::specs::Reports::ReportsChunk))]
-pub fn run_chunk<const N: usize>(session: &mut Session<N>, position: u64, out: &mut [u8]) -> u32
+pub fn run_chunk<const N: usize>(session: &Session<N>, position: u64, out: &mut [u8]) -> u32
     requires width { IsWidth N }
-    ensures { ServesChunk N (length out.old) session.old (Command.Chunk position)
+    ensures { ServesChunk N (length out.old) session.now (Command.Chunk position)
         (ReportsChunk result out.old out.new) ((result ≡ WRONG_SIZE) × (out.new ≡ out.old))
-        session.new }
+        session.now }
 {
     if out.len() != N {
         return WRONG_SIZE;
     }
-    report_chunk(&session.serve(&Command::Chunk(position)), out)
+    report_chunk(&session.chunk(position), out)
 }
 
 /// Runs `Push` in place, and returns the status of its reply.
@@ -265,4 +241,69 @@ pub fn run_len<const N: usize>(session: &Session<N>, len: &mut u64) -> u32
     ensures { Serves N session.now Command.Len (ReportsNumber result len.old len.new) session.now }
 {
     report_number(&session.len(), len)
+}
+
+/// Runs `PrunedChunks` in place, returns the status of its reply, and writes the number of chunks.
+#[tactic(auto, unfolding(crate::specs::Calls::Serves, crate::specs::Reports::ReportsNumber))]
+pub fn run_pruned_chunks<const N: usize>(session: &Session<N>, chunks: &mut u64) -> u32
+    requires width { IsWidth N }
+    ensures { Serves N session.now Command.PrunedChunks (ReportsNumber result chunks.old chunks.new)
+        session.now }
+{
+    report_number(&session.pruned_chunks(), chunks)
+}
+
+/// Runs `Exists` in place, returns the status of its reply, and writes the bit.
+#[tactic(auto, unfolding(crate::specs::Calls::Serves, crate::specs::Reports::ReportsBit))]
+pub fn run_exists<const N: usize>(session: &Session<N>, number: u64, exists: &mut u8) -> u32
+    requires width { IsWidth N }
+    ensures { Serves N session.now (Command.Exists number) (ReportsBit result exists.old exists.new)
+        session.now }
+{
+    report_bit(&session.exists(number), exists)
+}
+
+/// Runs `Latest` in place, returns the status of its reply, and writes the number.
+#[tactic(auto, unfolding(crate::specs::Calls::Serves, crate::specs::Reports::ReportsNumber))]
+pub fn run_latest<const N: usize>(session: &Session<N>, number: &mut u64) -> u32
+    requires width { IsWidth N }
+    ensures { Serves N session.now Command.Latest (ReportsNumber result number.old number.new)
+        session.now }
+{
+    report_number(&session.latest(), number)
+}
+
+/// Runs `Earliest` in place, returns the status of its reply, and writes the number.
+#[tactic(auto, unfolding(crate::specs::Calls::Serves, crate::specs::Reports::ReportsNumber))]
+pub fn run_earliest<const N: usize>(session: &Session<N>, number: &mut u64) -> u32
+    requires width { IsWidth N }
+    ensures { Serves N session.now Command.Earliest (ReportsNumber result number.old number.new)
+        session.now }
+{
+    report_number(&session.earliest(), number)
+}
+
+/// Runs `Encode` in place, returns the status of its reply, and writes the size of its bytes, and the bytes if the buffer has this size.
+#[tactic(auto, unfolding(crate::specs::Calls::Serves))]
+pub fn run_encode<const N: usize>(session: &Session<N>, out: &mut [u8], size: &mut usize) -> u32
+    requires width { IsWidth N }
+    ensures { Serves N session.now Command.Encode
+        (ReportsBytes result size.old size.new out.old out.new) session.now }
+{
+    report_bytes(&session.encode(), out, size)
+}
+
+/// Runs `EncodeAt` in place, returns the status of its reply, and writes the size of its bytes, and the bytes if the buffer has this size.
+#[tactic(auto, unfolding(crate::specs::Calls::Serves))]
+pub fn run_encode_at<const N: usize>(
+    session: &Session<N>,
+    number: u64,
+    out: &mut [u8],
+    size: &mut usize,
+) -> u32
+    requires width { IsWidth N }
+    ensures { Serves N session.now (Command.EncodeAt number)
+        (ReportsBytes result size.old size.new out.old out.new) session.now }
+{
+    report_bytes(&session.encode_at(number), out, size)
 }

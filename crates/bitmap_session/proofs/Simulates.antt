@@ -101,6 +101,13 @@ pub step_between : (N : ℕ) (a b : Machine) (command : Command N) (reply same :
     → StepTo N Agrees b command same now
 step_between N a b command reply same new now e f h step = step_from N a b command same now e (rw (f, h) step)
 
+-- a step that ends at the machine from which it begins is such a step of an equal machine
+pub step_in_place : (N : ℕ) (a b : Machine) (command : Command N) (reply : ReplyValue)
+    → a ≡ b
+    → StepTo N Agrees a command reply a
+    → StepTo N Agrees b command reply b
+step_in_place N a b command reply e step = subst (λ (m : Machine). StepTo N Agrees m command reply m) e step
+
 -- a machine that agrees with a session can take the session's step
 pub simulates : (N : ℕ) (old new before : Machine) (command : Command N) (reply : ReplyValue)
     → Agrees old before

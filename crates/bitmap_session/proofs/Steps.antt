@@ -24,7 +24,9 @@ use Rattle.bitmap_session.specs.Replies.{ReplyValue, Refusal}
 use Rattle.bitmap_session.specs.Replies.ReplyValue.{Done, Bit, Number, Refused}
 use Rattle.bitmap_session.specs.Replies.Refusal.{WrongMode, OutOfBounds, Pruned, ReservedCommitNumber, NonMonotonicCommit, PrunedChunksOverflow, Codec, NoMemory, NoSuchCommit}
 use Rattle.bitmap_session.specs.Machine.{Machine, State, Accepts, Agrees, Refuses, StepTo, IsDecoded, decoded, edited, first, refusal_of, shown, shown_len, allocates, wants_bit, when}
-use Rattle.bitmap_session.specs.Abstraction.{clean, dirty, reason_of, reason_of_rewind}
+use Rattle.bitmap_session.specs.Abstraction.{ReplacesState, clean, dirty, machine_of, reason_of, reason_of_rewind}
+use Rattle.bitmap_session.specs.declared.session.State as session_state
+use Rattle.bitmap_session.specs.declared.session.State.TheVariants as state
 
 -- a negated test
 pub is_false : (b : Bool) → true ≡ not b → b ≡ false
@@ -64,102 +66,76 @@ accepted : (N : ℕ) (m new : Machine) (command : Command N) (reply : ReplyValue
     → StepTo N Agrees m command reply new
 accepted N m new command reply e h = rw e (inl h)
 
--- a command that needs a batch is refused with WrongMode outside a batch
+-- outside a batch, a command that replaces the state is refused with WrongMode unless it starts, begins or rewinds
 pub wrong_mode_clean : (N : ℕ) (v : View ⊤) (command : Command N)
+    → ReplacesState command
     → ((chunks : ℕ) → (command ≡ Start chunks → ⊥))
     → (command ≡ Begin → ⊥)
     → ((number : ℕ) → (command ≡ Rewind number → ⊥))
-    → (command ≡ Len → ⊥)
-    → (command ≡ PrunedChunks → ⊥)
-    → ((position : ℕ) → (command ≡ Get position → ⊥))
-    → ((position : ℕ) → (command ≡ Chunk position → ⊥))
-    → ((from : ℕ) (to : ℕ) → (command ≡ Ones from to → ⊥))
-    → (command ≡ Encode → ⊥)
-    → ((number : ℕ) → (command ≡ At number → ⊥))
-    → ((number : ℕ) (from : ℕ) (to : ℕ) → (command ≡ OnesAt number from to → ⊥))
-    → ((number : ℕ) → (command ≡ EncodeAt number → ⊥))
-    → ((input : Vec ℕ) (range : RangeCfg) → (command ≡ Decode input range → ⊥))
-    → (command ≡ Commits → ⊥)
-    → ((number : ℕ) → (command ≡ Exists number → ⊥))
-    → (command ≡ Latest → ⊥)
-    → (command ≡ Earliest → ⊥)
-    → ((number : ℕ) → (command ≡ DropBefore number → ⊥))
-    → (command ≡ Clear → ⊥)
-    → (command ≡ Entries → ⊥)
     → StepTo N Agrees (clean N v) command (Refused WrongMode) (clean N v)
-wrong_mode_clean N v (Start chunks) h0 _ _ _ _ _ _ _ _ _ _ _ _ _ _ _ _ _ _ _ = absurd (h0 chunks refl)
-wrong_mode_clean N v Begin _ h1 _ _ _ _ _ _ _ _ _ _ _ _ _ _ _ _ _ _ = absurd (h1 refl)
-wrong_mode_clean N v (Push value) _ _ _ _ _ _ _ _ _ _ _ _ _ _ _ _ _ _ _ _ = (refl, itself _)
-wrong_mode_clean N v (PushByte byte) _ _ _ _ _ _ _ _ _ _ _ _ _ _ _ _ _ _ _ _ = (refl, itself _)
-wrong_mode_clean N v (PushChunk bytes) _ _ _ _ _ _ _ _ _ _ _ _ _ _ _ _ _ _ _ _ = (refl, itself _)
-wrong_mode_clean N v Pop _ _ _ _ _ _ _ _ _ _ _ _ _ _ _ _ _ _ _ _ = (refl, itself _)
-wrong_mode_clean N v (Set position value) _ _ _ _ _ _ _ _ _ _ _ _ _ _ _ _ _ _ _ _ = (refl, itself _)
-wrong_mode_clean N v (Prune position) _ _ _ _ _ _ _ _ _ _ _ _ _ _ _ _ _ _ _ _ = (refl, itself _)
-wrong_mode_clean N v (Commit number) _ _ _ _ _ _ _ _ _ _ _ _ _ _ _ _ _ _ _ _ = (refl, itself _)
-wrong_mode_clean N v Abort _ _ _ _ _ _ _ _ _ _ _ _ _ _ _ _ _ _ _ _ = (refl, itself _)
-wrong_mode_clean N v (Rewind number) _ _ h2 _ _ _ _ _ _ _ _ _ _ _ _ _ _ _ _ _ = absurd (h2 number refl)
-wrong_mode_clean N v Len _ _ _ h3 _ _ _ _ _ _ _ _ _ _ _ _ _ _ _ _ = absurd (h3 refl)
-wrong_mode_clean N v PrunedChunks _ _ _ _ h4 _ _ _ _ _ _ _ _ _ _ _ _ _ _ _ = absurd (h4 refl)
-wrong_mode_clean N v (Get position) _ _ _ _ _ h5 _ _ _ _ _ _ _ _ _ _ _ _ _ _ = absurd (h5 position refl)
-wrong_mode_clean N v (Chunk position) _ _ _ _ _ _ h6 _ _ _ _ _ _ _ _ _ _ _ _ _ = absurd (h6 position refl)
-wrong_mode_clean N v (Ones from to) _ _ _ _ _ _ _ h7 _ _ _ _ _ _ _ _ _ _ _ _ = absurd (h7 from to refl)
-wrong_mode_clean N v Encode _ _ _ _ _ _ _ _ h8 _ _ _ _ _ _ _ _ _ _ _ = absurd (h8 refl)
-wrong_mode_clean N v (At number) _ _ _ _ _ _ _ _ _ h9 _ _ _ _ _ _ _ _ _ _ = absurd (h9 number refl)
-wrong_mode_clean N v (OnesAt number from to) _ _ _ _ _ _ _ _ _ _ h10 _ _ _ _ _ _ _ _ _ = absurd (h10 number from to refl)
-wrong_mode_clean N v (EncodeAt number) _ _ _ _ _ _ _ _ _ _ _ h11 _ _ _ _ _ _ _ _ = absurd (h11 number refl)
-wrong_mode_clean N v (Decode input range) _ _ _ _ _ _ _ _ _ _ _ _ h12 _ _ _ _ _ _ _ = absurd (h12 input range refl)
-wrong_mode_clean N v Commits _ _ _ _ _ _ _ _ _ _ _ _ _ h13 _ _ _ _ _ _ = absurd (h13 refl)
-wrong_mode_clean N v (Exists number) _ _ _ _ _ _ _ _ _ _ _ _ _ _ h14 _ _ _ _ _ = absurd (h14 number refl)
-wrong_mode_clean N v Latest _ _ _ _ _ _ _ _ _ _ _ _ _ _ _ h15 _ _ _ _ = absurd (h15 refl)
-wrong_mode_clean N v Earliest _ _ _ _ _ _ _ _ _ _ _ _ _ _ _ _ h16 _ _ _ = absurd (h16 refl)
-wrong_mode_clean N v (DropBefore number) _ _ _ _ _ _ _ _ _ _ _ _ _ _ _ _ _ h17 _ _ = absurd (h17 number refl)
-wrong_mode_clean N v Clear _ _ _ _ _ _ _ _ _ _ _ _ _ _ _ _ _ _ h18 _ = absurd (h18 refl)
-wrong_mode_clean N v Entries _ _ _ _ _ _ _ _ _ _ _ _ _ _ _ _ _ _ _ h19 = absurd (h19 refl)
+wrong_mode_clean N v (Start chunks) _ not_start _ _ = absurd (not_start chunks refl)
+wrong_mode_clean N v Begin _ _ not_begin _ = absurd (not_begin refl)
+wrong_mode_clean N v (Commit number) _ _ _ _ = (refl, itself _)
+wrong_mode_clean N v Abort _ _ _ _ = (refl, itself _)
+wrong_mode_clean N v (Rewind number) _ _ _ not_rewind = absurd (not_rewind number refl)
+wrong_mode_clean N v (Push value) h _ _ _ = absurd h
+wrong_mode_clean N v (PushByte byte) h _ _ _ = absurd h
+wrong_mode_clean N v (PushChunk bytes) h _ _ _ = absurd h
+wrong_mode_clean N v Pop h _ _ _ = absurd h
+wrong_mode_clean N v (Set position value) h _ _ _ = absurd h
+wrong_mode_clean N v (Prune position) h _ _ _ = absurd h
+wrong_mode_clean N v Len h _ _ _ = absurd h
+wrong_mode_clean N v PrunedChunks h _ _ _ = absurd h
+wrong_mode_clean N v (Get position) h _ _ _ = absurd h
+wrong_mode_clean N v (Chunk position) h _ _ _ = absurd h
+wrong_mode_clean N v (Ones from to) h _ _ _ = absurd h
+wrong_mode_clean N v Encode h _ _ _ = absurd h
+wrong_mode_clean N v (At number) h _ _ _ = absurd h
+wrong_mode_clean N v (OnesAt number from to) h _ _ _ = absurd h
+wrong_mode_clean N v (EncodeAt number) h _ _ _ = absurd h
+wrong_mode_clean N v (Decode input range) h _ _ _ = absurd h
+wrong_mode_clean N v Commits h _ _ _ = absurd h
+wrong_mode_clean N v (Exists number) h _ _ _ = absurd h
+wrong_mode_clean N v Latest h _ _ _ = absurd h
+wrong_mode_clean N v Earliest h _ _ _ = absurd h
+wrong_mode_clean N v (DropBefore number) h _ _ _ = absurd h
+wrong_mode_clean N v Clear h _ _ _ = absurd h
+wrong_mode_clean N v Entries h _ _ _ = absurd h
 
--- a command that needs no batch is refused with WrongMode in a batch
+-- in a batch, a command that replaces the state is refused with WrongMode unless it commits or aborts
 pub wrong_mode_dirty : (N : ℕ) (v : View PendingEdits) (command : Command N)
-    → ((value : Bool) → (command ≡ Push value → ⊥))
-    → ((byte : ℕ) → (command ≡ PushByte byte → ⊥))
-    → ((bytes : List ℕ) → (command ≡ PushChunk bytes → ⊥))
-    → (command ≡ Pop → ⊥)
-    → ((position : ℕ) (value : Bool) → (command ≡ Set position value → ⊥))
-    → ((position : ℕ) → (command ≡ Prune position → ⊥))
+    → ReplacesState command
     → ((number : ℕ) → (command ≡ Commit number → ⊥))
     → (command ≡ Abort → ⊥)
-    → (command ≡ Len → ⊥)
-    → (command ≡ PrunedChunks → ⊥)
-    → ((position : ℕ) → (command ≡ Get position → ⊥))
-    → ((position : ℕ) → (command ≡ Chunk position → ⊥))
-    → ((input : Vec ℕ) (range : RangeCfg) → (command ≡ Decode input range → ⊥))
     → StepTo N Agrees (dirty N v) command (Refused WrongMode) (dirty N v)
-wrong_mode_dirty N v (Start chunks) _ _ _ _ _ _ _ _ _ _ _ _ _ = (refl, itself _)
-wrong_mode_dirty N v Begin _ _ _ _ _ _ _ _ _ _ _ _ _ = (refl, itself _)
-wrong_mode_dirty N v (Push value) h0 _ _ _ _ _ _ _ _ _ _ _ _ = absurd (h0 value refl)
-wrong_mode_dirty N v (PushByte byte) _ h1 _ _ _ _ _ _ _ _ _ _ _ = absurd (h1 byte refl)
-wrong_mode_dirty N v (PushChunk bytes) _ _ h2 _ _ _ _ _ _ _ _ _ _ = absurd (h2 bytes refl)
-wrong_mode_dirty N v Pop _ _ _ h3 _ _ _ _ _ _ _ _ _ = absurd (h3 refl)
-wrong_mode_dirty N v (Set position value) _ _ _ _ h4 _ _ _ _ _ _ _ _ = absurd (h4 position value refl)
-wrong_mode_dirty N v (Prune position) _ _ _ _ _ h5 _ _ _ _ _ _ _ = absurd (h5 position refl)
-wrong_mode_dirty N v (Commit number) _ _ _ _ _ _ h6 _ _ _ _ _ _ = absurd (h6 number refl)
-wrong_mode_dirty N v Abort _ _ _ _ _ _ _ h7 _ _ _ _ _ = absurd (h7 refl)
-wrong_mode_dirty N v (Rewind number) _ _ _ _ _ _ _ _ _ _ _ _ _ = (refl, itself _)
-wrong_mode_dirty N v Len _ _ _ _ _ _ _ _ h8 _ _ _ _ = absurd (h8 refl)
-wrong_mode_dirty N v PrunedChunks _ _ _ _ _ _ _ _ _ h9 _ _ _ = absurd (h9 refl)
-wrong_mode_dirty N v (Get position) _ _ _ _ _ _ _ _ _ _ h10 _ _ = absurd (h10 position refl)
-wrong_mode_dirty N v (Chunk position) _ _ _ _ _ _ _ _ _ _ _ h11 _ = absurd (h11 position refl)
-wrong_mode_dirty N v (Ones from to) _ _ _ _ _ _ _ _ _ _ _ _ _ = (refl, itself _)
-wrong_mode_dirty N v Encode _ _ _ _ _ _ _ _ _ _ _ _ _ = (refl, itself _)
-wrong_mode_dirty N v (At number) _ _ _ _ _ _ _ _ _ _ _ _ _ = (refl, itself _)
-wrong_mode_dirty N v (OnesAt number from to) _ _ _ _ _ _ _ _ _ _ _ _ _ = (refl, itself _)
-wrong_mode_dirty N v (EncodeAt number) _ _ _ _ _ _ _ _ _ _ _ _ _ = (refl, itself _)
-wrong_mode_dirty N v (Decode input range) _ _ _ _ _ _ _ _ _ _ _ _ h12 = absurd (h12 input range refl)
-wrong_mode_dirty N v Commits _ _ _ _ _ _ _ _ _ _ _ _ _ = (refl, itself _)
-wrong_mode_dirty N v (Exists number) _ _ _ _ _ _ _ _ _ _ _ _ _ = (refl, itself _)
-wrong_mode_dirty N v Latest _ _ _ _ _ _ _ _ _ _ _ _ _ = (refl, itself _)
-wrong_mode_dirty N v Earliest _ _ _ _ _ _ _ _ _ _ _ _ _ = (refl, itself _)
-wrong_mode_dirty N v (DropBefore number) _ _ _ _ _ _ _ _ _ _ _ _ _ = (refl, itself _)
-wrong_mode_dirty N v Clear _ _ _ _ _ _ _ _ _ _ _ _ _ = (refl, itself _)
-wrong_mode_dirty N v Entries _ _ _ _ _ _ _ _ _ _ _ _ _ = (refl, itself _)
+wrong_mode_dirty N v (Start chunks) _ _ _ = (refl, itself _)
+wrong_mode_dirty N v Begin _ _ _ = (refl, itself _)
+wrong_mode_dirty N v (Commit number) _ not_commit _ = absurd (not_commit number refl)
+wrong_mode_dirty N v Abort _ _ not_abort = absurd (not_abort refl)
+wrong_mode_dirty N v (Rewind number) _ _ _ = (refl, itself _)
+wrong_mode_dirty N v (Push value) h _ _ = absurd h
+wrong_mode_dirty N v (PushByte byte) h _ _ = absurd h
+wrong_mode_dirty N v (PushChunk bytes) h _ _ = absurd h
+wrong_mode_dirty N v Pop h _ _ = absurd h
+wrong_mode_dirty N v (Set position value) h _ _ = absurd h
+wrong_mode_dirty N v (Prune position) h _ _ = absurd h
+wrong_mode_dirty N v Len h _ _ = absurd h
+wrong_mode_dirty N v PrunedChunks h _ _ = absurd h
+wrong_mode_dirty N v (Get position) h _ _ = absurd h
+wrong_mode_dirty N v (Chunk position) h _ _ = absurd h
+wrong_mode_dirty N v (Ones from to) h _ _ = absurd h
+wrong_mode_dirty N v Encode h _ _ = absurd h
+wrong_mode_dirty N v (At number) h _ _ = absurd h
+wrong_mode_dirty N v (OnesAt number from to) h _ _ = absurd h
+wrong_mode_dirty N v (EncodeAt number) h _ _ = absurd h
+wrong_mode_dirty N v (Decode input range) h _ _ = absurd h
+wrong_mode_dirty N v Commits h _ _ = absurd h
+wrong_mode_dirty N v (Exists number) h _ _ = absurd h
+wrong_mode_dirty N v Latest h _ _ = absurd h
+wrong_mode_dirty N v Earliest h _ _ = absurd h
+wrong_mode_dirty N v (DropBefore number) h _ _ = absurd h
+wrong_mode_dirty N v Clear h _ _ = absurd h
+wrong_mode_dirty N v Entries h _ _ = absurd h
 
 -- states with equal parts are equal
 same_state : (c d : PrunedBits) (p q : Option PrunedBits) (h i : List (ℕ × PrunedBits)) (k l : List (ℕ × ℕ)) (m n : Option ℕ)
@@ -397,17 +373,24 @@ decoded_by N m stays None value reply a (inl e) = inl (e, (0, omega arith, a))
 decoded_by N m stays None value reply a (inr e) = inr (refl, (e, itself m))
 decoded_by N m stays (Some f) value reply a e = (e, itself m)
 
-pub decoded_clean : (N : ℕ) (v : View ⊤) (input : Vec ℕ) (range : RangeCfg) (reply : ReplyValue)
+decoded_clean : (N : ℕ) (v : View ⊤) (input : Vec ℕ) (range : RangeCfg) (reply : ReplyValue)
     → IsDecoded N (admits range) input.items reply
     → StepTo N Agrees (clean N v) (Decode input range) reply (clean N v)
 decoded_clean N v input range reply =
     decoded_by N (clean N v) _ (pruned_error N (admits range) input.items) (decoded N input.items) reply (itself (clean N v))
 
-pub decoded_dirty : (N : ℕ) (v : View PendingEdits) (input : Vec ℕ) (range : RangeCfg) (reply : ReplyValue)
+decoded_dirty : (N : ℕ) (v : View PendingEdits) (input : Vec ℕ) (range : RangeCfg) (reply : ReplyValue)
     → IsDecoded N (admits range) input.items reply
     → StepTo N Agrees (dirty N v) (Decode input range) reply (dirty N v)
 decoded_dirty N v input range reply =
     decoded_by N (dirty N v) _ (pruned_error N (admits range) input.items) (decoded N input.items) reply (still N v)
+
+-- a decode is a step of a session in any state
+pub decoded_in : (N : ℕ) (s : session_state.State N) (input : Vec ℕ) (range : RangeCfg) (reply : ReplyValue)
+    → IsDecoded N (admits range) input.items reply
+    → StepTo N Agrees (machine_of s) (Decode input range) reply (machine_of s)
+decoded_in N (state.Clean v) input range reply h = decoded_clean N v input range reply h
+decoded_in N (state.Dirty v) input range reply h = decoded_dirty N v input range reply h
 
 -- a rewind that fails changes nothing
 pub not_rewound : (N number : ℕ) (v : View ⊤) (found : Option PrunedBits)

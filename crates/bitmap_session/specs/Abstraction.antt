@@ -8,6 +8,8 @@ use Rattle.historical_bitmap.specs.declared.bitmap.historical.error.Error.TheVar
 use Rattle.historical_bitmap.specs.View.{View, costs_of, history_of, marked_of, pending_of}
 use Rattle.historical_bitmap.specs.declared.bitmap.historical.error.RewindError.{RewindError}
 use Rattle.historical_bitmap.specs.declared.bitmap.historical.error.RewindError.TheVariants as rewind_errors
+use Rattle.bitmap_session.specs.declared.command.Command.{Command}
+use Rattle.bitmap_session.specs.declared.command.Command.TheVariants.{Start, Begin, Commit, Abort, Rewind}
 use Rattle.bitmap_session.specs.declared.session.State.{State}
 use Rattle.bitmap_session.specs.declared.session.State.TheVariants as state
 use Rattle.bitmap_session.specs.declared.reply.Refusal.{Refusal}
@@ -65,6 +67,15 @@ module _ {N : ℕ} where
   abbrev pub machine_of : State N → Machine
   machine_of (state.Clean bitmap) = clean N bitmap
   machine_of (state.Dirty bitmap) = dirty N bitmap
+
+  -- the command replaces the state of a session: it starts anew, begins or ends a batch, or rewinds
+  abbrev pub ReplacesState : Command N → Type 0
+  ReplacesState (Start chunks) = ⊤
+  ReplacesState Begin = ⊤
+  ReplacesState (Commit number) = ⊤
+  ReplacesState Abort = ⊤
+  ReplacesState (Rewind number) = ⊤
+  ReplacesState _ = ⊥
 
   -- the value of a reply
   abbrev pub value_of : Reply N → ReplyValue

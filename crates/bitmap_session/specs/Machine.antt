@@ -38,6 +38,10 @@ empty_state chunks = record { current = record { pruned = chunks; bits = [] }; p
 abbrev pub first_machine : Machine
 first_machine = record { state = empty_state 0; touched = [] }
 
+-- the machine with this current bitmap, without a batch, commits and a last number, and with nothing touched
+abbrev pub machine_with : PrunedBits → Machine
+machine_with bitmap = record { state = record { current = bitmap; pending = None; history = []; costs = []; last = None }; touched = [] }
+
 -- there is a batch
 abbrev pub is_dirty : State → Bool
 is_dirty s = is_some s.pending
@@ -122,6 +126,10 @@ is_kept s number = is_some (kept_under s.history number)
 -- NoSuchCommit if no commit is kept under the number: for a rewind
 abbrev pub wants_kept : State → ℕ → Option Refusal
 wants_kept s number = when (not (is_kept s number)) NoSuchCommit
+
+-- the refusal of a session of the bitmap kept under the number, if one holds
+abbrev pub checkout_refusal : State → ℕ → Option Refusal
+checkout_refusal s number = first (wants_no_batch s ∷ wants_kept s number ∷ [])
 
 -- the rule of a command that reads: it leaves the state unchanged
 abbrev pub reads : State → List (Option Refusal) → Bool → ReplyValue → Rule

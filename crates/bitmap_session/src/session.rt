@@ -3,6 +3,8 @@
 mod clean;
 mod dirty;
 mod edits;
+mod kept;
+mod reads;
 mod saved;
 mod shown;
 
@@ -14,7 +16,7 @@ ghost use Rattle.bitmap_core.specs.Encoding.{pruned_encoding};
 ghost use Rattle.historical_bitmap.specs.Changes.{changed_between};
 ghost use Rattle.historical_bitmap.specs.History.{at_least, kept_under};
 ghost use Rattle.bitmap_session.specs.Machine.{Agrees, StepTo, RunsOn, first_machine, is_dirty};
-ghost use Rattle.bitmap_session.specs.Abstraction.{machine_of, value_of};
+ghost use Rattle.bitmap_session.specs.Abstraction.{ReplacesState, machine_of, value_of};
 ghost use Rattle.bitmap_session.specs.Laws.{HasRisingNumbers};
 
 use crate::command::Command;
@@ -36,18 +38,19 @@ enum State<const N: usize> {
     Dirty(DirtyBitMap<N>),
 }
 
-// Runs one command, and returns its reply and the state after it.
+// Runs a command that replaces the state, and returns its reply and the state after it.
 fn step<const N: usize>(
     state: State<N>,
     alloc: Global,
     command: &Command<N>,
 ) -> (Reply<N>, State<N>)
     requires width { IsWidth N }
+    requires replaces { ReplacesState command.now }
     ensures { StepTo N Agrees (machine_of state.entry) command.now (value_of result.0) (machine_of result.1) }
 {
     match state {
         State::Clean(bitmap) => clean::step(bitmap, alloc, command),
-        State::Dirty(bitmap) => dirty::step(bitmap, alloc, command),
+        State::Dirty(bitmap) => dirty::step(bitmap, command),
     }
 }
 
@@ -206,14 +209,34 @@ impl<const N: usize> Session<N> {
             Command::Pop => self.pop(),
             Command::Set(position, value) => self.set(*position, *value),
             Command::Prune(position) => self.prune(*position),
+            Command::DropBefore(number) => self.drop_before(*number),
+            Command::Clear => self.clear(),
             Command::Len => self.len(),
+            Command::PrunedChunks => self.pruned_chunks(),
             Command::Get(position) => self.get(*position),
-            _ => self.replace_state(command),
+            Command::Chunk(position) => self.chunk(*position),
+            Command::Ones(from, to) => self.ones(*from, *to),
+            Command::Encode => self.encode(),
+            Command::At(number) => self.snapshot(*number),
+            Command::OnesAt(number, from, to) => self.ones_at(*number, *from, *to),
+            Command::EncodeAt(number) => self.encode_at(*number),
+            Command::Decode(input, range) => self.decode(input, range),
+            Command::Commits => self.kept_numbers(),
+            Command::Exists(number) => self.exists(*number),
+            Command::Latest => self.latest(),
+            Command::Earliest => self.earliest(),
+            Command::Entries => self.entries(),
+            Command::Start(_)
+            | Command::Begin
+            | Command::Commit(_)
+            | Command::Abort
+            | Command::Rewind(_) => self.replace_state(command),
         }
     }
 
-    // Runs one command on the state, which is taken out of the session and put back after the command.
+    // Runs a command that replaces the state, which is taken out of the session and put back after the command.
     fn replace_state(&mut self, command: &Command<N>) -> Reply<N>
+        requires replaces { ReplacesState command.now }
         ensures { StepTo N Agrees self.old command.now (value_of result) self.new }
     {
         let alloc = self.alloc;
@@ -222,6 +245,26 @@ impl<const N: usize> Session<N> {
         let (reply, state) = step(state, alloc, command);
         self.state = state;
         reply
+    }
+
+    // Runs `DropBefore`. Does not allocate.
+    fn drop_before(&mut self, number: u64) -> Reply<N>
+        ensures { StepTo N Agrees self.old (Command.DropBefore number) (value_of result) self.new }
+    {
+        match &mut self.state {
+            State::Clean(bitmap) => clean::drop_before(bitmap, number),
+            State::Dirty(_) => Reply::Refused(Refusal::WrongMode),
+        }
+    }
+
+    // Runs `Clear`. Does not allocate.
+    fn clear(&mut self) -> Reply<N>
+        ensures { StepTo N Agrees self.old Command.Clear (value_of result) self.new }
+    {
+        match &mut self.state {
+            State::Clean(bitmap) => clean::clear(bitmap),
+            State::Dirty(_) => Reply::Refused(Refusal::WrongMode),
+        }
     }
 
     /// Runs `Push`: appends a bit to the pending bitmap, and replies `Done`.

@@ -8,8 +8,8 @@ use bitmap_session::session::Session;
 use std::alloc::Global;
 use std::process::Abort;
 
-// Two full chunks and a byte of ones are committed as 4. Then position 25 is cleared, and that is committed as 9.
-fn two_commits(rt: &impl Abort, alloc: Global) -> Session<3> {
+/// Two full chunks and a byte of ones are committed as 4. Then position 25 is cleared, and that is committed as 9.
+pub fn two_commits(rt: &impl Abort, alloc: Global) -> Session<3> {
     let mut session = Session::<3>::new(alloc);
     for command in [
         Command::Begin,
@@ -33,8 +33,8 @@ fn ones<B: Readable<3>>(bitmap: &B) -> u64 {
     bitmap.count_ones_range(0..u64::MAX)
 }
 
-// The number of set bits at a commit, if it is kept.
-fn ones_at(session: &Session<3>, number: u64) -> Option<u64> {
+/// The number of set bits at a commit, if it is kept.
+pub fn ones_at(session: &Session<3>, number: u64) -> Option<u64> {
     let bitmap = session.at(number)?;
     Some(ones(&bitmap))
 }

@@ -16,6 +16,8 @@ mod ends;
 #[cfg(test)]
 mod in_place;
 #[cfg(test)]
+mod kept;
+#[cfg(test)]
 mod lists;
 #[cfg(test)]
 mod methods;

@@ -44,6 +44,7 @@ unsafe extern "C" {
     pub fn mortarpink_read(bitmap: *mut Handle, width: u32, least: u64, most: u64, bytes: *const u8, len: usize, used: *mut usize, length: *mut u64) -> Status;
     pub fn mortarpink_free(bitmap: *mut Handle) -> Status;
     pub fn mortarpink_clone(bitmap: *mut Handle, copy: *mut Handle) -> Status;
+    pub fn mortarpink_checkout(bitmap: *mut Handle, number: u64, copy: *mut Handle) -> Status;
     pub fn mortarpink_start(bitmap: *mut Handle, pruned_chunks: usize) -> Status;
     pub fn mortarpink_begin(bitmap: *mut Handle) -> Status;
     pub fn mortarpink_push(bitmap: *mut Handle, bit: u8) -> Status;
@@ -87,5 +88,6 @@ unsafe extern "C" {
     pub fn mortarpink_changed_chunks(bitmap: *mut Handle, from: u64, to: u64, first: u64, out: *mut u64, len: usize, count: *mut usize) -> Status;
     pub fn mortarpink_drop_before(bitmap: *mut Handle, number: u64, dropped: *mut u64) -> Status;
     pub fn mortarpink_clear(bitmap: *mut Handle) -> Status;
+    pub fn mortarpink_index(bitmap: *mut Handle, on: u8) -> Status;
     pub fn mortarpink_entries(bitmap: *mut Handle, entries: *mut u64) -> Status;
 }

@@ -1,9 +1,10 @@
--- Sessions that are made and copied.
-use Rattle.std.specs.Prelude.{◌≡◌, None, Some}
+-- Sessions that are made, copied, checked out and indexed.
+use Rattle.std.specs.Prelude.{◌≡◌, true, false, [], ◌∷◌, None, Some}
 use Rattle.std.proofs.Common.{refl, inl, inr, arith}
-use Rattle.bitmap_session.specs.Machine.{first_machine}
+use Rattle.bitmap_core.specs.PrunedBits.{PrunedBits}
+use Rattle.bitmap_session.specs.Machine.{Machine, first_machine, machine_with}
 use Rattle.bitmap_c.specs.declared.any.AnySession.TheVariants.{Width1, Width8}
-use Rattle.bitmap_c.specs.Making.{Copies, Makes}
+use Rattle.bitmap_c.specs.Making.{ChecksOut, Copies, Indexes, Makes}
 use Rattle.bitmap_c.specs.Widths.{machine, width}
 
 eight_bytes : width (Width8 first_machine) ≡ 8
@@ -37,3 +38,50 @@ no_copy_of_an_empty_handle = (refl, refl)
 
 copy_to_a_full_handle : Copies (Some (Width8 first_machine)) (Some (Width1 first_machine)) 16 (Some (Width1 first_machine))
 copy_to_a_full_handle = (refl, refl)
+
+-- one bit, and two bits
+abbrev one : PrunedBits
+one = record { pruned = 0; bits = true ∷ [] }
+
+abbrev two : PrunedBits
+two = record { pruned = 0; bits = true ∷ false ∷ [] }
+
+-- two bits are current, and one bit is kept under 4
+abbrev kept : Machine
+kept = record { state = record { current = two; pending = None; history = (4, one) ∷ []; costs = (4, 1) ∷ []; last = Some 4 }; touched = [] }
+
+-- the same in a batch
+abbrev in_batch : Machine
+in_batch = record { state = record { current = two; pending = Some two; history = (4, one) ∷ []; costs = (4, 1) ∷ []; last = Some 4 }; touched = [] }
+
+checked_out : ChecksOut (Some (Width8 kept)) 4 None 0 (Some (Width8 (machine_with one)))
+checked_out = inr (refl, (Width8 (machine_with one), refl, (refl, refl)))
+
+checked_out_without_memory : ChecksOut (Some (Width8 kept)) 4 None 13 None
+checked_out_without_memory = inl (refl, refl)
+
+-- no commit is kept under 5
+no_such_commit : ChecksOut (Some (Width8 kept)) 5 None 12 None
+no_such_commit = (refl, refl)
+
+not_checked_out_in_a_batch : ChecksOut (Some (Width8 in_batch)) 4 None 1 None
+not_checked_out_in_a_batch = (refl, refl)
+
+-- a full handle comes before any other reason, and an empty one before that
+checked_out_to_a_full_handle : ChecksOut (Some (Width8 in_batch)) 5 (Some (Width1 kept)) 16 (Some (Width1 kept))
+checked_out_to_a_full_handle = (refl, refl)
+
+not_checked_out_of_an_empty_handle : ChecksOut None 4 (Some (Width1 kept)) 15 (Some (Width1 kept))
+not_checked_out_of_an_empty_handle = (refl, refl)
+
+indexed : Indexes (Some (Width8 kept)) true 0
+indexed = inl refl
+
+not_indexed_without_memory : Indexes (Some (Width8 kept)) true 13
+not_indexed_without_memory = inr (refl, refl)
+
+not_indexed_in_a_batch : Indexes (Some (Width8 in_batch)) true 1
+not_indexed_in_a_batch = refl
+
+not_indexed_in_an_empty_handle : Indexes None false 15
+not_indexed_in_an_empty_handle = refl

@@ -8,7 +8,7 @@ use Rattle.bitmap_core.specs.Decoding.{admits, pruned_error}
 use Rattle.bitmap_core.specs.Decoding.DecodeError.{EndOfBuffer, InvalidLength}
 use Rattle.bitmap_session.specs.declared.command.Command.TheVariants.{Start, Begin, Push, PushByte, PushChunk, Pop, Set, Prune, Commit, Abort, Rewind, Len, PrunedChunks, Get, Chunk, Ones, Encode, At, OnesAt, EncodeAt, Decode, Commits, Exists, Latest, Earliest, DropBefore, Clear, Entries}
 use Rattle.bitmap_session.specs.Replies.Refusal.{WrongMode, OutOfBounds, Pruned, TooLong, NoRetainedBit, ReservedCommitNumber, NonMonotonicCommit, PrunedChunksOverflow, Codec, NoSuchCommit}
-use Rattle.bitmap_session.specs.Machine.{State, first_machine, is_dirty, shown, edited, when, first, wants_batch, wants_no_batch, wants_retained, wants_number, chunk_index, shown_len, wants_bit, wants_space, wants_fitting, wants_readable, refusal_of, allocates, wants_end, wants_kept, is_kept}
+use Rattle.bitmap_session.specs.Machine.{State, first_machine, is_dirty, shown, edited, when, first, wants_batch, wants_no_batch, wants_retained, wants_number, chunk_index, shown_len, wants_bit, wants_space, wants_fitting, wants_readable, refusal_of, allocates, wants_end, wants_kept, is_kept, checkout_refusal}
 
 -- two bits after one pruned chunk: positions 8 and 9
 abbrev pub two_bits : PrunedBits
@@ -481,3 +481,15 @@ none_taken : (allocates 1 clean (Exists 5) ≡ false)
     × (allocates 1 clean Clear ≡ false)
     × (allocates 1 clean Entries ≡ false)
 none_taken = (refl, refl, refl, refl, refl, refl)
+
+-- ---- sessions of a kept bitmap
+
+kept_under_5 : checkout_refusal clean 5 ≡ None
+kept_under_5 = refl
+
+not_kept_under_6 : checkout_refusal clean 6 ≡ Some NoSuchCommit
+not_kept_under_6 = refl
+
+-- the batch is the first reason
+kept_in_a_batch : checkout_refusal dirty 6 ≡ Some WrongMode
+kept_in_a_batch = refl

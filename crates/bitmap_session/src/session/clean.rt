@@ -9,12 +9,12 @@ ghost use Rattle.bitmap_core.specs.Meaning.{ones};
 ghost use Rattle.historical_bitmap.specs.History.{kept_under};
 ghost use Rattle.historical_bitmap.specs.View.{history_of};
 ghost use Rattle.bitmap_session.specs.Machine.{Agrees, StepTo, ones_of};
-ghost use Rattle.bitmap_session.specs.Abstraction.{clean, value_of, machine_of};
+ghost use Rattle.bitmap_session.specs.Abstraction.{ReplacesState, clean, value_of, machine_of};
 
 use crate::command::Command;
 use crate::reply::{Refusal, Reply};
 use crate::session::State;
-use crate::session::shown::{check_position, decode};
+use crate::session::shown::check_position;
 use bitmap_core::bitmap::codec::Write;
 use bitmap_core::bitmap::{Prunable, Readable};
 use bitmap_core::chunk::{chunk_count, chunk_index};
@@ -59,7 +59,7 @@ pub fn len<const N: usize>(bitmap: &CleanBitMap<N>) -> Reply<N>
     Reply::Number(bitmap.len())
 }
 
-fn pruned_chunks<const N: usize>(bitmap: &CleanBitMap<N>) -> Reply<N>
+pub fn pruned_chunks<const N: usize>(bitmap: &CleanBitMap<N>) -> Reply<N>
     ensures { StepTo N Agrees (clean N bitmap.now) Command.PrunedChunks (value_of result) (clean N bitmap.now) }
 {
     Reply::Number(bitmap.pruned_chunks() as u64)
@@ -75,7 +75,7 @@ pub fn get<const N: usize>(bitmap: &CleanBitMap<N>, position: u64) -> Reply<N>
     }
 }
 
-fn chunk<const N: usize>(bitmap: &CleanBitMap<N>, position: u64) -> Reply<N>
+pub fn chunk<const N: usize>(bitmap: &CleanBitMap<N>, position: u64) -> Reply<N>
     ensures { StepTo N Agrees (clean N bitmap.now) (Command.Chunk position) (value_of result) (clean N bitmap.now) }
 {
     match check_position(bitmap.len(), bitmap.current().pruned_bits(), position) {
@@ -98,7 +98,7 @@ fn set_positions<B: Readable<N>, const N: usize>(
     bitmap.ones_iter_range(from..to).collect(alloc)
 }
 
-fn ones<const N: usize>(bitmap: &CleanBitMap<N>, alloc: Global, from: u64, to: u64) -> Reply<N>
+pub fn ones<const N: usize>(bitmap: &CleanBitMap<N>, alloc: Global, from: u64, to: u64) -> Reply<N>
     ensures { StepTo N Agrees (clean N bitmap.now) (Command.Ones from to) (value_of result) (clean N bitmap.now) }
 {
     match set_positions(bitmap.current(), alloc, from, to) {
@@ -116,7 +116,7 @@ fn encoded<const N: usize>(bitmap: &Prunable<N>, alloc: Global) -> Result<Vec<u8
     Ok(bytes)
 }
 
-fn encode<const N: usize>(bitmap: &CleanBitMap<N>, alloc: Global) -> Reply<N>
+pub fn encode<const N: usize>(bitmap: &CleanBitMap<N>, alloc: Global) -> Reply<N>
     ensures { StepTo N Agrees (clean N bitmap.now) Command.Encode (value_of result) (clean N bitmap.now) }
 {
     match encoded(bitmap.current(), alloc) {
@@ -125,7 +125,7 @@ fn encode<const N: usize>(bitmap: &CleanBitMap<N>, alloc: Global) -> Reply<N>
     }
 }
 
-fn at<const N: usize>(bitmap: &CleanBitMap<N>, number: u64) -> Reply<N>
+pub fn at<const N: usize>(bitmap: &CleanBitMap<N>, number: u64) -> Reply<N>
     ensures { StepTo N Agrees (clean N bitmap.now) (Command.At number) (value_of result) (clean N bitmap.now) }
 {
     match bitmap.get_at_commit(number) {
@@ -184,7 +184,7 @@ fn kept_positions<const N: usize>(
     Ok(Some(set_positions(&version, alloc, from, to)?))
 }
 
-fn ones_at<const N: usize>(
+pub fn ones_at<const N: usize>(
     bitmap: &CleanBitMap<N>,
     alloc: Global,
     number: u64,
@@ -214,7 +214,7 @@ fn kept_encoding<const N: usize>(
     }
 }
 
-fn encode_at<const N: usize>(bitmap: &CleanBitMap<N>, alloc: Global, number: u64) -> Reply<N>
+pub fn encode_at<const N: usize>(bitmap: &CleanBitMap<N>, alloc: Global, number: u64) -> Reply<N>
     ensures { StepTo N Agrees (clean N bitmap.now) (Command.EncodeAt number) (value_of result) (clean N bitmap.now) }
 {
     match kept_encoding(bitmap, alloc, number) {
@@ -233,7 +233,7 @@ fn kept_numbers<const N: usize>(
     bitmap.commits().collect(alloc)
 }
 
-fn commits<const N: usize>(bitmap: &CleanBitMap<N>, alloc: Global) -> Reply<N>
+pub fn commits<const N: usize>(bitmap: &CleanBitMap<N>, alloc: Global) -> Reply<N>
     ensures { StepTo N Agrees (clean N bitmap.now) Command.Commits (value_of result) (clean N bitmap.now) }
 {
     match kept_numbers(bitmap, alloc) {
@@ -242,79 +242,58 @@ fn commits<const N: usize>(bitmap: &CleanBitMap<N>, alloc: Global) -> Reply<N>
     }
 }
 
-fn exists<const N: usize>(bitmap: &CleanBitMap<N>, number: u64) -> Reply<N>
+pub fn exists<const N: usize>(bitmap: &CleanBitMap<N>, number: u64) -> Reply<N>
     ensures { StepTo N Agrees (clean N bitmap.now) (Command.Exists number) (value_of result) (clean N bitmap.now) }
 {
     Reply::Bit(bitmap.commit_exists(number))
 }
 
-fn latest<const N: usize>(bitmap: &CleanBitMap<N>) -> Reply<N>
+pub fn latest<const N: usize>(bitmap: &CleanBitMap<N>) -> Reply<N>
     ensures { StepTo N Agrees (clean N bitmap.now) Command.Latest (value_of result) (clean N bitmap.now) }
 {
     Reply::Maybe(bitmap.latest_commit())
 }
 
-fn earliest<const N: usize>(bitmap: &CleanBitMap<N>) -> Reply<N>
+pub fn earliest<const N: usize>(bitmap: &CleanBitMap<N>) -> Reply<N>
     ensures { StepTo N Agrees (clean N bitmap.now) Command.Earliest (value_of result) (clean N bitmap.now) }
 {
     Reply::Maybe(bitmap.earliest_commit())
 }
 
-fn drop_before<const N: usize>(bitmap: &mut CleanBitMap<N>, number: u64) -> Reply<N>
+pub fn drop_before<const N: usize>(bitmap: &mut CleanBitMap<N>, number: u64) -> Reply<N>
     ensures { StepTo N Agrees (clean N bitmap.old) (Command.DropBefore number) (value_of result) (clean N bitmap.new) }
 {
     Reply::Number(bitmap.prune_commits_before(number) as u64)
 }
 
-fn clear<const N: usize>(bitmap: &mut CleanBitMap<N>) -> Reply<N>
+pub fn clear<const N: usize>(bitmap: &mut CleanBitMap<N>) -> Reply<N>
     ensures { StepTo N Agrees (clean N bitmap.old) Command.Clear (value_of result) (clean N bitmap.new) }
 {
     bitmap.clear_history();
     Reply::Done
 }
 
-fn entries<const N: usize>(bitmap: &CleanBitMap<N>) -> Reply<N>
+pub fn entries<const N: usize>(bitmap: &CleanBitMap<N>) -> Reply<N>
     ensures { StepTo N Agrees (clean N bitmap.now) Command.Entries (value_of result) (clean N bitmap.now) }
 {
     Reply::Wide(bitmap.reverse_entries())
 }
 
-/// Runs one command outside a batch, and returns its reply and the state after it. A refused command leaves the state unchanged.
+/// Runs a command that replaces the state, outside a batch. Returns its reply and the state after it, which a refused command
+/// leaves unchanged.
 pub fn step<const N: usize>(
-    mut bitmap: CleanBitMap<N>,
+    bitmap: CleanBitMap<N>,
     alloc: Global,
     command: &Command<N>,
 ) -> (Reply<N>, State<N>)
     requires width { IsWidth N }
+    requires replaces { ReplacesState command.now }
     ensures { StepTo N Agrees (clean N bitmap.entry) command.now (value_of result.0) (machine_of result.1) }
 {
     match command {
         Command::Start(chunks) => start(bitmap, alloc, *chunks),
         Command::Begin => begin(bitmap),
         Command::Rewind(number) => rewind(bitmap, *number),
-        Command::Len => (len(&bitmap), State::Clean(bitmap)),
-        Command::PrunedChunks => (pruned_chunks(&bitmap), State::Clean(bitmap)),
-        Command::Get(position) => (get(&bitmap, *position), State::Clean(bitmap)),
-        Command::Chunk(position) => (chunk(&bitmap, *position), State::Clean(bitmap)),
-        Command::Ones(from, to) => (ones(&bitmap, alloc, *from, *to), State::Clean(bitmap)),
-        Command::Encode => (encode(&bitmap, alloc), State::Clean(bitmap)),
-        Command::At(number) => (at(&bitmap, *number), State::Clean(bitmap)),
-        Command::OnesAt(number, from, to) => {
-            let reply = ones_at(&bitmap, alloc, *number, *from, *to);
-            (reply, State::Clean(bitmap))
-        }
-        Command::EncodeAt(number) => (encode_at(&bitmap, alloc, *number), State::Clean(bitmap)),
-        Command::Decode(input, range) => {
-            let reply = decode(alloc, input.as_slice(), range);
-            (reply, State::Clean(bitmap))
-        }
-        Command::Commits => (commits(&bitmap, alloc), State::Clean(bitmap)),
-        Command::Exists(number) => (exists(&bitmap, *number), State::Clean(bitmap)),
-        Command::Latest => (latest(&bitmap), State::Clean(bitmap)),
-        Command::Earliest => (earliest(&bitmap), State::Clean(bitmap)),
-        Command::DropBefore(number) => (drop_before(&mut bitmap, *number), State::Clean(bitmap)),
-        Command::Clear => (clear(&mut bitmap), State::Clean(bitmap)),
-        Command::Entries => (entries(&bitmap), State::Clean(bitmap)),
         _ => (Reply::Refused(Refusal::WrongMode), State::Clean(bitmap)),
     }
 }

@@ -1,20 +1,18 @@
 //! Commands in a batch: one function per command.
 
 ghost use Rattle.std.specs.Prelude.{◌≡◌, ◌+◌, not};
-ghost use Rattle.bitmap_bytes.specs.Chunk.{IsWidth};
 ghost use Rattle.bitmap_core.specs.PrunedBits as spec;
 ghost use Rattle.bitmap_core.specs.PrunedBits.{bit_len};
 ghost use Rattle.bitmap_core.specs.Decoding.{is_past_64};
 ghost use Rattle.historical_bitmap.specs.View.{pending_of};
 ghost use Rattle.bitmap_session.specs.Machine.{Agrees, StepTo};
-ghost use Rattle.bitmap_session.specs.Abstraction.{dirty, value_of, machine_of};
+ghost use Rattle.bitmap_session.specs.Abstraction.{ReplacesState, dirty, value_of, machine_of};
 
 use crate::command::Command;
 use crate::reply::{Refusal, Reply};
 use crate::session::State;
-use crate::session::shown::{check_position, decode};
+use crate::session::shown::check_position;
 use historical_bitmap::bitmap::historical::DirtyBitMap;
-use std::alloc::Global;
 
 /// Returns the number of pruned bits, which is the first retained position. Does not allocate; constant time.
 pub fn pruned_bits<const N: usize>(bitmap: &DirtyBitMap<N>) -> u64
@@ -124,7 +122,7 @@ pub fn len<const N: usize>(bitmap: &DirtyBitMap<N>) -> Reply<N>
     Reply::Number(bitmap.len())
 }
 
-fn pruned_chunks<const N: usize>(bitmap: &DirtyBitMap<N>) -> Reply<N>
+pub fn pruned_chunks<const N: usize>(bitmap: &DirtyBitMap<N>) -> Reply<N>
     ensures { StepTo N Agrees (dirty N bitmap.now) Command.PrunedChunks (value_of result) (dirty N bitmap.now) }
 {
     Reply::Number(bitmap.pruned_chunks() as u64)
@@ -139,7 +137,7 @@ pub fn get<const N: usize>(bitmap: &DirtyBitMap<N>, position: u64) -> Reply<N>
     }
 }
 
-fn chunk<const N: usize>(bitmap: &DirtyBitMap<N>, position: u64) -> Reply<N>
+pub fn chunk<const N: usize>(bitmap: &DirtyBitMap<N>, position: u64) -> Reply<N>
     ensures { StepTo N Agrees (dirty N bitmap.now) (Command.Chunk position) (value_of result) (dirty N bitmap.now) }
 {
     match check_position(bitmap.len(), pruned_bits(bitmap), position) {
@@ -148,35 +146,15 @@ fn chunk<const N: usize>(bitmap: &DirtyBitMap<N>, position: u64) -> Reply<N>
     }
 }
 
-/// Runs one command in a batch, and returns its reply and the state after it. A refused command leaves the state unchanged.
-pub fn step<const N: usize>(
-    mut bitmap: DirtyBitMap<N>,
-    alloc: Global,
-    command: &Command<N>,
-) -> (Reply<N>, State<N>)
-    requires width { IsWidth N }
+/// Runs a command that replaces the state, in a batch. Returns its reply and the state after it, which a refused command leaves
+/// unchanged.
+pub fn step<const N: usize>(bitmap: DirtyBitMap<N>, command: &Command<N>) -> (Reply<N>, State<N>)
+    requires replaces { ReplacesState command.now }
     ensures { StepTo N Agrees (dirty N bitmap.entry) command.now (value_of result.0) (machine_of result.1) }
 {
     match command {
-        Command::Push(value) => (push(&mut bitmap, *value), State::Dirty(bitmap)),
-        Command::PushByte(byte) => (push_byte(&mut bitmap, *byte), State::Dirty(bitmap)),
-        Command::PushChunk(bytes) => (push_chunk(&mut bitmap, bytes), State::Dirty(bitmap)),
-        Command::Pop => (pop(&mut bitmap), State::Dirty(bitmap)),
-        Command::Set(position, value) => {
-            let reply = set(&mut bitmap, *position, *value);
-            (reply, State::Dirty(bitmap))
-        }
-        Command::Prune(position) => (prune(&mut bitmap, *position), State::Dirty(bitmap)),
         Command::Commit(number) => commit(bitmap, *number),
         Command::Abort => abort(bitmap),
-        Command::Len => (len(&bitmap), State::Dirty(bitmap)),
-        Command::PrunedChunks => (pruned_chunks(&bitmap), State::Dirty(bitmap)),
-        Command::Get(position) => (get(&bitmap, *position), State::Dirty(bitmap)),
-        Command::Chunk(position) => (chunk(&bitmap, *position), State::Dirty(bitmap)),
-        Command::Decode(input, range) => {
-            let reply = decode(alloc, input.as_slice(), range);
-            (reply, State::Dirty(bitmap))
-        }
         _ => (Reply::Refused(Refusal::WrongMode), State::Dirty(bitmap)),
     }
 }
