@@ -51,6 +51,8 @@ CHANGES = [
     ("edits.rt", "mortarpink_pop(", ") -> u32", ") -> u64", "`mortarpink_pop` has a result that is not `u32`"),
     ("edits.rt", "mortarpink_pop(", "ensures step", "requires step", "`mortarpink_pop` has a `requires`"),
     ("edits.rt", "", 'extern "C" fn mortarpink_pop(', "fn mortarpink_pop(", "marks `no_mangle`"),
+    ("reads.rt", "fn get(", "any: &AnySession", "any: &mut AnySession", {HEADER, RUST}),
+    ("edits.rt", "fn abort(", "any: &mut AnySession", "any: &AnySession", {HEADER, RUST}),
     ("edits.rt", "", "/// Removes the last bit", "/// Removes a bit", {HEADER}),
     ("edits.rt", "fn mortarpink_pop(", "/// # Complexity", "/// # Costs", "the section Costs"),
     ("status.rt", "", "WRONG_SIZE: u32 = 18", "WRONG_SIZE: u32 = 19", ALL),

@@ -2,7 +2,7 @@
 
 A parameter has one of these kinds:
 
-- `handle`, or `read handle` if it is declared `const`
+- `handle`, or `read handle` if the call only reads the bitmap
 - `u8`, `u32`, `u64`, `size`: a value; `status`: a number that may be a status
 - `u8 out`, `u64 out`, `size out`: a pointer to one value
 - `u8 array in`, `u8 array out`, `u64 array out`: a pointer to the elements; the next parameter is their `length`
@@ -15,7 +15,7 @@ from functools import lru_cache
 from pathlib import Path
 from typing import NamedTuple
 
-from rattle_tokens import Unknown, closing, first_of_item, following, functions_of, is_name, preceding, separated, text_of, tokens_of, until
+from rattle_tokens import Unknown, closing, first_of_item, following, functions_of, is_mark, is_name, preceding, separated, text_of, tokens_of, until
 
 TOP = Path(__file__).resolve().parent.parent
 SOURCES = "crates/bitmap_c/src"
@@ -35,16 +35,6 @@ ALLOCATOR = "Global"
 
 # The type of the result of each function.
 RESULT = "u32"
-
-# The functions that only read the bitmap of their first handle.
-READS = {
-    "clone", "len", "pruned_chunks", "get", "chunk", "ones", "next_one", "next_zero", "prev_one", "prev_zero", "count_ones", "select_one", "encode",
-    "len_at", "pruned_chunks_at", "get_at", "chunk_at", "ones_at", "next_one_at", "next_zero_at", "prev_one_at", "prev_zero_at", "count_ones_at",
-    "select_one_at", "encode_at", "commits", "exists", "latest", "earliest", "changed_chunks", "entries",
-}
-
-# Whether these handles are declared `const`.
-CONST_READS = False
 
 
 class Mistake(Exception):
@@ -98,9 +88,24 @@ def extern_of(tokens, at):
     return before if language >= 0 and tokens[language].text == '"C"' and is_name(tokens, before, "extern") else None
 
 
-def parameters_of(tokens, opened, name):
+def signature_of(tokens, function):
+    """The indices of the parentheses of a function."""
+    opened = following(tokens, function.at + 1)
+    return opened, closing(tokens, opened)
+
+
+def reads_of(tokens):
+    """The names of the exported functions of a source that only read: each passes the session of its handle to a function that takes it as a `&`."""
+    functions = [function for function in functions_of(tokens) if is_mark(tokens, following(tokens, function.at + 1), "(")]
+    readers = {each.name for each in functions if re.search(r"\bany: &AnySession\b", text_of(tokens, *signature_of(tokens, each)))}
+    for function in functions:
+        called = re.search(r"\bin_handle!\(bitmap, any => (?:self::)?(\w+)\(", text_of(tokens, function.opened or 0, function.closed or 0))
+        if called and called[1] in readers:
+            yield function.name
+
+
+def parameters_of(tokens, opened, is_read):
     """The parameters in C of a function, whose parenthesis opens at `opened`: the allocator is none, and a slice is two."""
-    is_const = CONST_READS and name in READS
     for start, end in separated(tokens, opened + 1, closing(tokens, opened)):
         parameter, _, shown = text_of(tokens, start, end).partition(": ")
         if shown == ALLOCATOR:
@@ -109,23 +114,23 @@ def parameters_of(tokens, opened, name):
             raise Unknown(f"the type `{shown}` of `{parameter}`", tokens[opened].line, "KINDS in tools/declarations.py has the types of parameters")
         kind = KINDS[shown]
         if kind == "handle":
-            kind, is_const = "read handle" if is_const else kind, False
+            kind, is_read = "read handle" if is_read else kind, False
         yield Parameter(parameter, kind)
         if " array " in kind:
             yield Parameter("len", "length")
 
 
-def export_of(tokens, function, start):
-    """An exported function, whose `extern` is at `start`."""
-    opened = following(tokens, function.at + 1)
+def export_of(tokens, function, start, is_read):
+    """An exported function, whose `extern` is at `start`. `is_read` says that it only reads the bitmap of its first handle."""
+    opened, closed = signature_of(tokens, function)
     end = function.clauses[0] if function.clauses else function.opened
     name, doc = function.name.removeprefix(PREFIX), doc_of(tokens, start)
-    parameters = tuple(parameters_of(tokens, opened, name))
+    parameters = tuple(parameters_of(tokens, opened, is_read))
     wrong = {
         f"a name without {PREFIX}": name == function.name,
         "no documentation": not doc,
         "two parameters with one name in C": len({parameter.name for parameter in parameters}) < len(parameters),
-        "a result that is not `u32`": text_of(tokens, closing(tokens, opened) + 1, end) != f"-> {RESULT}",
+        "a result that is not `u32`": text_of(tokens, closed + 1, end) != f"-> {RESULT}",
         "a `requires`, which a caller in C can break": any(tokens[at].kind == "requires" for at in function.clauses),
     }
     for what in [what for what, is_so in wrong.items() if is_so]:
@@ -136,8 +141,8 @@ def export_of(tokens, function, start):
 
 def exports_of(tokens):
     """The exported functions of a source, in order."""
-    starts = [(function, extern_of(tokens, function.at)) for function in functions_of(tokens)]
-    exports = [export_of(tokens, function, start) for function, start in starts if start is not None]
+    starts, reads = [(function, extern_of(tokens, function.at)) for function in functions_of(tokens)], {*reads_of(tokens)}
+    exports = [export_of(tokens, function, start, function.name in reads) for function, start in starts if start is not None]
     marks = [at for at in range(len(tokens)) if is_name(tokens, at, "no_mangle")]
     if len(marks) != len(exports):
         raise Unknown(f"{len(marks)} marks `no_mangle` and {len(exports)} functions `extern \"C\"`", tokens[-1].line)
@@ -170,8 +175,6 @@ def declarations_of(texts):
             functions |= exports
         except Unknown as unknown:
             raise Mistake(unknown.at(path)) from None
-    if not READS <= {*functions}:
-        raise Mistake(f"READS in tools/declarations.py: {SOURCES} does not export {', '.join(sorted(READS - {*functions}))}")
     versions = [found["VERSION"] for found in constants.values() if "VERSION" in found]
     if len(versions) != 1 or not constants.get(STATUSES):
         raise Mistake(f"{SOURCES} has {len(versions)} constants VERSION, and {len(constants.get(STATUSES, ()))} statuses")
