@@ -148,7 +148,7 @@ mortarpink_status mortarpink_free(mortarpink_bitmap *bitmap);
  * Errors: returns the first that applies, and leaves `copy` unchanged: MORTARPINK_EMPTY_HANDLE if `bitmap` is empty,
  *   MORTARPINK_FULL_HANDLE if `copy` is not, and MORTARPINK_NO_MEMORY if an allocation fails.
  * Cost: linear in what is copied. Allocates what it copies. */
-mortarpink_status mortarpink_clone(mortarpink_bitmap *bitmap, mortarpink_bitmap *copy);
+mortarpink_status mortarpink_clone(const mortarpink_bitmap *bitmap, mortarpink_bitmap *copy);
 
 /* Makes a bitmap of its own of the bitmap at commit `number`, in the empty handle `copy`: with no commits and no
  * last number.
@@ -160,7 +160,7 @@ mortarpink_status mortarpink_clone(mortarpink_bitmap *bitmap, mortarpink_bitmap 
  * - MORTARPINK_NO_MEMORY if an allocation fails
  * Cost: linear in the current bitmap, plus the commits after `number` and the chunks that they changed. Allocates
  *   the session and its bitmap. */
-mortarpink_status mortarpink_checkout(mortarpink_bitmap *bitmap, uint64_t number, mortarpink_bitmap *copy);
+mortarpink_status mortarpink_checkout(const mortarpink_bitmap *bitmap, uint64_t number, mortarpink_bitmap *copy);
 
 /* Replaces the bitmap by one with `pruned_chunks` pruned chunks, no bits, no commits and no last commit number.
  * Errors: returns MORTARPINK_WRONG_MODE in a batch, and MORTARPINK_PRUNED_CHUNKS_OVERFLOW if the number of pruned
@@ -237,15 +237,15 @@ mortarpink_status mortarpink_abort(mortarpink_bitmap *bitmap);
 /* ---- Reading: the pending bitmap in a batch, and the current one otherwise ---- */
 
 /* Writes the length in bits to *len. Pruned bits count. */
-mortarpink_status mortarpink_len(mortarpink_bitmap *bitmap, uint64_t *len);
+mortarpink_status mortarpink_len(const mortarpink_bitmap *bitmap, uint64_t *len);
 
 /* Writes the number of pruned chunks to *chunks. */
-mortarpink_status mortarpink_pruned_chunks(mortarpink_bitmap *bitmap, uint64_t *chunks);
+mortarpink_status mortarpink_pruned_chunks(const mortarpink_bitmap *bitmap, uint64_t *chunks);
 
 /* Writes the bit at an absolute position to *bit, as 0 or 1.
  * Errors: returns MORTARPINK_OUT_OF_BOUNDS if the position is not below the length, and MORTARPINK_PRUNED if it is
  *   pruned. *bit is then unchanged. */
-mortarpink_status mortarpink_get(mortarpink_bitmap *bitmap, uint64_t position, uint8_t *bit);
+mortarpink_status mortarpink_get(const mortarpink_bitmap *bitmap, uint64_t position, uint8_t *bit);
 
 /* Fills `out` with the chunk of an absolute position. Its bits past the length are zero.
  * Errors: returns the first status that applies. `out` is then unchanged.
@@ -253,7 +253,7 @@ mortarpink_status mortarpink_get(mortarpink_bitmap *bitmap, uint64_t position, u
  * - MORTARPINK_OUT_OF_BOUNDS if the position is not below the length
  * - MORTARPINK_PRUNED if the position is pruned
  * Cost: linear in the width. */
-mortarpink_status mortarpink_chunk(mortarpink_bitmap *bitmap, uint64_t position, uint8_t *out, size_t len);
+mortarpink_status mortarpink_chunk(const mortarpink_bitmap *bitmap, uint64_t position, uint8_t *out, size_t len);
 
 
 /* ---- Reading the current bitmap; not in a batch ---- */
@@ -264,44 +264,44 @@ mortarpink_status mortarpink_chunk(mortarpink_bitmap *bitmap, uint64_t position,
  * last.
  * Errors: returns MORTARPINK_WRONG_MODE in a batch. *count and `out` are then unchanged.
  * Cost: linear in the chunks that are read. */
-mortarpink_status mortarpink_ones(mortarpink_bitmap *bitmap, uint64_t from, uint64_t to, uint64_t *out, size_t len,
-                                  size_t *count);
+mortarpink_status mortarpink_ones(const mortarpink_bitmap *bitmap, uint64_t from, uint64_t to, uint64_t *out,
+                                  size_t len, size_t *count);
 
 /* Writes the least retained position of the current bitmap, from `from` on, whose bit is 1, to *position.
  * Errors: returns MORTARPINK_WRONG_MODE in a batch, and MORTARPINK_NONE if there is no such position. *position is
  *   then unchanged.
  * Cost: linear in the chunks that are read. */
-mortarpink_status mortarpink_next_one(mortarpink_bitmap *bitmap, uint64_t from, uint64_t *position);
+mortarpink_status mortarpink_next_one(const mortarpink_bitmap *bitmap, uint64_t from, uint64_t *position);
 
 /* Writes the least retained position of the current bitmap, from `from` on, whose bit is 0, to *position.
  * Errors: returns MORTARPINK_WRONG_MODE in a batch, and MORTARPINK_NONE if there is no such position. *position is
  *   then unchanged.
  * Cost: linear in the chunks that are read. */
-mortarpink_status mortarpink_next_zero(mortarpink_bitmap *bitmap, uint64_t from, uint64_t *position);
+mortarpink_status mortarpink_next_zero(const mortarpink_bitmap *bitmap, uint64_t from, uint64_t *position);
 
 /* Writes the greatest retained position of the current bitmap, below `end`, whose bit is 1, to *position.
  * Errors: returns MORTARPINK_WRONG_MODE in a batch, and MORTARPINK_NONE if there is no such position. *position is
  *   then unchanged.
  * Cost: linear in the chunks that are read. */
-mortarpink_status mortarpink_prev_one(mortarpink_bitmap *bitmap, uint64_t end, uint64_t *position);
+mortarpink_status mortarpink_prev_one(const mortarpink_bitmap *bitmap, uint64_t end, uint64_t *position);
 
 /* Writes the greatest retained position of the current bitmap, below `end`, whose bit is 0, to *position.
  * Errors: returns MORTARPINK_WRONG_MODE in a batch, and MORTARPINK_NONE if there is no such position. *position is
  *   then unchanged.
  * Cost: linear in the chunks that are read. */
-mortarpink_status mortarpink_prev_zero(mortarpink_bitmap *bitmap, uint64_t end, uint64_t *position);
+mortarpink_status mortarpink_prev_zero(const mortarpink_bitmap *bitmap, uint64_t end, uint64_t *position);
 
 /* Writes the number of set retained positions of the current bitmap from `from` up to `to` to *count. `to` is
  * excluded.
  * Errors: returns MORTARPINK_WRONG_MODE in a batch. *count is then unchanged.
  * Cost: linear in the chunks of the range. */
-mortarpink_status mortarpink_count_ones(mortarpink_bitmap *bitmap, uint64_t from, uint64_t to, uint64_t *count);
+mortarpink_status mortarpink_count_ones(const mortarpink_bitmap *bitmap, uint64_t from, uint64_t to, uint64_t *count);
 
 /* Writes the set retained position of the current bitmap with `k` such positions below it to *position.
  * Errors: returns MORTARPINK_WRONG_MODE in a batch, and MORTARPINK_NONE if there is no such position. *position is
  *   then unchanged.
  * Cost: linear in the retained chunks up to that of the position. */
-mortarpink_status mortarpink_select_one(mortarpink_bitmap *bitmap, uint64_t k, uint64_t *position);
+mortarpink_status mortarpink_select_one(const mortarpink_bitmap *bitmap, uint64_t k, uint64_t *position);
 
 /* Fills `out` with the encoding of the current bitmap, and writes the size of the encoding in bytes to *size. A
  * caller that does not know the size calls with an empty `out` first, whose pointer is not NULL either.
@@ -309,7 +309,7 @@ mortarpink_status mortarpink_select_one(mortarpink_bitmap *bitmap, uint64_t k, u
  *   MORTARPINK_WRONG_SIZE if the length of `out` is not the size of the encoding. `out` is then unchanged. *size is
  *   written with MORTARPINK_WRONG_SIZE too, and otherwise unchanged.
  * Cost: linear in the encoding. Allocates the encoding, which is freed before the return. */
-mortarpink_status mortarpink_encode(mortarpink_bitmap *bitmap, uint8_t *out, size_t len, size_t *size);
+mortarpink_status mortarpink_encode(const mortarpink_bitmap *bitmap, uint8_t *out, size_t len, size_t *size);
 
 
 /* ---- Reading a past state in place; not in a batch ----
@@ -322,13 +322,13 @@ mortarpink_status mortarpink_encode(mortarpink_bitmap *bitmap, uint8_t *out, siz
  * Errors: returns MORTARPINK_WRONG_MODE in a batch, and MORTARPINK_NO_SUCH_COMMIT if no commit is kept under
  *   `number`. *len is then unchanged.
  * Cost: a search among the kept commits. */
-mortarpink_status mortarpink_len_at(mortarpink_bitmap *bitmap, uint64_t number, uint64_t *len);
+mortarpink_status mortarpink_len_at(const mortarpink_bitmap *bitmap, uint64_t number, uint64_t *len);
 
 /* Writes the number of pruned chunks of the bitmap at commit `number` to *chunks.
  * Errors: returns MORTARPINK_WRONG_MODE in a batch, and MORTARPINK_NO_SUCH_COMMIT if no commit is kept under
  *   `number`. *chunks is then unchanged.
  * Cost: a search among the kept commits. */
-mortarpink_status mortarpink_pruned_chunks_at(mortarpink_bitmap *bitmap, uint64_t number, uint64_t *chunks);
+mortarpink_status mortarpink_pruned_chunks_at(const mortarpink_bitmap *bitmap, uint64_t number, uint64_t *chunks);
 
 /* Writes the bit at a position of the bitmap at commit `number` to *bit, as 0 or 1.
  * Errors: returns the first status that applies. *bit is then unchanged.
@@ -337,7 +337,7 @@ mortarpink_status mortarpink_pruned_chunks_at(mortarpink_bitmap *bitmap, uint64_
  * - MORTARPINK_OUT_OF_BOUNDS if the position is not below the length
  * - MORTARPINK_PRUNED if the position is pruned
  * Cost: a search of each commit after `number`. */
-mortarpink_status mortarpink_get_at(mortarpink_bitmap *bitmap, uint64_t number, uint64_t position, uint8_t *bit);
+mortarpink_status mortarpink_get_at(const mortarpink_bitmap *bitmap, uint64_t number, uint64_t position, uint8_t *bit);
 
 /* Fills `out` with the chunk of a position of the bitmap at commit `number`. Bits of the chunk past the length are
  * 0.
@@ -348,7 +348,7 @@ mortarpink_status mortarpink_get_at(mortarpink_bitmap *bitmap, uint64_t number, 
  * - MORTARPINK_OUT_OF_BOUNDS if the position is not below the length
  * - MORTARPINK_PRUNED if the position is pruned
  * Cost: a search of each commit after `number`. */
-mortarpink_status mortarpink_chunk_at(mortarpink_bitmap *bitmap, uint64_t number, uint64_t position, uint8_t *out,
+mortarpink_status mortarpink_chunk_at(const mortarpink_bitmap *bitmap, uint64_t number, uint64_t position, uint8_t *out,
                                       size_t len);
 
 /* Writes a page of the set positions of the bitmap at commit `number` from `from` up to `to`. The positions are in
@@ -357,39 +357,42 @@ mortarpink_status mortarpink_chunk_at(mortarpink_bitmap *bitmap, uint64_t number
  * Errors: returns MORTARPINK_WRONG_MODE in a batch, and MORTARPINK_NO_SUCH_COMMIT if no commit is kept under
  *   `number`. *count and `out` are then unchanged.
  * Cost: linear in the chunks that are read. Each chunk that is read costs a search of each commit after `number`. */
-mortarpink_status mortarpink_ones_at(mortarpink_bitmap *bitmap, uint64_t number, uint64_t from, uint64_t to,
+mortarpink_status mortarpink_ones_at(const mortarpink_bitmap *bitmap, uint64_t number, uint64_t from, uint64_t to,
                                      uint64_t *out, size_t len, size_t *count);
 
 /* Writes the least retained position, from `from` on, whose bit at commit `number` is 1, to *position.
  * Errors: returns MORTARPINK_WRONG_MODE in a batch, MORTARPINK_NO_SUCH_COMMIT if no commit is kept under `number`,
  *   and MORTARPINK_NONE if there is no such position. *position is then unchanged.
  * Cost: linear in the chunks that are read. Each chunk that is read costs a search of each commit after `number`. */
-mortarpink_status mortarpink_next_one_at(mortarpink_bitmap *bitmap, uint64_t number, uint64_t from, uint64_t *position);
+mortarpink_status mortarpink_next_one_at(const mortarpink_bitmap *bitmap, uint64_t number, uint64_t from,
+                                         uint64_t *position);
 
 /* Writes the least retained position, from `from` on, whose bit at commit `number` is 0, to *position.
  * Errors: returns MORTARPINK_WRONG_MODE in a batch, MORTARPINK_NO_SUCH_COMMIT if no commit is kept under `number`,
  *   and MORTARPINK_NONE if there is no such position. *position is then unchanged.
  * Cost: linear in the chunks that are read. Each chunk that is read costs a search of each commit after `number`. */
-mortarpink_status mortarpink_next_zero_at(mortarpink_bitmap *bitmap, uint64_t number, uint64_t from,
+mortarpink_status mortarpink_next_zero_at(const mortarpink_bitmap *bitmap, uint64_t number, uint64_t from,
                                           uint64_t *position);
 
 /* Writes the greatest retained position, below `end`, whose bit at commit `number` is 1, to *position.
  * Errors: returns MORTARPINK_WRONG_MODE in a batch, MORTARPINK_NO_SUCH_COMMIT if no commit is kept under `number`,
  *   and MORTARPINK_NONE if there is no such position. *position is then unchanged.
  * Cost: linear in the chunks that are read. Each chunk that is read costs a search of each commit after `number`. */
-mortarpink_status mortarpink_prev_one_at(mortarpink_bitmap *bitmap, uint64_t number, uint64_t end, uint64_t *position);
+mortarpink_status mortarpink_prev_one_at(const mortarpink_bitmap *bitmap, uint64_t number, uint64_t end,
+                                         uint64_t *position);
 
 /* Writes the greatest retained position, below `end`, whose bit at commit `number` is 0, to *position.
  * Errors: returns MORTARPINK_WRONG_MODE in a batch, MORTARPINK_NO_SUCH_COMMIT if no commit is kept under `number`,
  *   and MORTARPINK_NONE if there is no such position. *position is then unchanged.
  * Cost: linear in the chunks that are read. Each chunk that is read costs a search of each commit after `number`. */
-mortarpink_status mortarpink_prev_zero_at(mortarpink_bitmap *bitmap, uint64_t number, uint64_t end, uint64_t *position);
+mortarpink_status mortarpink_prev_zero_at(const mortarpink_bitmap *bitmap, uint64_t number, uint64_t end,
+                                          uint64_t *position);
 
 /* Writes the number of set retained positions at commit `number` from `from` up to `to` to *count. `to` is excluded.
  * Errors: returns MORTARPINK_WRONG_MODE in a batch, and MORTARPINK_NO_SUCH_COMMIT if no commit is kept under
  *   `number`. *count is then unchanged.
  * Cost: linear in the chunks of the range. Each chunk that is read costs a search of each commit after `number`. */
-mortarpink_status mortarpink_count_ones_at(mortarpink_bitmap *bitmap, uint64_t number, uint64_t from, uint64_t to,
+mortarpink_status mortarpink_count_ones_at(const mortarpink_bitmap *bitmap, uint64_t number, uint64_t from, uint64_t to,
                                            uint64_t *count);
 
 /* Writes the retained position set at commit `number` with `k` such positions below it to *position.
@@ -397,7 +400,8 @@ mortarpink_status mortarpink_count_ones_at(mortarpink_bitmap *bitmap, uint64_t n
  *   and MORTARPINK_NONE if there is no such position. *position is then unchanged.
  * Cost: linear in the retained chunks up to that of the position. Each chunk that is read costs a search of each
  *   commit after `number`. */
-mortarpink_status mortarpink_select_one_at(mortarpink_bitmap *bitmap, uint64_t number, uint64_t k, uint64_t *position);
+mortarpink_status mortarpink_select_one_at(const mortarpink_bitmap *bitmap, uint64_t number, uint64_t k,
+                                           uint64_t *position);
 
 /* Fills `out` with the encoding of the bitmap at commit `number`, and writes the size of the encoding in bytes to
  * *size.
@@ -405,7 +409,7 @@ mortarpink_status mortarpink_select_one_at(mortarpink_bitmap *bitmap, uint64_t n
  *   `out` are then unchanged. Otherwise as mortarpink_encode.
  * Cost: linear in the current bitmap, plus the commits after `number` and the chunks that they changed. Allocates
  *   the bitmap and its encoding, which are freed before the return. */
-mortarpink_status mortarpink_encode_at(mortarpink_bitmap *bitmap, uint64_t number, uint8_t *out, size_t len,
+mortarpink_status mortarpink_encode_at(const mortarpink_bitmap *bitmap, uint64_t number, uint8_t *out, size_t len,
                                        size_t *size);
 
 
@@ -423,23 +427,23 @@ mortarpink_status mortarpink_rewind(mortarpink_bitmap *bitmap, uint64_t number);
  * as those of mortarpink_ones.
  * Errors: returns MORTARPINK_WRONG_MODE in a batch. *count and `out` are then unchanged.
  * Cost: logarithmic in the kept commits, plus linear in the numbers written. */
-mortarpink_status mortarpink_commits(mortarpink_bitmap *bitmap, uint64_t from, uint64_t *out, size_t len,
+mortarpink_status mortarpink_commits(const mortarpink_bitmap *bitmap, uint64_t from, uint64_t *out, size_t len,
                                      size_t *count);
 
 /* Writes 1 to *exists if a commit is kept under the number, and 0 otherwise.
  * Errors: returns MORTARPINK_WRONG_MODE in a batch. *exists is then unchanged.
  * Cost: logarithmic in the commits. */
-mortarpink_status mortarpink_exists(mortarpink_bitmap *bitmap, uint64_t number, uint8_t *exists);
+mortarpink_status mortarpink_exists(const mortarpink_bitmap *bitmap, uint64_t number, uint8_t *exists);
 
 /* Writes the greatest kept commit number to *number.
  * Errors: returns MORTARPINK_WRONG_MODE in a batch, and MORTARPINK_NONE if no commit is kept. *number is then
  *   unchanged. */
-mortarpink_status mortarpink_latest(mortarpink_bitmap *bitmap, uint64_t *number);
+mortarpink_status mortarpink_latest(const mortarpink_bitmap *bitmap, uint64_t *number);
 
 /* Writes the least kept commit number to *number.
  * Errors: returns MORTARPINK_WRONG_MODE in a batch, and MORTARPINK_NONE if no commit is kept. *number is then
  *   unchanged. */
-mortarpink_status mortarpink_earliest(mortarpink_bitmap *bitmap, uint64_t *number);
+mortarpink_status mortarpink_earliest(const mortarpink_bitmap *bitmap, uint64_t *number);
 
 /* Writes a page of the indices, from `first` on, of the chunks that differ between the bitmaps at two commits.
  * Indices count chunks. They are absolute and ascending. A chunk that only one of the bitmaps retains differs.
@@ -449,7 +453,7 @@ mortarpink_status mortarpink_earliest(mortarpink_bitmap *bitmap, uint64_t *numbe
  * Cost: two searches of the kept commits, and per chunk examined a search of each commit after `from`. A page
  *   examines the chunks from `first` on with an entry in a commit after `from` and up to `to`. If `out` is full, it
  *   stops at the last one written. */
-mortarpink_status mortarpink_changed_chunks(mortarpink_bitmap *bitmap, uint64_t from, uint64_t to, uint64_t first,
+mortarpink_status mortarpink_changed_chunks(const mortarpink_bitmap *bitmap, uint64_t from, uint64_t to, uint64_t first,
                                             uint64_t *out, size_t len, size_t *count);
 
 /* Drops the commits below the number, and writes how many to *dropped.
@@ -478,7 +482,7 @@ mortarpink_status mortarpink_index(mortarpink_bitmap *bitmap, uint8_t on);
  * least the number of old chunks that the history keeps. It is not the number of bytes that the history takes.
  * Errors: returns MORTARPINK_WRONG_MODE in a batch. *entries is then unchanged.
  * Cost: linear in the kept commits. */
-mortarpink_status mortarpink_entries(mortarpink_bitmap *bitmap, uint64_t *entries);
+mortarpink_status mortarpink_entries(const mortarpink_bitmap *bitmap, uint64_t *entries);
 
 #ifdef __cplusplus
 }
