@@ -401,8 +401,9 @@ class Bitmap(_Reads):
     In a batch, `length`, `pruned_chunks`, `get`, `chunk`, `packed`, `bools` and `[]` read the pending bitmap, and the
     other calls raise WrongModeError. Only `copy`, `abort` and `close` do not.
 
-    Several threads may use a bitmap. Each call has it to itself, so calls of other threads wait. A batch is several
-    calls: threads that begin batches on one bitmap need a lock of their own.
+    Several threads may use a bitmap. Calls that read run at the same time. Any other call has the bitmap to itself, so
+    calls of other threads wait. A batch is several calls: threads that begin batches on one bitmap need a lock of their
+    own.
     """
 
     def __init__(self, width: int = 8, pruned_chunks: int = 0) -> None:

@@ -19,12 +19,20 @@ from ._errors import (
 )
 from ._interface import DONE, NONE, SIZE, U8, U64, Handle
 from ._library import CALLS
+from ._locks import SharedLock
 
 if TYPE_CHECKING:
     from _typeshed import ReadableBuffer
 
 # No status of the library: the call has not returned.
 UNKNOWN = -1
+
+# The functions that change nothing, so that several calls of them may use one handle at the same time.
+READS = frozenset(
+    """len pruned_chunks get chunk ones next_one next_zero prev_one prev_zero count_ones select_one encode
+    len_at pruned_chunks_at get_at chunk_at ones_at next_one_at next_zero_at prev_one_at prev_zero_at count_ones_at
+    select_one_at encode_at commits exists latest earliest changed_chunks entries""".split()
+)
 
 MAX = 2**64 - 1
 WIDTHS = (1, 8, 32, 64)
@@ -68,7 +76,7 @@ def nobody() -> None:
 
 
 class Session:
-    """A handle, which is freed with the session. A lock gives each call the handle to itself.
+    """A handle, which is freed with the session. Calls that read share it, and a lock gives other calls the handle alone.
 
     The lock is reentrant, because a handler of a signal may run between the calls of a thread that holds it. Its `with`
     statements leave no lock taken when a handler raises an exception, since Python enters and leaves a lock at once.
@@ -79,7 +87,8 @@ class Session:
         if self.width not in WIDTHS:
             raise NoSuchWidthError()
         self.handle = Handle()
-        self.lock = threading.RLock()
+        self.shared = SharedLock()
+        self.lock = self.shared.gate
         self.closed = False
         # While there may be a batch: returns the object that owns it. If it returns None, the next call aborts the batch.
         self.owner: Optional[Callable[[], object]] = None
@@ -93,14 +102,15 @@ class Session:
         with self.lock:
             self.closed = True
             if self._free.alive:
-                CALLS["free"](self.handle)
+                self.shared.write(CALLS["free"], self.handle)
                 self._free.detach()
 
     def lose(self) -> None:
         """Closes the bitmap in the child of a fork, without freeing what a call of a thread of the parent was changing."""
         self.closed = True
         self._free.detach()
-        self.handle, self.lock = Handle(), threading.RLock()
+        self.handle, self.shared = Handle(), SharedLock()
+        self.lock = self.shared.gate
 
     def copied(self) -> Session:
         """Returns a copy, which is not in a batch. Raises NoMemoryError."""
@@ -114,10 +124,11 @@ class Session:
 
     def status(self, name: str, *arguments: object) -> int:
         """Calls a function, and returns its status."""
+        if name in READS:
+            return self.shared.read(self._settle, CALLS[name], self.handle, *arguments)
         with self.lock:
             self._settle()
-            status: int = CALLS[name](self.handle, *arguments)
-            return status
+            return self.shared.write(CALLS[name], self.handle, *arguments)
 
     def _settle(self) -> None:
         """Aborts a batch whose owner is gone. The lock is held."""
@@ -131,14 +142,13 @@ class Session:
             if self.owner is not None and not self.closed:
                 return WrongModeError.status
             self.owner = owner
-            status: int = CALLS["begin"](self.handle)
-            return status
+            return self.shared.write(CALLS["begin"], self.handle)
 
     def abort(self) -> int:
         """Aborts the batch, whoever owns it, and returns the status."""
         with self.lock:
             self.owner = nobody
-            status: int = CALLS["abort"](self.handle)
+            status = self.shared.write(CALLS["abort"], self.handle)
             self.owner = None
             return status
 
@@ -158,8 +168,7 @@ class Session:
         """Calls a function in the batch of an owner, and returns its status."""
         with self.lock:
             self._check_owner(owner)
-            status: int = CALLS[name](self.handle, *arguments)
-            return status
+            return self.shared.write(CALLS[name], self.handle, *arguments)
 
     def end(self, owner: Callable[[], object], name: str, *arguments: object) -> int:
         """Calls a function that ends the batch of an owner if it succeeds, and returns its status.
@@ -170,7 +179,7 @@ class Session:
             self._check_owner(owner)
             status = UNKNOWN
             try:
-                status = CALLS[name](self.handle, *arguments)
+                status = self.shared.write(CALLS[name], self.handle, *arguments)
             finally:
                 if status == DONE:
                     self.owner = None
@@ -195,6 +204,8 @@ def take_locks() -> None:
     locks = [session.lock for session in sessions()]
     # One call takes and notes the locks, so that no handler of a signal comes between the two.
     TAKEN.extend(filter(methodcaller("acquire"), locks))
+    for session in sessions():
+        session.shared.wait()
 
 
 def release_locks() -> None:
@@ -213,6 +224,7 @@ def lose_sessions() -> None:
     for session in sessions():
         if session.lock.acquire(blocking=False):
             session.lock.release()
+            session.shared.forget_readers()
         else:
             session.lose()
 

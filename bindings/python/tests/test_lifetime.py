@@ -301,10 +301,11 @@ class Threads(unittest.TestCase):
         thread.join()
         self.assertEqual((len(other), len(errors)), (0, 1))
 
-    def test_calls_of_one_bitmap_do_not_overlap(self):
+    def test_edits_of_one_bitmap_do_not_overlap_with_another_call(self):
+        """A thread reads, and three threads edit."""
         inside, most = [], []
 
-        def count_ones(_handle, _start, _stop, _count):
+        def call(*_arguments):
             inside.append(1)
             most.append(len(inside))
             threading.Event().wait(0.001)
@@ -312,6 +313,64 @@ class Threads(unittest.TestCase):
             return 0
 
         bitmap = Bitmap()
-        with mock.patch.dict(CALLS, count_ones=count_ones):
-            self.in_threads(*[lambda: [bitmap.count_ones() for _ in range(10)]] * 4)
+        with bitmap.batch() as batch, mock.patch.dict(CALLS, push=call, get=call):
+            edits = [lambda: [batch.push(True) for _ in range(10)]] * 3
+            self.in_threads(lambda: [bitmap.get(0) for _ in range(10)], *edits)
         self.assertEqual((max(most), len(most)), (1, 40))
+
+    def test_reads_of_one_bitmap_overlap(self):
+        bitmap, both = bitmap_of("1"), threading.Barrier(2)
+
+        def count_ones(*_arguments):
+            both.wait(60)
+            return 0
+
+        with mock.patch.dict(CALLS, count_ones=count_ones, count_ones_at=count_ones):
+            self.in_threads(bitmap.count_ones, bitmap.at(1).count_ones)
+
+    def test_an_edit_waits_for_readers(self):
+        bitmap, started, end, order = bitmap_of("1"), threading.Event(), threading.Event(), []
+
+        def count_ones(*_arguments):
+            started.set()
+            end.wait(60)
+            order.append("read")
+            return 0
+
+        def commit():
+            started.wait()
+            bitmap.batch().commit(2)
+            order.append("commit")
+
+        with mock.patch.dict(CALLS, count_ones=count_ones):
+            committing = threading.Thread(target=commit)
+            committing.start()
+            reading = threading.Thread(target=bitmap.count_ones)
+            reading.start()
+            committing.join(0.05)
+            end.set()
+            reading.join()
+            committing.join()
+        self.assertEqual((order, bitmap.latest), (["read", "commit"], 2))
+
+    def test_readers_and_writers(self):
+        bitmap = Bitmap()
+
+        def read():
+            for _ in range(200):
+                self.assertEqual(bitmap.count_ones() % 8, 0)
+
+        def edit():
+            for _ in range(50):
+                with lock, bitmap.batch((bitmap.latest or 0) + 1) as batch:
+                    batch.push_byte(255)
+
+        def read_or_fail():
+            try:
+                read()
+            except WrongModeError:
+                read_or_fail()
+
+        lock = threading.Lock()
+        self.in_threads(edit, edit, read_or_fail, read_or_fail)
+        self.assertEqual(bitmap.count_ones(), 800)
