@@ -561,6 +561,22 @@ class Bitmap(_Reads):
                 raise NoSuchCommitError(f"the older number comes first, and {older} is above {newer}") from None
             raise
 
+    def checkout(self, number: int) -> Bitmap:
+        """Returns a bitmap of its own that is the bitmap at a commit, without commits. Later edits change neither by the other.
+
+        Raises NoSuchCommitError or NoMemoryError.
+        """
+        return self._of(self._session.checked_out(u64(number)))
+
+    def set_indexed(self, indexed: bool = True) -> None:
+        """Adds an index of the kept commits, or drops it. No result of a call depends on the index.
+
+        With the index, a read of a past state finds a chunk by one search, however many commits are kept. All later
+        calls keep the index up to date. It takes memory for the old bytes of each chunk that a kept commit changed.
+        Raises NoMemoryError.
+        """
+        self._run("index", bool(indexed))
+
     def rewind_to(self, number: int) -> None:
         """Makes the bitmap at a commit current again, and drops the commits after it.
 

@@ -31,7 +31,7 @@ UNKNOWN = -1
 READS = frozenset(
     """len pruned_chunks get chunk ones next_one next_zero prev_one prev_zero count_ones select_one encode
     len_at pruned_chunks_at get_at chunk_at ones_at next_one_at next_zero_at prev_one_at prev_zero_at count_ones_at
-    select_one_at encode_at commits exists latest earliest changed_chunks entries""".split()
+    select_one_at encode_at commits exists latest earliest changed_chunks entries checkout""".split()
 )
 
 MAX = 2**64 - 1
@@ -118,6 +118,15 @@ class Session:
         check(self.status("clone", copy.handle))
         copy.abort()
         return copy
+
+    def checked_out(self, number: int) -> Session:
+        """Returns a session of the bitmap at a commit, without commits.
+
+        Raises WrongModeError, NoSuchCommitError or NoMemoryError.
+        """
+        version = Session(self.width)
+        check(self.status("checkout", number, version.handle))
+        return version
 
     def __deepcopy__(self, memo: object) -> Session:
         return self.copied()

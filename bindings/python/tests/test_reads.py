@@ -2,7 +2,7 @@
 
 import unittest
 
-from mortarpink import Bitmap, OutOfBoundsError, PrunedError
+from mortarpink import Bitmap, NoSuchCommitError, OutOfBoundsError, PrunedError, WrongModeError
 from support import MAX, bitmap_of, with_versions
 
 
@@ -206,6 +206,31 @@ class Versions(unittest.TestCase):
         self.assertEqual((second.select_one(5), second.count_ones(), second.count_ones(3, 7)), (9, 6, 2))
         self.assertEqual((third.next_one(0), third.next_zero(0), third.prev_one(17), third.prev_zero(MAX)), (17, 16, None, 16))
         self.assertEqual((third.select_one(0), third.select_one(1), third.count_ones()), (17, None, 1))
+
+    def test_checkout(self):
+        version = self.bitmap.checkout(5)
+        self.assertEqual((version.width, version.length, list(version.ones())), (1, 10, [0, 2, 3, 6, 8, 9]))
+        self.assertEqual((list(version.commits()), version.latest), ([], None))
+        with version.batch(commit=1) as batch:
+            batch[0] = False
+        self.assertEqual((list(version.ones()), list(self.bitmap.at(5).ones())), ([2, 3, 6, 8, 9], [0, 2, 3, 6, 8, 9]))
+        with self.assertRaises(NoSuchCommitError):
+            self.bitmap.checkout(4)
+        with self.bitmap.batch(), self.assertRaises(WrongModeError):
+            self.bitmap.checkout(5)
+
+    def test_index(self):
+        before = [list(self.bitmap.at(number).ones()) for number in self.bitmap.commits()]
+        self.bitmap.set_indexed()
+        self.assertEqual([list(self.bitmap.at(number).ones()) for number in self.bitmap.commits()], before)
+        self.bitmap.rewind_to(5)
+        with self.bitmap.batch(commit=6) as batch:
+            batch.pop()
+        self.assertEqual([list(self.bitmap.at(number).ones()) for number in self.bitmap.commits()], [*before[:2], [0, 2, 3, 6, 8]])
+        with self.bitmap.batch(), self.assertRaises(WrongModeError):
+            self.bitmap.set_indexed()
+        self.bitmap.set_indexed(False)
+        self.assertEqual(list(self.bitmap.at(3).ones()), before[0])
 
     def test_representation(self):
         self.assertEqual(repr(self.bitmap.at(5)), "<mortarpink.Version 5>")
