@@ -7,3 +7,4 @@ pub mod KeptNumbers
 pub mod Rewinding
 pub mod Examples
 pub mod Saved
+pub mod WithEntries

@@ -3,3 +3,4 @@ pub mod Laws
 pub mod Machine
 pub mod Abstraction
 pub mod Saved
+pub mod Logged

@@ -2,6 +2,7 @@
 
 mod clean;
 mod dirty;
+mod entries;
 mod saved;
 mod shown;
 
@@ -18,6 +19,7 @@ ghost use Rattle.bitmap_session.specs.Laws.{HasRisingNumbers};
 
 use crate::command::Command;
 use crate::reply::{Refusal, Reply};
+pub use crate::session::entries::LogError;
 pub use crate::session::saved::{ApplyDeltaError, SaveError};
 use bitmap_core::bitmap::Prunable;
 use bitmap_core::bitmap::codec::{CodecError, RangeCfg, Read};
