@@ -8,3 +8,4 @@ pub mod Rewinding
 pub mod Examples
 pub mod Saved
 pub mod Edits
+pub mod WithEntries

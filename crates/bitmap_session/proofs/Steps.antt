@@ -289,7 +289,7 @@ number_refusal last number = elim (cases_Bool (number == 2 ^ 64 - 1)) [
   | inr h ↦ rw h (not_above last number)
 ]
 
-commit_refusal : (N number : ℕ) (v : View PendingEdits) (error : Option Error)
+pub commit_refusal : (N number : ℕ) (v : View PendingEdits) (error : Option Error)
     → commit_error v.last number ≡ error
     → refusal_of N (dirty N v).state (Commit number) ≡ option_map (λ e. reason_of e) error
 commit_refusal N number v error h = number_refusal v.last number ∙ ap (λ x. option_map (λ e. reason_of e) x) h

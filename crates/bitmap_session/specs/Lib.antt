@@ -4,3 +4,4 @@ pub mod Machine
 pub mod Abstraction
 pub mod Saved
 pub mod Edits
+pub mod Logged

@@ -3,18 +3,23 @@
 //! Each law is the contract of a function with an empty body. A proof uses a law by calling its function.
 //! `Session::numbers_rise` is a law too: the kept numbers of every session rise.
 
-ghost use Rattle.std.specs.Prelude.{◌≡◌, IfOk, IfErr, if◌then◌else◌, alloc_error};
+ghost use Rattle.std.specs.Prelude.{◌≡◌, ℕ, List, ◌++◌, IfOk, IfErr, if◌then◌else◌, alloc_error};
 ghost use Rattle.commit_log.specs.Reading.{IsWithin, ranges};
 ghost use Rattle.commit_log.specs.declared.reading.HistoryError.TheVariants.{Memory as HistoryMemory};
+ghost use Rattle.commit_log.specs.declared.recovery.RecoverError.TheVariants.{Memory as RecoverMemory};
 ghost use Rattle.bitmap_session.specs.Edits.{EditsAreRun};
+ghost use Rattle.bitmap_session.specs.Logged.{IsLogged, IsRecovered};
 ghost use Rattle.bitmap_session.specs.Machine.{first_machine, is_dirty};
 ghost use Rattle.bitmap_session.specs.Saved.{IsOutside, IsUnreserved, kept_part};
 ghost use Rattle.bitmap_session.specs.declared.session.saved.SaveError.TheVariants.{InBatch, Memory};
 ghost use Rattle.bitmap_session.specs.Laws.{HasRisingNumbers, LatestIsGreatest, NoCommitsRise, NumbersRise, NumbersRiseOn, Rewinding, RunsJoin, StepIsRun, StepsAreRun};
 
-use crate::session::{SaveError, Session};
+use crate::command::Command;
+use crate::logged::{LoggedSession, RecoveredSession};
+use crate::reply::Reply;
+use crate::session::{LogError, SaveError, Session};
 use bitmap_core::bitmap::codec::RangeCfg;
-use commit_log::HistoryError;
+use commit_log::{HistoryError, RecoverError};
 use std::alloc::Global;
 
 /// States that consecutive runs are one run.
@@ -111,4 +116,46 @@ pub fn a_saved_session_is_loaded<const N: usize>(
         }
         Err(error) => Err(error),
     }
+}
+
+/// Serves a command on a session with a log.
+///
+/// Let the bytes that were taken from the log and those that were not be a log that makes what the session keeps, as after
+/// `LoggedSession::begin`. Then they are such a log afterwards too. So this holds after any commands.
+///
+/// # Errors
+///
+/// Those of `LoggedSession::serve`.
+pub fn a_logged_session_goes_on<const N: usize>(
+    session: &mut LoggedSession<N>,
+    command: &Command<N>,
+) -> Result<Reply<N>, LogError>
+    ensures { (taken : List ℕ) → IsLogged N taken session.old → IsLogged N taken session.new }
+{
+    session.serve(command)
+}
+
+/// Recovers a session from the bytes of its log: those that were taken from it, and those that were not.
+///
+/// The recovered session keeps the same bitmaps under the same numbers, with the same current bitmap and last number, and its log is at the
+/// same place. By the clause `complete` it is recovered unless an allocation fails. For a prefix of the bytes, the clause `prefix` of
+/// `LoggedSession::recover` says the same of the entries that are whole in it.
+///
+/// # Errors
+///
+/// Those of `LoggedSession::recover`.
+pub fn a_logged_session_is_recovered<const N: usize>(
+    alloc: Global,
+    session: &LoggedSession<N>,
+    bytes: &[u8],
+) -> Result<RecoveredSession<N>, RecoverError>
+    ensures same { (taken : List ℕ) → IsLogged N taken session.now
+        → bytes.now ≡ taken ++ session.now.log.bytes
+        → IfOk result (λ found. IsRecovered session.now found.session found.torn) }
+    ensures complete { (taken : List ℕ) → IsLogged N taken session.now
+        → bytes.now ≡ taken ++ session.now.log.bytes
+        → IfErr result (λ e. e ≡ RecoverMemory alloc_error) }
+{
+    session.session().fits_a_log();
+    LoggedSession::recover(alloc, bytes)
 }

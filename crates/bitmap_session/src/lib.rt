@@ -34,9 +34,12 @@
 //! A session outlives its process by its history: its current bitmap, its kept commits and its last number. `Session::save`
 //! writes the history as bytes, and `Session::load` makes a session of it. `Session::delta` writes what brings a replica from one
 //! commit to a later one, and `Session::apply_delta` applies it.
+//!
+//! A `LoggedSession` of the module `logged` has a log besides: after a crash it is recovered from the bytes that its commands appended.
 #![tactic(auto)]
 
 pub mod command;
 pub mod laws;
+pub mod logged;
 pub mod reply;
 pub mod session;

@@ -3,6 +3,7 @@
 mod clean;
 mod dirty;
 mod edits;
+mod entries;
 mod kept;
 mod reads;
 mod saved;
@@ -21,6 +22,7 @@ ghost use Rattle.bitmap_session.specs.Laws.{HasRisingNumbers};
 
 use crate::command::Command;
 use crate::reply::{Refusal, Reply};
+pub use crate::session::entries::LogError;
 pub use crate::session::saved::{ApplyDeltaError, SaveError};
 use bitmap_core::bitmap::Prunable;
 use bitmap_core::bitmap::codec::{CodecError, RangeCfg, Read};

@@ -114,7 +114,7 @@ fn history_is_log<const N: usize>(bitmap: &CleanBitMap<N>)
 
 impl<const N: usize> Session<N> {
     // Makes a session outside a batch of a bitmap.
-    fn outside(alloc: Global, bitmap: CleanBitMap<N>) -> Self
+    pub(crate) fn outside(alloc: Global, bitmap: CleanBitMap<N>) -> Self
         ensures { result ≡ clean N bitmap.entry }
     {
         // The prover learns from these calls the width, and that the kept numbers rise up to the last number.
