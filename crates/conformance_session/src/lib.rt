@@ -20,6 +20,8 @@ mod kept;
 #[cfg(test)]
 mod lists;
 #[cfg(test)]
+mod logged;
+#[cfg(test)]
 mod methods;
 #[cfg(test)]
 mod read;
