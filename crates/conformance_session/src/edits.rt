@@ -77,7 +77,7 @@ fn a_hundred_bits_in_five_chunks(rt: HostRuntime) {
     let ones = run_one(&rt, rt.alloc(), &mut session, Command::Ones(40, 48));
     expect(
         &rt,
-        matches!(ones, Reply::Positions(Some(found)) if found.as_slice() == [44, 45, 46, 47].as_slice()),
+        matches!(&ones, Reply::Positions(Some(found)) if found.as_slice() == [44, 45, 46, 47].as_slice()),
     );
 }
 
