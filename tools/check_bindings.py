@@ -242,7 +242,8 @@ def rust_cases(place):
 def python_cases(place):
     environment = {"MORTARPINK_LIB_DIR": str(place.libraries), "PYTHONDONTWRITEBYTECODE": "1"}
     command = [sys.executable, "-W", "error", "-m", "unittest", "discover", "-s", "tests"]
-    pythons = filter(shutil.which, (sys.executable, "/usr/bin/python3"))
+    # The Python of these tests, and that of the system.
+    pythons = filter(None, (sys.executable, shutil.which("python3", path=os.defpath)))
     has_setuptools = any(run([python, "-c", "import setuptools.build_meta, wheel"])[0] == 0 for python in pythons)
     if not has_setuptools:
         print("not run: this machine has no Python with setuptools and wheel")

@@ -26,7 +26,7 @@ LIBRARY = b"a library\0GLIBC_2.2.5\0GLIBC_2.14\0GLIBC_2.4\0"
 
 def builder():
     """Returns a Python that has setuptools and wheel, or None: the one of the tests, or that of the system."""
-    pythons = (python for python in (sys.executable, "/usr/bin/python3") if Path(python).exists())
+    pythons = filter(None, (sys.executable, shutil.which("python3", path=os.defpath)))
     return next((each for each in pythons if subprocess.run([each, "-c", NEEDS], capture_output=True).returncode == 0), None)
 
 
