@@ -1,0 +1,4 @@
+pub mod Appends
+pub mod Moments
+pub mod Past
+pub mod Prefixes
