@@ -26,7 +26,8 @@ COLUMNS = 120
 TYPES = {
     "handle": "mortarpink_bitmap *", "read handle": "const mortarpink_bitmap *", "status": "mortarpink_status ", "u8": "uint8_t ", "u32": "uint32_t ",
     "u64": "uint64_t ", "size": "size_t ", "length": "size_t ", "u8 out": "uint8_t *", "u64 out": "uint64_t *", "size out": "size_t *",
-    "u8 array in": "const uint8_t *", "u8 array out": "uint8_t *", "u64 array out": "uint64_t *", "text": "const char *",
+    "u8 array in": "const uint8_t *", "u64 array in": "const uint64_t *", "u8 array out": "uint8_t *", "u64 array out": "uint64_t *",
+    "text": "const char *",
 }
 
 # The sections that a documentation may have after its text.

@@ -5,7 +5,7 @@ A parameter has one of these kinds:
 - `handle`, or `read handle` if the call only reads the bitmap
 - `u8`, `u32`, `u64`, `size`: a value; `status`: a number that may be a status
 - `u8 out`, `u64 out`, `size out`: a pointer to one value
-- `u8 array in`, `u8 array out`, `u64 array out`: a pointer to the elements; the next parameter is their `length`
+- `u8 array in`, `u64 array in`, `u8 array out`, `u64 array out`: a pointer to the elements; the next parameter is their `length`
 
 A function that takes a handle returns a `status`. tools/interface.py writes the declarations in C, Rust and Python.
 """
@@ -24,7 +24,7 @@ PREFIX = "mortarpink_"
 
 KINDS = {
     "&mut Handle": "handle", "u8": "u8", "u32": "u32", "u64": "u64", "usize": "size", "&mut u8": "u8 out", "&mut u64": "u64 out",
-    "&mut usize": "size out", "&[u8]": "u8 array in", "&mut [u8]": "u8 array out", "&mut [u64]": "u64 array out",
+    "&mut usize": "size out", "&[u8]": "u8 array in", "&[u64]": "u64 array in", "&mut [u8]": "u8 array out", "&mut [u64]": "u64 array out",
 }
 
 # The kinds of handles.

@@ -65,7 +65,7 @@ def buffer(name, before):
 
 
 class Call:
-    """The arguments of one call, from the given ones: a handle, a number, the bytes of an input, or the length of an output that is an array."""
+    """The arguments of one call, from the given ones: a handle, a number, the bytes or numbers of an input, or the length of an output that is an array."""
 
     def __init__(self, parameters, given):
         self.arguments, self.inputs, self.outputs = [], [], []
@@ -80,13 +80,14 @@ class Call:
             else:
                 size = next(given) if " array " in kind else 1
                 argument = self.add(name, kind, size)
-                length = len(size) if kind == "u8 array in" else size
+                length = len(size) if kind.endswith(" array in") else size
             self.arguments.append(argument)
 
     def add(self, name, kind, given):
-        """Adds a buffer: with the bytes that are given, or for so many elements."""
-        if kind == "u8 array in":
-            added = buffer(name, given + marks(AFTER))
+        """Adds a buffer: with the bytes or numbers that are given, or for so many elements."""
+        if kind.endswith(" array in"):
+            size = ctypes.sizeof(VALUES[kind.split(" ")[0]])
+            added = buffer(name, b"".join(element.to_bytes(size, "little") for element in given) + marks(AFTER))
             self.inputs.append(added)
         else:
             size = given * ctypes.sizeof(VALUES[kind.split(" ")[0]])
@@ -127,7 +128,7 @@ class Library:
         function.restype = ctypes.c_char_p if declared.result == "text" else ctypes.c_uint32
 
     def call(self, name, *given):
-        """Calls a function that returns a status. What is given has no outputs, and for each array its bytes or its length."""
+        """Calls a function that returns a status. What is given has no outputs, and for each array its elements or its length."""
         call = Call(self.declared.functions[name].parameters, given)
         status = self.functions[name](*call.arguments)
         return Outcome(self.names.get(status, str(status)), call.written())

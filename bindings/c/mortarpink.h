@@ -11,10 +11,10 @@
  *     if (mortarpink_push(&bitmap, 1) == MORTARPINK_DONE) mortarpink_commit(&bitmap, 7, &previous);
  *     mortarpink_free(&bitmap);
  *
- * Ownership: a handle owns its bitmap from mortarpink_new, mortarpink_read, mortarpink_clone or mortarpink_checkout
- * until mortarpink_free. A handle starts as MORTARPINK_EMPTY, and only these functions write it. Do not copy a handle
- * that is not empty, except to move it: the old place is not used again, unless MORTARPINK_EMPTY is assigned to it. An
- * empty handle is valid in every call, and a freed handle is empty again.
+ * Ownership: a handle owns its bitmap from mortarpink_new, mortarpink_read, mortarpink_load, mortarpink_clone or
+ * mortarpink_checkout until mortarpink_free. A handle starts as MORTARPINK_EMPTY, and only these functions write it. Do
+ * not copy a handle that is not empty, except to move it: the old place is not used again, unless MORTARPINK_EMPTY is
+ * assigned to it. An empty handle is valid in every call, and a freed handle is empty again.
  *
  * Reads: a call that takes a handle as `const` writes neither the handle nor the bitmap that it owns. Every other call
  * edits the bitmap, or may.
@@ -47,12 +47,13 @@
  *
  * Units: positions and lengths are in bits. They are absolute: they count from 0, and pruned bits count. Chunks have
  * indices from 0, also absolute. A bit is 0 or 1 as output; as input, any byte but 0 is 1. The lowest bit of a byte
- * comes first. Ranges include `from` and exclude `to`. They may be empty, and may go past the length. The length of a
- * buffer is the `len` after it.
+ * comes first. Ranges include `from` and exclude `to`. They may be empty, and those of reads may go past the length.
+ * The length of a buffer is the `len` after it.
  *
  * Encoding: the number of pruned chunks, then the number of retained bits, then the retained chunks. Both numbers have
  * eight bytes, the most significant first. There are no commits, no width and no checksum in it. Damaged bytes, or
- * bytes read with another width, can be the encoding of another bitmap.
+ * bytes read with another width, can be the encoding of another bitmap. The bytes of mortarpink_save and of
+ * mortarpink_delta have the width, and digests by which damaged bytes are found.
  *
  * Cost: a call takes constant time and does not allocate, unless its comment says otherwise. */
 #ifndef MORTARPINK_H
@@ -104,7 +105,13 @@ enum {
     MORTARPINK_EMPTY_HANDLE = 15,          /* the handle is empty */
     MORTARPINK_FULL_HANDLE = 16,           /* the handle is not empty */
     MORTARPINK_NO_SUCH_WIDTH = 17,         /* the width is not 1, 8, 32 or 64 bytes */
-    MORTARPINK_WRONG_SIZE = 18             /* the buffer has the wrong size */
+    MORTARPINK_WRONG_SIZE = 18,            /* the buffer has the wrong size */
+    MORTARPINK_WRONG_HEADER = 19,          /* the bytes do not begin as a history or a delta of this width does */
+    MORTARPINK_CUT_OFF = 20,               /* the bytes end before the history or the delta does */
+    MORTARPINK_DAMAGED = 21,               /* a digest is not that of the bytes before it */
+    MORTARPINK_NOT_ACCEPTED = 22,          /* a part of the bytes is no bitmap, or no commit that can follow */
+    MORTARPINK_OUT_OF_RANGE = 23,          /* a number of retained bits or of commits is out of range */
+    MORTARPINK_NOT_AT_BASE = 24            /* the delta does not start at the current bitmap */
 };
 
 /* Returns the MORTARPINK_VERSION of the library. */
@@ -199,6 +206,13 @@ mortarpink_status mortarpink_push_bytes(mortarpink_bitmap *bitmap, const uint8_t
  * Cost: amortized linear in the width. May allocate. */
 mortarpink_status mortarpink_push_chunk(mortarpink_bitmap *bitmap, const uint8_t *bytes, size_t len);
 
+/* Appends a bit per byte of `bits`, in order: 0 if the byte is 0, and otherwise 1. Appends all of them, or none.
+ * Errors: returns MORTARPINK_WRONG_MODE outside a batch, MORTARPINK_TOO_LONG if the length would pass 2^64 - 1, and
+ *   MORTARPINK_NO_MEMORY if an allocation fails.
+ * Cost: linear in the bits. Allocates the chunks of the new bits that the batch has not edited yet. Also allocates a
+ *   byte per bit and the chunks of a copy of the bits, which are freed before the return. */
+mortarpink_status mortarpink_push_bits(mortarpink_bitmap *bitmap, const uint8_t *bits, size_t len);
+
 /* Removes the last bit; *bit becomes it.
  * Errors: returns MORTARPINK_WRONG_MODE outside a batch, and MORTARPINK_NO_RETAINED_BIT if no bit is retained. *bit
  *   is then unchanged. */
@@ -209,6 +223,50 @@ mortarpink_status mortarpink_pop(mortarpink_bitmap *bitmap, uint8_t *bit);
  *   length, MORTARPINK_PRUNED if it is pruned, and MORTARPINK_NO_MEMORY if an allocation fails.
  * Cost: amortized constant. May allocate. */
 mortarpink_status mortarpink_set(mortarpink_bitmap *bitmap, uint64_t position, uint8_t bit);
+
+/* Replaces the bit at each position in order, up to the first position that is refused: by 0 if `bit` is 0, and
+ * otherwise by 1. *count becomes the number of positions before the one that is refused, with every status but
+ * MORTARPINK_EMPTY_HANDLE. The bits at these positions stay replaced, so a caller goes on with the rest. If there
+ * are no positions, the status is MORTARPINK_DONE, also outside a batch.
+ * Errors: returns the status of the first position that is refused, as mortarpink_set. The bits at the positions
+ *   before it are replaced.
+ * Cost: amortized linear in the positions. May allocate. */
+mortarpink_status mortarpink_set_many(mortarpink_bitmap *bitmap, const uint64_t *positions, size_t len, uint8_t bit,
+                                      size_t *count);
+
+/* Replaces the bits of the chunk at an absolute index by those of `bytes`. Bits of `bytes` past the length are
+ * ignored. The lowest bit of the first byte is the first bit of the chunk.
+ * Errors: returns the first status that applies.
+ * - MORTARPINK_WRONG_SIZE if the length of `bytes` is not the width
+ * - MORTARPINK_WRONG_MODE if there is no batch
+ * - MORTARPINK_OUT_OF_BOUNDS if no bit of the chunk is below the length
+ * - MORTARPINK_PRUNED if the chunk is pruned
+ * - MORTARPINK_NO_MEMORY if an allocation fails
+ * Cost: linear in the width. May allocate. */
+mortarpink_status mortarpink_set_chunk(mortarpink_bitmap *bitmap, size_t index, const uint8_t *bytes, size_t len);
+
+/* Replaces each bit from `from` up to `to`: by 0 if `bit` is 0, and otherwise by 1. `to` is excluded. If `to` is not
+ * above `from`, nothing changes. Otherwise each position has to be below the length, and not pruned.
+ * Errors: returns the first status that applies.
+ * - MORTARPINK_WRONG_MODE if there is no batch
+ * - MORTARPINK_OUT_OF_BOUNDS if `to` is above the length, and above `from`
+ * - MORTARPINK_PRUNED if the position `from` is pruned, and `to` is above `from`
+ * - MORTARPINK_NO_MEMORY if an allocation fails
+ * Cost: linear in the chunks of the range. Allocates the chunks of the range that the batch has not edited yet. */
+mortarpink_status mortarpink_set_range(mortarpink_bitmap *bitmap, uint64_t from, uint64_t to, uint8_t bit);
+
+/* Removes the bits from position `length` on, so that this is the length. Pruned bits count.
+ * Errors: returns MORTARPINK_WRONG_MODE outside a batch, MORTARPINK_OUT_OF_BOUNDS if `length` is above the length,
+ *   and MORTARPINK_PRUNED if it is below the number of pruned bits.
+ * Cost: linear in the removed chunks that the batch has edited. */
+mortarpink_status mortarpink_truncate(mortarpink_bitmap *bitmap, uint64_t length);
+
+/* Appends zeros up to a length of `length` bits. Pruned bits count. If the bitmap has that length or more, nothing
+ * changes.
+ * Errors: returns MORTARPINK_WRONG_MODE outside a batch, and MORTARPINK_NO_MEMORY if an allocation fails.
+ * Cost: linear in the chunks of the new bits. Allocates the chunks of the new bits that the batch has not edited
+ *   yet. */
+mortarpink_status mortarpink_extend_to(mortarpink_bitmap *bitmap, uint64_t length);
 
 /* Prunes the chunks before the chunk of an absolute position, which may be the length.
  * Errors: returns MORTARPINK_WRONG_MODE outside a batch, MORTARPINK_OUT_OF_BOUNDS if the position is above the
@@ -483,6 +541,73 @@ mortarpink_status mortarpink_index(mortarpink_bitmap *bitmap, uint8_t on);
  * Errors: returns MORTARPINK_WRONG_MODE in a batch. *entries is then unchanged.
  * Cost: linear in the kept commits. */
 mortarpink_status mortarpink_entries(const mortarpink_bitmap *bitmap, uint64_t *entries);
+
+
+/* ---- What outlives the process: the history as bytes, and deltas; not in a batch ---- */
+
+/* Fills `out` with the history of the bitmap, and writes the size of the history in bytes to *size. The history is
+ * the current bitmap, the kept commits and the last commit number, with digests by which mortarpink_load finds
+ * damaged bytes. It does not have the index. A caller that does not know the size calls with an empty `out` first,
+ * whose pointer is not NULL either.
+ * Errors: returns MORTARPINK_WRONG_MODE in a batch, MORTARPINK_NO_MEMORY if an allocation fails, and
+ *   MORTARPINK_WRONG_SIZE if the length of `out` is not the size of the history. `out` is then unchanged. *size is
+ *   written with MORTARPINK_WRONG_SIZE too, and otherwise unchanged.
+ * Cost: linear in the history. Each chunk that differs from the commit before is read, which takes a search of each
+ *   commit after it. Allocates the history, which is freed before the return. */
+mortarpink_status mortarpink_save(const mortarpink_bitmap *bitmap, uint8_t *out, size_t len, size_t *size);
+
+/* Makes a bitmap from the history that `bytes` begin with, in an empty handle: with chunks of `width` bytes. Its
+ * current bitmap, its kept commits and its last number are those that mortarpink_save wrote. A commit may have fewer
+ * entries than before, so mortarpink_entries may write a smaller number. *used becomes the size of the history in
+ * bytes; bytes after it are not read. The number of retained bits, of the current bitmap and of each kept one, is
+ * from `least_bits` to `most_bits`, both included. The number of commits after the first kept one is from
+ * `least_commits` to `most_commits`, both included. A range of all numbers is from 0 to 2^64 - 1.
+ * Errors: MORTARPINK_FULL_HANDLE and MORTARPINK_NO_SUCH_WIDTH come first, and then the first error of the bytes,
+ *   from the first byte on. The handle and *used are then unchanged.
+ * - MORTARPINK_FULL_HANDLE if the handle is not empty
+ * - MORTARPINK_NO_SUCH_WIDTH if the width is not 1, 8, 32 or 64
+ * - MORTARPINK_CUT_OFF if the bytes end before the history does, also before its first 32 bytes, which are the
+ *   header
+ * - MORTARPINK_WRONG_HEADER if the bytes do not begin with the header of a history of this width
+ * - MORTARPINK_DAMAGED if a digest after the header is not that of the bytes before it
+ * - MORTARPINK_NOT_ACCEPTED if the digests are right, but a part of the bytes is no bitmap, or no commit that can
+ *   follow
+ * - MORTARPINK_OUT_OF_RANGE if a number of retained bits or of commits is outside its range
+ * - MORTARPINK_NO_MEMORY if an allocation fails
+ * Cost: linear in the bytes of the history. If a commit makes the bitmap grow, it may also move in memory. Allocates
+ *   the bitmap with its commits. A bitmap whose number of retained bits is out of range is not allocated. */
+mortarpink_status mortarpink_load(mortarpink_bitmap *bitmap, uint32_t width, uint64_t least_bits, uint64_t most_bits,
+                                  uint64_t least_commits, uint64_t most_commits, const uint8_t *bytes, size_t len,
+                                  size_t *used);
+
+/* Fills `out` with the delta from the bitmap at commit `from` to the one at commit `to`, and writes its size in
+ * bytes to *size. A delta has the chunks in which the two differ, and the number, the length and a digest of the
+ * older one. A bitmap that is equal to the older one, and whose last number is `from`, follows by
+ * mortarpink_apply_delta.
+ * Errors: returns MORTARPINK_WRONG_MODE in a batch, and MORTARPINK_NONE unless both commits are kept and `from` is
+ *   below `to`. *size and `out` are then unchanged. Otherwise as mortarpink_save.
+ * Cost: as mortarpink_changed_chunks, and linear in the delta. Each chunk in the delta is read at both commits,
+ *   which takes a search of each commit after them. Allocates the delta, which is freed before the return. */
+mortarpink_status mortarpink_delta(const mortarpink_bitmap *bitmap, uint64_t from, uint64_t to, uint8_t *out,
+                                   size_t len, size_t *size);
+
+/* Applies a delta, which is all of the bytes, as the next commit: its newer bitmap becomes current, and is kept
+ * under its number. The delta starts at the current bitmap if the last number, the length, the number of pruned
+ * chunks, and a digest of the bytes in the chunks that the delta has are those of the older bitmap. The older bitmap
+ * need not be kept. Other chunks are not compared.
+ * Errors: returns the first status that applies. Nothing has changed then.
+ * - MORTARPINK_WRONG_MODE if there is a batch
+ * - MORTARPINK_CUT_OFF if there are fewer bytes than 88, which the shortest delta has
+ * - MORTARPINK_WRONG_HEADER if the bytes do not begin as a delta, or their format has another version
+ * - MORTARPINK_DAMAGED if the digest at the end is not that of the bytes before it, as in a delta that is cut off
+ * - MORTARPINK_WRONG_HEADER if the delta has another width
+ * - MORTARPINK_CUT_OFF if the bytes of the chunks are not whole
+ * - MORTARPINK_NOT_AT_BASE if the delta does not start at the current bitmap
+ * - MORTARPINK_NOT_ACCEPTED if the digest is right, but the delta has no commit that can follow
+ * - MORTARPINK_NO_MEMORY if an allocation fails
+ * Cost: linear in the bytes, plus the chunks that the commit prunes or removes. Allocates the reverse record of the
+ *   commit, and space by which the bitmap and the list of commits grow. */
+mortarpink_status mortarpink_apply_delta(mortarpink_bitmap *bitmap, const uint8_t *bytes, size_t len);
 
 #ifdef __cplusplus
 }

@@ -21,6 +21,12 @@ static const char *const texts[] = {
     "the handle is not empty",
     "the width is not 1, 8, 32 or 64",
     "the buffer has the wrong size",
+    "the bytes do not begin as a history or a delta of this width does",
+    "the bytes end before the history or the delta does",
+    "a digest is not that of the bytes before it",
+    "a part of the bytes is no bitmap, or no commit that can follow",
+    "a number of retained bits or of commits is out of range",
+    "the delta does not start at the current bitmap",
 };
 
 const char *mortarpink_status_text(mortarpink_status status) {

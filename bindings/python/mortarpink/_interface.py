@@ -29,6 +29,12 @@ EMPTY_HANDLE = 15
 FULL_HANDLE = 16
 NO_SUCH_WIDTH = 17
 WRONG_SIZE = 18
+WRONG_HEADER = 19
+CUT_OFF = 20
+DAMAGED = 21
+NOT_ACCEPTED = 22
+OUT_OF_RANGE = 23
+NOT_AT_BASE = 24
 
 
 class Handle(ctypes.Structure):
@@ -43,6 +49,7 @@ U32 = ctypes.c_uint32
 U64 = ctypes.c_uint64
 SIZE = ctypes.c_size_t
 BYTES = ctypes.c_char_p
+NUMBERS = ctypes.POINTER(U64)
 OUT_U8 = ctypes.POINTER(U8)
 OUT_U64 = ctypes.POINTER(U64)
 OUT_SIZE = ctypes.POINTER(SIZE)
@@ -60,8 +67,14 @@ FUNCTIONS: dict[str, tuple[Any, ...]] = {
     "push_byte": (HANDLE, U8),
     "push_bytes": (HANDLE, BYTES, SIZE, OUT_SIZE),
     "push_chunk": (HANDLE, BYTES, SIZE),
+    "push_bits": (HANDLE, BYTES, SIZE),
     "pop": (HANDLE, OUT_U8),
     "set": (HANDLE, U64, U8),
+    "set_many": (HANDLE, NUMBERS, SIZE, U8, OUT_SIZE),
+    "set_chunk": (HANDLE, SIZE, BYTES, SIZE),
+    "set_range": (HANDLE, U64, U64, U8),
+    "truncate": (HANDLE, U64),
+    "extend_to": (HANDLE, U64),
     "prune": (HANDLE, U64),
     "commit": (HANDLE, U64, OUT_U64),
     "abort": (HANDLE,),
@@ -99,6 +112,10 @@ FUNCTIONS: dict[str, tuple[Any, ...]] = {
     "clear": (HANDLE,),
     "index": (HANDLE, U8),
     "entries": (HANDLE, OUT_U64),
+    "save": (HANDLE, OUT_U8, SIZE, OUT_SIZE),
+    "load": (HANDLE, U32, U64, U64, U64, U64, BYTES, SIZE, OUT_SIZE),
+    "delta": (HANDLE, U64, U64, OUT_U8, SIZE, OUT_SIZE),
+    "apply_delta": (HANDLE, BYTES, SIZE),
 }
 
 # The types of the arguments of each other function, and that of its result.

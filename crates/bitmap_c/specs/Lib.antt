@@ -1,3 +1,4 @@
+pub mod Bulk
 pub mod Calls
 pub mod Handles
 pub mod Lends
@@ -5,5 +6,6 @@ pub mod Making
 pub mod Pages
 pub mod Reads
 pub mod Reports
+pub mod Saved
 pub mod Statuses
 pub mod Widths

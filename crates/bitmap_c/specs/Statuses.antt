@@ -2,6 +2,17 @@
 use Rattle.std.specs.Prelude.{ℕ, Option, Some, None}
 use Rattle.bitmap_core.specs.Decoding.{DecodeError}
 use Rattle.bitmap_core.specs.Decoding.DecodeError.{EndOfBuffer, InvalidLength, Invalid}
+use Rattle.bitmap_core.specs.declared.bitmap.codec.error.CodecError.TheVariants as codec_errors
+use Rattle.log_frames.specs.declared.header.HeaderError.{HeaderError}
+use Rattle.log_frames.specs.declared.header.HeaderError.TheVariants as header_errors
+use Rattle.commit_log.specs.declared.base.BaseError.{BaseError}
+use Rattle.commit_log.specs.declared.base.BaseError.TheVariants as base_errors
+use Rattle.commit_log.specs.declared.deltas.DeltaError.{DeltaError}
+use Rattle.commit_log.specs.declared.deltas.DeltaError.TheVariants as delta_errors
+use Rattle.commit_log.specs.declared.reading.HistoryError.{HistoryError}
+use Rattle.commit_log.specs.declared.reading.HistoryError.TheVariants as history_errors
+use Rattle.bitmap_session.specs.declared.session.saved.ApplyDeltaError.{ApplyDeltaError}
+use Rattle.bitmap_session.specs.declared.session.saved.ApplyDeltaError.TheVariants as apply_errors
 use Rattle.bitmap_session.specs.Replies.{Refusal}
 use Rattle.bitmap_session.specs.Replies.Refusal.{WrongMode, OutOfBounds, Pruned, TooLong, NoRetainedBit, ReservedCommitNumber, NonMonotonicCommit, PrunedChunksOverflow, Codec, NoSuchCommit, NoMemory}
 
@@ -25,3 +36,42 @@ refusal_status PrunedChunksOverflow = 8
 refusal_status (Codec decode_error) = decode_status decode_error
 refusal_status NoSuchCommit = 12
 refusal_status NoMemory = 13
+
+-- the status of an error of a header: CUT_OFF if it is not whole, and otherwise WRONG_HEADER
+abbrev pub header_status : HeaderError → ℕ
+header_status header_errors.Short = 20
+header_status _ = 19
+
+-- the status of an error of a base: OUT_OF_RANGE if it retains a number of bits that is not admitted, and otherwise NOT_ACCEPTED, or NO_MEMORY
+abbrev pub base_status : BaseError → ℕ
+base_status (base_errors.State (codec_errors.InvalidLength length)) = 23
+base_status (base_errors.Memory e) = 13
+base_status _ = 22
+
+-- the status of an error of a history
+abbrev pub history_status : HistoryError → ℕ
+history_status (history_errors.Header e) = header_status e
+history_status history_errors.Short = 20
+history_status history_errors.BadHead = 21
+history_status history_errors.BadDigest = 21
+history_status (history_errors.Base e) = base_status e
+history_status (history_errors.Count count) = 23
+history_status (history_errors.Entry e) = 22
+history_status (history_errors.Bits len) = 23
+history_status (history_errors.Memory e) = 13
+
+-- the status of an error of a delta
+abbrev pub delta_status : DeltaError → ℕ
+delta_status delta_errors.Short = 20
+delta_status delta_errors.NotADelta = 19
+delta_status (delta_errors.Version version) = 19
+delta_status delta_errors.BadDigest = 21
+delta_status (delta_errors.Width width) = 19
+delta_status delta_errors.NotAtBase = 24
+delta_status (delta_errors.Change e) = 22
+delta_status (delta_errors.Memory e) = 13
+
+-- the status of an error of a session that does not apply a delta
+abbrev pub apply_status : ApplyDeltaError → ℕ
+apply_status apply_errors.InBatch = 1
+apply_status (apply_errors.Delta e) = delta_status e

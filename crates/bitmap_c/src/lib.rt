@@ -31,6 +31,7 @@ macro_rules! in_handle {
 }
 
 mod any;
+mod bulk;
 mod commits;
 mod current;
 mod edits;
@@ -43,5 +44,6 @@ mod past;
 mod queries;
 mod reads;
 mod run;
+mod saved;
 mod status;
 mod versions;

@@ -1,12 +1,14 @@
-//! A call that appends many bytes.
+//! Calls that append many bytes or set many bits, one after another, up to the first that is refused.
 
+ghost use Rattle.std.specs.Prelude.{◌==◌, not};
 ghost use Rattle.bitmap_bytes.specs.Chunk.{IsWidth};
+ghost use Rattle.bitmap_c.specs.Bulk.{CallsSetMany, SetsAnyMany, SetsMany};
 ghost use Rattle.bitmap_c.specs.Calls.{CallsPushBytes, PushesAnyBytes, PushesBytes};
 
 use crate::any::AnySession;
 use crate::handle::Handle;
 use crate::run::run_push_byte;
-use crate::status::{DONE, EMPTY_HANDLE};
+use crate::status::{DONE, EMPTY_HANDLE, refusal_status};
 use bitmap_session::session::Session;
 
 // Pushes the bytes in order, up to the first one that is refused. Returns its status, and writes the number of bytes pushed.
@@ -54,4 +56,61 @@ pub extern "C" fn mortarpink_push_bytes(bitmap: &mut Handle, bytes: &[u8], count
         result bitmap.new.value }
 {
     in_handle!(bitmap, any => push_bytes(any, bytes, count))
+}
+
+// Sets the bits at the positions in order, up to the first one that is refused. Returns its status, and writes the number of bits set.
+fn set_each<const N: usize>(
+    session: &mut Session<N>,
+    positions: &[u64],
+    bit: bool,
+    count: &mut usize,
+) -> u32
+    ensures { SetsMany N session.old positions.now bit count.new result session.new }
+{
+    match session.set_many(positions, bit) {
+        Ok(()) => {
+            *count = positions.len();
+            DONE
+        }
+        Err((set, refusal)) => {
+            *count = set;
+            refusal_status(&refusal)
+        }
+    }
+}
+
+fn set_many(any: &mut AnySession, positions: &[u64], bit: bool, count: &mut usize) -> u32
+    ensures { SetsAnyMany any.old positions.now bit count.new result any.new }
+{
+    at_width!(any, session => set_each(session, positions, bit, count))
+}
+
+/// Replaces the bit at each position in order, up to the first position that is refused: by 0 if `bit` is 0, and otherwise by 1.
+///
+/// Positions are in bits, and absolute. `count` becomes the number of positions before the one that is refused, with every status but
+/// `EMPTY_HANDLE`. The bits at these positions stay replaced, so a caller goes on with the rest. If there are no positions, the status
+/// is `DONE`, also outside a batch.
+///
+/// # Errors
+///
+/// Returns the status of the first position that is refused, as `mortarpink_set`. The bits at the positions before it are replaced.
+///
+/// # Memory
+///
+/// May allocate.
+///
+/// # Complexity
+///
+/// Amortized linear in the positions.
+#[unsafe(no_mangle)]
+pub extern "C" fn mortarpink_set_many(
+    bitmap: &mut Handle,
+    positions: &[u64],
+    bit: u8,
+    count: &mut usize,
+) -> u32
+    ensures set { CallsSetMany bitmap.old.value positions.now (not (bit == 0)) count.old count.new
+        result bitmap.new.value }
+{
+    in_handle!(bitmap, any => set_many(any, positions, bit != 0, count))
 }

@@ -89,9 +89,9 @@ fn report_chunk<const N: usize>(reply: &Reply<N>, out: &mut [u8]) -> u32
     reply_status(reply)
 }
 
-// Returns the status of a reply, and writes the size of its bytes, and the bytes if the buffer has this size.
+/// Returns the status of a reply, and writes the size of its bytes, and the bytes if the buffer has this size.
 #[tactic(auto, unfolding(crate::specs::Reports::ReportsBytes))]
-fn report_bytes<const N: usize>(reply: &Reply<N>, out: &mut [u8], size: &mut usize) -> u32
+pub fn report_bytes<const N: usize>(reply: &Reply<N>, out: &mut [u8], size: &mut usize) -> u32
     ensures { ReportsBytes result size.old size.new out.old out.new (value_of reply.now) }
 {
     match reply {

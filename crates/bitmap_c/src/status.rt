@@ -2,10 +2,13 @@
 
 ghost use Rattle.std.specs.Prelude.{◌≡◌};
 ghost use Rattle.bitmap_session.specs.Abstraction.{reason};
-ghost use Rattle.bitmap_c.specs.Statuses.{refusal_status};
+ghost use Rattle.bitmap_c.specs.Statuses.{apply_status, base_status, delta_status, header_status, history_status, refusal_status};
 
 use bitmap_core::bitmap::codec::CodecError;
 use bitmap_session::reply::Refusal;
+use bitmap_session::session::ApplyDeltaError;
+use commit_log::{BaseError, DeltaError, HistoryError};
+use log_frames::HeaderError;
 
 /// The call succeeded.
 pub const DONE: u32 = 0;
@@ -64,6 +67,24 @@ pub const NO_SUCH_WIDTH: u32 = 17;
 /// The buffer has the wrong size.
 pub const WRONG_SIZE: u32 = 18;
 
+/// The bytes do not begin as a history or a delta of this width does.
+pub const WRONG_HEADER: u32 = 19;
+
+/// The bytes end before the history or the delta does.
+pub const CUT_OFF: u32 = 20;
+
+/// A digest is not that of the bytes before it.
+pub const DAMAGED: u32 = 21;
+
+/// A part of the bytes is no bitmap, or no commit that can follow.
+pub const NOT_ACCEPTED: u32 = 22;
+
+/// A number of retained bits or of commits is out of range.
+pub const OUT_OF_RANGE: u32 = 23;
+
+/// The delta does not start at the current bitmap.
+pub const NOT_AT_BASE: u32 = 24;
+
 /// Returns the status of a decode error.
 pub fn codec_status(error: &CodecError) -> u32
     ensures { result ≡ refusal_status (reason (Refusal.Codec error.now)) }
@@ -91,5 +112,65 @@ pub fn refusal_status(refusal: &Refusal) -> u32
         Refusal::Codec(error) => codec_status(error),
         Refusal::NoSuchCommit => NO_SUCH_COMMIT,
         Refusal::NoMemory => NO_MEMORY,
+    }
+}
+
+// Returns the status of an error of a header.
+fn header_status(error: &HeaderError) -> u32
+    ensures { result ≡ header_status error.now }
+{
+    match error {
+        HeaderError::Short => CUT_OFF,
+        _ => WRONG_HEADER,
+    }
+}
+
+// Returns the status of an error of a base, which is in a whole frame.
+fn base_status(error: &BaseError) -> u32
+    ensures { result ≡ base_status error.now }
+{
+    match error {
+        BaseError::State(CodecError::InvalidLength(_)) => OUT_OF_RANGE,
+        BaseError::Memory(_) => NO_MEMORY,
+        _ => NOT_ACCEPTED,
+    }
+}
+
+/// Returns the status of an error of bytes that are loaded as a history.
+pub fn history_status(error: &HistoryError) -> u32
+    ensures { result ≡ history_status error.now }
+{
+    match error {
+        HistoryError::Header(error) => header_status(error),
+        HistoryError::Short => CUT_OFF,
+        HistoryError::BadHead | HistoryError::BadDigest => DAMAGED,
+        HistoryError::Base(error) => base_status(error),
+        HistoryError::Entry(_) => NOT_ACCEPTED,
+        HistoryError::Count(_) | HistoryError::Bits(_) => OUT_OF_RANGE,
+        HistoryError::Memory(_) => NO_MEMORY,
+    }
+}
+
+// Returns the status of an error of a delta.
+fn delta_status(error: &DeltaError) -> u32
+    ensures { result ≡ delta_status error.now }
+{
+    match error {
+        DeltaError::Short => CUT_OFF,
+        DeltaError::NotADelta | DeltaError::Version(_) | DeltaError::Width(_) => WRONG_HEADER,
+        DeltaError::BadDigest => DAMAGED,
+        DeltaError::NotAtBase => NOT_AT_BASE,
+        DeltaError::Change(_) => NOT_ACCEPTED,
+        DeltaError::Memory(_) => NO_MEMORY,
+    }
+}
+
+/// Returns the status of an error of a session that does not apply a delta.
+pub fn apply_status(error: &ApplyDeltaError) -> u32
+    ensures { result ≡ apply_status error.now }
+{
+    match error {
+        ApplyDeltaError::InBatch => WRONG_MODE,
+        ApplyDeltaError::Delta(error) => delta_status(error),
     }
 }

@@ -35,6 +35,12 @@ pub const EMPTY_HANDLE: Status = 15;
 pub const FULL_HANDLE: Status = 16;
 pub const NO_SUCH_WIDTH: Status = 17;
 pub const WRONG_SIZE: Status = 18;
+pub const WRONG_HEADER: Status = 19;
+pub const CUT_OFF: Status = 20;
+pub const DAMAGED: Status = 21;
+pub const NOT_ACCEPTED: Status = 22;
+pub const OUT_OF_RANGE: Status = 23;
+pub const NOT_AT_BASE: Status = 24;
 
 #[rustfmt::skip]
 unsafe extern "C" {
@@ -51,8 +57,14 @@ unsafe extern "C" {
     pub fn mortarpink_push_byte(bitmap: *mut Handle, byte: u8) -> Status;
     pub fn mortarpink_push_bytes(bitmap: *mut Handle, bytes: *const u8, len: usize, count: *mut usize) -> Status;
     pub fn mortarpink_push_chunk(bitmap: *mut Handle, bytes: *const u8, len: usize) -> Status;
+    pub fn mortarpink_push_bits(bitmap: *mut Handle, bits: *const u8, len: usize) -> Status;
     pub fn mortarpink_pop(bitmap: *mut Handle, bit: *mut u8) -> Status;
     pub fn mortarpink_set(bitmap: *mut Handle, position: u64, bit: u8) -> Status;
+    pub fn mortarpink_set_many(bitmap: *mut Handle, positions: *const u64, len: usize, bit: u8, count: *mut usize) -> Status;
+    pub fn mortarpink_set_chunk(bitmap: *mut Handle, index: usize, bytes: *const u8, len: usize) -> Status;
+    pub fn mortarpink_set_range(bitmap: *mut Handle, from: u64, to: u64, bit: u8) -> Status;
+    pub fn mortarpink_truncate(bitmap: *mut Handle, length: u64) -> Status;
+    pub fn mortarpink_extend_to(bitmap: *mut Handle, length: u64) -> Status;
     pub fn mortarpink_prune(bitmap: *mut Handle, position: u64) -> Status;
     pub fn mortarpink_commit(bitmap: *mut Handle, number: u64, previous: *mut u64) -> Status;
     pub fn mortarpink_abort(bitmap: *mut Handle) -> Status;
@@ -90,4 +102,8 @@ unsafe extern "C" {
     pub fn mortarpink_clear(bitmap: *mut Handle) -> Status;
     pub fn mortarpink_index(bitmap: *mut Handle, on: u8) -> Status;
     pub fn mortarpink_entries(bitmap: *const Handle, entries: *mut u64) -> Status;
+    pub fn mortarpink_save(bitmap: *const Handle, out: *mut u8, len: usize, size: *mut usize) -> Status;
+    pub fn mortarpink_load(bitmap: *mut Handle, width: u32, least_bits: u64, most_bits: u64, least_commits: u64, most_commits: u64, bytes: *const u8, len: usize, used: *mut usize) -> Status;
+    pub fn mortarpink_delta(bitmap: *const Handle, from: u64, to: u64, out: *mut u8, len: usize, size: *mut usize) -> Status;
+    pub fn mortarpink_apply_delta(bitmap: *mut Handle, bytes: *const u8, len: usize) -> Status;
 }

@@ -1,0 +1,331 @@
+//! Calls by which a bitmap and its commits outlive their process: the history as bytes, and deltas.
+
+ghost use Rattle.std.specs.Prelude.{◌≡◌, Some, IfOk, IfSome, is_some};
+ghost use Rattle.bitmap_bytes.specs.Chunk.{IsWidth};
+ghost use Rattle.commit_log.specs.Delta.{delta_of};
+ghost use Rattle.commit_log.specs.History.{history_bytes};
+ghost use Rattle.commit_log.specs.Reading.{Ranges, ranges};
+ghost use Rattle.bitmap_session.specs.Abstraction.{reason};
+ghost use Rattle.bitmap_session.specs.Saved.{kept_part};
+ghost use Rattle.bitmap_c.specs.Reports.{ReportsBytes};
+ghost use Rattle.bitmap_c.specs.Saved.{Applies, AppliesAny, AreBetween, CallsApply, Found, FoundIn, Loads, ReadsHistory, as_machine, save_refusal};
+ghost use Rattle.bitmap_c.specs.Widths.{is_width, machine, width};
+
+use crate::any::AnySession;
+use crate::handle::Handle;
+use crate::making::{fill, is_full};
+use crate::run::report_bytes;
+use crate::status::{DONE, EMPTY_HANDLE, FULL_HANDLE, NO_SUCH_WIDTH, apply_status, history_status};
+use bitmap_core::bitmap::codec::RangeCfg;
+use bitmap_session::reply::{Refusal, Reply};
+use bitmap_session::session::{SaveError, Session};
+use commit_log::HistoryError;
+use std::alloc::Global;
+
+// Makes the session of a width, with its size, a session of any width.
+macro_rules! as_any {
+    ($width:ident, $read:expr) => {
+        match $read {
+            Ok((session, size)) => Ok((AnySession::$width(session), size)),
+            Err(error) => Err(error),
+        }
+    };
+}
+
+// Returns the refusal of a session that writes no bytes.
+fn save_refusal(error: &SaveError) -> Refusal
+    ensures { reason result ≡ save_refusal error.now }
+{
+    match error {
+        SaveError::InBatch => Refusal::WrongMode,
+        SaveError::Memory(_) => Refusal::NoMemory,
+    }
+}
+
+// Writes the history of a session.
+fn save_of<const N: usize>(
+    alloc: Global,
+    session: &Session<N>,
+    out: &mut [u8],
+    size: &mut usize,
+) -> u32
+    ensures { FoundIn session.now (Some (history_bytes N (kept_part session.now.state)))
+        (ReportsBytes result size.old size.new out.old out.new) }
+{
+    let mut bytes = Vec::new(alloc);
+    let reply: Reply<N> = match session.save(&mut bytes) {
+        Ok(()) => Reply::Bytes(Some(bytes)),
+        Err(error) => Reply::Refused(save_refusal(&error)),
+    };
+    report_bytes(&reply, out, size)
+}
+
+// Does the same for a session of any width.
+fn save(alloc: Global, any: &AnySession, out: &mut [u8], size: &mut usize) -> u32
+    ensures { Found (Some any.now) (λ N m. Some (history_bytes N (kept_part m.state)))
+        (ReportsBytes result size.old size.new out.old out.new) ⊥ }
+{
+    at_width!(any, session => save_of(alloc, session, out, size))
+}
+
+// Writes the delta of a session from one commit to another.
+fn delta_of<const N: usize>(
+    session: &Session<N>,
+    from: u64,
+    to: u64,
+    out: &mut [u8],
+    size: &mut usize,
+) -> u32
+    ensures { FoundIn session.now (delta_of N session.now.state.history from to)
+        (ReportsBytes result size.old size.new out.old out.new) }
+{
+    let reply: Reply<N> = match session.delta(from, to) {
+        Ok(found) => Reply::Bytes(found),
+        Err(error) => Reply::Refused(save_refusal(&error)),
+    };
+    report_bytes(&reply, out, size)
+}
+
+// Does the same for a session of any width.
+fn delta(any: &AnySession, from: u64, to: u64, out: &mut [u8], size: &mut usize) -> u32
+    ensures { Found (Some any.now) (λ N m. delta_of N m.state.history from to)
+        (ReportsBytes result size.old size.new out.old out.new) ⊥ }
+{
+    at_width!(any, session => self::delta_of(session, from, to, out, size))
+}
+
+// Reads the history that the bytes begin with. Returns a session with it, and its size in bytes.
+fn load_session<const N: usize>(
+    alloc: Global,
+    bits: &RangeCfg,
+    commits: &RangeCfg,
+    bytes: &[u8],
+) -> Result<(Session<N>, usize), HistoryError>
+    requires width { IsWidth N }
+    ensures { ReadsHistory N (ranges bits.now commits.now) bytes.now result }
+{
+    let mut rest = bytes;
+    let session = Session::load(alloc, &mut rest, bits, commits)?;
+    Ok((session, bytes.len() - rest.len()))
+}
+
+// Reads a history as `load_session` does, with chunks of `size` bytes, or returns `None` if there is no such width.
+fn load_any(
+    alloc: Global,
+    size: u32,
+    bits: &RangeCfg,
+    commits: &RangeCfg,
+    bytes: &[u8],
+) -> Option<Result<(AnySession, usize), HistoryError>>
+    ensures offered { is_some result ≡ is_width size }
+    ensures width { IfSome result (λ read. IfOk read (λ found. width found.0 ≡ size)) }
+    ensures read { IfSome result (λ read.
+        ReadsHistory size (ranges bits.now commits.now) bytes.now (as_machine read)) }
+{
+    match size {
+        1 => Some(as_any!(Width1, load_session(alloc, bits, commits, bytes))),
+        8 => Some(as_any!(Width8, load_session(alloc, bits, commits, bytes))),
+        32 => Some(as_any!(Width32, load_session(alloc, bits, commits, bytes))),
+        64 => Some(as_any!(Width64, load_session(alloc, bits, commits, bytes))),
+        _ => None,
+    }
+}
+
+// Reads a history into an empty handle, with chunks of `size` bytes.
+fn load_into(
+    alloc: Global,
+    bitmap: &mut Handle,
+    size: u32,
+    bits: &RangeCfg,
+    commits: &RangeCfg,
+    bytes: &[u8],
+    used: &mut usize,
+) -> u32
+    ensures { Loads bitmap.old.value size (ranges bits.now commits.now) bytes.now
+        result used.old used.new bitmap.new.value }
+{
+    if is_full(bitmap) {
+        return FULL_HANDLE;
+    }
+    match load_any(alloc, size, bits, commits, bytes) {
+        Some(Ok((any, read))) => {
+            let status = fill(alloc, bitmap, any);
+            if status == DONE {
+                *used = read;
+            }
+            status
+        }
+        Some(Err(error)) => history_status(&error),
+        None => NO_SUCH_WIDTH,
+    }
+}
+
+// Applies a delta to a session.
+fn apply_to<const N: usize>(session: &mut Session<N>, bytes: &[u8]) -> u32
+    ensures { Applies N bytes.now session.old result session.new }
+{
+    match session.apply_delta(bytes) {
+        Ok(()) => DONE,
+        Err(error) => apply_status(&error),
+    }
+}
+
+// Does the same for a session of any width.
+fn apply_delta(any: &mut AnySession, bytes: &[u8]) -> u32
+    ensures { AppliesAny any.old bytes.now result any.new }
+{
+    at_width!(any, session => apply_to(session, bytes))
+}
+
+/// Fills `out` with the history of the bitmap, and writes the size of the history in bytes to `size`.
+///
+/// The history is the current bitmap, the kept commits and the last commit number, with digests by which `mortarpink_load` finds
+/// damaged bytes. It does not have the index. A caller that does not know the size calls with an empty `out` first, whose pointer is not NULL either.
+///
+/// # Errors
+///
+/// Returns `WRONG_MODE` in a batch, `NO_MEMORY` if an allocation fails, and `WRONG_SIZE` if the length of `out` is not the size of the
+/// history. `out` is then unchanged. `size` is written with `WRONG_SIZE` too, and otherwise unchanged.
+///
+/// # Memory
+///
+/// Allocates the history, which is freed before the return.
+///
+/// # Complexity
+///
+/// Linear in the history. Each chunk that differs from the commit before is read, which takes a search of each commit after it.
+#[unsafe(no_mangle)]
+pub extern "C" fn mortarpink_save(
+    alloc: Global,
+    bitmap: &mut Handle,
+    out: &mut [u8],
+    size: &mut usize,
+) -> u32
+    ensures same { bitmap.new.value ≡ bitmap.old.value }
+    ensures saved { Found bitmap.old.value (λ N m. Some (history_bytes N (kept_part m.state)))
+        (ReportsBytes result size.old size.new out.old out.new)
+        ((result ≡ EMPTY_HANDLE) × (size.new ≡ size.old) × (out.new ≡ out.old)) }
+{
+    in_handle!(bitmap, any => save(alloc, any, out, size))
+}
+
+/// Makes a bitmap from the history that `bytes` begin with, in an empty handle: with chunks of `width` bytes.
+///
+/// Its current bitmap, its kept commits and its last number are those that `mortarpink_save` wrote. A commit may have fewer entries
+/// than before, so `mortarpink_entries` may write a smaller number. `used` becomes the size of the
+/// history in bytes; bytes after it are not read. The number of retained bits, of the current bitmap and of each kept one, is from
+/// `least_bits` to `most_bits`, both included. The number of commits after the first kept one is from `least_commits` to
+/// `most_commits`, both included. A range of all numbers is from 0 to 2^64 - 1.
+///
+/// # Errors
+///
+/// `FULL_HANDLE` and `NO_SUCH_WIDTH` come first, and then the first error of the bytes, from the first byte on. The handle and
+/// `used` are then unchanged.
+///
+/// | Status | If |
+/// |---|---|
+/// | `FULL_HANDLE` | the handle is not empty |
+/// | `NO_SUCH_WIDTH` | the width is not 1, 8, 32 or 64 |
+/// | `CUT_OFF` | the bytes end before the history does, also before its first 32 bytes, which are the header |
+/// | `WRONG_HEADER` | the bytes do not begin with the header of a history of this width |
+/// | `DAMAGED` | a digest after the header is not that of the bytes before it |
+/// | `NOT_ACCEPTED` | the digests are right, but a part of the bytes is no bitmap, or no commit that can follow |
+/// | `OUT_OF_RANGE` | a number of retained bits or of commits is outside its range |
+/// | `NO_MEMORY` | an allocation fails |
+///
+/// # Memory
+///
+/// Allocates the bitmap with its commits. A bitmap whose number of retained bits is out of range is not allocated.
+///
+/// # Complexity
+///
+/// Linear in the bytes of the history. If a commit makes the bitmap grow, it may also move in memory.
+#[unsafe(no_mangle)]
+pub extern "C" fn mortarpink_load(
+    alloc: Global,
+    bitmap: &mut Handle,
+    width: u32,
+    least_bits: u64,
+    most_bits: u64,
+    least_commits: u64,
+    most_commits: u64,
+    bytes: &[u8],
+    used: &mut usize,
+) -> u32
+    ensures loaded { (r : Ranges)
+        × AreBetween least_bits most_bits least_commits most_commits r
+        × Loads bitmap.old.value width r bytes.now result used.old used.new bitmap.new.value }
+{
+    let bits = RangeCfg::between(least_bits, most_bits);
+    let commits = RangeCfg::between(least_commits, most_commits);
+    load_into(alloc, bitmap, width, &bits, &commits, bytes, used)
+}
+
+/// Fills `out` with the delta from the bitmap at commit `from` to the one at commit `to`, and writes its size in bytes to `size`.
+///
+/// A delta has the chunks in which the two differ, and the number, the length and a digest of the older one. A bitmap that is equal to
+/// the older one, and whose last number is `from`, follows by `mortarpink_apply_delta`.
+///
+/// # Errors
+///
+/// Returns `WRONG_MODE` in a batch, and `NONE` unless both commits are kept and `from` is below `to`. `size` and `out` are then
+/// unchanged. Otherwise as `mortarpink_save`.
+///
+/// # Memory
+///
+/// Allocates the delta, which is freed before the return.
+///
+/// # Complexity
+///
+/// As `mortarpink_changed_chunks`, and linear in the delta. Each chunk in the delta is read at both commits, which takes a search of
+/// each commit after them.
+#[unsafe(no_mangle)]
+pub extern "C" fn mortarpink_delta(
+    bitmap: &mut Handle,
+    from: u64,
+    to: u64,
+    out: &mut [u8],
+    size: &mut usize,
+) -> u32
+    ensures same { bitmap.new.value ≡ bitmap.old.value }
+    ensures delta { Found bitmap.old.value (λ N m. delta_of N m.state.history from to)
+        (ReportsBytes result size.old size.new out.old out.new)
+        ((result ≡ EMPTY_HANDLE) × (size.new ≡ size.old) × (out.new ≡ out.old)) }
+{
+    in_handle!(bitmap, any => delta(any, from, to, out, size))
+}
+
+/// Applies a delta, which is all of the bytes, as the next commit: its newer bitmap becomes current, and is kept under its number.
+///
+/// The delta starts at the current bitmap if the last number, the length, the number of pruned chunks, and a digest of the bytes in the
+/// chunks that the delta has are those of the older bitmap. The older bitmap need not be kept. Other chunks are not compared.
+///
+/// # Errors
+///
+/// Returns the first status that applies. Nothing has changed then.
+///
+/// | Status | If |
+/// |---|---|
+/// | `WRONG_MODE` | there is a batch |
+/// | `CUT_OFF` | there are fewer bytes than 88, which the shortest delta has |
+/// | `WRONG_HEADER` | the bytes do not begin as a delta, or their format has another version |
+/// | `DAMAGED` | the digest at the end is not that of the bytes before it, as in a delta that is cut off |
+/// | `WRONG_HEADER` | the delta has another width |
+/// | `CUT_OFF` | the bytes of the chunks are not whole |
+/// | `NOT_AT_BASE` | the delta does not start at the current bitmap |
+/// | `NOT_ACCEPTED` | the digest is right, but the delta has no commit that can follow |
+/// | `NO_MEMORY` | an allocation fails |
+///
+/// # Memory
+///
+/// Allocates the reverse record of the commit, and space by which the bitmap and the list of commits grow.
+///
+/// # Complexity
+///
+/// Linear in the bytes, plus the chunks that the commit prunes or removes.
+#[unsafe(no_mangle)]
+pub extern "C" fn mortarpink_apply_delta(bitmap: &mut Handle, bytes: &[u8]) -> u32
+    ensures applied { CallsApply bitmap.old.value bytes.now result bitmap.new.value }
+{
+    in_handle!(bitmap, any => apply_delta(any, bytes))
+}
