@@ -3,8 +3,9 @@
 #
 # usage: package.sh [--built | --after-gate] PREFIX
 #
-# Under PREFIX come the static and the shared library, the header, the file of pkg-config and the licence. Next to PREFIX
-# comes an archive of the same tree, which is the same byte for byte if it is made again from the same build.
+# Under PREFIX come the static and the shared library, the header, the file of pkg-config, the licence, the README of the C interface, its
+# example with its output, and the changelog. Next to PREFIX comes an archive of the same tree, which is the same byte for byte if it is made again from the
+# same build.
 # If PREFIX is missing, it is made when there is something to put in it.
 #
 # With --built the library of crates/bitmap_c is not built again. It has to be newer than the sources.
@@ -102,7 +103,7 @@ write_libraries() {
     local shared=libmortarpink.so
     mkdir -p "$tree/lib"
     ar rcsD "$tree/lib/libmortarpink.a" "$work/mortarpink.o"
-    cc -shared -Wl,-soname,"$shared.${version%%.*}" -Wl,-z,defs,-z,text -o "$tree/lib/$shared.$version" "$work/mortarpink.o"
+    cc -shared -s -Wl,-soname,"$shared.${version%%.*}" -Wl,-z,defs,-z,text -o "$tree/lib/$shared.$version" "$work/mortarpink.o"
     ln -s "$shared.$version" "$tree/lib/$shared.${version%%.*}"
     ln -s "$shared.${version%%.*}" "$tree/lib/$shared"
 }
@@ -126,6 +127,7 @@ END
 write_rest() {
     install -D -m 644 bindings/c/mortarpink.h "$tree/include/mortarpink.h"
     install -D -m 644 LICENSE "$tree/share/licenses/mortarpink/LICENSE"
+    install -D -m 644 -t "$tree/share/doc/mortarpink" bindings/c/README.md bindings/c/example.c bindings/c/example.stdout CHANGELOG.md
 }
 
 # Installs the tree, and writes its archive with sorted names, one owner and one time.

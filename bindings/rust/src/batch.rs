@@ -1,6 +1,6 @@
 use std::fmt;
 
-use crate::{Bitmap, Chunk, CommitError, Error, PushBytesError};
+use crate::{Bitmap, Chunk, CommitError, Error, PushBytesError, Width};
 
 /// A batch of edits on a bitmap.
 ///
@@ -166,6 +166,11 @@ impl<'a> Batch<'a> {
 
 /// Reads of the pending bitmap.
 impl Batch<'_> {
+    /// Returns the number of bytes per chunk.
+    pub fn width(&self) -> Width {
+        self.bitmap.width
+    }
+
     /// Returns the length in bits, pruned bits included.
     pub fn len(&self) -> u64 {
         self.bitmap.session.len(None)

@@ -50,6 +50,42 @@ impl Width {
     }
 }
 
+/// Chunks of this number of bytes are not offered: it is not 1, 8, 32 or 64.
+#[derive(Clone, Copy, Debug, PartialEq, Eq, Hash)]
+pub struct NoSuchWidthError(pub u32);
+
+impl fmt::Display for NoSuchWidthError {
+    fn fmt(&self, f: &mut fmt::Formatter<'_>) -> fmt::Result {
+        write!(f, "no chunks of {} bytes: the widths are 1, 8, 32 and 64", self.0)
+    }
+}
+
+impl std::error::Error for NoSuchWidthError {}
+
+impl TryFrom<u32> for Width {
+    type Error = NoSuchWidthError;
+
+    /// Returns the width with this number of bytes per chunk.
+    ///
+    /// # Examples
+    ///
+    /// ```
+    /// use mortarpink_proved::{NoSuchWidthError, Width};
+    ///
+    /// assert_eq!(Width::try_from(32), Ok(Width::Bytes32));
+    /// assert_eq!(Width::try_from(16), Err(NoSuchWidthError(16)));
+    /// ```
+    fn try_from(bytes: u32) -> Result<Width, NoSuchWidthError> {
+        match bytes {
+            1 => Ok(Width::Bytes1),
+            8 => Ok(Width::Bytes8),
+            32 => Ok(Width::Bytes32),
+            64 => Ok(Width::Bytes64),
+            _ => Err(NoSuchWidthError(bytes)),
+        }
+    }
+}
+
 /// A copy of the bytes of one chunk. It dereferences to a slice of them.
 ///
 /// Bit `k` of the chunk is bit `k % 8` of byte `k / 8`, the lowest bit first.
@@ -67,6 +103,11 @@ impl Chunk {
 
     pub(crate) fn as_mut_slice(&mut self) -> &mut [u8] {
         &mut self.bytes[..self.width.bytes()]
+    }
+
+    /// Returns the number of bytes per chunk.
+    pub fn width(&self) -> Width {
+        self.width
     }
 
     /// Returns the bytes.

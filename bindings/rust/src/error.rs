@@ -90,6 +90,26 @@ impl<'a> CommitError<'a> {
         self.error
     }
 
+    /// Aborts the batch, and returns the reason. It borrows nothing, so it can be a `Box<dyn Error>`.
+    ///
+    /// # Examples
+    ///
+    /// ```
+    /// use mortarpink_proved::{Bitmap, CommitError, Width};
+    ///
+    /// fn committed(number: u64) -> Result<Bitmap, Box<dyn std::error::Error>> {
+    ///     let mut bitmap = Bitmap::new(Width::Bytes8)?;
+    ///     bitmap.begin().try_commit(number).map_err(CommitError::into_error)?;
+    ///     Ok(bitmap)
+    /// }
+    ///
+    /// assert!(committed(1).is_ok());
+    /// assert!(committed(u64::MAX).is_err());
+    /// ```
+    pub fn into_error(self) -> Error {
+        self.error
+    }
+
     /// Returns the batch.
     pub fn into_batch(self) -> Batch<'a> {
         self.batch
@@ -106,7 +126,7 @@ impl std::error::Error for CommitError<'_> {}
 
 impl From<CommitError<'_>> for Error {
     fn from(commit: CommitError<'_>) -> Error {
-        commit.error
+        commit.into_error()
     }
 }
 

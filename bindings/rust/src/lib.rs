@@ -80,7 +80,7 @@ mod version;
 
 pub use batch::Batch;
 pub use bitmap::Bitmap;
-pub use chunk::{Chunk, Width};
+pub use chunk::{Chunk, NoSuchWidthError, Width};
 pub use error::{CommitError, Error, PushBytesError};
 pub use pages::{ChangedChunks, Commits, Ones};
 pub use version::Version;

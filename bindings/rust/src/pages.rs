@@ -32,6 +32,11 @@ impl Pages {
         Some(value)
     }
 
+    /// Returns the least value that may be returned next, or `None` after the last one.
+    fn least(&self) -> Option<u64> {
+        self.page[..self.count].get(self.returned).copied().or(self.from)
+    }
+
     /// Reads the next page, or returns `None` after the last one.
     fn turn(&mut self, read: impl FnOnce(u64, &mut [u64]) -> usize) -> Option<()> {
         let from = self.from.take()?;
@@ -44,7 +49,7 @@ impl Pages {
     }
 }
 
-/// An iterator over set positions, ascending.
+/// An iterator over set positions, ascending. It can be read from both ends.
 ///
 /// [`Bitmap::ones`](crate::Bitmap::ones) and [`Version::ones`](crate::Version::ones) make it.
 #[derive(Clone)]
@@ -67,7 +72,18 @@ impl Iterator for Ones<'_> {
 
     fn next(&mut self) -> Option<u64> {
         let (session, at, to) = (self.session, self.at, self.to);
-        self.pages.next(|from, page| session.ones(at, (from, to), page))
+        // A page may have positions that were returned from the back since it was read.
+        self.pages.next(|from, page| session.ones(at, (from, to), page)).filter(|one| *one < to)
+    }
+}
+
+/// From the back, each position is found by a search of its own.
+impl DoubleEndedIterator for Ones<'_> {
+    fn next_back(&mut self) -> Option<u64> {
+        let least = self.pages.least()?;
+        let one = self.session.prev_one(self.at, self.to).filter(|one| *one >= least);
+        self.to = one.unwrap_or(0);
+        one
     }
 }
 

@@ -55,6 +55,11 @@ impl<'a> Version<'a> {
         self.number
     }
 
+    /// Returns the number of bytes per chunk.
+    pub fn width(&self) -> Width {
+        self.width
+    }
+
     fn at(&self) -> Option<u64> {
         Some(self.number)
     }

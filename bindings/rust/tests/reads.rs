@@ -2,6 +2,7 @@
 
 mod common;
 
+use std::collections::VecDeque;
 use std::ops::Bound;
 
 use common::{WIDTHS, bitmap_of, commit};
@@ -291,6 +292,30 @@ fn ones_of_more_than_one_page() {
         let mut ones = bitmap.ones(..);
         assert_eq!(ones.by_ref().count() as u64, count);
         assert_eq!((ones.next(), ones.next()), (None, None));
+    }
+}
+
+#[test]
+fn ones_from_both_ends() {
+    let bitmap = bitmap_of(Width::Bytes8, &[0b1010_0110; 48]);
+    let version = bitmap.at(1).unwrap();
+    for range in
+        [half_open(0, 384), half_open(3, 380), half_open(70, 71), half_open(9, 9), half_open(7, 2)]
+    {
+        let expected: Vec<u64> = bitmap.ones(range).collect();
+        assert!(bitmap.ones(range).rev().eq(expected.iter().rev().copied()));
+        assert!(version.ones(range).rev().eq(expected.iter().rev().copied()));
+        for backward in 1..4 {
+            let (mut ones, mut left) = (version.ones(range), VecDeque::from(expected.clone()));
+            for turn in 0..=expected.len() {
+                if turn % 4 < backward {
+                    assert_eq!(ones.next_back(), left.pop_back());
+                } else {
+                    assert_eq!(ones.next(), left.pop_front());
+                }
+            }
+            assert_eq!((ones.next(), ones.next_back(), ones.next()), (None, None, None));
+        }
     }
 }
 

@@ -9,8 +9,8 @@ use std::thread;
 
 use common::{WIDTHS, bitmap_of, commit};
 use mortarpink_proved::{
-    Batch, Bitmap, ChangedChunks, Chunk, CommitError, Commits, Error, Ones, PushBytesError,
-    Version, Width,
+    Batch, Bitmap, ChangedChunks, Chunk, CommitError, Commits, Error, NoSuchWidthError, Ones,
+    PushBytesError, Version, Width,
 };
 
 /// Fails to compile if a type has a trait: then there are two candidates for `_`.
@@ -42,6 +42,7 @@ const _: fn() = || {
     is_plain::<Chunk>();
     is_plain::<Error>();
     is_plain::<PushBytesError>();
+    is_plain::<NoSuchWidthError>();
     is_plain::<Width>();
 };
 
@@ -111,6 +112,14 @@ fn threads_use_copies_at_the_same_time() {
 fn widths_have_bytes_and_bits() {
     assert_eq!(WIDTHS.map(Width::bytes), [1, 8, 32, 64]);
     assert_eq!(WIDTHS.map(Width::bits), [8, 64, 256, 512]);
+    for bytes in (0..=130).chain([u32::MAX]) {
+        let expected = WIDTHS.into_iter().find(|width| width.bytes() as u32 == bytes);
+        assert_eq!(Width::try_from(bytes), expected.ok_or(NoSuchWidthError(bytes)));
+    }
+    let mut bitmap = bitmap_of(Width::Bytes32, &[1]);
+    assert_eq!(bitmap.at(1).unwrap().width(), Width::Bytes32);
+    assert_eq!(bitmap.chunk(0).unwrap().width(), Width::Bytes32);
+    assert_eq!(bitmap.begin().width(), Width::Bytes32);
     assert_eq!(HashSet::from(WIDTHS).len(), 4);
 }
 
