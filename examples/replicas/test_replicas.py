@@ -233,6 +233,14 @@ class RedisReplicas(Replicas, unittest.TestCase):
 
         Redis.from_url(self.address).delete(self.name, f"{self.name}:history")
 
+    def test_the_example_of_the_readme(self) -> None:
+        from redis import Redis
+
+        example = (HERE / "README.md").read_text().split("```python\n")[1].split("```")[0]
+        Redis.from_url(self.address).delete("active_accounts", "active_accounts:history")
+        with mock.patch("redis.Redis", lambda: Redis.from_url(self.address)):
+            exec(example, {})
+
 
 class PostgresReplicas(Replicas, unittest.TestCase):
     engine = "postgres"
