@@ -6,13 +6,14 @@ usage: interface.py [--write]   writes the declarations
 
 - `bindings/c/mortarpink.h`: the header, of the template `mortarpink.h.in` beside it. The template has the order of the functions, in all languages.
 - `bindings/rust/src/ffi/interface.rs`: the block of foreign functions, the statuses and the version.
-- `bindings/python/mortarpink/_interface.py`: the types of the functions for ctypes, the statuses and the version.
+- `bindings/python/mortarpink/_interface.py`: the types of the functions for ctypes, which of them only read, the statuses and the version.
 
 To declare a function, export it in crates/bitmap_c with its documentation, name it in the template, and run this.
 """
 
 import argparse
 import sys
+import textwrap
 
 from c_header import HEADER, TEMPLATE, calls_of, header
 from declarations import PREFIX, SOURCES, TOP, Mistake, declarations_of, sources
@@ -93,6 +94,11 @@ OUT_SIZE = ctypes.POINTER(SIZE)
 FUNCTIONS: dict[str, tuple[Any, ...]] = {{
 {functions}}}
 
+# The functions of these whose handle is `const` in C: they write neither the handle nor the bitmap.
+READS = frozenset(
+    """{reads}""".split()
+)
+
 # The types of the arguments of each other function, and that of its result.
 OTHERS: dict[str, tuple[tuple[Any, ...], Any]] = {{
 {others}}}
@@ -122,7 +128,8 @@ def python(functions, declared):
     statuses = "".join(f"{name} = {number}\n" for name, number in declared.numbers.items())
     table = "".join(f'    "{each.name}": {python_tuple(each)},\n' for each in functions if each.result == "status")
     others = "".join(f'    "{each.name}": ({python_tuple(each)}, {PYTHON_TYPES[each.result]}),\n' for each in functions if each.result != "status")
-    return PYTHON_FILE.format(version=declared.version, statuses=statuses, prefix=PREFIX, functions=table, others=others)
+    reads = "\n    ".join(textwrap.wrap(" ".join(each.name for each in functions if each.parameters and each.parameters[0][1] == "read handle"), 110))
+    return PYTHON_FILE.format(version=declared.version, statuses=statuses, prefix=PREFIX, functions=table, reads=reads, others=others)
 
 
 def files_of(texts, template):

@@ -187,9 +187,7 @@ class Writer:
         assert last is not None, "the writer keeps its last commit"
         with self.bitmap.batch(commit=number) as batch:
             edit(batch)
-        delta = self.bitmap.delta(last, number)
-        assert delta is not None, "both commits are kept"
-        self._append(Kind.DELTA, delta)
+        self._append(Kind.DELTA, self.bitmap.delta(last, number))
 
     def rewind_to(self, number: int) -> None:
         """Rewinds the bitmap to a commit, and appends that. Replicas that do not keep this commit begin anew with the history."""

@@ -9,7 +9,7 @@ from ctypes import byref
 from functools import partial
 from operator import attrgetter, index
 from types import TracebackType
-from typing import TYPE_CHECKING, Callable, Iterator, NoReturn, Optional, SupportsIndex, cast, overload
+from typing import TYPE_CHECKING, Callable, Iterable, Iterator, NoReturn, Optional, SupportsIndex, cast, overload
 
 from ._errors import (
     ClosedError,
@@ -23,7 +23,7 @@ from ._errors import (
     check,
 )
 from ._interface import SIZE, U8, U64
-from ._session import MAX, Caller, Session, bytes_of, nobody, position_of, u64
+from ._session import MAX, Caller, Session, bits_of, bytes_of, nobody, numbers_of, position_of, u64
 
 if TYPE_CHECKING:
     from _typeshed import ReadableBuffer, WriteableBuffer
@@ -223,7 +223,7 @@ class _Reads(_Bits):
 
     def __reduce__(self) -> NoReturn:
         name = type(self).__name__
-        raise TypeError(f"a {name} cannot be pickled: pickle its encoding, bytes({name.lower()}), and decode it by Bitmap.from_bytes")
+        raise TypeError(f"a {name} cannot be pickled: pickle the bitmap, or bitmap.checkout(number)")
 
 
 class Version(_Reads):
@@ -323,6 +323,15 @@ class Batch(_Bits):
         data = bytes_of(data)
         self._run("push_chunk", data, len(data))
 
+    def push_bits(self, bits: ReadableBuffer | Iterable[object]) -> None:
+        """Appends bits, by their truth values: all of them, or none.
+
+        The bits are an iterable, as a list of bool, or a buffer with one byte or one boolean per bit. Raises TooLongError or
+        NoMemoryError.
+        """
+        data = bits_of(bits)
+        self._run("push_bits", data, len(data))
+
     def pop(self) -> bool:
         """Removes the last bit, and returns it. Raises NoRetainedBitError, an IndexError."""
         return self._bit("pop")
@@ -334,6 +343,43 @@ class Batch(_Bits):
     def __setitem__(self, position: int, bit: object) -> None:
         """Replaces the bit at a position. A negative position counts from the end."""
         self.set(self._from_start(position), bit)
+
+    def set_many(self, positions: ReadableBuffer | Iterable[int], bit: object = True) -> None:
+        """Replaces the bit at each position in order, by one truth value, up to the first position that fails.
+
+        The positions are an iterable, or a buffer of 64-bit unsigned integers, as an `array("Q")`, which is faster. Raises
+        OutOfBoundsError, PrunedError or NoMemoryError, whose attribute `replaced` is the number of positions before the one that
+        fails. It is 0 if a number is not from 0 to 2^64 - 1.
+        """
+        numbers, count = numbers_of(positions), SIZE()
+        try:
+            self._run("set_many", numbers, len(numbers), bool(bit), count)
+        except Error as error:
+            error.replaced = count.value
+            raise
+
+    def set_range(self, start: int, stop: int, bit: object = True) -> None:
+        """Replaces each bit from `start` to `stop` (excluded), by a truth value. If `stop` is not above `start`, nothing changes.
+
+        Raises OutOfBoundsError if `stop` is above the length, PrunedError if `start` is pruned, or NoMemoryError.
+        """
+        self._run("set_range", position_of(start), position_of(stop), bool(bit))
+
+    def set_chunk(self, chunk: int, data: ReadableBuffer) -> None:
+        """Replaces the bits of the chunk with an index. Bits past the length are ignored.
+
+        Raises WrongSizeError, OutOfBoundsError, PrunedError or NoMemoryError.
+        """
+        data = bytes_of(data)
+        self._run("set_chunk", position_of(chunk), data, len(data))
+
+    def truncate(self, length: int) -> None:
+        """Removes the bits from position `length` on. Raises OutOfBoundsError if that is above the length, or PrunedError."""
+        self._run("truncate", position_of(length))
+
+    def extend_to(self, length: int) -> None:
+        """Appends zeros up to a length. If the bitmap has that length or more, nothing changes. Raises NoMemoryError."""
+        self._run("extend_to", u64(length))
 
     def prune(self, position: int) -> None:
         """Prunes the chunks before the chunk of a position. Raises OutOfBoundsError or NoMemoryError."""
@@ -451,6 +497,49 @@ class Bitmap(_Reads):
             raise InvalidError("bytes follow the encoding")
         return bitmap
 
+    def save(self) -> bytes:
+        """Returns the history as bytes: the current bitmap, the kept commits and the last commit number.
+
+        `load` makes a bitmap of them. They have the width, and digests by which damaged bytes are found. The index of
+        `set_indexed` is not in them. Raises NoMemoryError.
+        """
+        return self._encoding("save")
+
+    @classmethod
+    def decode_history(
+        cls, data: ReadableBuffer, width: int = 8, least: int = 0, most: int = MAX, least_commits: int = 0, most_commits: int = MAX
+    ) -> tuple[Bitmap, int]:
+        """Makes a bitmap of the history that the bytes begin with. Returns it, and the number of bytes of the history.
+
+        The number of retained bits, of the current bitmap and of each kept one, is from `least` to `most`, both included. The
+        number of commits after the first kept one is from `least_commits` to `most_commits`, both included.
+
+        Raises NoSuchWidthError, NoMemoryError, or a DecodeError: CutOffError, WrongHeaderError, DamagedError, NotAcceptedError
+        or OutOfRangeError.
+        """
+        session, data, used = Session(width), bytes_of(data), SIZE()
+        ranges = map(u64, (least, most, least_commits, most_commits))
+        check(session.status("load", session.width, *ranges, data, len(data), used))
+        return cls._of(session), used.value
+
+    @classmethod
+    def load(
+        cls, data: ReadableBuffer, width: int = 8, least: int = 0, most: int = MAX, least_commits: int = 0, most_commits: int = MAX
+    ) -> Bitmap:
+        """Makes a bitmap of a history: the reverse of `save`.
+
+        The arguments and errors are those of `decode_history`. Raises InvalidError if bytes follow the history.
+        """
+        data = bytes_of(data)
+        bitmap, used = cls.decode_history(data, width, least, most, least_commits, most_commits)
+        if used != len(data):
+            raise InvalidError("bytes follow the history")
+        return bitmap
+
+    def __reduce__(self) -> tuple[object, ...]:
+        """Pickles the history and the width. The index is not pickled. Raises WrongModeError in a batch."""
+        return type(self).load, (self.save(), self.width)
+
     def copy(self) -> Bitmap:
         """Returns a copy of the bitmap and its commits. It is not in a batch. Raises NoMemoryError."""
         return self._of(self._session.copied())
@@ -560,6 +649,32 @@ class Bitmap(_Reads):
             if older > newer:
                 raise NoSuchCommitError(f"the older number comes first, and {older} is above {newer}") from None
             raise
+
+    def delta(self, older: int, newer: int) -> bytes:
+        """Returns the bytes that bring a bitmap at one commit to a later one, by `apply_delta`.
+
+        They have the chunks that differ between the two versions. The bitmap that they are for has the older version as its
+        current one, and `older` as its last number. Its other commits do not matter.
+
+        Raises NoSuchCommitError unless both commits are kept and `older` is below `newer`, or NoMemoryError.
+        """
+        older, newer = u64(older), u64(newer)
+        try:
+            return self._encoding("delta", older, newer)
+        except NoSuchCommitError:
+            if older >= newer:
+                raise NoSuchCommitError(f"the older number comes first, and {older} is not below {newer}") from None
+            raise
+
+    def apply_delta(self, data: ReadableBuffer) -> None:
+        """Applies a delta, which is all of the bytes: its newer version becomes current, and is kept under its number.
+
+        Raises NotAtBaseError if the last number, the length, the number of pruned chunks, or a digest of the old bytes of the
+        chunks in the delta differ from those of its older version. Raises CutOffError, WrongHeaderError, DamagedError or
+        NotAcceptedError, which are DecodeErrors, if the bytes are no delta, or NoMemoryError.
+        """
+        data = bytes_of(data)
+        self._run("apply_delta", data, len(data))
 
     def checkout(self, number: int) -> Bitmap:
         """Returns a bitmap of its own that is the bitmap at a commit, without commits. Later edits change neither by the other.

@@ -14,7 +14,7 @@ BY_STATUS: dict[int, type[Error]] = {}
 class Error(Exception):
     """The base of the exceptions of this package.
 
-    A call that raises one changes nothing. `Batch.push_bytes` is the only exception.
+    A call that raises one changes nothing. `Batch.push_bytes` and `Batch.set_many` are the only exceptions.
     """
 
     # The status of the library, or DONE.
@@ -22,6 +22,9 @@ class Error(Exception):
 
     # The number of bytes that `Batch.push_bytes` appended before the error.
     appended = 0
+
+    # The number of positions whose bit `Batch.set_many` replaced before the error.
+    replaced = 0
 
     def __init_subclass__(cls, status: Optional[int] = None) -> None:
         if status is not None:
@@ -92,7 +95,7 @@ class PrunedChunksOverflowError(Error, OverflowError, status=_interface.PRUNED_C
 
 
 class DecodeError(Error, ValueError):
-    """The base of the errors of `Bitmap.from_bytes` and `Bitmap.decode` in their input."""
+    """The base of the errors of `Bitmap.from_bytes`, `Bitmap.decode`, `Bitmap.load` and `Bitmap.apply_delta` in their input."""
 
 
 class EndOfBufferError(DecodeError, status=_interface.END_OF_BUFFER):
@@ -113,6 +116,30 @@ class InvalidLengthError(DecodeError, status=_interface.INVALID_LENGTH):
 
 class InvalidError(DecodeError, status=_interface.INVALID):
     """The bytes are not an encoding."""
+
+
+class WrongHeaderError(DecodeError, status=_interface.WRONG_HEADER):
+    """The bytes do not begin as a history or a delta of this width does."""
+
+
+class CutOffError(DecodeError, status=_interface.CUT_OFF):
+    """The bytes end before the history or the delta does."""
+
+
+class DamagedError(DecodeError, status=_interface.DAMAGED):
+    """A digest is not that of the bytes before it."""
+
+
+class NotAcceptedError(DecodeError, status=_interface.NOT_ACCEPTED):
+    """A part of the bytes is no bitmap, or no commit that can follow."""
+
+
+class OutOfRangeError(DecodeError, status=_interface.OUT_OF_RANGE):
+    """A number of retained bits or of commits is out of range."""
+
+
+class NotAtBaseError(Error, ValueError, status=_interface.NOT_AT_BASE):
+    """The delta does not start at the current bitmap."""
 
 
 class NoSuchCommitError(Error, LookupError, status=_interface.NO_SUCH_COMMIT):

@@ -118,6 +118,13 @@ FUNCTIONS: dict[str, tuple[Any, ...]] = {
     "apply_delta": (HANDLE, BYTES, SIZE),
 }
 
+# The functions of these whose handle is `const` in C: they write neither the handle nor the bitmap.
+READS = frozenset(
+    """clone checkout len pruned_chunks get chunk ones next_one next_zero prev_one prev_zero count_ones select_one
+    encode len_at pruned_chunks_at get_at chunk_at ones_at next_one_at next_zero_at prev_one_at prev_zero_at
+    count_ones_at select_one_at encode_at commits exists latest earliest changed_chunks entries save delta""".split()
+)
+
 # The types of the arguments of each other function, and that of its result.
 OTHERS: dict[str, tuple[tuple[Any, ...], Any]] = {
     "version": ((), U32),

@@ -5,8 +5,10 @@ from __future__ import annotations
 import os
 import threading
 import weakref
+from array import array
+from ctypes import Array
 from operator import index, methodcaller
-from typing import TYPE_CHECKING, Callable, Iterator, Optional
+from typing import TYPE_CHECKING, Callable, Iterable, Iterator, Optional, cast
 
 from ._errors import (
     ClosedError,
@@ -17,7 +19,7 @@ from ._errors import (
     WrongSizeError,
     check,
 )
-from ._interface import DONE, NONE, SIZE, U8, U64, Handle
+from ._interface import DONE, NONE, READS, SIZE, U8, U64, Handle
 from ._library import CALLS
 from ._locks import SharedLock
 
@@ -26,13 +28,6 @@ if TYPE_CHECKING:
 
 # No status of the library: the call has not returned.
 UNKNOWN = -1
-
-# The functions that change nothing, so that several calls of them may use one handle at the same time.
-READS = frozenset(
-    """len pruned_chunks get chunk ones next_one next_zero prev_one prev_zero count_ones select_one encode
-    len_at pruned_chunks_at get_at chunk_at ones_at next_one_at next_zero_at prev_one_at prev_zero_at count_ones_at
-    select_one_at encode_at commits exists latest earliest changed_chunks entries checkout""".split()
-)
 
 MAX = 2**64 - 1
 WIDTHS = (1, 8, 32, 64)
@@ -71,12 +66,41 @@ def bytes_of(data: ReadableBuffer) -> bytes:
     return bytes(view)
 
 
+def bits_of(bits: ReadableBuffer | Iterable[object]) -> bytes:
+    """Returns a byte per bit: those of a buffer, or the truth values of an iterable.
+
+    Raises TypeError for a string, whose characters are all true, and for a buffer whose items are neither bytes nor booleans.
+    """
+    if isinstance(bits, str):
+        raise TypeError("a string has no bits: give an iterable of truth values")
+    try:
+        view = memoryview(cast("ReadableBuffer", bits))
+    except TypeError:
+        return bytes(map(bool, cast("Iterable[object]", bits)))
+    return bytes(view) if view.format == "?" else bytes_of(view)
+
+
+def numbers_of(positions: ReadableBuffer | Iterable[int]) -> Array[U64]:
+    """Returns positions as an array of C: a copy of a buffer of 64-bit unsigned integers, or the numbers of an iterable.
+
+    Raises OutOfBoundsError if one is not from 0 to 2^64 - 1.
+    """
+    try:
+        view = memoryview(cast("ReadableBuffer", positions))
+    except TypeError:
+        view = None
+    if view is not None and view.itemsize == 8 and view.format.lstrip("@=<") in ("Q", "L"):
+        return (U64 * (view.nbytes // 8)).from_buffer_copy(bytes(view))
+    numbers = array("Q", map(position_of, cast("Iterable[int]", positions)))
+    return (U64 * len(numbers)).from_buffer_copy(numbers)
+
+
 def nobody() -> None:
     """The owner of a batch that no object owns, as a weak reference to an object that is gone."""
 
 
 class Session:
-    """A handle, which is freed with the session. Calls that read share it, and a lock gives other calls the handle alone.
+    """A handle, which is freed with the session. Calls that only read share it, and a lock gives other calls the handle alone.
 
     The lock is reentrant, because a handler of a signal may run between the calls of a thread that holds it. Its `with`
     statements leave no lock taken when a handler raises an exception, since Python enters and leaves a lock at once.
@@ -299,11 +323,11 @@ class Caller:
 
         return numbers(read(start))
 
-    def _encoding(self, name: str) -> bytes:
-        """Calls a function that encodes, and returns the encoding."""
+    def _encoding(self, name: str, *arguments: object) -> bytes:
+        """Calls a function that writes bytes of any number, and returns them. Raises NoSuchCommitError if there are none."""
         buffer, size = (U8 * 0)(), SIZE()
         while True:
-            status = self._status(name, buffer, len(buffer), size)
+            status = self._status(name, *arguments, buffer, len(buffer), size)
             if status == DONE:
                 return bytes(buffer)
             if status == NONE:
