@@ -13,6 +13,7 @@ usage: check_bindings.py                  builds the library and installs it twi
 - The header compiles as C99 and as C++11 without a warning. The C example prints what it should, with the static and with the shared library.
 - The C tests pass with sanitizers, under valgrind, and with failing allocations. The tests of the Rust crate and of the Python package pass.
 - The calls that take a handle as `const` write neither the handle nor the bitmap, and threads may make them at the same time.
+- The example of replicas works over a Redis server and a PostgreSQL server (tools/check_replicas.py).
 - Random scripts through the C interface give what the reference model gives, and free what they allocate (tools/check_frees.py).
 
 A run without valgrind, a C++ compiler, clippy, or a Python with setuptools and wheel leaves out what needs it, and says so.
@@ -251,6 +252,15 @@ def python_cases(place):
     yield "the tests of the Python package", failure_of(command, environment, ending, cwd=copied(place, "python"))
 
 
+def replica_cases(place):
+    """The replicas of the example, over the engines if this machine has them or can install them."""
+    status, printed = run([sys.executable, TOP / "tools/check_replicas.py", place.libraries])
+    for line in re.findall(r"^not run: .*", printed, re.MULTILINE):
+        print(line)
+    is_done = status == 0 and re.search(r"^OK$|^not run: ", printed, re.MULTILINE)
+    yield "replicas over Redis and PostgreSQL", None if is_done else f"status {status}:\n{printed[-3000:]}"
+
+
 def script_cases(place):
     """The random scripts."""
     yield "random scripts", failure_of([sys.executable, TOP / "tools/check_frees.py", "--library", place.shared], wanted="none leaked$")
@@ -258,7 +268,7 @@ def script_cases(place):
 
 def library_cases(place):
     """Every check of an installed library. The random scripts are last, since a call that crashes ends their process."""
-    for cases in (symbol_cases, header_cases, example_cases, c_test_cases, rust_cases, python_cases, script_cases):
+    for cases in (symbol_cases, header_cases, example_cases, c_test_cases, rust_cases, python_cases, replica_cases, script_cases):
         try:
             yield from cases(place)
         except (OSError, subprocess.TimeoutExpired) as error:
