@@ -10,7 +10,7 @@ usage: check_bindings.py                  builds the library and installs it twi
 - The declarations in C, Rust and Python are those that tools/interface.py makes of the Rattle sources, and it notices each change of these.
 - The libraries export the declared functions and nothing else, and need only the memory functions of the C library.
 - Two packages of one build are the same byte for byte.
-- The header compiles as C99 and as C++11 without a warning. The C example prints what it should, with the static and with the shared library.
+- The header compiles as C99 and as C++11 without a warning. The C examples print what they should, with the static and with the shared library.
 - The C tests pass with sanitizers, under valgrind, and with failing allocations. The tests of the Rust crate and of the Python package pass.
 - The calls that take a handle as `const` write neither the handle nor the bitmap, and threads may make them at the same time.
 - The example of replicas works over a Redis server and a PostgreSQL server (tools/check_replicas.py).
@@ -179,16 +179,17 @@ def flags(place):
 
 
 def example_cases(place):
-    """Builds the example with what pkg-config says, and compares its output."""
-    wanted = (TOP / "bindings/c/example.stdout").read_text()
+    """Builds the examples with what pkg-config says, and compares their output."""
     given = flags(place)
-    for kind, words in (("shared", given), ("static", ["-Wl,-Bstatic", *given, "-Wl,-Bdynamic"])):
-        program = place.folder / f"example_{kind}"
-        failure = failure_of(["cc", *WARNINGS, TOP / "bindings/c/example.c", *words, "-o", program])
-        status, printed = run([program], {"LD_LIBRARY_PATH": str(place.libraries)} if kind == "shared" else {}) if not failure else (0, wanted)
-        if status or printed != wanted:
-            failure = f"status {status}, and this is not bindings/c/example.stdout:\n{printed}"
-        yield f"the example with the {kind} library", failure
+    for source in (TOP / "bindings/c/example.c", *sorted((TOP / "bindings/c/examples").glob("*.c"))):
+        wanted = source.with_suffix(".stdout").read_text()
+        for kind, words in (("shared", given), ("static", ["-Wl,-Bstatic", *given, "-Wl,-Bdynamic"])):
+            program = place.folder / f"{source.stem}_{kind}"
+            failure = failure_of(["cc", "-std=c99", "-pthread", *WARNINGS, source, *words, "-o", program])
+            status, printed = run([program], {"LD_LIBRARY_PATH": str(place.libraries)} if kind == "shared" else {}) if not failure else (0, wanted)
+            if status or printed != wanted:
+                failure = f"status {status}, and this is not {source.with_suffix('.stdout').name}:\n{printed}"
+            yield f"{source.name} with the {kind} library", failure
 
 
 # The C tests
