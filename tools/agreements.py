@@ -44,7 +44,7 @@ CHANGES = [
     ("reads.rt", "fn mortarpink_encode(", "size: &mut usize", "size: &mut u64", ALL),
     ("many.rt", "fn mortarpink_push_bytes(", "bytes: &[u8]", "bytes: &mut [u8]", ALL),
     ("history.rt", "fn mortarpink_rewind(", "number: u64", "commit: u64", {HEADER, RUST}),
-    ("current.rt", "fn mortarpink_next_one(", "from: u64", "start: u64", "the documentation has `from`"),
+    ("searches.rt", "fn mortarpink_next_one(", "from: u64", "start: u64", "the documentation has `from`"),
     ("commits.rt", "fn mortarpink_commits(", "count:", "len:", "`mortarpink_commits` has two parameters with one name in C"),
     ("edits.rt", "", "fn mortarpink_pop(", "fn mortarpink_take(", "mortarpink.h.in has to name each function once"),
     ("edits.rt", "", "fn mortarpink_pop(", "fn pop_bit(", "`pop_bit` has a name without mortarpink_"),

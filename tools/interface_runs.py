@@ -4,8 +4,9 @@
 usage: interface_runs.py LIBRARY COUNT   COUNT random scripts on the shared library LIBRARY, at each of its four widths in turn. Prints how many calls
                                          there are, and fails if a function never succeeds or a status is never returned: 2000 scripts suffice
 
-The scripts are those of tools/check_runs.py, with fixed seeds. After each step come reads of the current bitmap, of a past one and of the commits, whose
-values are computed from the model's lists, and calls with wrong arguments. At the end of a script the library has freed all its blocks. They are counted
+The scripts are those of tools/check_runs.py, with fixed seeds. After each step come reads of the bitmap, of a past one and of the commits, whose values
+are computed from the model's lists, edits of many bits, which the model makes bit by bit, histories and deltas, which the second reader of the formats
+(tools/formats.py) writes and reads, and calls with wrong arguments. At the end of a script the library has freed all its blocks. They are counted
 by tools/fail_allocations.c, which tools/check_frees.py preloads.
 """
 
@@ -18,6 +19,8 @@ from functools import lru_cache, partial
 from check_runs import RandomScript
 from counter import blocks_now
 from declarations import HANDLES
+from formats import COMMIT, Entry, Formats, Historical, first_place, framed, header
+from formats import outcome as read_outcome
 from library import Handle, Library, Overrun, outcome
 from model import LAST, Bitmap, bytes_of
 from replay import report
@@ -45,6 +48,13 @@ SEARCHES = {
     "select_one": lambda ones, zeros, at: ones[at] if at < len(ones) else None,
 }
 
+# The status of each error of a reader of histories or deltas, by how the name of the error begins. The first one that fits counts.
+READ_STATUSES = {
+    "Header(Short": "CUT_OFF", "Header": "WRONG_HEADER", "Short": "CUT_OFF", "Bad": "DAMAGED", "Base(State(InvalidLength": "OUT_OF_RANGE", "Count": "OUT_OF_RANGE",
+    "Bits": "OUT_OF_RANGE", "Base": "NOT_ACCEPTED", "Entry": "NOT_ACCEPTED", "NotADelta": "WRONG_HEADER", "Version": "WRONG_HEADER", "Width": "WRONG_HEADER",
+    "NotAtBase": "NOT_AT_BASE", "Change": "NOT_ACCEPTED",
+}
+
 
 class Difference(Exception):
     """A call does not do what the model does."""
@@ -64,6 +74,11 @@ def outcome_of(reply):
     return "DONE", [int(number) for number in rest] if word == "positions" else int(rest[0])
 
 
+def status_of_read(result):
+    """The status of what a reader of the formats returns, or of its error."""
+    return next(status for error, status in READ_STATUSES.items() if result.startswith(error)) if isinstance(result, str) else "DONE"
+
+
 def ends_of(text):
     """The least and the greatest number of a range of the script language."""
     kind, *ends = text.split(":")
@@ -77,6 +92,7 @@ class InterfaceScript(RandomScript):
     def __init__(self, library, seed, width):
         super().__init__(seed, width)
         self.library, self.calls, self.spare = library, Counter(), None
+        self.formats = Formats(width)
         self.handle, self.recent = Handle(), deque(maxlen=10)
 
     def expect(self, name, status, *given, **written):
@@ -132,8 +148,9 @@ class InterfaceScript(RandomScript):
         if found.status != "DONE" or not 0 <= found.written.get("entries", -1) <= reply:
             raise Difference(f"entries: {found}, not at most {reply}")
 
-    def run_ones(self, start, end, reply):
-        self.pages("ones", [int(start), int(end)], 0, reply)
+    def run_ones(self, start, end, _):
+        """In a batch the calls read the pending bitmap, and the command is refused."""
+        self.pages("ones", [int(start), int(end)], 0, self.listed(self.model.set_positions(self.bitmap(), int(start), int(end))))
 
     def run_ones_at(self, number, start, end, reply):
         self.pages("ones_at", [int(number), int(start), int(end)], 1, self.reply_of_read(number, reply))
@@ -201,18 +218,22 @@ class InterfaceScript(RandomScript):
 
     def extra_steps(self):
         return [self.search, self.search, self.search, self.count_ones, self.read_past, self.read_past, self.page_of_commits, self.page_of_changes,
-                self.use_wrong_arguments, self.push_in_one_call, *[self.clone, self.checkout, self.index] * (self.random.random() < 0.1)]
+                self.use_wrong_arguments, self.edit_many, self.edit_many, *[self.clone, self.checkout, self.index] * (self.random.random() < 0.1),
+                *[self.save, self.send] * (self.random.random() < 0.2)]
+
+    def edit_many(self):
+        self.random.choice([self.push_in_one_call, self.push_bits, self.set_many, self.set_range, self.set_chunk, self.change_length])()
 
     def any_number(self):
         return self.kept_number(list(self.state.history))
 
     def view(self, number):
-        """The status of a read of the bitmap at a commit, or of the current one, and the bitmap or None."""
+        """The status of a read of the bitmap at a commit, or of the pending or current one, and the bitmap or None."""
+        if number is None:
+            return "DONE", self.bitmap()
         if self.state.pending is not None:
             return "WRONG_MODE", None
-        if number is not None and number not in self.state.history:
-            return "NO_SUCH_COMMIT", None
-        return "DONE", self.state.current if number is None else self.state.history[number].bitmap
+        return ("DONE", self.state.history[number].bitmap) if number in self.state.history else ("NO_SUCH_COMMIT", None)
 
     def positions(self, bitmap, bit):
         first = self.model.first(bitmap)
@@ -258,10 +279,9 @@ class InterfaceScript(RandomScript):
         self.direct("chunk_at", [number, position, width], self.model.step(past, ["chunk", str(position)]).reply)
 
     def page_of_commits(self):
-        status, _ = self.view(None)
         start = self.any_number()
         wanted = [number for number in self.state.history if number >= start]
-        self.pages("commits", [start], 0, self.listed(wanted) if status == "DONE" else "refused wrong-mode")
+        self.pages("commits", [start], 0, self.listed(wanted) if self.state.pending is None else "refused wrong-mode")
 
     def listed(self, numbers):
         return "positions" + "".join(f" {number}" for number in numbers)
@@ -297,17 +317,151 @@ class InterfaceScript(RandomScript):
         self.expect("push_bytes", "DONE", b"", count=0)
         self.expect_of(handle, "new", "NO_SUCH_WIDTH", self.random.choice(WRONG_WIDTHS))
         self.expect_of(handle, "read", "NO_SUCH_WIDTH", self.random.choice(WRONG_WIDTHS), 0, LAST, bytes(16))
+        self.expect_of(handle, "load", "NO_SUCH_WIDTH", self.random.choice(WRONG_WIDTHS), 0, LAST, 0, LAST, bytes(16))
         self.expect_of(handle, "clone", "EMPTY_HANDLE", self.handle)
+        self.expect("set_chunk", "WRONG_SIZE", self.position(), bytes(wrong))
+
+    # Edits of many bits
+
+    def in_steps(self, commands):
+        """What commands do, up to the first that is refused: how many are accepted, the status of the last one, and the state after them."""
+        state = self.state
+        for count, words in enumerate(commands):
+            step = self.model.step(state, [str(word) for word in words])
+            status, _ = outcome_of(step.reply)
+            if status != "DONE":
+                return count, status, state
+            state = step.state
+        return len(commands), "DONE", state
+
+    def all_or_none(self, name, commands, *given):
+        """Makes edits by one call, which makes all of them or none."""
+        _, status, state = self.in_steps(commands)
+        if status == "DONE":
+            self.state = state
+        self.expect(name, status, *given)
+
+    def is_refused(self, name, checks, *given):
+        """Whether a call of a batch is refused: the first status whose condition holds, and otherwise nothing is called."""
+        checks = [("WRONG_MODE", self.state.pending is None), *checks]
+        status = next((status for status, holds in checks if holds), None)
+        if status is not None:
+            self.expect(name, status, *given)
+        return status is not None
 
     def push_in_one_call(self):
         """Pushes bytes by one call, up to the first that is refused."""
-        data, count, status = self.random.randbytes(self.random.randint(1, 2 * self.model.width + 1)), 0, "DONE"
-        while count < len(data) and status == "DONE":
-            step = self.model.step(self.state, ["push-byte", f"{data[count]:02x}"])
-            status, _ = outcome_of(step.reply)
-            self.state = step.state
-            count += status == "DONE"
+        data = self.random.randbytes(self.random.randint(1, 2 * self.model.width + 1))
+        count, status, self.state = self.in_steps([("push-byte", f"{byte:02x}") for byte in data])
         self.expect("push_bytes", status, data, count=count)
+
+    def push_bits(self):
+        bits = bytes(self.random.choice([0, 0, *ONES]) for _ in range(self.random.choice([0, 1, 7, 64, 3 * self.model.chunk_bits])))
+        if not self.is_refused("push_bits", [], bits):
+            self.all_or_none("push_bits", [("push", int(bit > 0)) for bit in bits], bits)
+
+    def set_many(self):
+        """Sets positions by one call, up to the first that is refused."""
+        bit, first, length = self.random.choice([0, *ONES]), self.first(), self.length()
+        positions = [self.position() if self.random.random() < 0.1 else self.random.randint(first, max(first, length - 1)) for _ in range(self.random.randint(0, 9))]
+        count, status, self.state = self.in_steps([("set", position, int(bit > 0)) for position in positions])
+        self.expect("set_many", status, positions, bit, count=count)
+
+    def set_range(self):
+        bit, start, end = self.random.choice([0, *ONES]), self.position(), self.position()
+        checks = [("OUT_OF_BOUNDS", start < end and end > self.length()), ("PRUNED", start < end and start < self.first())]
+        if not self.is_refused("set_range", checks, start, end, bit):
+            self.all_or_none("set_range", [("set", position, int(bit > 0)) for position in range(start, end)], start, end, bit)
+
+    def set_chunk(self):
+        size, index, data = self.model.chunk_bits, self.position() // self.model.chunk_bits, self.random.randbytes(self.model.width)
+        checks = [("OUT_OF_BOUNDS", index * size >= self.length()), ("PRUNED", index * size < self.first())]
+        if not self.is_refused("set_chunk", checks, index, data):
+            places = range(index * size, min((index + 1) * size, self.length()))
+            self.all_or_none("set_chunk", [("set", place, data[place % size // 8] >> place % 8 & 1) for place in places], index, data)
+
+    def change_length(self):
+        """Removes the last bits, or appends zeros."""
+        length = self.random.choice([self.position(), self.length() + self.random.randint(-2, 2 * self.model.chunk_bits)])
+        checks = [("OUT_OF_BOUNDS", length > self.length()), ("PRUNED", length < self.first())]
+        if self.random.random() < 0.5 and 0 <= length:
+            if not self.is_refused("truncate", checks, length):
+                self.all_or_none("truncate", [("pop",)] * (self.length() - length), length)
+        elif 0 <= length < self.length() + 4 * self.model.chunk_bits and not self.is_refused("extend_to", [], length):
+            self.all_or_none("extend_to", [("push", 0)] * (length - self.length()), length)
+
+    # Histories and deltas
+
+    def save(self):
+        """Saves the history, and loads it: whole, with too narrow limits, cut off, with a flipped bit, and with a byte of a frame replaced."""
+        if self.state.pending is not None:
+            return self.expect("save", "WRONG_MODE", self.random.randint(0, 20))
+        bitmap = self.formats.historical_of(self.state)
+        data = self.formats.write_history(bitmap)
+        self.encode("save", [], f"bytes {data.hex()}")
+        bits, counts = self.random.choice([(0, LAST), (1, LAST), (0, 40)]), self.random.choice([(0, LAST), (1, LAST), (0, 2)])
+        self.load(data + self.random.randbytes(self.random.randint(0, 9)), bits, counts)
+        self.load(data[: self.random.randrange(len(data))], (0, LAST), (0, LAST))
+        self.load(self.with_flipped_bit(data), (0, LAST), (0, LAST))
+        bodies = [bytearray(body) for body in self.formats.history_bodies(bitmap)]
+        body = self.random.choice(bodies)
+        body[self.random.randrange(len(body))] ^= 1 << self.random.randrange(8)
+        self.load(header(self.model.width) + framed(first_place(data), map(bytes, bodies))[0], (0, LAST), (0, LAST))
+
+    def with_flipped_bit(self, data):
+        changed = bytearray(data)
+        changed[self.random.randrange(len(data))] ^= 1 << self.random.randrange(8)
+        return bytes(changed)
+
+    def load(self, data, bits, counts):
+        """Loads bytes into another handle, as the second reader does, and compares what is there."""
+        loaded = Handle()
+        result = read_outcome(self.formats.read_history, data, range(bits[0], bits[1] + 1), range(counts[0], counts[1] + 1))
+        status, given = status_of_read(result), (self.model.width, *bits, *counts, data)
+        if status != "DONE":
+            self.expect_of(loaded, "load", status, *given)
+            return self.expect_of(loaded, "free", "EMPTY_HANDLE")
+        bitmap, rest = result
+        self.expect_of(loaded, "load", "DONE", *given, used=len(data) - len(rest))
+        self.expect_of(loaded, "load", "FULL_HANDLE", *given)
+        self.check_history(loaded, bitmap)
+
+    def check_history(self, handle, bitmap):
+        """A handle has the history of a bitmap. It is freed."""
+        data = self.formats.write_history(bitmap)
+        self.expect_of(handle, "save", "DONE", len(data), out=data, size=len(data))
+        self.expect_of(handle, "free", "DONE")
+
+    def send(self):
+        """Makes a delta between two commits, and applies it: to a bitmap at the older one, again, to the current one, and damaged."""
+        older, newer = self.any_number(), self.any_number()
+        if self.state.pending is not None:
+            self.expect("delta", "WRONG_MODE", older, newer, self.random.randint(0, 20))
+            return self.expect("apply_delta", "WRONG_MODE", b"delta")
+        bitmap = self.formats.historical_of(self.state)
+        data = self.formats.delta(bitmap, older, newer)
+        if data is None:
+            return self.expect("delta", "NONE", older, newer, self.random.randint(0, 20))
+        self.encode("delta", [older, newer], f"bytes {data.hex()}")
+        kept = {number: state for number, state in bitmap.kept.items() if number <= older}
+        change = self.formats.change(bitmap.kept[older], bitmap.kept[newer])
+        not_above = self.formats.write_delta(older, bitmap.kept[older], self.random.randint(0, older), change)
+        for damaged in (self.with_flipped_bit(data), data[: self.random.randrange(len(data))], not_above):
+            self.receive(Historical(bitmap.kept[older], kept, older), damaged)
+        self.receive(bitmap, data)
+        self.receive(Historical(bitmap.kept[older], kept, older), data)
+
+    def receive(self, bitmap, data):
+        """Applies a delta to a bitmap, as the second reader does, and once more if it fits."""
+        replica = Handle()
+        history = self.formats.write_history(bitmap)
+        self.expect_of(replica, "load", "DONE", self.model.width, 0, LAST, 0, LAST, history, used=len(history))
+        result = read_outcome(self.formats.apply_delta, bitmap, data)
+        self.expect_of(replica, "apply_delta", status_of_read(result), data)
+        if not isinstance(result, str):
+            self.expect_of(replica, "apply_delta", "NOT_AT_BASE", data)
+            bitmap = result
+        self.check_history(replica, bitmap)
 
     def clone(self):
         """Clones the bitmap, and goes on with either. The other one is compared with what it was, later."""
@@ -355,10 +509,10 @@ class InterfaceScript(RandomScript):
 
     def use_empty_handle(self):
         """Calls each function that has a handle with an empty one."""
-        samples = {"u8": 1, "u32": 8, "u64": 0, "size": 0, "u8 array in": b"ab", "u8 array out": 2, "u64 array out": 3}
+        samples = {"u8": 1, "u32": 8, "u64": 0, "size": 0, "u8 array in": b"ab", "u64 array in": [0], "u8 array out": 2, "u64 array out": 3}
         for name, function in self.library.declared.functions.items():
             kinds = [kind for _, kind in function.parameters]
-            if kinds and kinds[0] in HANDLES and name not in ("new", "read"):
+            if kinds and kinds[0] in HANDLES and name not in ("new", "read", "load"):
                 others = [Handle() if kind in HANDLES else samples[kind] for kind in kinds[1:] if kind in HANDLES or kind in samples]
                 self.expect_of(Handle(), name, "EMPTY_HANDLE", *others)
 

@@ -313,53 +313,44 @@ mortarpink_status mortarpink_get(const mortarpink_bitmap *bitmap, uint64_t posit
  * Cost: linear in the width. */
 mortarpink_status mortarpink_chunk(const mortarpink_bitmap *bitmap, uint64_t position, uint8_t *out, size_t len);
 
-
-/* ---- Reading the current bitmap; not in a batch ---- */
-
-/* Writes a page of the set positions of the current bitmap from `from` up to `to`, `to` excluded. The positions are
- * in bits, absolute and ascending; no pruned one is among them. *count becomes how many are written, which is at
- * most the length of `out`. The next page begins after the last position of this one. A page that is not full is the
- * last.
- * Errors: returns MORTARPINK_WRONG_MODE in a batch. *count and `out` are then unchanged.
+/* Writes a page of the set positions from `from` up to `to`, `to` excluded. The positions are in bits, absolute and
+ * ascending; no pruned one is among them. *count becomes how many are written, which is at most the length of `out`.
+ * The next page begins after the last position of this one. A page that is not full is the last.
  * Cost: linear in the chunks that are read. */
 mortarpink_status mortarpink_ones(const mortarpink_bitmap *bitmap, uint64_t from, uint64_t to, uint64_t *out,
                                   size_t len, size_t *count);
 
-/* Writes the least retained position of the current bitmap, from `from` on, whose bit is 1, to *position.
- * Errors: returns MORTARPINK_WRONG_MODE in a batch, and MORTARPINK_NONE if there is no such position. *position is
- *   then unchanged.
+/* Writes the least retained position, from `from` on, whose bit is 1, to *position.
+ * Errors: returns MORTARPINK_NONE if there is no such position. *position is then unchanged.
  * Cost: linear in the chunks that are read. */
 mortarpink_status mortarpink_next_one(const mortarpink_bitmap *bitmap, uint64_t from, uint64_t *position);
 
-/* Writes the least retained position of the current bitmap, from `from` on, whose bit is 0, to *position.
- * Errors: returns MORTARPINK_WRONG_MODE in a batch, and MORTARPINK_NONE if there is no such position. *position is
- *   then unchanged.
+/* Writes the least retained position, from `from` on, whose bit is 0, to *position.
+ * Errors: returns MORTARPINK_NONE if there is no such position. *position is then unchanged.
  * Cost: linear in the chunks that are read. */
 mortarpink_status mortarpink_next_zero(const mortarpink_bitmap *bitmap, uint64_t from, uint64_t *position);
 
-/* Writes the greatest retained position of the current bitmap, below `end`, whose bit is 1, to *position.
- * Errors: returns MORTARPINK_WRONG_MODE in a batch, and MORTARPINK_NONE if there is no such position. *position is
- *   then unchanged.
+/* Writes the greatest retained position, below `end`, whose bit is 1, to *position.
+ * Errors: returns MORTARPINK_NONE if there is no such position. *position is then unchanged.
  * Cost: linear in the chunks that are read. */
 mortarpink_status mortarpink_prev_one(const mortarpink_bitmap *bitmap, uint64_t end, uint64_t *position);
 
-/* Writes the greatest retained position of the current bitmap, below `end`, whose bit is 0, to *position.
- * Errors: returns MORTARPINK_WRONG_MODE in a batch, and MORTARPINK_NONE if there is no such position. *position is
- *   then unchanged.
+/* Writes the greatest retained position, below `end`, whose bit is 0, to *position.
+ * Errors: returns MORTARPINK_NONE if there is no such position. *position is then unchanged.
  * Cost: linear in the chunks that are read. */
 mortarpink_status mortarpink_prev_zero(const mortarpink_bitmap *bitmap, uint64_t end, uint64_t *position);
 
-/* Writes the number of set retained positions of the current bitmap from `from` up to `to` to *count. `to` is
- * excluded.
- * Errors: returns MORTARPINK_WRONG_MODE in a batch. *count is then unchanged.
+/* Writes the number of set retained positions from `from` up to `to` to *count. `to` is excluded.
  * Cost: linear in the chunks of the range. */
 mortarpink_status mortarpink_count_ones(const mortarpink_bitmap *bitmap, uint64_t from, uint64_t to, uint64_t *count);
 
-/* Writes the set retained position of the current bitmap with `k` such positions below it to *position.
- * Errors: returns MORTARPINK_WRONG_MODE in a batch, and MORTARPINK_NONE if there is no such position. *position is
- *   then unchanged.
+/* Writes the set retained position with `k` such positions below it to *position.
+ * Errors: returns MORTARPINK_NONE if there is no such position. *position is then unchanged.
  * Cost: linear in the retained chunks up to that of the position. */
 mortarpink_status mortarpink_select_one(const mortarpink_bitmap *bitmap, uint64_t k, uint64_t *position);
+
+
+/* ---- The encoding of the current bitmap; not in a batch ---- */
 
 /* Fills `out` with the encoding of the current bitmap, and writes the size of the encoding in bytes to *size. A
  * caller that does not know the size calls with an empty `out` first, whose pointer is not NULL either.

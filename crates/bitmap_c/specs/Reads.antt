@@ -7,7 +7,7 @@ use Rattle.bitmap_core.specs.Meaning.{Meaning, pruned_meaning}
 use Rattle.bitmap_core.specs.PrunedBits.{PrunedBits}
 use Rattle.bitmap_core.specs.Searches.{next_one, next_zero, ones_count, prev_one, prev_zero, select_one}
 use Rattle.historical_bitmap.specs.History.{kept_under}
-use Rattle.bitmap_session.specs.Machine.{Machine, is_dirty}
+use Rattle.bitmap_session.specs.Machine.{Machine, is_dirty, shown}
 use Rattle.bitmap_c.specs.declared.any.AnySession.{AnySession}
 use Rattle.bitmap_c.specs.declared.queries.Query.{Query}
 use Rattle.bitmap_c.specs.declared.queries.Query.TheVariants.{Len, PrunedChunks, NextOne, NextZero, PrevOne, PrevZero, CountOnes, SelectOne}
@@ -36,9 +36,9 @@ abbrev pub of_kept : {A : Type 0} → ℕ → Option PrunedBits → (ℕ → Mea
 of_kept N None read = Err 12
 of_kept N (Some bitmap) read = read N (pruned_meaning N bitmap)
 
--- the read of the current bitmap of a machine
-abbrev pub session_current : {A : Type 0} → ℕ → Machine → (ℕ → Meaning → Result A ℕ) → Result A ℕ
-session_current N m read = outside_batch m (read N (pruned_meaning N m.state.current))
+-- the read of the bitmap that a machine shows: in a batch the pending one, and otherwise the current one
+abbrev pub session_shown : {A : Type 0} → ℕ → Machine → (ℕ → Meaning → Result A ℕ) → Result A ℕ
+session_shown N m read = read N (pruned_meaning N (shown m.state))
 
 -- the read of the bitmap that a machine keeps under a number
 abbrev pub session_commit : {A : Type 0} → ℕ → Machine → ℕ → (ℕ → Meaning → Result A ℕ) → Result A ℕ
@@ -49,9 +49,9 @@ abbrev pub of_handle : {A : Type 0} → Option AnySession → (ℕ → Machine �
 of_handle None read = Err 15
 of_handle (Some any) read = read (width any) (machine any)
 
--- the read of the current bitmap of a handle
-abbrev pub read_current : {A : Type 0} → Option AnySession → (ℕ → Meaning → Result A ℕ) → Result A ℕ
-read_current handle read = of_handle handle (λ N m. session_current N m read)
+-- the read of the bitmap that a handle shows
+abbrev pub read_shown : {A : Type 0} → Option AnySession → (ℕ → Meaning → Result A ℕ) → Result A ℕ
+read_shown handle read = of_handle handle (λ N m. session_shown N m read)
 
 -- the read of the bitmap that a handle keeps under a number
 abbrev pub read_commit : {A : Type 0} → Option AnySession → ℕ → (ℕ → Meaning → Result A ℕ) → Result A ℕ

@@ -33,7 +33,6 @@ macro_rules! in_handle {
 mod any;
 mod bulk;
 mod commits;
-mod current;
 mod edits;
 mod handle;
 mod history;
@@ -45,5 +44,6 @@ mod queries;
 mod reads;
 mod run;
 mod saved;
+mod searches;
 mod status;
 mod versions;

@@ -6,7 +6,7 @@ use Rattle.bitmap_core.specs.PrunedBits.{PrunedBits}
 use Rattle.bitmap_session.specs.Machine.{Machine, first_machine}
 use Rattle.bitmap_c.specs.declared.any.AnySession.TheVariants.{Width1}
 use Rattle.bitmap_c.specs.declared.queries.Query.TheVariants.{Len, PrunedChunks, NextOne, NextZero, PrevOne, PrevZero, CountOnes, SelectOne}
-use Rattle.bitmap_c.specs.Reads.{bit_read, chunk_read, queried, read_commit, read_current, session_commit, session_current}
+use Rattle.bitmap_c.specs.Reads.{bit_read, chunk_read, queried, read_commit, read_shown, session_commit, session_shown}
 
 abbrev three_bits : PrunedBits
 three_bits = record { pruned = 2; bits = false ∷ true ∷ true ∷ [] }
@@ -76,12 +76,12 @@ with_commit = record {
 
 abbrev in_batch : Machine
 in_batch = record {
-  state = record { current = three_bits; pending = Some three_bits; history = []; costs = []; last = None };
+  state = record { current = record { pruned = 0; bits = [] }; pending = Some three_bits; history = []; costs = []; last = None };
   touched = [];
 }
 
-current_length : session_current 1 with_commit (queried Len) ≡ Ok 0
-current_length = refl
+shown_length : session_shown 1 with_commit (queried Len) ≡ Ok 0
+shown_length = refl
 
 past_length : session_commit 1 with_commit 4 (queried Len) ≡ Ok 19
 past_length = refl
@@ -89,18 +89,19 @@ past_length = refl
 not_kept : session_commit 1 with_commit 3 (queried Len) ≡ Err 12
 not_kept = refl
 
--- no read in place in a batch, whether or not the commit is kept
-current_in_a_batch : session_current 1 in_batch (queried Len) ≡ Err 1
-current_in_a_batch = refl
+-- in a batch the pending bitmap is read
+shown_in_a_batch : session_shown 1 in_batch (queried Len) ≡ Ok 19
+shown_in_a_batch = refl
 
+-- no read of a commit in a batch
 commit_in_a_batch : session_commit 1 in_batch 3 (queried Len) ≡ Err 1
 commit_in_a_batch = refl
 
-empty_handle : read_current None (queried Len) ≡ Err 15
+empty_handle : read_shown None (queried Len) ≡ Err 15
 empty_handle = refl
 
 commit_of_an_empty_handle : read_commit None 4 (queried Len) ≡ Err 15
 commit_of_an_empty_handle = refl
 
-full_handle : read_current (Some (Width1 first_machine)) (queried Len) ≡ Ok 0
+full_handle : read_shown (Some (Width1 first_machine)) (queried Len) ≡ Ok 0
 full_handle = refl
