@@ -39,7 +39,7 @@ BITS = [bytes(byte >> place & 1 for place in range(8)) for byte in range(256)]
 
 
 class _Bits(Caller):
-    """The reads that batches have too. All positions are absolute."""
+    """The reads of the current bitmap, of its past states and of batches. All positions are absolute."""
 
     # Iteration over all positions would meet pruned ones: `Bitmap.ones` iterates over the set positions.
     __iter__ = None
@@ -151,10 +151,6 @@ class _Bits(Caller):
         self._run("chunk", position_of(position), out, len(out))
         return bytes(out)
 
-
-class _Reads(_Bits):
-    """The reads that the current bitmap and its past states have, but no batch. They raise WrongModeError in a batch."""
-
     def ones(self, start: int = 0, stop: int = MAX) -> Iterator[int]:
         """Returns an iterator over the set retained positions from `start` to `stop` (excluded), ascending.
 
@@ -213,6 +209,10 @@ class _Reads(_Bits):
     def select_one(self, k: int) -> Optional[int]:
         """Returns the set retained position number `k`, counted from 0, or None."""
         return self._found("select_one", u64(k))
+
+
+class _Reads(_Bits):
+    """What the current bitmap and its past states have, but no batch."""
 
     def __bytes__(self) -> bytes:
         """Returns the encoding, which has no commits, no width and no checksum.
@@ -444,8 +444,8 @@ class Bitmap(_Reads):
         >>> bitmap[0], bitmap.at(7)[0]
         (False, True)
 
-    In a batch, `length`, `pruned_chunks`, `get`, `chunk`, `packed`, `bools` and `[]` read the pending bitmap, and the
-    other calls raise WrongModeError. Only `copy`, `abort` and `close` do not.
+    In a batch, the reads of bits, searches and counts among them, are of the pending bitmap. The other calls, `bytes` and
+    those of versions and commits, raise WrongModeError. Only `copy`, `abort` and `close` do not.
 
     Several threads may use a bitmap. Calls that read run at the same time. Any other call has the bitmap to itself, so
     calls of other threads wait. A batch is several calls: threads that begin batches on one bitmap need a lock of their

@@ -172,6 +172,17 @@ class Edits(unittest.TestCase):
         self.batch.abort()
         self.assertEqual(len(self.bitmap), 0)
 
+    def test_searches_and_counts_are_of_the_pending_bitmap(self):
+        self.batch.push_bits([0, 1, 1, 0, 0, 1, 0, 0, 1])
+        for bits in self.batch, self.bitmap:
+            self.assertEqual((list(bits.ones()), list(bits.ones(2, 8)), bits.ones_array(6).tolist()), ([1, 2, 5, 8], [2, 5], [8]))
+            self.assertEqual((bits.next_one(3), bits.next_zero(1), bits.prev_one(5), bits.prev_zero(3)), (5, 3, 2, 0))
+            self.assertEqual((bits.count_ones(), bits.count_ones(2, 6), bits.select_one(3), bits.select_one(4)), (4, 2, 8, None))
+            buffer = array.array("Q", [0, 0])
+            self.assertEqual((bits.ones_into(buffer, 2), buffer.tolist()), (2, [2, 5]))
+        self.batch.prune(8)
+        self.assertEqual((list(self.batch.ones()), self.batch.next_zero(0), self.batch.count_ones()), ([8], None, 1))
+
 
 class Ends(unittest.TestCase):
     """The length of a bitmap is at most 2^64 - 1."""
@@ -304,8 +315,7 @@ class Blocks(unittest.TestCase):
     def test_no_other_call_in_a_batch(self):
         bitmap, version = self.bitmap, self.bitmap.at(1)
         calls = (
-            bitmap.batch, bitmap.ones, bitmap.ones_array, lambda: bitmap.ones_into(array.array("Q")), lambda: bitmap.next_one(0), lambda: bitmap.next_zero(0), lambda: bitmap.prev_one(0),
-            lambda: bitmap.prev_zero(0), bitmap.count_ones, lambda: bitmap.select_one(0), lambda: bytes(bitmap),
+            bitmap.batch, lambda: bytes(bitmap), bitmap.save, lambda: bitmap.delta(1, 2), lambda: bitmap.apply_delta(b""), lambda: bitmap.checkout(1),
             lambda: bitmap.at(1), bitmap.commits, lambda: bitmap.commit_exists(1), lambda: bitmap.latest,
             lambda: bitmap.earliest, lambda: bitmap.entries, lambda: bitmap.changed_chunks(1, 1),
             lambda: bitmap.rewind_to(1), lambda: bitmap.drop_before(1), bitmap.clear,
@@ -322,9 +332,17 @@ class Blocks(unittest.TestCase):
 
     def test_a_batch_begins_between_pages(self):
         bitmap = bitmap_of("1" * 5000)
-        ones = bitmap.ones()
-        with bitmap.batch(), self.assertRaises(WrongModeError):
-            list(ones)
+        ones, past = bitmap.ones(), bitmap.at(1).ones()
+        with bitmap.batch() as batch:
+            batch.set(4999, False)
+            self.assertEqual(list(ones), list(range(4999)))
+            self.assertRaises(WrongModeError, list, past)
+
+    def test_a_batch_ends_between_pages(self):
+        bitmap = bitmap_of("1" * 5000)
+        with bitmap.batch(commit=2) as batch:
+            ones = batch.ones()
+        self.assertRaises(WrongModeError, list, ones)
 
     def test_close_in_a_batch(self):
         with self.bitmap.batch() as batch:

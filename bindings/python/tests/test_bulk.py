@@ -178,10 +178,10 @@ class Positions(unittest.TestCase):
         for ends in (-1, 3), (0, MAX + 1):
             self.assertRaises(ValueError, self.bitmap.ones_array, *ends)
             self.assertRaises(ValueError, self.bitmap.ones_into, array.array("Q", [0]), *ends)
-        with self.bitmap.batch():
-            for bits in self.bitmap, version:
-                self.assertRaises(WrongModeError, bits.ones_array)
-                self.assertRaises(WrongModeError, bits.ones_into, array.array("Q", [0]))
+        with self.bitmap.batch() as batch:
+            self.assertRaises(WrongModeError, version.ones_array)
+            self.assertRaises(WrongModeError, version.ones_into, array.array("Q", [0]))
+        self.assertRaises(WrongModeError, batch.ones_array)
         self.bitmap.clear()
         self.assertRaises(NoSuchCommitError, version.ones_array)
         self.bitmap.close()
