@@ -182,7 +182,7 @@ impl Bitmap {
     ///
     /// # Memory
     ///
-    /// Allocates the history twice. One of the two is freed before the return.
+    /// Allocates the history. Also allocates a copy of it, which is freed before the return.
     pub fn save(&self) -> Result<Vec<u8>, Error> {
         self.settled().save()
     }
@@ -640,7 +640,7 @@ impl Bitmap {
     ///
     /// # Memory
     ///
-    /// Allocates the delta twice. One of the two is freed before the return.
+    /// Allocates the delta. Also allocates a copy of it, which is freed before the return.
     ///
     /// # Examples
     ///
