@@ -177,12 +177,13 @@ impl Bitmap {
     ///
     /// # Complexity
     ///
-    /// Linear in the history. Each chunk that differs from the commit before is read, which takes a
-    /// search of each commit after it, or one search if the bitmap is indexed.
+    /// Linear in the current bitmap and in the history. Each chunk in the history is read at its
+    /// commit, which takes a search of each commit after it, or one search if the bitmap is indexed.
     ///
     /// # Memory
     ///
-    /// Allocates the history. Also allocates a copy of it, which is freed before the return.
+    /// Allocates the history. Also allocates a copy of it and the bitmap at the first kept commit, which
+    /// are freed before the return.
     pub fn save(&self) -> Result<Vec<u8>, Error> {
         self.settled().save()
     }

@@ -58,7 +58,7 @@
 //! | [`Bitmap::entries`] | linear in the commits |
 //! | [`Bitmap::checkout`] | linear in the current bitmap, plus the later commits and the chunks that they changed |
 //! | [`Bitmap::set_indexed`] | per chunk whose old bytes a kept commit has, logarithmic in their number |
-//! | [`Bitmap::save`] | linear in the history, plus per chunk that differs from the commit before a read through a [`Version`] |
+//! | [`Bitmap::save`] | linear in the current bitmap and the history, plus per chunk in the history a read through a [`Version`] |
 //! | [`Bitmap::load`] | linear in the history |
 //! | [`Bitmap::delta`] | as [`Bitmap::changed_chunks`], plus per chunk in the delta two reads through a [`Version`] |
 //! | [`Bitmap::apply_delta`] | linear in the delta, plus the chunks that the commit prunes or removes |
