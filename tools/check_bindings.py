@@ -12,6 +12,7 @@ usage: check_bindings.py                  builds the library and installs it twi
 - Two packages of one build are the same byte for byte.
 - The header compiles as C99 and as C++11 without a warning. The C examples print what they should, with the static and with the shared library.
 - The C tests pass with sanitizers, under valgrind, and with failing allocations. The tests of the Rust crate and of the Python package pass.
+  The examples of the Rust crate print what they should.
 - The calls that take a handle as `const` write neither the handle nor the bitmap, and threads may make them at the same time.
 - The example of replicas works over a Redis server and a PostgreSQL server (tools/check_replicas.py).
 - Random scripts through the C interface give what the reference model gives, and free what they allocate (tools/check_frees.py).
@@ -91,6 +92,13 @@ def failure_of(command, environment=None, wanted="", **more):
     if status:
         return f"status {status} of {' '.join(map(str, command))}:\n{printed[-3000:]}"
     return None if re.search(wanted, printed, re.MULTILINE) else f"no line as {wanted} from {' '.join(map(str, command))}:\n{printed[-3000:]}"
+
+
+def wrong_output(command, environment, file, **more):
+    """What is wrong with a run of a command whose output has to be that in a file, or None."""
+    status, printed = run(command, environment, **more)
+    is_right = status == 0 and printed == file.read_text()
+    return None if is_right else f"status {status}, and this is not {file.relative_to(TOP)}:\n{printed[-3000:]}"
 
 
 def first_failure(*calls):
@@ -182,14 +190,11 @@ def example_cases(place):
     """Builds the examples with what pkg-config says, and compares their output."""
     given = flags(place)
     for source in (TOP / "bindings/c/example.c", *sorted((TOP / "bindings/c/examples").glob("*.c"))):
-        wanted = source.with_suffix(".stdout").read_text()
         for kind, words in (("shared", given), ("static", ["-Wl,-Bstatic", *given, "-Wl,-Bdynamic"])):
             program = place.folder / f"{source.stem}_{kind}"
             failure = failure_of(["cc", "-std=c99", "-pthread", *WARNINGS, source, *words, "-o", program])
-            status, printed = run([program], {"LD_LIBRARY_PATH": str(place.libraries)} if kind == "shared" else {}) if not failure else (0, wanted)
-            if status or printed != wanted:
-                failure = f"status {status}, and this is not {source.with_suffix('.stdout').name}:\n{printed}"
-            yield f"{source.name} with the {kind} library", failure
+            libraries = {"LD_LIBRARY_PATH": str(place.libraries)} if kind == "shared" else {}
+            yield f"{source.name} with the {kind} library", failure or wrong_output([program], libraries, source.with_suffix(".stdout"))
 
 
 # The C tests
@@ -236,6 +241,8 @@ def rust_cases(place):
     ending = r"^test result: ok\. [1-9]\d* passed"
     yield "cargo test with the static library", failure_of(["cargo", "test", "--offline"], environment, ending, **how)
     yield "cargo test with the shared library", failure_of(["cargo", "test", "--offline"], shared, ending, **how)
+    for file in sorted((TOP / "bindings/rust/examples").glob("*.printed")):
+        yield f"the example {file.stem}.rs", wrong_output(["cargo", "run", "--quiet", "--offline", "--example", file.stem], environment, file, **how)
     if is_there("cargo", "clippy"):
         words = ["--offline", "--all-targets", "--", "-D", "warnings"]
         yield "cargo clippy", failure_of(["cargo", "clippy", *words], environment, **how)

@@ -22,7 +22,7 @@ DOCUMENTS = [
 ]
 
 # The files of `bindings` that are tested, by the word of a fence.
-TESTED = [("c", "c", ["**/*.c"]), ("rs", "rust", ["README.md", "tests/**/*.rs"]), ("python", "python", ["README.md", "tests/**/*.py"])]
+TESTED = [("c", "c", ["**/*.c"]), ("rs", "rust", ["README.md", "examples/*.rs", "tests/**/*.rs"]), ("python", "python", ["README.md", "tests/**/*.py"])]
 
 
 class Example(NamedTuple):

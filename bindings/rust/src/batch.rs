@@ -1,6 +1,7 @@
 use std::fmt;
+use std::ops::RangeBounds;
 
-use crate::{Bitmap, Chunk, CommitError, Error, PushBytesError, Width};
+use crate::{Bitmap, Chunk, CommitError, Error, PushBytesError, SetManyError, Width, range};
 
 /// A batch of edits on a bitmap.
 ///
@@ -84,6 +85,39 @@ impl<'a> Batch<'a> {
         self.bitmap.session.push_chunk(bytes)
     }
 
+    /// Appends bits in order: all of them, or none.
+    ///
+    /// # Errors
+    ///
+    /// The errors of [`push`](Batch::push). No bit is appended then.
+    ///
+    /// # Complexity
+    ///
+    /// Linear in the bits.
+    ///
+    /// # Memory
+    ///
+    /// Allocates the chunks of the new bits that the batch has not edited yet. Also allocates a byte
+    /// per bit and the chunks of a copy of the bits, which are freed before the return.
+    ///
+    /// # Examples
+    ///
+    /// ```
+    /// use mortarpink_proved::{Bitmap, Width};
+    ///
+    /// let mut bitmap = Bitmap::new(Width::Bytes8)?;
+    /// let mut batch = bitmap.begin();
+    /// batch.push_bits(&[true, false, true])?;
+    /// batch.commit(1)?;
+    ///
+    /// assert_eq!(bitmap.len(), 3);
+    /// assert!(bitmap.ones(..).eq([0, 2]));
+    /// # Ok::<(), mortarpink_proved::Error>(())
+    /// ```
+    pub fn push_bits(&mut self, bits: &[bool]) -> Result<(), Error> {
+        self.bitmap.session.push_bits(bits)
+    }
+
     /// Removes the last bit, and returns it.
     ///
     /// # Errors
@@ -102,6 +136,169 @@ impl<'a> Batch<'a> {
     /// - [`Error::NoMemory`] if an allocation fails.
     pub fn set(&mut self, position: u64, bit: bool) -> Result<(), Error> {
         self.bitmap.session.set(position, bit)
+    }
+
+    /// Replaces the bit at each position in order, up to the first position that fails.
+    ///
+    /// # Errors
+    ///
+    /// The errors of [`set`](Batch::set), with the number of positions at which the bit was replaced.
+    ///
+    /// # Complexity
+    ///
+    /// Amortized linear in the positions.
+    ///
+    /// # Examples
+    ///
+    /// ```
+    /// use mortarpink_proved::{Bitmap, Error, Width};
+    ///
+    /// let mut bitmap = Bitmap::new(Width::Bytes8)?;
+    /// let mut batch = bitmap.begin();
+    /// batch.extend_to(100)?;
+    /// batch.set_many(&[7, 3, 99], true)?;
+    ///
+    /// let failed = batch.set_many(&[4, 100, 5], true).unwrap_err();
+    /// assert_eq!((failed.replaced(), failed.error()), (1, Error::OutOfBounds));
+    /// batch.commit(1)?;
+    /// assert!(bitmap.ones(..).eq([3, 4, 7, 99]));
+    /// # Ok::<(), Error>(())
+    /// ```
+    pub fn set_many(&mut self, positions: &[u64], bit: bool) -> Result<(), SetManyError> {
+        let (replaced, result) = self.bitmap.session.set_many(positions, bit);
+        result.map_err(|error| SetManyError { replaced, error })
+    }
+
+    /// Replaces the bits of the chunk at an absolute index. Bits past the length are ignored.
+    ///
+    /// # Errors
+    ///
+    /// - [`Error::WrongSize`] if the number of bytes is not the width of the bitmap.
+    /// - [`Error::OutOfBounds`] if no bit of the chunk is below the length.
+    /// - [`Error::Pruned`] if the chunk is pruned.
+    /// - [`Error::NoMemory`] if an allocation fails.
+    ///
+    /// # Examples
+    ///
+    /// ```
+    /// use mortarpink_proved::{Bitmap, Width};
+    ///
+    /// let mut bitmap = Bitmap::new(Width::Bytes1)?;
+    /// let mut batch = bitmap.begin();
+    /// batch.extend_to(12)?;
+    /// batch.set_chunk(1, &[0b0101_0101])?;
+    /// batch.commit(1)?;
+    ///
+    /// assert!(bitmap.ones(..).eq([8, 10]));
+    /// # Ok::<(), mortarpink_proved::Error>(())
+    /// ```
+    pub fn set_chunk(&mut self, index: u64, bytes: &[u8]) -> Result<(), Error> {
+        self.bitmap.session.set_chunk(index, bytes)
+    }
+
+    /// Replaces each bit of a range: all of them, or none.
+    ///
+    /// A range without a start begins at the first retained position, and a range without an end
+    /// ends at the length. If the range is empty, nothing changes.
+    ///
+    /// # Errors
+    ///
+    /// - [`Error::OutOfBounds`] if a position of the range is at or past the length.
+    /// - [`Error::Pruned`] if a position of the range is pruned.
+    /// - [`Error::NoMemory`] if an allocation fails.
+    ///
+    /// # Complexity
+    ///
+    /// Linear in the chunks of the range.
+    ///
+    /// # Memory
+    ///
+    /// Allocates the chunks of the range that the batch has not edited yet.
+    ///
+    /// # Examples
+    ///
+    /// ```
+    /// use mortarpink_proved::{Bitmap, Error, Width};
+    ///
+    /// let mut bitmap = Bitmap::new(Width::Bytes8)?;
+    /// let mut batch = bitmap.begin();
+    /// batch.extend_to(1000)?;
+    /// batch.set_range(10..990, true)?;
+    /// batch.set_range(500.., false)?;
+    /// assert_eq!(batch.set_range(..1001, true), Err(Error::OutOfBounds));
+    /// batch.commit(1)?;
+    ///
+    /// assert_eq!(bitmap.count_ones(..), 490);
+    /// # Ok::<(), Error>(())
+    /// ```
+    pub fn set_range(&mut self, range: impl RangeBounds<u64>, bit: bool) -> Result<(), Error> {
+        let first_retained = self.pruned_chunks() * self.width().bits();
+        let range = range::edited(range, (first_retained, self.len()))?;
+        self.bitmap.session.set_range(range, bit)
+    }
+
+    /// Removes the bits from position `len` on. Pruned bits count. Does not allocate.
+    ///
+    /// # Errors
+    ///
+    /// - [`Error::OutOfBounds`] if `len` is above the length.
+    /// - [`Error::Pruned`] if `len` is below the number of pruned bits.
+    ///
+    /// # Complexity
+    ///
+    /// Linear in the removed chunks that the batch has edited.
+    ///
+    /// # Examples
+    ///
+    /// ```
+    /// use mortarpink_proved::{Bitmap, Error, Width};
+    ///
+    /// let mut bitmap = Bitmap::new(Width::Bytes8)?;
+    /// let mut batch = bitmap.begin();
+    /// batch.push_bytes(&[0xff; 100])?;
+    /// batch.truncate(3)?;
+    /// assert_eq!(batch.truncate(4), Err(Error::OutOfBounds));
+    /// batch.commit(1)?;
+    ///
+    /// assert!(bitmap.ones(..).eq([0, 1, 2]));
+    /// # Ok::<(), Error>(())
+    /// ```
+    pub fn truncate(&mut self, len: u64) -> Result<(), Error> {
+        self.bitmap.session.truncate(len)
+    }
+
+    /// Appends clear bits up to a length of `len`. Pruned bits count. If the bitmap has that length or
+    /// more, nothing changes.
+    ///
+    /// # Errors
+    ///
+    /// [`Error::NoMemory`] if an allocation fails.
+    ///
+    /// # Complexity
+    ///
+    /// Linear in the chunks of the new bits.
+    ///
+    /// # Memory
+    ///
+    /// Allocates the chunks of the new bits that the batch has not edited yet.
+    ///
+    /// # Examples
+    ///
+    /// ```
+    /// use mortarpink_proved::{Bitmap, Width};
+    ///
+    /// let mut bitmap = Bitmap::new(Width::Bytes8)?;
+    /// let mut batch = bitmap.begin();
+    /// batch.push(true)?;
+    /// batch.extend_to(1000)?;
+    /// batch.extend_to(10)?;
+    /// batch.commit(1)?;
+    ///
+    /// assert_eq!((bitmap.len(), bitmap.count_ones(..)), (1000, 1));
+    /// # Ok::<(), mortarpink_proved::Error>(())
+    /// ```
+    pub fn extend_to(&mut self, len: u64) -> Result<(), Error> {
+        self.bitmap.session.extend_to(len)
     }
 
     /// Prunes the chunks before the chunk of a position. Other bits keep their positions.

@@ -11,8 +11,8 @@ use crate::{Batch, ChangedChunks, Chunk, Commits, Error, Ones, Version, Width, r
 ///
 /// # Memory
 ///
-/// Reads do not allocate, except for [`to_bytes`](Bitmap::to_bytes), [`try_clone`](Bitmap::try_clone)
-/// and [`checkout`](Bitmap::checkout).
+/// Reads do not allocate, except for [`to_bytes`](Bitmap::to_bytes), [`save`](Bitmap::save),
+/// [`delta`](Bitmap::delta), [`try_clone`](Bitmap::try_clone) and [`checkout`](Bitmap::checkout).
 ///
 /// # Threads
 ///
@@ -164,6 +164,96 @@ impl Bitmap {
     /// Linear in the encoding.
     pub fn to_bytes(&self) -> Result<Vec<u8>, Error> {
         self.settled().encode(None)
+    }
+
+    /// Returns the history of the bitmap: the current bitmap, the kept commits and the last commit
+    /// number, with digests by which [`load`](Bitmap::load) finds damaged bytes.
+    ///
+    /// The index of [`set_indexed`](Bitmap::set_indexed) is not in it.
+    ///
+    /// # Errors
+    ///
+    /// [`Error::NoMemory`] if an allocation fails.
+    ///
+    /// # Complexity
+    ///
+    /// Linear in the current bitmap and in the history. Each chunk in the history is read at its
+    /// commit, which takes a search of each commit after it, or one search if the bitmap is indexed.
+    ///
+    /// # Memory
+    ///
+    /// Allocates the history. Also allocates a copy of it and the bitmap at the first kept commit, which
+    /// are freed before the return.
+    pub fn save(&self) -> Result<Vec<u8>, Error> {
+        self.settled().save()
+    }
+
+    /// Makes a bitmap from the history that `bytes` begin with, which [`save`](Bitmap::save) wrote.
+    ///
+    /// `retained` is the range of accepted numbers of retained bits: of the current bitmap, and of
+    /// each kept one. `commits` is the range of accepted numbers of commits after the first kept one.
+    /// For bytes that the program has written itself, pass `..` for both. Returns the bitmap, and the
+    /// number of bytes of the history. Bytes after it are not read.
+    ///
+    /// The bitmap has the same current version, kept commits and last number as the saved one. A
+    /// commit may have fewer entries, so [`entries`](Bitmap::entries) may return a smaller number. It
+    /// is not indexed.
+    ///
+    /// # Errors
+    ///
+    /// The first error of the bytes, from the first byte on:
+    ///
+    /// - [`Error::CutOff`] if the bytes end before the history does.
+    /// - [`Error::WrongHeader`] if the bytes do not begin with the header of a history of this width.
+    /// - [`Error::Damaged`] if a digest after the header is not that of the bytes before it.
+    /// - [`Error::NotAccepted`] if the digests are right, but a part of the bytes is no bitmap, or no
+    ///   commit that can follow.
+    /// - [`Error::OutOfRange`] if a number of retained bits or of commits is not in its range.
+    /// - [`Error::NoMemory`] if an allocation fails.
+    ///
+    /// # Complexity
+    ///
+    /// Linear in the bytes of the history. If a commit makes the bitmap grow, it may also move in
+    /// memory.
+    ///
+    /// # Memory
+    ///
+    /// Allocates the bitmap with its commits. A bitmap whose number of retained bits is out of range
+    /// is not allocated.
+    ///
+    /// # Examples
+    ///
+    /// ```
+    /// use mortarpink_proved::{Bitmap, Error, Width};
+    ///
+    /// let mut bitmap = Bitmap::new(Width::Bytes8)?;
+    /// for number in [1, 2] {
+    ///     let mut batch = bitmap.begin();
+    ///     batch.push(true)?;
+    ///     batch.commit(number)?;
+    /// }
+    /// let bytes = bitmap.save()?;
+    ///
+    /// // After a restart both versions are there again.
+    /// let (mut bitmap, used) = Bitmap::load(Width::Bytes8, &bytes, ..=4096, ..=100)?;
+    /// assert_eq!(used, bytes.len());
+    /// assert!(bitmap.at(1)?.ones(..).eq([0]));
+    /// bitmap.begin().commit(3)?;
+    /// assert!(bitmap.commits().eq([1, 2, 3]));
+    ///
+    /// let cut_off = Bitmap::load(Width::Bytes8, &bytes[..50], .., ..);
+    /// assert_eq!(cut_off.unwrap_err(), Error::CutOff);
+    /// # Ok::<(), Error>(())
+    /// ```
+    pub fn load(
+        width: Width,
+        bytes: &[u8],
+        retained: impl RangeBounds<u64>,
+        commits: impl RangeBounds<u64>,
+    ) -> Result<(Bitmap, usize), Error> {
+        let (retained, commits) = (range::inclusive(retained), range::inclusive(commits));
+        let (session, used) = Session::load(width.bytes() as u32, retained, commits, bytes)?;
+        Ok((Bitmap::from_session(session, width), used))
     }
 
     /// Returns a copy of the bitmap and its commits.
@@ -532,6 +622,85 @@ impl Bitmap {
         let session = self.settled();
         session.changed_chunks((from, to), 0, &mut [])?;
         Ok(ChangedChunks::new(session, (from, to)))
+    }
+
+    /// Returns the delta between two commits: bytes that bring a replica from the older version to the
+    /// newer one by [`apply_delta`](Bitmap::apply_delta).
+    ///
+    /// A delta has the chunks in which the two differ, and the number, the length and a digest of the
+    /// older one. Returns `None` unless both commits are kept and `older` is below `newer`.
+    ///
+    /// # Errors
+    ///
+    /// [`Error::NoMemory`] if an allocation fails.
+    ///
+    /// # Complexity
+    ///
+    /// As [`changed_chunks`](Bitmap::changed_chunks), and linear in the delta. Each chunk in the delta
+    /// is read at both commits, which takes a search of each commit after them.
+    ///
+    /// # Memory
+    ///
+    /// Allocates the delta. Also allocates a copy of it, which is freed before the return.
+    ///
+    /// # Examples
+    ///
+    /// ```
+    /// use mortarpink_proved::{Bitmap, Error, Width};
+    ///
+    /// let mut bitmap = Bitmap::new(Width::Bytes8)?;
+    /// bitmap.begin().commit(1)?;
+    /// let mut replica = bitmap.try_clone()?;
+    ///
+    /// let mut batch = bitmap.begin();
+    /// batch.push_byte(0b0000_0101)?;
+    /// batch.commit(2)?;
+    ///
+    /// let delta = bitmap.delta(1, 2)?.expect("both commits are kept");
+    /// replica.apply_delta(&delta)?;
+    /// assert!(replica.ones(..).eq([0, 2]));
+    /// assert!(replica.commits().eq([1, 2]));
+    ///
+    /// // The replica is at version 2 now, so the delta does not fit any more.
+    /// assert_eq!(replica.apply_delta(&delta), Err(Error::NotAtBase));
+    /// assert_eq!(bitmap.delta(2, 1)?, None);
+    /// # Ok::<(), Error>(())
+    /// ```
+    pub fn delta(&self, older: u64, newer: u64) -> Result<Option<Vec<u8>>, Error> {
+        self.settled().delta(older, newer)
+    }
+
+    /// Applies a delta, which is all of the bytes, as the next commit: its newer bitmap becomes
+    /// current, and is kept under its number.
+    ///
+    /// The last number, the length, the number of pruned chunks, and a digest of the bytes in the
+    /// chunks that the delta has are compared with those of the older bitmap, which need not be kept.
+    /// Other chunks are not compared. The digest finds damage and mistakes, and is no protection from
+    /// someone who forges a delta.
+    ///
+    /// # Errors
+    ///
+    /// The bitmap is then unchanged.
+    ///
+    /// - [`Error::CutOff`] if there are fewer bytes than any delta has, or if the bytes of the chunks
+    ///   are not whole.
+    /// - [`Error::WrongHeader`] if the bytes do not begin as a delta, or if it has another width.
+    /// - [`Error::Damaged`] if the digest at the end is not that of the bytes before it, as in most
+    ///   deltas that are cut off.
+    /// - [`Error::NotAtBase`] if the delta does not start at the current bitmap.
+    /// - [`Error::NotAccepted`] if the digest is right, but the delta has no commit that can follow.
+    /// - [`Error::NoMemory`] if an allocation fails.
+    ///
+    /// # Complexity
+    ///
+    /// Linear in the bytes, plus the chunks that the commit prunes or removes.
+    ///
+    /// # Memory
+    ///
+    /// Allocates the reverse record of the commit, and space by which the bitmap and the list of
+    /// commits grow.
+    pub fn apply_delta(&mut self, bytes: &[u8]) -> Result<(), Error> {
+        self.settled_mut().apply_delta(bytes)
     }
 
     /// Makes the bitmap at a commit current again, and drops the commits after it.

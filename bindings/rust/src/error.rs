@@ -4,9 +4,9 @@ use crate::Batch;
 
 /// The reason why a call failed.
 ///
-/// A call that fails leaves the bitmap and its batch as they were, with two exceptions.
-/// [`Batch::push_bytes`] appends the bytes before the one that fails, and [`Batch::commit`] aborts
-/// the batch.
+/// A call that fails leaves the bitmap and its batch as they were, with three exceptions.
+/// [`Batch::push_bytes`] appends the bytes before the one that fails, [`Batch::set_many`] replaces
+/// the bits at the positions before the one that fails, and [`Batch::commit`] aborts the batch.
 #[derive(Clone, Copy, Debug, PartialEq, Eq, Hash)]
 #[non_exhaustive]
 pub enum Error {
@@ -44,6 +44,18 @@ pub enum Error {
     NoMemory,
     /// The chunk has the wrong size.
     WrongSize,
+    /// The bytes do not begin as a history or a delta of this width does.
+    WrongHeader,
+    /// The bytes end before the history or the delta does.
+    CutOff,
+    /// A digest is not that of the bytes before it: the bytes are damaged.
+    Damaged,
+    /// A part of the bytes is no bitmap, or no commit that can follow.
+    NotAccepted,
+    /// A number of retained bits or of commits is out of range.
+    OutOfRange,
+    /// The delta does not start at the current bitmap.
+    NotAtBase,
 }
 
 impl fmt::Display for Error {
@@ -69,6 +81,12 @@ impl fmt::Display for Error {
             Error::NoSuchCommit => "no commit is kept under the number",
             Error::NoMemory => "memory allocation failed",
             Error::WrongSize => "chunk has the wrong size",
+            Error::WrongHeader => "bytes do not begin as a history or a delta of this width does",
+            Error::CutOff => "bytes end before the history or the delta does",
+            Error::Damaged => "a digest is not that of the bytes before it",
+            Error::NotAccepted => "a part of the bytes is no bitmap, or no commit that can follow",
+            Error::OutOfRange => "a number of retained bits or of commits is out of range",
+            Error::NotAtBase => "delta does not start at the current bitmap",
         })
     }
 }
@@ -160,5 +178,39 @@ impl std::error::Error for PushBytesError {}
 impl From<PushBytesError> for Error {
     fn from(push: PushBytesError) -> Error {
         push.error
+    }
+}
+
+/// The error of [`Batch::set_many`]: at how many positions the bit was replaced, and why it was not
+/// at the next one.
+#[derive(Clone, Copy, Debug, PartialEq, Eq, Hash)]
+pub struct SetManyError {
+    pub(crate) replaced: usize,
+    pub(crate) error: Error,
+}
+
+impl SetManyError {
+    /// Returns the number of positions at which the bit was replaced.
+    pub fn replaced(&self) -> usize {
+        self.replaced
+    }
+
+    /// Returns the reason why the bit at the next position was not replaced.
+    pub fn error(&self) -> Error {
+        self.error
+    }
+}
+
+impl fmt::Display for SetManyError {
+    fn fmt(&self, f: &mut fmt::Formatter<'_>) -> fmt::Result {
+        write!(f, "{} after {} positions", self.error, self.replaced)
+    }
+}
+
+impl std::error::Error for SetManyError {}
+
+impl From<SetManyError> for Error {
+    fn from(set: SetManyError) -> Error {
+        set.error
     }
 }

@@ -20,6 +20,8 @@
 //! - **Pointers.** Each other pointer comes from a reference or a slice of the caller, so it is not
 //!   null and points to memory of its type. Outputs come from `&mut` references, so they overlap
 //!   neither each other nor the handle.
+//! - **Bits.** A `bool` has the size and the alignment of a byte, and is the byte 0 or 1. So a slice
+//!   of them is read as one of bytes. Nothing is written through that pointer.
 
 // Some statuses are not in use: no call of this crate returns them.
 #[allow(dead_code)]
@@ -95,6 +97,12 @@ fn check(status: Status) -> Result<(), Error> {
         NO_SUCH_COMMIT => Error::NoSuchCommit,
         NO_MEMORY => Error::NoMemory,
         WRONG_SIZE => Error::WrongSize,
+        WRONG_HEADER => Error::WrongHeader,
+        CUT_OFF => Error::CutOff,
+        DAMAGED => Error::Damaged,
+        NOT_ACCEPTED => Error::NotAccepted,
+        OUT_OF_RANGE => Error::OutOfRange,
+        NOT_AT_BASE => Error::NotAtBase,
         status => unexpected(status),
     })
 }
@@ -163,6 +171,29 @@ impl Session {
         }
     }
 
+    /// Makes a session from a history. Both ranges have the least and the greatest number.
+    pub fn load(
+        width: u32,
+        (least_bits, most_bits): (u64, u64),
+        (least_commits, most_commits): (u64, u64),
+        bytes: &[u8],
+    ) -> Result<(Session, usize), Error> {
+        let session = Session::empty();
+        let (handle, start, len, mut used) = (session.handle.get(), bytes.as_ptr(), bytes.len(), 0);
+        check(call!(mortarpink_load(
+            handle,
+            width,
+            least_bits,
+            most_bits,
+            least_commits,
+            most_commits,
+            start,
+            len,
+            &mut used
+        )))?;
+        Ok((session, used))
+    }
+
     pub fn try_clone(&self) -> Result<Session, Error> {
         let copy = Session::empty();
         check(call!(mortarpink_clone(self.handle.get(), copy.handle.get())))?;
@@ -208,6 +239,22 @@ impl Session {
             }
         }
     }
+
+    /// Returns the status of a call that fills a buffer, and the buffer. The first call has an empty
+    /// one, and reports the size.
+    fn filled(
+        &self,
+        call: impl Fn(*mut Handle, *mut u8, usize, &mut usize) -> Status,
+    ) -> (Status, Vec<u8>) {
+        let (mut bytes, mut size) = (Vec::new(), 0);
+        loop {
+            match call(self.handle.get(), bytes.as_mut_ptr(), bytes.len(), &mut size) {
+                WRONG_SIZE if bytes.try_reserve_exact(size).is_err() => return (NO_MEMORY, bytes),
+                WRONG_SIZE => bytes.resize(size, 0),
+                status => return (status, bytes),
+            }
+        }
+    }
 }
 
 /// A batch.
@@ -236,6 +283,11 @@ impl Session {
         check(call!(mortarpink_push_chunk(self.handle.get(), bytes.as_ptr(), bytes.len())))
     }
 
+    pub fn push_bits(&mut self, bits: &[bool]) -> Result<(), Error> {
+        let (start, len) = (bits.as_ptr().cast::<u8>(), bits.len());
+        check(call!(mortarpink_push_bits(self.handle.get(), start, len)))
+    }
+
     pub fn pop(&mut self) -> Result<bool, Error> {
         let bit: u8 = self.output(|handle, bit| call!(mortarpink_pop(handle, bit)))?;
         Ok(bit != 0)
@@ -243,6 +295,32 @@ impl Session {
 
     pub fn set(&mut self, position: u64, bit: bool) -> Result<(), Error> {
         check(call!(mortarpink_set(self.handle.get(), position, bit.into())))
+    }
+
+    /// Returns the number of positions whose bits were replaced, and the error of the next position.
+    pub fn set_many(&mut self, positions: &[u64], bit: bool) -> (usize, Result<(), Error>) {
+        let (handle, start, len) = (self.handle.get(), positions.as_ptr(), positions.len());
+        let mut count = 0;
+        let status = call!(mortarpink_set_many(handle, start, len, bit.into(), &mut count));
+        (count, check(status))
+    }
+
+    pub fn set_chunk(&mut self, index: u64, bytes: &[u8]) -> Result<(), Error> {
+        let index = usize::try_from(index).map_err(|_| Error::OutOfBounds)?;
+        let (handle, start, len) = (self.handle.get(), bytes.as_ptr(), bytes.len());
+        check(call!(mortarpink_set_chunk(handle, index, start, len)))
+    }
+
+    pub fn set_range(&mut self, (from, to): (u64, u64), bit: bool) -> Result<(), Error> {
+        check(call!(mortarpink_set_range(self.handle.get(), from, to, bit.into())))
+    }
+
+    pub fn truncate(&mut self, len: u64) -> Result<(), Error> {
+        check(call!(mortarpink_truncate(self.handle.get(), len)))
+    }
+
+    pub fn extend_to(&mut self, len: u64) -> Result<(), Error> {
+        check(call!(mortarpink_extend_to(self.handle.get(), len)))
     }
 
     pub fn prune(&mut self, position: u64) -> Result<(), Error> {
@@ -322,18 +400,10 @@ impl Session {
     }
 
     pub fn encode(&self, at: Option<u64>) -> Result<Vec<u8>, Error> {
-        let (mut bytes, mut size) = (Vec::new(), 0);
-        loop {
-            let (handle, start, len) = (self.handle.get(), bytes.as_mut_ptr(), bytes.len());
-            match read!(at, mortarpink_encode | mortarpink_encode_at, handle, start, len, &mut size)
-            {
-                WRONG_SIZE => {
-                    bytes.try_reserve_exact(size).map_err(|_| Error::NoMemory)?;
-                    bytes.resize(size, 0);
-                }
-                status => return check(status).map(|()| bytes),
-            }
-        }
+        let (status, bytes) = self.filled(|handle, start, len, size| {
+            read!(at, mortarpink_encode | mortarpink_encode_at, handle, start, len, size)
+        });
+        check(status).map(|()| bytes)
     }
 }
 
@@ -390,6 +460,30 @@ impl Session {
 
     pub fn entries(&self) -> u64 {
         self.value(|handle, entries| call!(mortarpink_entries(handle, entries)))
+    }
+}
+
+/// Histories and deltas.
+impl Session {
+    pub fn save(&self) -> Result<Vec<u8>, Error> {
+        let (status, bytes) = self
+            .filled(|handle, start, len, size| call!(mortarpink_save(handle, start, len, size)));
+        check(status).map(|()| bytes)
+    }
+
+    /// Returns the delta, or `None` unless both commits are kept and `from` is below `to`.
+    pub fn delta(&self, from: u64, to: u64) -> Result<Option<Vec<u8>>, Error> {
+        let (status, bytes) = self.filled(|handle, start, len, size| {
+            call!(mortarpink_delta(handle, from, to, start, len, size))
+        });
+        match status {
+            NONE => Ok(None),
+            status => check(status).map(|()| Some(bytes)),
+        }
+    }
+
+    pub fn apply_delta(&mut self, bytes: &[u8]) -> Result<(), Error> {
+        check(call!(mortarpink_apply_delta(self.handle.get(), bytes.as_ptr(), bytes.len())))
     }
 }
 

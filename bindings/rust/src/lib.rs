@@ -41,8 +41,11 @@
 //!
 //! | Call | Time |
 //! |---|---|
-//! | [`Batch::push`], [`Batch::push_byte`], [`Batch::push_chunk`], [`Batch::set`] | amortized constant |
-//! | [`Batch::push_bytes`] | linear in the bytes |
+//! | [`Batch::push`], [`Batch::push_byte`], [`Batch::push_chunk`], [`Batch::set`], [`Batch::set_chunk`] | amortized constant |
+//! | [`Batch::push_bytes`], [`Batch::push_bits`] | linear in the bytes or the bits |
+//! | [`Batch::set_many`] | amortized linear in the positions |
+//! | [`Batch::set_range`], [`Batch::extend_to`] | linear in the chunks of the range or of the new bits |
+//! | [`Batch::truncate`] | linear in the removed chunks that the batch has edited |
 //! | [`Batch::pop`], [`Batch::get`], [`Batch::chunk`] | constant |
 //! | [`Batch::prune`] | amortized linear in the chunks pruned |
 //! | [`Batch::commit`], [`Batch::try_commit`] | amortized linear in the chunks that the batch edited, pruned or removed |
@@ -55,6 +58,10 @@
 //! | [`Bitmap::entries`] | linear in the commits |
 //! | [`Bitmap::checkout`] | linear in the current bitmap, plus the later commits and the chunks that they changed |
 //! | [`Bitmap::set_indexed`] | per chunk whose old bytes a kept commit has, logarithmic in their number |
+//! | [`Bitmap::save`] | linear in the current bitmap and the history, plus per chunk in the history a read through a [`Version`] |
+//! | [`Bitmap::load`] | linear in the history |
+//! | [`Bitmap::delta`] | as [`Bitmap::changed_chunks`], plus per chunk in the delta two reads through a [`Version`] |
+//! | [`Bitmap::apply_delta`] | linear in the delta, plus the chunks that the commit prunes or removes |
 //! | a chunk read through a [`Version`] | a search of each later commit, or one search if the bitmap is indexed |
 //!
 //! # Finding the library
@@ -81,7 +88,7 @@ mod version;
 pub use batch::Batch;
 pub use bitmap::Bitmap;
 pub use chunk::{Chunk, NoSuchWidthError, Width};
-pub use error::{CommitError, Error, PushBytesError};
+pub use error::{CommitError, Error, PushBytesError, SetManyError};
 pub use pages::{ChangedChunks, Commits, Ones};
 pub use version::Version;
 

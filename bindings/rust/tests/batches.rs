@@ -214,7 +214,7 @@ fn leak(bitmap: &mut Bitmap) {
 
 #[test]
 fn the_next_read_aborts_a_leaked_batch() {
-    let reads: [fn(&Bitmap) -> bool; 20] = [
+    let reads: [fn(&Bitmap) -> bool; 22] = [
         |bitmap| bitmap.len() == 8,
         |bitmap| !bitmap.is_empty(),
         |bitmap| bitmap.pruned_chunks() == 0,
@@ -228,6 +228,11 @@ fn the_next_read_aborts_a_leaked_batch() {
         |bitmap| bitmap.count_ones(..) == 2,
         |bitmap| bitmap.select_one(2).is_none(),
         |bitmap| bitmap.to_bytes().unwrap().len() == 24,
+        |bitmap| {
+            let (loaded, _) = Bitmap::load(Width::Bytes8, &bitmap.save().unwrap(), .., ..).unwrap();
+            loaded.len() == 8
+        },
+        |bitmap| bitmap.delta(1, 2) == Ok(None),
         |bitmap| bitmap.try_clone().unwrap().len() == 8,
         |bitmap| bitmap.at(1).unwrap().len() == 8,
         |bitmap| bitmap.commits().eq([1]),
@@ -246,10 +251,11 @@ fn the_next_read_aborts_a_leaked_batch() {
 
 #[test]
 fn the_next_edit_aborts_a_leaked_batch() {
-    let edits: [fn(&mut Bitmap); 5] = [
+    let edits: [fn(&mut Bitmap); 6] = [
         |bitmap| bitmap.begin().commit(2).unwrap(),
         |bitmap| bitmap.begin().abort(),
         |bitmap| bitmap.rewind_to(1).unwrap(),
+        |bitmap| assert_eq!(bitmap.apply_delta(&[]), Err(Error::CutOff)),
         |bitmap| assert_eq!(bitmap.drop_before(1), 0),
         Bitmap::clear,
     ];

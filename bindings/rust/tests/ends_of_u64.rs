@@ -126,6 +126,58 @@ fn the_longest_bitmap_is_encoded() {
 }
 
 #[test]
+fn edits_of_many_bits_reach_the_last_position() {
+    for width in WIDTHS {
+        let mut bitmap = longest(width);
+        let (first, last) = (bitmap.len(), u64::MAX - 1);
+        let mut batch = bitmap.begin();
+        let too_many = vec![true; width.bits() as usize];
+        assert_eq!(batch.push_bits(&too_many), Err(Error::TooLong));
+        assert_eq!(batch.len(), first);
+        batch.push_bits(&too_many[1..]).unwrap();
+        assert_eq!(batch.push_bits(&[true]), Err(Error::TooLong));
+        batch.truncate(first).unwrap();
+        batch.extend_to(u64::MAX).unwrap();
+        assert_eq!(batch.len(), u64::MAX);
+        batch.set_range(last.., true).unwrap();
+        batch.set_range(first..=last, true).unwrap();
+        assert_eq!(batch.set_range(last..=u64::MAX, false), Err(Error::OutOfBounds));
+        assert_eq!(batch.set_range(first - 1.., false), Err(Error::Pruned));
+        let failed = batch.set_many(&[last, u64::MAX], false).unwrap_err();
+        assert_eq!((failed.replaced(), failed.error()), (1, Error::OutOfBounds));
+        let most = u64::MAX / width.bits();
+        batch.set_chunk(most, &vec![0; width.bytes()]).unwrap();
+        for index in [most + 1, u64::MAX] {
+            let bytes = vec![1; width.bytes()];
+            assert_eq!(batch.set_chunk(index, &bytes), Err(Error::OutOfBounds));
+        }
+        assert_eq!(batch.get(last), Ok(false));
+        batch.commit(1).unwrap();
+        assert_eq!((bitmap.len(), bitmap.count_ones(..)), (u64::MAX, 0));
+    }
+}
+
+#[test]
+fn the_longest_bitmap_is_saved_and_follows_a_delta() {
+    for width in WIDTHS {
+        let mut bitmap = longest(width);
+        fill(&mut bitmap);
+        let last = u64::MAX - 1;
+        let mut replica = bitmap.try_clone().unwrap();
+        commit(&mut bitmap, last, |batch| batch.set(last, true).unwrap());
+        replica.apply_delta(&bitmap.delta(1, last).unwrap().unwrap()).unwrap();
+        let bytes = replica.save().unwrap();
+        let (mut loaded, used) = Bitmap::load(width, &bytes, .., ..).unwrap();
+        assert_eq!((loaded.len(), used), (u64::MAX, bytes.len()));
+        assert!(loaded.commits().eq([1, last]));
+        assert!(loaded.ones(..).eq([last]));
+        assert_eq!(loaded.at(1).unwrap().count_ones(..), 0);
+        let repeated = loaded.begin().commit(last).unwrap_err();
+        assert_eq!(repeated, Error::NonMonotonicCommit { previous: last, attempted: last });
+    }
+}
+
+#[test]
 fn commit_numbers_end_before_the_greatest() {
     let mut bitmap = bitmap_of(Width::Bytes8, &[]);
     let last = u64::MAX - 1;

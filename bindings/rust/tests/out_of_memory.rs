@@ -45,13 +45,19 @@ fn check(width: Width) {
     bytes.resize(16 + (1 << 20), 0xff);
     let (mut bitmap, _) = Bitmap::from_bytes(width, &bytes, ..).unwrap();
     commit(&mut bitmap, 1, |batch| batch.set(0, true).unwrap());
+    let (history, bits) = (bitmap.save().unwrap(), vec![true; 4 << 20]);
     let copies = fill_memory(&bitmap);
 
     assert_eq!(bitmap.to_bytes(), Err(Error::NoMemory));
     assert_eq!(bitmap.at(1).unwrap().to_bytes(), Err(Error::NoMemory));
     let decoded = Bitmap::from_bytes(width, &bytes, ..);
     assert_eq!(decoded.unwrap_err(), Error::NoMemory);
+    assert_eq!(bitmap.save(), Err(Error::NoMemory));
+    assert_eq!(Bitmap::load(width, &history, .., ..).unwrap_err(), Error::NoMemory);
     let mut batch = bitmap.begin();
+    assert_eq!(batch.push_bits(&bits), Err(Error::NoMemory));
+    assert_eq!(batch.extend_to(1 << 40), Err(Error::NoMemory));
+    assert_eq!(batch.len(), 8 << 20);
     let mut pushes = (0..).map(|count| (count, batch.push_bytes(&[1; 4096])));
     let (count, failed) = pushes.find_map(|(count, push)| Some((count, push.err()?))).unwrap();
     assert_eq!(failed.error(), Error::NoMemory);
@@ -65,4 +71,6 @@ fn check(width: Width) {
     assert_eq!(bitmap.len(), 8 * pushed + 8);
     assert_eq!(bitmap.at(1).unwrap().count_ones(..), 8 << 20);
     assert_eq!(bitmap.at(1).unwrap().to_bytes(), Ok(bytes));
+    let (loaded, _) = Bitmap::load(width, &history, .., ..).unwrap();
+    assert_eq!(loaded.count_ones(..), 8 << 20);
 }

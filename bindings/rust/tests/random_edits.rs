@@ -93,6 +93,47 @@ impl List {
         Ok(())
     }
 
+    fn set_many(&mut self, positions: &[u64], bit: bool) -> (usize, Result<(), Error>) {
+        for (index, &position) in positions.iter().enumerate() {
+            if let Err(error) = self.set(position, bit) {
+                return (index, Err(error));
+            }
+        }
+        (positions.len(), Ok(()))
+    }
+
+    fn set_chunk(&mut self, index: u64, bytes: &[u8]) -> Result<(), Error> {
+        self.get(index * self.width.bits())?;
+        for bit in 0..self.width.bits() {
+            // The bits past the length are ignored.
+            let value = bytes[bit as usize / 8] >> (bit % 8) & 1 == 1;
+            let _ = self.set(index * self.width.bits() + bit, value);
+        }
+        Ok(())
+    }
+
+    fn set_range(&mut self, from: u64, to: u64, bit: bool) -> Result<(), Error> {
+        if from < to && to > self.len() {
+            return Err(Error::OutOfBounds);
+        }
+        (from..to).try_for_each(|position| self.set(position, bit))
+    }
+
+    fn truncate(&mut self, len: u64) -> Result<(), Error> {
+        if len > self.len() {
+            return Err(Error::OutOfBounds);
+        }
+        let kept = len.checked_sub(self.first()).ok_or(Error::Pruned)?;
+        self.bits.truncate(kept as usize);
+        Ok(())
+    }
+
+    fn extend_to(&mut self, len: u64) {
+        while self.len() < len {
+            self.bits.push(false);
+        }
+    }
+
     fn prune(&mut self, position: u64) -> Result<(), Error> {
         if position > self.len() {
             return Err(Error::OutOfBounds);
@@ -104,11 +145,42 @@ impl List {
     }
 }
 
+/// Makes the same random edit of many bits in a batch and in a list.
+fn edit_many(batch: &mut Batch<'_>, list: &mut List, random: &mut Random) {
+    let (from, to, bit) =
+        (random.below(list.len() + 2), random.below(list.len() + 2), random.bit());
+    match random.below(6) {
+        0 => {
+            let bits: Vec<bool> = (0..random.below(100)).map(|_| random.bit()).collect();
+            batch.push_bits(&bits).unwrap();
+            list.bits.extend(bits);
+        }
+        1 => {
+            let positions: Vec<u64> = (0..3).map(|_| random.below(list.len() + 1)).collect();
+            let (replaced, result) = list.set_many(&positions, bit);
+            let failed = batch.set_many(&positions, bit).err();
+            assert_eq!(failed.map(|failed| (failed.replaced(), failed.error())), {
+                result.err().map(|error| (replaced, error))
+            });
+        }
+        2 => {
+            let (index, chunk) = (from / list.width.bits(), vec![to as u8; list.width.bytes()]);
+            assert_eq!(batch.set_chunk(index, &chunk), list.set_chunk(index, &chunk));
+        }
+        3 if random.below(4) == 0 => assert_eq!(batch.truncate(from), list.truncate(from)),
+        4 => {
+            batch.extend_to(from + 9).unwrap();
+            list.extend_to(from + 9);
+        }
+        _ => assert_eq!(batch.set_range(from..to, bit), list.set_range(from, to, bit)),
+    }
+}
+
 /// Makes the same random edit in a batch and in a list.
 fn edit(batch: &mut Batch<'_>, list: &mut List, random: &mut Random) {
     let (position, bit) = (random.below(list.len() + 2), random.bit());
     let bytes: Vec<u8> = (0..random.below(20)).map(|_| random.below(256) as u8).collect();
-    match random.below(8) {
+    match random.below(10) {
         0 => {
             batch.push(bit).unwrap();
             list.bits.push(bit);
@@ -128,6 +200,7 @@ fn edit(batch: &mut Batch<'_>, list: &mut List, random: &mut Random) {
         }
         4 => assert_eq!(batch.pop().ok(), list.bits.pop()),
         5 if random.below(4) == 0 => assert_eq!(batch.prune(position), list.prune(position)),
+        8.. => edit_many(batch, list, random),
         _ => assert_eq!(batch.set(position, bit), list.set(position, bit)),
     }
     let position = random.below(list.len() + 2);
@@ -190,6 +263,17 @@ impl Pair {
         self.commits.push((number, list));
     }
 
+    /// Brings a replica of the first kept commit to the last one, and returns it.
+    fn replica(&self) -> Bitmap {
+        let (first, last) = (self.commits[0].0, self.commits[self.commits.len() - 1].0);
+        let mut replica = self.bitmap.try_clone().unwrap();
+        replica.rewind_to(first).unwrap();
+        if let Some(delta) = self.bitmap.delta(first, last).unwrap() {
+            replica.apply_delta(&delta).unwrap();
+        }
+        replica
+    }
+
     /// Rewinds, drops commits, or replaces the bitmap by a copy.
     fn change(&mut self, random: &mut Random) {
         let index = random.below(self.commits.len() as u64) as usize;
@@ -205,6 +289,12 @@ impl Pair {
                 self.commits.drain(..index);
             }
             2 => self.bitmap = self.bitmap.try_clone().unwrap(),
+            3 => {
+                let bytes = self.bitmap.save().unwrap();
+                let (loaded, used) = Bitmap::load(self.current.width, &bytes, .., ..).unwrap();
+                assert_eq!(used, bytes.len());
+                self.bitmap = loaded;
+            }
             _ => {}
         }
     }
@@ -218,6 +308,7 @@ impl Pair {
         let (from, to) = (&self.commits[0], &self.commits[self.commits.len() / 2]);
         let changed = self.bitmap.changed_chunks(from.0, to.0).unwrap();
         assert_eq!(changed.collect::<Vec<u64>>(), from.1.changed_chunks(&to.1));
+        compare_current(&self.replica(), &self.current, random);
     }
 }
 

@@ -44,6 +44,8 @@ fn reads_of(bitmap: &Bitmap) -> Vec<Reads> {
     let ends = vec![bitmap.earliest(), bitmap.latest(), bitmap.next_one(7), bitmap.prev_zero(99)];
     let mut found = vec![(numbers, bitmap.to_bytes().unwrap(), ends)];
     found.push((changed, bitmap.chunk(8).unwrap().as_slice().to_vec(), vec![]));
+    found.push((vec![], bitmap.save().unwrap(), vec![]));
+    found.push((vec![], bitmap.delta(2, 4).unwrap().unwrap(), vec![]));
     found.extend((1..=5).map(|number| reads_of_version(bitmap.at(number).unwrap())));
     found
 }

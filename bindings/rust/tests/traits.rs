@@ -10,7 +10,7 @@ use std::thread;
 use common::{WIDTHS, bitmap_of, commit};
 use mortarpink_proved::{
     Batch, Bitmap, ChangedChunks, Chunk, CommitError, Commits, Error, NoSuchWidthError, Ones,
-    PushBytesError, Version, Width,
+    PushBytesError, SetManyError, Version, Width,
 };
 
 /// Fails to compile if a type has a trait: then there are two candidates for `_`.
@@ -42,6 +42,7 @@ const _: fn() = || {
     is_plain::<Chunk>();
     is_plain::<Error>();
     is_plain::<PushBytesError>();
+    is_plain::<SetManyError>();
     is_plain::<NoSuchWidthError>();
     is_plain::<Width>();
 };
@@ -182,11 +183,17 @@ fn errors_have_texts() {
         (Error::NoSuchCommit, "no commit is kept under the number"),
         (Error::NoMemory, "memory allocation failed"),
         (Error::WrongSize, "chunk has the wrong size"),
+        (Error::WrongHeader, "bytes do not begin as a history or a delta of this width does"),
+        (Error::CutOff, "bytes end before the history or the delta does"),
+        (Error::Damaged, "a digest is not that of the bytes before it"),
+        (Error::NotAccepted, "a part of the bytes is no bitmap, or no commit that can follow"),
+        (Error::OutOfRange, "a number of retained bits or of commits is out of range"),
+        (Error::NotAtBase, "delta does not start at the current bitmap"),
     ];
     for (error, text) in texts {
         assert_eq!(error.to_string(), text);
     }
-    assert_eq!(HashSet::from(texts.map(|(error, _)| error)).len(), 13);
+    assert_eq!(HashSet::from(texts.map(|(error, _)| error)).len(), 19);
 }
 
 #[test]
@@ -196,6 +203,9 @@ fn wrapping_errors_have_texts() {
     let failed = batch.push_bytes(&[0; 9]).unwrap_err();
     assert_eq!(failed.to_string(), "length would pass 2^64 - 1 after 7 bytes");
     assert_eq!(Error::from(failed), Error::TooLong);
+    let failed = batch.set_many(&[u64::MAX - 63, 0, 1], true).unwrap_err();
+    assert_eq!(failed.to_string(), "position is pruned after 1 positions");
+    assert_eq!(Error::from(failed), Error::Pruned);
     let failed = batch.try_commit(u64::MAX).unwrap_err();
     assert_eq!(failed.to_string(), "commit number 2^64 - 1 is reserved");
     assert!(error::Error::source(&failed).is_none());
@@ -210,6 +220,7 @@ fn errors_convert() {
         Ok(())
     }
     fn boxed(bitmap: &mut Bitmap) -> Result<(), Box<dyn error::Error + Send + Sync>> {
+        bitmap.begin().set_many(&[], true)?;
         bitmap.begin().commit(2)?;
         bitmap.begin().push_bytes(&[0; 9])?;
         Ok(())

@@ -4,8 +4,6 @@ use mortarpink_proved::{Bitmap, Error};
 /// allocation does.
 pub fn set_all(flags: &mut Bitmap, positions: &[u64], number: u64) -> Result<(), Error> {
     let mut batch = flags.begin();
-    for &position in positions {
-        batch.set(position, true)?;
-    }
+    batch.set_many(positions, true)?;
     batch.commit(number)
 }

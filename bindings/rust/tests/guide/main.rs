@@ -6,13 +6,13 @@ mod all_or_none;
 mod common;
 mod last_versions;
 mod log;
-mod replicas;
 mod restarts;
 mod slots;
 mod threads;
-mod updates;
 mod versions;
 
+use std::fs::{self, OpenOptions};
+use std::path::Path;
 use std::sync::Mutex;
 
 use all_or_none::set_all;
@@ -20,11 +20,9 @@ use common::{WIDTHS, bitmap_of, commit};
 use last_versions::commit_set;
 use log::append;
 use mortarpink_proved::{Bitmap, Error, Width};
-use replicas::{UpdateError, apply_update};
-use restarts::{restored, saved};
+use restarts::{load, save};
 use slots::{new_slots, take_slot};
 use threads::count_and_append;
-use updates::{Update, update_between};
 use versions::bit_then;
 
 #[test]
@@ -76,98 +74,49 @@ fn the_last_versions_are_kept() {
     assert_eq!(bit_then(&versions, 151, 151), None);
 }
 
-/// Returns four versions: 1 and 2 grow, 3 is cut off, and 4 grows and prunes.
-fn four_versions(width: Width) -> Bitmap {
-    let bits = width.bits();
-    let mut versions = bitmap_of(width, &vec![0xa5; 3 * width.bytes() + 1]);
-    commit(&mut versions, 2, |batch| {
-        batch.set(bits + 1, true).unwrap();
-        batch.push_bytes(&vec![0x3c; 2 * width.bytes()]).unwrap();
-    });
-    commit(&mut versions, 3, |batch| {
-        while batch.len() > 2 * bits - 3 {
-            batch.pop().unwrap();
-        }
-    });
-    commit(&mut versions, 4, |batch| {
-        batch.push_bytes(&vec![0xf1; 3 * width.bytes()]).unwrap();
-        batch.prune(2 * bits + 1).unwrap();
-    });
-    versions
-}
-
-/// Returns a replica that is at one of the versions.
-fn replica_at(versions: &Bitmap, number: u64) -> Bitmap {
-    let bytes = versions.at(number).unwrap().to_bytes().unwrap();
-    restored(versions.width(), number, &bytes).unwrap()
+/// Asserts that two bitmaps have the same versions, and the same current one.
+fn assert_same(left: &Bitmap, right: &Bitmap) {
+    assert!(left.commits().eq(right.commits()));
+    for number in left.commits() {
+        let (left, right) = (left.at(number).unwrap(), right.at(number).unwrap());
+        assert_eq!(left.to_bytes(), right.to_bytes());
+    }
+    assert_eq!(left.to_bytes(), right.to_bytes());
 }
 
 #[test]
-fn a_replica_follows_each_version() {
+fn saved_versions_are_loaded() {
+    let path = Path::new(env!("CARGO_TARGET_TMPDIR")).join("saved_versions.history");
     for width in WIDTHS {
-        let versions = four_versions(width);
-        for (older, newer) in [(1, 2), (2, 3), (3, 4), (1, 3), (1, 4), (2, 4)] {
-            let mut replica = replica_at(&versions, older);
-            let update = update_between(&versions, older, newer).unwrap();
-            apply_update(&mut replica, &update).unwrap();
-            let bytes = versions.at(newer).unwrap().to_bytes().unwrap();
-            assert_eq!(replica.to_bytes().unwrap(), bytes, "from {older} to {newer}");
-            assert_eq!(replica.latest(), Some(newer));
+        let mut versions = bitmap_of(width, &[0xa5; 200]);
+        for number in 2..5 {
+            commit(&mut versions, number, |batch| batch.set_range(..9 * number, true).unwrap());
+            save(&versions, &path).unwrap();
+            assert_same(&load(width, &path).unwrap(), &versions);
         }
-        assert!(update_between(&versions, 2, 1).is_err());
+        let mut loaded = load(width, &path).unwrap();
+        loaded.rewind_to(2).unwrap();
+        commit(&mut loaded, 3, |batch| batch.push(true).unwrap());
+        save(&loaded, &path).unwrap();
+        assert_same(&load(width, &path).unwrap(), &loaded);
     }
+    assert!(!path.with_extension("new").exists());
+    assert!(load(Width::Bytes8, &path).is_err());
+    OpenOptions::new().write(true).open(&path).unwrap().set_len(300).unwrap();
+    let error = load(Width::Bytes64, &path).unwrap_err();
+    assert_eq!(error.to_string(), "bytes end before the history or the delta does");
+    fs::remove_file(&path).unwrap();
+    assert!(load(Width::Bytes64, &path).is_err());
 }
 
 #[test]
-fn a_replica_that_fails_is_unchanged() {
-    let versions = four_versions(Width::Bytes1);
-    let mut replica = replica_at(&versions, 1);
-    let before = replica.to_bytes().unwrap();
-    let mut update = update_between(&versions, 1, 2).unwrap();
-    update.newer = u64::MAX;
-    let error = UpdateError::Failed(Error::ReservedCommitNumber);
-    assert_eq!(apply_update(&mut replica, &update), Err(error));
-    assert_eq!((replica.to_bytes().unwrap(), replica.latest()), (before, Some(1)));
-}
-
-/// Asserts that a replica fails with an error, and is unchanged.
-fn refuse(mut replica: Bitmap, update: &Update, error: UpdateError) {
-    let before = (replica.to_bytes().unwrap(), replica.latest());
-    assert_eq!(apply_update(&mut replica, update), Err(error));
-    assert_eq!((replica.to_bytes().unwrap(), replica.latest()), before);
-}
-
-#[test]
-fn an_update_for_another_replica_is_refused() {
-    let versions = four_versions(Width::Bytes1);
-    let update = update_between(&versions, 2, 3).unwrap();
-    for (replica, latest) in [
-        (replica_at(&versions, 1), Some(1)),
-        (versions.try_clone().unwrap(), Some(4)),
-        (Bitmap::new(Width::Bytes1).unwrap(), None),
-    ] {
-        refuse(replica, &update, UpdateError::OtherVersion { update: 2, replica: latest });
-    }
-    let wide = restored(Width::Bytes8, 2, &[0; 16]).unwrap();
-    let error = UpdateError::OtherWidth { update: Width::Bytes1, replica: Width::Bytes8 };
-    refuse(wide, &update, error);
-    let same = update_between(&versions, 2, 2).unwrap();
-    refuse(replica_at(&versions, 2), &same, UpdateError::NotLater { older: 2, newer: 2 });
-}
-
-#[test]
-fn saved_versions_are_restored() {
-    let versions = four_versions(Width::Bytes8);
-    let all = saved(&versions).unwrap();
-    assert_eq!(all.len(), 4);
-    for (number, bytes) in &all {
-        let bitmap = restored(Width::Bytes8, *number, bytes).unwrap();
-        assert!(bitmap.ones(..).eq(versions.at(*number).unwrap().ones(..)));
-        assert!(bitmap.commits().eq([*number]));
-    }
-    let mut longer = all[0].1.clone();
-    longer.push(0);
-    assert_eq!(restored(Width::Bytes8, 1, &longer).unwrap_err(), Error::Invalid);
+fn a_file_with_more_than_a_history_is_refused() {
+    let path = Path::new(env!("CARGO_TARGET_TMPDIR")).join("more_than_a_history.history");
+    let bytes = bitmap_of(Width::Bytes8, &[1]).save().unwrap();
+    fs::write(&path, [&bytes[..], &[0]].concat()).unwrap();
+    let error = load(Width::Bytes8, &path).unwrap_err();
+    assert_eq!(error.to_string(), "there are bytes after the history");
+    fs::remove_file(&path).unwrap();
 }
 
 #[test]

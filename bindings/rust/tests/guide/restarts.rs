@@ -1,18 +1,25 @@
-use mortarpink_proved::{Bitmap, Error, Width};
+use mortarpink_proved::{Bitmap, Width};
+use std::error::Error;
+use std::fs::{self, File};
+use std::io::Write;
+use std::path::Path;
 
-/// Returns the encoding of each kept version with its number. A history itself has no encoding.
-pub fn saved(versions: &Bitmap) -> Result<Vec<(u64, Vec<u8>)>, Error> {
-    let encoded = |number| Ok((number, versions.at(number)?.to_bytes()?));
-    versions.commits().map(encoded).collect()
+/// Writes a bitmap with all its versions to a file. A crash leaves the old file or the new one.
+pub fn save(versions: &Bitmap, path: &Path) -> Result<(), Box<dyn Error>> {
+    let new = path.with_extension("new");
+    let mut file = File::create(&new)?;
+    file.write_all(&versions.save()?)?;
+    file.sync_all()?;
+    fs::rename(&new, path)?;
+    Ok(())
 }
 
-/// Makes a bitmap of a saved version of at most 4,096 retained bits, and commits it under its
-/// number. Later commits then have to have greater numbers, as before the restart.
-pub fn restored(width: Width, number: u64, bytes: &[u8]) -> Result<Bitmap, Error> {
-    let (mut bitmap, used) = Bitmap::from_bytes(width, bytes, ..=4096)?;
+/// Makes the bitmap of a file that `save` wrote, with all its versions.
+pub fn load(width: Width, path: &Path) -> Result<Bitmap, Box<dyn Error>> {
+    let bytes = fs::read(path)?;
+    let (bitmap, used) = Bitmap::load(width, &bytes, .., ..)?;
     if used != bytes.len() {
-        return Err(Error::Invalid);
+        return Err("there are bytes after the history".into());
     }
-    bitmap.begin().commit(number)?;
     Ok(bitmap)
 }

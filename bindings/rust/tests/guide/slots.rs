@@ -4,9 +4,7 @@ use mortarpink_proved::{Bitmap, Error, Width};
 pub fn new_slots(count: u64) -> Result<Bitmap, Error> {
     let mut slots = Bitmap::new(Width::Bytes8)?;
     let mut batch = slots.begin();
-    for _ in 0..count {
-        batch.push(false)?;
-    }
+    batch.extend_to(count)?;
     batch.commit(0)?;
     Ok(slots)
 }
