@@ -1,14 +1,13 @@
 use std::fmt;
 use std::ops::RangeBounds;
 
-use crate::{Bitmap, Chunk, CommitError, Error, PushBytesError, SetManyError, Width, range};
+use crate::{Bitmap, Chunk, CommitError, Error, Ones, PushBytesError, SetManyError, Width, range};
 
 /// A batch of edits on a bitmap.
 ///
 /// [`Bitmap::begin`] makes it. Its edits are pending: they change the bitmap when
 /// [`commit`](Batch::commit) succeeds. [`abort`](Batch::abort), or dropping the batch, drops the
-/// edits. The reads of a batch are of the pending bitmap. A batch has no searches: search the
-/// bitmap before it begins.
+/// edits. The reads of a batch are of the pending bitmap, searches and counts among them.
 ///
 /// # Memory
 ///
@@ -402,6 +401,62 @@ impl Batch<'_> {
         let mut chunk = Chunk::zeroed(self.bitmap.width);
         self.bitmap.session.chunk(None, position, chunk.as_mut_slice())?;
         Ok(chunk)
+    }
+}
+
+/// Searches and counts in the pending bitmap. They mean what those of a [`Bitmap`] mean.
+impl Batch<'_> {
+    /// Returns an iterator over the set retained positions of a range, ascending.
+    ///
+    /// # Examples
+    ///
+    /// ```
+    /// use mortarpink_proved::{Bitmap, Width};
+    ///
+    /// let mut slots = Bitmap::new(Width::Bytes8)?;
+    /// let mut batch = slots.begin();
+    /// batch.extend_to(64)?;
+    ///
+    /// // Take the lowest free slot, three times.
+    /// for _ in 0..3 {
+    ///     let free = batch.next_zero(0).expect("a slot is free");
+    ///     batch.set(free, true)?;
+    /// }
+    /// assert!(batch.ones(..).eq([0, 1, 2]));
+    /// # Ok::<(), mortarpink_proved::Error>(())
+    /// ```
+    pub fn ones(&self, range: impl RangeBounds<u64>) -> Ones<'_> {
+        Ones::new(&self.bitmap.session, None, range::half_open(range))
+    }
+
+    /// Returns the least retained position, from `from` on, whose bit is 1.
+    pub fn next_one(&self, from: u64) -> Option<u64> {
+        self.bitmap.session.next_one(None, from)
+    }
+
+    /// Returns the least retained position, from `from` on, whose bit is 0.
+    pub fn next_zero(&self, from: u64) -> Option<u64> {
+        self.bitmap.session.next_zero(None, from)
+    }
+
+    /// Returns the greatest retained position below `end` whose bit is 1.
+    pub fn prev_one(&self, end: u64) -> Option<u64> {
+        self.bitmap.session.prev_one(None, end)
+    }
+
+    /// Returns the greatest retained position below `end` whose bit is 0.
+    pub fn prev_zero(&self, end: u64) -> Option<u64> {
+        self.bitmap.session.prev_zero(None, end)
+    }
+
+    /// Returns the number of set retained positions in a range.
+    pub fn count_ones(&self, range: impl RangeBounds<u64>) -> u64 {
+        self.bitmap.session.count_ones(None, range::half_open(range))
+    }
+
+    /// Returns the set retained position number `k`, counted from 0.
+    pub fn select_one(&self, k: u64) -> Option<u64> {
+        self.bitmap.session.select_one(None, k)
     }
 }
 

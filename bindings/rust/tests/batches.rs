@@ -323,3 +323,22 @@ fn a_failed_commit_aborts_the_batch() {
         assert!(bitmap.commits().eq([1, 2]));
     }
 }
+
+#[test]
+fn searches_and_counts_are_of_the_pending_bitmap() {
+    for width in WIDTHS {
+        let mut bitmap = bitmap_of(width, &[0b1010_0110]);
+        let mut batch = bitmap.begin();
+        batch.push_byte(0b0000_0001).unwrap();
+        batch.set(1, false).unwrap();
+        assert!(batch.ones(..).eq([2, 5, 7, 8]));
+        assert!(batch.ones(3..8).rev().eq([7, 5]));
+        assert_eq!((batch.next_one(6), batch.next_one(9)), (Some(7), None));
+        assert_eq!((batch.next_zero(7), batch.prev_zero(8)), (Some(9), Some(6)));
+        assert_eq!((batch.prev_one(5), batch.prev_one(2)), (Some(2), None));
+        assert_eq!((batch.count_ones(..), batch.count_ones(5..=7)), (4, 2));
+        assert_eq!((batch.select_one(3), batch.select_one(4)), (Some(8), None));
+        batch.abort();
+        assert!(bitmap.ones(..).eq([1, 2, 5, 7]));
+    }
+}
