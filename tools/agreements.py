@@ -43,6 +43,7 @@ CHANGES = [
     ("reads.rt", "fn mortarpink_get(", "bit: &mut u8", "bit: u8", ALL),
     ("reads.rt", "fn mortarpink_encode(", "size: &mut usize", "size: &mut u64", ALL),
     ("many.rt", "fn mortarpink_push_bytes(", "bytes: &[u8]", "bytes: &mut [u8]", ALL),
+    ("many.rt", "fn mortarpink_set_many(", "positions: &[u64]", "positions: &mut [u64]", ALL),
     ("history.rt", "fn mortarpink_rewind(", "number: u64", "commit: u64", {HEADER, RUST}),
     ("current.rt", "fn mortarpink_next_one(", "from: u64", "start: u64", "the documentation has `from`"),
     ("commits.rt", "fn mortarpink_commits(", "count:", "len:", "`mortarpink_commits` has two parameters with one name in C"),
