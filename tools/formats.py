@@ -249,11 +249,6 @@ class Formats:
         data = bytes_of(bits)
         return State(pruned, self.chunk_bits * pruned + len(bits), data + bytes(-len(data) % self.width))
 
-    def historical_of(self, state):
-        """The historical bitmap of a state of the reference model, without its batch."""
-        kept = {number: self.state_of(commit.bitmap.bits, commit.bitmap.pruned) for number, commit in state.history.items()}
-        return Historical(self.state_of(state.current.bits, state.current.pruned), kept, state.last)
-
     def digits(self, state):
         """The retained bits as digits, the first one first."""
         count = self.retained(state)
@@ -908,7 +903,9 @@ class LoggedScript(RandomScript):
         return self.formats.state_of(bitmap.bits, bitmap.pruned)
 
     def historical(self):
-        return self.formats.historical_of(self.state)
+        """The model's bitmap without its batch."""
+        kept = {number: self.state_of(commit.bitmap) for number, commit in self.state.history.items()}
+        return Historical(self.state_of(self.state.current), kept, self.state.last)
 
     def begin_log(self):
         """Begins a log with the history of the bitmap."""

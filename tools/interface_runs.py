@@ -4,10 +4,10 @@
 usage: interface_runs.py LIBRARY COUNT   COUNT random scripts on the shared library LIBRARY, at each of its four widths in turn. Prints how many calls
                                          there are, and fails if a function never succeeds or a status is never returned: 2000 scripts suffice
 
-The scripts are those of tools/check_runs.py, with fixed seeds. After each step come reads of the bitmap, of a past one and of the commits, whose values
-are computed from the model's lists, edits of many bits, which the model makes bit by bit, histories and deltas, which the second reader of the formats
-(tools/formats.py) writes and reads, and calls with wrong arguments. At the end of a script the library has freed all its blocks. They are counted
-by tools/fail_allocations.c, which tools/check_frees.py preloads.
+The scripts are those of tools/check_runs.py, with fixed seeds. After each step come reads of the bitmap, of a past one and of the commits, whose
+values are computed from the model's lists, edits of many bits at once, and calls with wrong arguments. Histories and deltas are compared with those of
+tools/formats.py, also if their bytes are changed. At the end of a script the library has freed all its blocks. They are counted by
+tools/fail_allocations.c, which tools/check_frees.py preloads.
 """
 
 import sys
@@ -19,10 +19,9 @@ from functools import lru_cache, partial
 from check_runs import RandomScript
 from counter import blocks_now
 from declarations import HANDLES
-from formats import COMMIT, Entry, Formats, Historical, first_place, framed, header
-from formats import outcome as read_outcome
+from formats import Formats, Historical, ReadError, be64, digest, first_place, framed, header
 from library import Handle, Library, Overrun, outcome
-from model import LAST, Bitmap, bytes_of
+from model import LAST, Bitmap, Commit, bytes_of
 from replay import report
 
 WIDTHS = (1, 8, 32, 64)
@@ -48,12 +47,11 @@ SEARCHES = {
     "select_one": lambda ones, zeros, at: ones[at] if at < len(ones) else None,
 }
 
-# The status of each error of a reader of histories or deltas, by how the name of the error begins. The first one that fits counts.
-READ_STATUSES = {
-    "Header(Short": "CUT_OFF", "Header": "WRONG_HEADER", "Short": "CUT_OFF", "Bad": "DAMAGED", "Base(State(InvalidLength": "OUT_OF_RANGE", "Count": "OUT_OF_RANGE",
-    "Bits": "OUT_OF_RANGE", "Base": "NOT_ACCEPTED", "Entry": "NOT_ACCEPTED", "NotADelta": "WRONG_HEADER", "Version": "WRONG_HEADER", "Width": "WRONG_HEADER",
-    "NotAtBase": "NOT_AT_BASE", "Change": "NOT_ACCEPTED",
-}
+# The status of each error of a history or a delta, by words that its name in docs/FORMATS.md begins with. The first that fits counts.
+STATUSES = (("Header(Short)", "CUT_OFF"), ("Short", "CUT_OFF"), ("Header(", "WRONG_HEADER"), ("NotADelta", "WRONG_HEADER"), ("Version(", "WRONG_HEADER"),
+            ("Width(", "WRONG_HEADER"), ("BadHead", "DAMAGED"), ("BadDigest", "DAMAGED"), ("Base(State(InvalidLength", "OUT_OF_RANGE"),
+            ("Count(", "OUT_OF_RANGE"), ("Bits(", "OUT_OF_RANGE"), ("NotAtBase", "NOT_AT_BASE"), ("Base(", "NOT_ACCEPTED"), ("Entry(", "NOT_ACCEPTED"),
+            ("Change(", "NOT_ACCEPTED"))
 
 
 class Difference(Exception):
@@ -74,9 +72,9 @@ def outcome_of(reply):
     return "DONE", [int(number) for number in rest] if word == "positions" else int(rest[0])
 
 
-def status_of_read(result):
-    """The status of what a reader of the formats returns, or of its error."""
-    return next(status for error, status in READ_STATUSES.items() if result.startswith(error)) if isinstance(result, str) else "DONE"
+def status_of(error):
+    """The status of an error of a history or a delta."""
+    return next(status for name, status in STATUSES if str(error).startswith(name))
 
 
 def ends_of(text):
@@ -91,8 +89,7 @@ class InterfaceScript(RandomScript):
 
     def __init__(self, library, seed, width):
         super().__init__(seed, width)
-        self.library, self.calls, self.spare = library, Counter(), None
-        self.formats = Formats(width)
+        self.library, self.calls, self.spare, self.formats = library, Counter(), None, Formats(width)
         self.handle, self.recent = Handle(), deque(maxlen=10)
 
     def expect(self, name, status, *given, **written):
@@ -149,7 +146,7 @@ class InterfaceScript(RandomScript):
             raise Difference(f"entries: {found}, not at most {reply}")
 
     def run_ones(self, start, end, _):
-        """In a batch the calls read the pending bitmap, and the command is refused."""
+        """In a batch the call reads the pending bitmap, while the command is refused."""
         self.pages("ones", [int(start), int(end)], 0, self.listed(self.model.set_positions(self.bitmap(), int(start), int(end))))
 
     def run_ones_at(self, number, start, end, reply):
@@ -218,11 +215,8 @@ class InterfaceScript(RandomScript):
 
     def extra_steps(self):
         return [self.search, self.search, self.search, self.count_ones, self.read_past, self.read_past, self.page_of_commits, self.page_of_changes,
-                self.use_wrong_arguments, self.edit_many, self.edit_many, *[self.clone, self.checkout, self.index] * (self.random.random() < 0.1),
-                *[self.save, self.send] * (self.random.random() < 0.2)]
-
-    def edit_many(self):
-        self.random.choice([self.push_in_one_call, self.push_bits, self.set_many, self.set_range, self.set_chunk, self.change_length])()
+                self.use_wrong_arguments, self.push_in_one_call, self.set_in_one_call, self.push_bits, self.set_chunk, self.set_range, self.change_length,
+                *[self.clone, self.checkout, self.index, self.save, self.delta, self.apply_delta] * (self.random.random() < 0.1)]
 
     def any_number(self):
         return self.kept_number(list(self.state.history))
@@ -313,155 +307,176 @@ class InterfaceScript(RandomScript):
         self.expect("chunk", "WRONG_SIZE", self.position(), wrong)
         self.expect("push_chunk", "WRONG_SIZE", bytes(wrong))
         self.expect("new", "FULL_HANDLE", self.random.choice(WIDTHS + WRONG_WIDTHS))
+        self.expect("set_chunk", "WRONG_SIZE", self.position() // self.model.chunk_bits, bytes(wrong))
         self.expect("read", "FULL_HANDLE", self.random.choice(WIDTHS + WRONG_WIDTHS), 0, LAST, bytes(16))
+        self.expect("load", "FULL_HANDLE", self.random.choice(WIDTHS + WRONG_WIDTHS), 0, LAST, 0, LAST, bytes(16))
         self.expect("push_bytes", "DONE", b"", count=0)
+        self.expect("set_many", "DONE", [], self.random.choice(ONES), count=0)
         self.expect_of(handle, "new", "NO_SUCH_WIDTH", self.random.choice(WRONG_WIDTHS))
         self.expect_of(handle, "read", "NO_SUCH_WIDTH", self.random.choice(WRONG_WIDTHS), 0, LAST, bytes(16))
         self.expect_of(handle, "load", "NO_SUCH_WIDTH", self.random.choice(WRONG_WIDTHS), 0, LAST, 0, LAST, bytes(16))
         self.expect_of(handle, "clone", "EMPTY_HANDLE", self.handle)
-        self.expect("set_chunk", "WRONG_SIZE", self.position(), bytes(wrong))
-
-    # Edits of many bits
-
-    def in_steps(self, commands):
-        """What commands do, up to the first that is refused: how many are accepted, the status of the last one, and the state after them."""
-        state = self.state
-        for count, words in enumerate(commands):
-            step = self.model.step(state, [str(word) for word in words])
-            status, _ = outcome_of(step.reply)
-            if status != "DONE":
-                return count, status, state
-            state = step.state
-        return len(commands), "DONE", state
-
-    def all_or_none(self, name, commands, *given):
-        """Makes edits by one call, which makes all of them or none."""
-        _, status, state = self.in_steps(commands)
-        if status == "DONE":
-            self.state = state
-        self.expect(name, status, *given)
-
-    def is_refused(self, name, checks, *given):
-        """Whether a call of a batch is refused: the first status whose condition holds, and otherwise nothing is called."""
-        checks = [("WRONG_MODE", self.state.pending is None), *checks]
-        status = next((status for status, holds in checks if holds), None)
-        if status is not None:
-            self.expect(name, status, *given)
-        return status is not None
 
     def push_in_one_call(self):
         """Pushes bytes by one call, up to the first that is refused."""
-        data = self.random.randbytes(self.random.randint(1, 2 * self.model.width + 1))
-        count, status, self.state = self.in_steps([("push-byte", f"{byte:02x}") for byte in data])
+        data, count, status = self.random.randbytes(self.random.randint(1, 2 * self.model.width + 1)), 0, "DONE"
+        while count < len(data) and status == "DONE":
+            step = self.model.step(self.state, ["push-byte", f"{data[count]:02x}"])
+            status, _ = outcome_of(step.reply)
+            self.state = step.state
+            count += status == "DONE"
         self.expect("push_bytes", status, data, count=count)
 
-    def push_bits(self):
-        bits = bytes(self.random.choice([0, 0, *ONES]) for _ in range(self.random.choice([0, 1, 7, 64, 3 * self.model.chunk_bits])))
-        if not self.is_refused("push_bits", [], bits):
-            self.all_or_none("push_bits", [("push", int(bit > 0)) for bit in bits], bits)
-
-    def set_many(self):
-        """Sets positions by one call, up to the first that is refused."""
-        bit, first, length = self.random.choice([0, *ONES]), self.first(), self.length()
-        positions = [self.position() if self.random.random() < 0.1 else self.random.randint(first, max(first, length - 1)) for _ in range(self.random.randint(0, 9))]
-        count, status, self.state = self.in_steps([("set", position, int(bit > 0)) for position in positions])
+    def set_in_one_call(self):
+        """Sets the bits at some positions by one call, up to the first that is refused."""
+        positions, bit = [self.position() for _ in range(self.random.randint(1, 6))], self.random.choice([0, *ONES])
+        count, status = 0, "DONE"
+        while count < len(positions) and status == "DONE":
+            step = self.model.step(self.state, ["set", str(positions[count]), str(int(bit != 0))])
+            status, _ = outcome_of(step.reply)
+            self.state = step.state
+            count += status == "DONE"
         self.expect("set_many", status, positions, bit, count=count)
 
-    def set_range(self):
-        bit, start, end = self.random.choice([0, *ONES]), self.position(), self.position()
-        checks = [("OUT_OF_BOUNDS", start < end and end > self.length()), ("PRUNED", start < end and start < self.first())]
-        if not self.is_refused("set_range", checks, start, end, bit):
-            self.all_or_none("set_range", [("set", position, int(bit > 0)) for position in range(start, end)], start, end, bit)
+    def edit(self, name, refusal, lines, *given):
+        """Makes edits of one bit each in the model, and all of them by one call, unless it is refused."""
+        status = "WRONG_MODE" if self.state.pending is None else refusal or "DONE"
+        for line in lines if status == "DONE" else ():
+            self.state = self.model.step(self.state, line.split(" ")).state
+        self.expect(name, status, *given)
+
+    def push_bits(self):
+        """Appends a bit per byte by one call."""
+        data = bytes(self.random.choice([0, *ONES]) for _ in range(self.random.randint(0, 2 * self.model.chunk_bits + 1)))
+        is_long = self.length() + len(data) > LAST
+        self.edit("push_bits", "TOO_LONG" if is_long else None, [f"push {int(byte != 0)}" for byte in data], data)
+
+    def first_refusal(self, is_past, is_pruned):
+        return "OUT_OF_BOUNDS" if is_past else "PRUNED" if is_pruned else None
 
     def set_chunk(self):
-        size, index, data = self.model.chunk_bits, self.position() // self.model.chunk_bits, self.random.randbytes(self.model.width)
-        checks = [("OUT_OF_BOUNDS", index * size >= self.length()), ("PRUNED", index * size < self.first())]
-        if not self.is_refused("set_chunk", checks, index, data):
-            places = range(index * size, min((index + 1) * size, self.length()))
-            self.all_or_none("set_chunk", [("set", place, data[place % size // 8] >> place % 8 & 1) for place in places], index, data)
+        """Replaces the bits of a chunk, up to the length."""
+        size, data = self.model.chunk_bits, self.random.randbytes(self.model.width)
+        index = self.position() // size
+        bits = [(index * size + at, data[at // 8] >> at % 8 & 1) for at in range(size) if index * size + at < self.length()]
+        refusal = self.first_refusal(index * size >= self.length(), index * size < self.first())
+        self.edit("set_chunk", refusal, [f"set {position} {bit}" for position, bit in bits], index, data)
+
+    def set_range(self):
+        """Sets the bits of a range. An empty one is never refused in a batch."""
+        start, end, bit = self.position(), self.position(), self.random.choice([0, *ONES])
+        refusal = self.first_refusal(end > self.length(), start < self.first()) if start < end else None
+        positions = range(start, end) if refusal is None else ()
+        self.edit("set_range", refusal, [f"set {position} {int(bit != 0)}" for position in positions], start, end, bit)
 
     def change_length(self):
-        """Removes the last bits, or appends zeros."""
-        length = self.random.choice([self.position(), self.length() + self.random.randint(-2, 2 * self.model.chunk_bits)])
-        checks = [("OUT_OF_BOUNDS", length > self.length()), ("PRUNED", length < self.first())]
-        if self.random.random() < 0.5 and 0 <= length:
-            if not self.is_refused("truncate", checks, length):
-                self.all_or_none("truncate", [("pop",)] * (self.length() - length), length)
-        elif 0 <= length < self.length() + 4 * self.model.chunk_bits and not self.is_refused("extend_to", [], length):
-            self.all_or_none("extend_to", [("push", 0)] * (length - self.length()), length)
+        """Removes bits down to a length, or appends zeros up to one."""
+        length = self.position() if self.random.random() < 0.5 else self.length() + self.random.randint(0, self.model.chunk_bits + 1)
+        refusal = self.first_refusal(length > self.length(), length < self.first())
+        if self.random.random() < 0.3:
+            return self.edit("truncate", refusal, ["pop"] * (self.length() - length if refusal is None else 0), length)
+        if length < self.length() + 2 * self.model.chunk_bits and length <= LAST:
+            self.edit("extend_to", None, ["push 0"] * (length - self.length()), length)
 
     # Histories and deltas
 
+    def historical(self):
+        """The bitmap outside a batch, as tools/formats.py has it."""
+        kept = {number: self.formats.state_of(*reversed(commit.bitmap)) for number, commit in self.state.history.items()}
+        return Historical(self.formats.state_of(*reversed(self.state.current)), kept, self.state.last)
+
+    def changed(self, data):
+        """Some bytes, of which often some are changed or left out."""
+        chance, data = self.random.randint(0, 4), bytearray(data)
+        if chance == 0:
+            del data[self.random.randrange(len(data)) :]
+        elif chance == 1:
+            data[self.random.randrange(len(data))] ^= 1 << self.random.randrange(8)
+        elif chance == 2:
+            data[self.random.randrange(8) + 8 * self.random.randrange(4)] ^= 1 << self.random.randrange(8)
+        return bytes(data)
+
+    def range_of_numbers(self):
+        low, high = self.random.randint(0, 40), self.random.randint(0, 80)
+        return self.random.choice([range(LAST + 1)] * 6 + [range(low, LAST + 1), range(high + 1), range(low, high + 1)])
+
+    def other_history(self):
+        """A history whose digests are right, and whose bodies often are not: a byte is another one, or a commit is there twice."""
+        bodies = self.formats.history_bodies(self.historical())
+        at = self.random.randrange(len(bodies))
+        if self.random.random() < 0.3:
+            bodies.insert(at, bodies[at])
+        else:
+            body = bytearray(bodies[at])
+            body[self.random.randrange(min(26, len(body)))] ^= 1 << self.random.randrange(8)
+            bodies[at] = bytes(body)
+        start = header(self.model.width)
+        return start + framed(first_place(start), bodies)[0]
+
     def save(self):
-        """Saves the history, and loads it: whole, with too narrow limits, cut off, with a flipped bit, and with a byte of a frame replaced."""
+        """Saves the bitmap, and loads other bytes or what was saved into another handle. Goes on with either bitmap."""
         if self.state.pending is not None:
-            return self.expect("save", "WRONG_MODE", self.random.randint(0, 20))
-        bitmap = self.formats.historical_of(self.state)
-        data = self.formats.write_history(bitmap)
-        self.encode("save", [], f"bytes {data.hex()}")
-        bits, counts = self.random.choice([(0, LAST), (1, LAST), (0, 40)]), self.random.choice([(0, LAST), (1, LAST), (0, 2)])
-        self.load(data + self.random.randbytes(self.random.randint(0, 9)), bits, counts)
-        self.load(data[: self.random.randrange(len(data))], (0, LAST), (0, LAST))
-        self.load(self.with_flipped_bit(data), (0, LAST), (0, LAST))
-        bodies = [bytearray(body) for body in self.formats.history_bodies(bitmap)]
-        body = self.random.choice(bodies)
-        body[self.random.randrange(len(body))] ^= 1 << self.random.randrange(8)
-        self.load(header(self.model.width) + framed(first_place(data), map(bytes, bodies))[0], (0, LAST), (0, LAST))
+            return self.expect("save", "WRONG_MODE", 20)
+        saved = self.formats.write_history(self.historical())
+        self.encode("save", [], f"bytes {saved.hex()}")
+        self.load(self.random.choice([self.changed(saved), self.other_history()]))
+        handle = Handle()
+        self.check_spare()
+        given = (self.model.width, 0, LAST, 0, LAST, saved + self.random.randbytes(self.random.randint(0, 9)))
+        self.expect_of(handle, "load", "DONE", *given, used=len(saved))
+        self.handle, other = self.random.sample([self.handle, handle], 2)
+        self.spare = other, self.state
 
-    def with_flipped_bit(self, data):
-        changed = bytearray(data)
-        changed[self.random.randrange(len(data))] ^= 1 << self.random.randrange(8)
-        return bytes(changed)
-
-    def load(self, data, bits, counts):
-        """Loads bytes into another handle, as the second reader does, and compares what is there."""
-        loaded = Handle()
-        result = read_outcome(self.formats.read_history, data, range(bits[0], bits[1] + 1), range(counts[0], counts[1] + 1))
-        status, given = status_of_read(result), (self.model.width, *bits, *counts, data)
-        if status != "DONE":
-            self.expect_of(loaded, "load", status, *given)
-            return self.expect_of(loaded, "free", "EMPTY_HANDLE")
-        bitmap, rest = result
-        self.expect_of(loaded, "load", "DONE", *given, used=len(data) - len(rest))
-        self.expect_of(loaded, "load", "FULL_HANDLE", *given)
-        self.check_history(loaded, bitmap)
-
-    def check_history(self, handle, bitmap):
-        """A handle has the history of a bitmap. It is freed."""
-        data = self.formats.write_history(bitmap)
-        self.expect_of(handle, "save", "DONE", len(data), out=data, size=len(data))
+    def load(self, data):
+        """Loads bytes with ranges into another handle, and saves what was loaded."""
+        bits, counts, handle = self.range_of_numbers(), self.range_of_numbers(), Handle()
+        given = (self.model.width, bits.start, bits.stop - 1, counts.start, counts.stop - 1, data)
+        try:
+            loaded, rest = self.formats.read_history(data, bits, counts)
+        except ReadError as error:
+            self.expect_of(handle, "load", status_of(error), *given)
+            return self.expect_of(handle, "free", "EMPTY_HANDLE")
+        saved = self.formats.write_history(loaded)
+        self.expect_of(handle, "load", "DONE", *given, used=len(data) - len(rest))
+        self.expect_of(handle, "save", "DONE", len(saved), out=saved, size=len(saved))
         self.expect_of(handle, "free", "DONE")
 
-    def send(self):
-        """Makes a delta between two commits, and applies it: to a bitmap at the older one, again, to the current one, and damaged."""
+    def delta(self):
+        """Writes the delta between two commits."""
         older, newer = self.any_number(), self.any_number()
         if self.state.pending is not None:
-            self.expect("delta", "WRONG_MODE", older, newer, self.random.randint(0, 20))
-            return self.expect("apply_delta", "WRONG_MODE", b"delta")
-        bitmap = self.formats.historical_of(self.state)
-        data = self.formats.delta(bitmap, older, newer)
-        if data is None:
-            return self.expect("delta", "NONE", older, newer, self.random.randint(0, 20))
-        self.encode("delta", [older, newer], f"bytes {data.hex()}")
-        kept = {number: state for number, state in bitmap.kept.items() if number <= older}
-        change = self.formats.change(bitmap.kept[older], bitmap.kept[newer])
-        not_above = self.formats.write_delta(older, bitmap.kept[older], self.random.randint(0, older), change)
-        for damaged in (self.with_flipped_bit(data), data[: self.random.randrange(len(data))], not_above):
-            self.receive(Historical(bitmap.kept[older], kept, older), damaged)
-        self.receive(bitmap, data)
-        self.receive(Historical(bitmap.kept[older], kept, older), data)
+            return self.expect("delta", "WRONG_MODE", older, newer, 20)
+        found = self.formats.delta(self.historical(), older, newer)
+        self.encode("delta", [older, newer], "none" if found is None else f"bytes {found.hex()}")
 
-    def receive(self, bitmap, data):
-        """Applies a delta to a bitmap, as the second reader does, and once more if it fits."""
-        replica = Handle()
-        history = self.formats.write_history(bitmap)
-        self.expect_of(replica, "load", "DONE", self.model.width, 0, LAST, 0, LAST, history, used=len(history))
-        result = read_outcome(self.formats.apply_delta, bitmap, data)
-        self.expect_of(replica, "apply_delta", status_of_read(result), data)
-        if not isinstance(result, str):
-            self.expect_of(replica, "apply_delta", "NOT_AT_BASE", data)
-            bitmap = result
-        self.check_history(replica, bitmap)
+    def any_delta(self):
+        """The delta from the current bitmap to one with other bits, or a part of it. Its digest is often right if its bytes are not."""
+        bitmap, last = self.historical(), self.state.last or 0
+        bits = [self.random.randint(0, 1) for _ in range(self.random.randint(0, 2 * self.model.chunk_bits))]
+        pruned = min(self.state.current.pruned + self.random.randint(0, 1), (LAST - len(bits)) // self.model.chunk_bits)
+        number = self.random.choice([last + 1, last + 2, last + 2, last, LAST]) & LAST
+        change = self.formats.change(bitmap.current, self.formats.state_of(bits, pruned))
+        data = bytearray(self.formats.write_delta(last, bitmap.current, number, change))
+        if self.random.random() < 0.3:
+            data[self.random.randrange(16, len(data) - 8)] ^= 1 << self.random.randrange(8)
+            data[-8:] = be64(digest(bytes(data[:-8])))
+        return self.changed(data)
+
+    def apply_delta(self):
+        """Applies a delta to the bitmap."""
+        data = self.any_delta()
+        if self.state.pending is not None:
+            return self.expect("apply_delta", "WRONG_MODE", data)
+        try:
+            bitmap = self.formats.apply_delta(self.historical(), data)
+        except ReadError as error:
+            return self.expect("apply_delta", status_of(error), data)
+        bits = tuple(int(digit) for digit in self.formats.digits(bitmap.current))
+        new = Bitmap(bitmap.current.pruned, bits)
+        chunks = {*self.retained_chunks(self.state.current), *self.retained_chunks(new)}
+        history = {**self.state.history, bitmap.last: Commit(new, len(chunks) + 1)}
+        self.expect("apply_delta", "DONE", data)
+        self.state = self.state._replace(current=new, history=history, last=bitmap.last)
 
     def clone(self):
         """Clones the bitmap, and goes on with either. The other one is compared with what it was, later."""
@@ -509,7 +524,7 @@ class InterfaceScript(RandomScript):
 
     def use_empty_handle(self):
         """Calls each function that has a handle with an empty one."""
-        samples = {"u8": 1, "u32": 8, "u64": 0, "size": 0, "u8 array in": b"ab", "u64 array in": [0], "u8 array out": 2, "u64 array out": 3}
+        samples = {"u8": 1, "u32": 8, "u64": 0, "size": 0, "u8 array in": b"ab", "u64 array in": [1, 2], "u8 array out": 2, "u64 array out": 3}
         for name, function in self.library.declared.functions.items():
             kinds = [kind for _, kind in function.parameters]
             if kinds and kinds[0] in HANDLES and name not in ("new", "read", "load"):

@@ -543,8 +543,9 @@ mortarpink_status mortarpink_entries(const mortarpink_bitmap *bitmap, uint64_t *
  * Errors: returns MORTARPINK_WRONG_MODE in a batch, MORTARPINK_NO_MEMORY if an allocation fails, and
  *   MORTARPINK_WRONG_SIZE if the length of `out` is not the size of the history. `out` is then unchanged. *size is
  *   written with MORTARPINK_WRONG_SIZE too, and otherwise unchanged.
- * Cost: linear in the history. Each chunk that differs from the commit before is read, which takes a search of each
- *   commit after it. Allocates the history, which is freed before the return. */
+ * Cost: linear in the current bitmap and in the history. Each chunk in the history is read at its commit, which
+ *   takes a search of each commit after it. Allocates the history and the bitmap at the first kept commit, which are
+ *   freed before the return. */
 mortarpink_status mortarpink_save(const mortarpink_bitmap *bitmap, uint8_t *out, size_t len, size_t *size);
 
 /* Makes a bitmap from the history that `bytes` begin with, in an empty handle: with chunks of `width` bytes. Its

@@ -216,6 +216,55 @@ static mortarpink_status read_copy(struct subject *subject) {
                            &subject->number);
 }
 
+/* Saves the bitmap with its commits: a first call finds the size. */
+static mortarpink_status save(struct subject *subject) {
+    size_t size = 0;
+    mortarpink_status status = mortarpink_save(&subject->bitmap, subject->bytes, 0, &size);
+    if (status != MORTARPINK_WRONG_SIZE) return status;
+    return mortarpink_save(&subject->bitmap, subject->bytes, size, &subject->size);
+}
+
+/* Loads the bytes that were saved. */
+static mortarpink_status load_copy(struct subject *subject) {
+    return mortarpink_load(&subject->copy, width, 0, UINT64_MAX, 0, UINT64_MAX, subject->bytes, BYTES, &subject->size);
+}
+
+/* Writes the delta from commit 1 to 2. */
+static mortarpink_status delta(struct subject *subject) {
+    size_t size = 0;
+    mortarpink_status status = mortarpink_delta(&subject->bitmap, 1, 2, subject->bytes, 0, &size);
+    if (status != MORTARPINK_WRONG_SIZE) return status;
+    return mortarpink_delta(&subject->bitmap, 1, 2, subject->bytes, size, &subject->size);
+}
+
+static mortarpink_status rewind_copy_to_1(struct subject *subject) {
+    return mortarpink_rewind(&subject->copy, 1);
+}
+
+static mortarpink_status apply_delta(struct subject *subject) {
+    return mortarpink_apply_delta(&subject->copy, subject->bytes, subject->size);
+}
+
+static mortarpink_status push_bits(struct subject *subject) {
+    return mortarpink_push_bits(&subject->bitmap, sample, sizeof sample);
+}
+
+static mortarpink_status extend(struct subject *subject) {
+    return mortarpink_extend_to(&subject->bitmap, 40 * width);
+}
+
+static mortarpink_status set_chunk(struct subject *subject) {
+    return mortarpink_set_chunk(&subject->bitmap, 1, sample, width);
+}
+
+static mortarpink_status set_range(struct subject *subject) {
+    return mortarpink_set_range(&subject->bitmap, 3, 17 * width, 0);
+}
+
+static mortarpink_status truncate_to_first(struct subject *subject) {
+    return mortarpink_truncate(&subject->bitmap, 9 * width);
+}
+
 typedef mortarpink_status step(struct subject *subject);
 
 static step *const steps[] = {
@@ -223,10 +272,12 @@ static step *const steps[] = {
     begin,     set_first,  push,     clone,     set_second, prune,      push_byte,  commit_2,
     free_copy, clone,      encode,   begin,     set_third,  commit_3,   encode_1,   free_copy,
     read_copy, rewind_to_1, free_copy, clone,     free_copy,  checkout_1, add_index,  begin,
-    set_first, commit_2,   free_copy, clone,
+    set_first, commit_2,   free_copy, clone,     save,       free_copy,  load_copy, rewind_copy_to_1,
+    delta,     apply_delta, begin,    set_chunk, set_range,  push_bits,  extend,    truncate_to_first,
+    commit_3,
 };
 
-enum { STEPS = sizeof steps / sizeof *steps, STEPS_TO_COMMIT_3 = 22 };
+enum { STEPS = sizeof steps / sizeof *steps, STEPS_TO_BATCH = 9, STEPS_TO_COMMIT_3 = 22, POSITIONS = 6 };
 
 /* Makes a subject, and runs the first steps of the scenario with it. */
 static void prepare(struct subject *subject, size_t count) {
@@ -330,6 +381,51 @@ static void run_bytes(void) {
 }
 
 
+/* ---- Many positions ---- */
+
+/* The positions of a bit in each of the first three chunks, and again. */
+static void put_positions(uint64_t *positions) {
+    for (uint64_t k = 0; k < POSITIONS; k++) positions[k] = 8 * width * (k % 3) + k;
+}
+
+/* Sets the bits at all positions with these failures, and then those that were not set. Returns whether an allocation
+ * failed. */
+static int run_set_many(unsigned long at, unsigned long from) {
+    const unsigned long least = at != 0 ? at : from, failures_before = failures;
+    uint64_t positions[POSITIONS];
+    struct subject subject, control;
+    struct description now, wanted;
+    mortarpink_status status;
+    size_t count = 0, rest = 0;
+    int has_failed;
+    put_positions(positions);
+    prepare(&subject, STEPS_TO_BATCH);
+    prepare(&control, STEPS_TO_BATCH);
+    set_failures(at, from);
+    status = mortarpink_set_many(&subject.bitmap, positions, POSITIONS, 1, &count);
+    has_failed = allocations >= least;
+    set_failures(0, 0);
+    check_status(status, has_failed ? MORTARPINK_NO_MEMORY : MORTARPINK_DONE);
+    check((count == POSITIONS) == (status == MORTARPINK_DONE));
+    for (size_t k = 0; k < count; k++) check_done(mortarpink_set(&control.bitmap, positions[k], 1));
+    now = description_of(&subject);
+    wanted = description_of(&control);
+    check(are_equal(&now, &wanted));
+    check_done(mortarpink_set_many(&subject.bitmap, positions + count, POSITIONS - count, 1, &rest));
+    check_equal(rest, POSITIONS - count);
+    release(&subject);
+    release(&control);
+    count_run(failures_before);
+    return has_failed;
+}
+
+static void run_positions(void) {
+    unsigned long k = 0;
+    while (run_set_many(k + 1, 0)) k++;
+    while (k > 0 && run_set_many(0, k)) k--;
+}
+
+
 /* ---- Calls that do not allocate ---- */
 
 static void read_in_place(mortarpink_bitmap *bitmap) {
@@ -353,6 +449,11 @@ static void read_in_place(mortarpink_bitmap *bitmap) {
     check_done(mortarpink_drop_before(bitmap, 2, &number));
     check_done(mortarpink_begin(bitmap));
     check_done(mortarpink_pop(bitmap, &bit));
+    check_done(mortarpink_push_bits(bitmap, chunk, 0));
+    check_done(mortarpink_set_many(bitmap, numbers, 0, 1, &count));
+    check_done(mortarpink_set_range(bitmap, 1, 1, 1));
+    check_done(mortarpink_extend_to(bitmap, 16 * width));
+    check_done(mortarpink_truncate(bitmap, 16 * width));
     check_done(mortarpink_abort(bitmap));
     check_done(mortarpink_clear(bitmap));
     check_done(mortarpink_start(bitmap, 5));
@@ -385,6 +486,7 @@ static void run_width(uint32_t bytes) {
     run_first_failure();
     run_scenario();
     run_bytes();
+    run_positions();
     run_in_place();
 }
 

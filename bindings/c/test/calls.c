@@ -45,6 +45,22 @@ static int outputs_are_filled(void) {
 #define check_bit(call, value) check_value(call, out.bit, value)
 #define check_none(call) check_unwritten(call, MORTARPINK_NONE)
 
+/* Whether `out` has a page of these numbers, and nothing after it. */
+static int has_page(const uint64_t *numbers, size_t count) {
+    struct outputs untouched;
+    memset(&untouched, 0xA5, sizeof untouched);
+    return out.size == count && memcmp(out.numbers, numbers, count * sizeof *numbers) == 0
+        && memcmp(out.numbers + count, untouched.numbers + count, (8 - count) * sizeof *numbers) == 0;
+}
+
+/* Checks that a call writes a page of these numbers, and nothing after it. */
+#define check_page(call, numbers, count)      \
+    do {                                      \
+        fill_outputs();                       \
+        check_done(call);                     \
+        check(has_page((numbers), (count)));  \
+    } while (0)
+
 /* The bitmap that a test reads: the visible one, or the one at a commit. */
 struct view {
     mortarpink_bitmap *bitmap;
@@ -97,6 +113,12 @@ static void commit(mortarpink_bitmap *bitmap, uint64_t number) {
     check_unwritten(mortarpink_commit(bitmap, number, &out.number), MORTARPINK_DONE);
 }
 
+/* Loads a history with any numbers of bits and commits. */
+static mortarpink_status load_any(mortarpink_bitmap *bitmap, uint32_t width, const uint8_t *bytes, size_t len,
+                                  size_t *used) {
+    return mortarpink_load(bitmap, width, 0, UINT64_MAX, 0, UINT64_MAX, bytes, len, used);
+}
+
 /* Whether an encoding, which begins with two numbers of eight bytes, has these two and these chunks. */
 static int is_encoding(const uint8_t *bytes, uint64_t pruned, uint64_t bits, const uint8_t *chunks, size_t size) {
     uint64_t head[2] = {0, 0};
@@ -113,11 +135,12 @@ static void test_texts(void) {
     check(strcmp(mortarpink_status_text(MORTARPINK_DONE), "done") == 0);
     check(strcmp(mortarpink_status_text(MORTARPINK_NO_MEMORY), "out of memory") == 0);
     check(strcmp(mortarpink_status_text(MORTARPINK_WRONG_SIZE), "the buffer has the wrong size") == 0);
-    check(strcmp(mortarpink_status_text(19), "the number is not a status") == 0);
+    check(strcmp(mortarpink_status_text(MORTARPINK_NOT_AT_BASE), "the delta does not start at the current bitmap") == 0);
+    check(strcmp(mortarpink_status_text(25), "the number is not a status") == 0);
     check(strcmp(mortarpink_status_text(UINT32_MAX), "the number is not a status") == 0);
-    for (uint32_t pair = 0; pair < 20 * 20; pair++) {
-        const char *one = mortarpink_status_text(pair / 20), *other = mortarpink_status_text(pair % 20);
-        check((strcmp(one, other) == 0) == (pair / 20 == pair % 20));
+    for (uint32_t pair = 0; pair < 26 * 26; pair++) {
+        const char *one = mortarpink_status_text(pair / 26), *other = mortarpink_status_text(pair % 26);
+        check((strcmp(one, other) == 0) == (pair / 26 == pair % 26));
     }
 }
 
@@ -131,6 +154,14 @@ static void check_edits(mortarpink_bitmap *bitmap, uint32_t width, mortarpink_st
     check_unwritten(mortarpink_push_chunk(bitmap, chunk, width), status);
     check_unwritten(mortarpink_pop(bitmap, &out.bit), status);
     check_unwritten(mortarpink_set(bitmap, 0, 1), status);
+    check_unwritten(mortarpink_push_bits(bitmap, chunk, 2), status);
+    check_unwritten(mortarpink_push_bits(bitmap, chunk, 0), status);
+    check_unwritten(mortarpink_set_chunk(bitmap, 0, chunk, width), status);
+    check_unwritten(mortarpink_set_range(bitmap, 0, 1, 1), status);
+    check_unwritten(mortarpink_set_range(bitmap, 1, 0, 1), status);
+    check_unwritten(mortarpink_truncate(bitmap, 0), status);
+    check_unwritten(mortarpink_extend_to(bitmap, 9), status);
+    check_unwritten(mortarpink_extend_to(bitmap, 0), status);
     check_unwritten(mortarpink_prune(bitmap, 0), status);
     check_unwritten(mortarpink_commit(bitmap, 9, &out.number), status);
     check_unwritten(mortarpink_abort(bitmap), status);
@@ -180,6 +211,9 @@ static void check_commit_calls(mortarpink_bitmap *bitmap, mortarpink_status stat
     check_unwritten(mortarpink_index(bitmap, 1), status);
     check_unwritten(mortarpink_index(bitmap, 0), status);
     check_unwritten(mortarpink_entries(bitmap, &out.number), status);
+    check_unwritten(mortarpink_save(bitmap, out.bytes, sizeof out.bytes, &out.size), status);
+    check_unwritten(mortarpink_delta(bitmap, 1, 1, out.bytes, sizeof out.bytes, &out.size), status);
+    check_unwritten(mortarpink_apply_delta(bitmap, (const uint8_t *)"MPBDELTA", 8), status);
 }
 
 static void test_empty_handle(void) {
@@ -190,6 +224,8 @@ static void test_empty_handle(void) {
     check_past_reads(&none, 1, status);
     check_commit_calls(&none, status);
     check_unwritten(mortarpink_push_bytes(&none, (const uint8_t *)"a", 1, &out.size), status);
+    check_unwritten(mortarpink_set_many(&none, (const uint64_t[]){0}, 1, 1, &out.size), status);
+    check_unwritten(mortarpink_set_many(&none, (const uint64_t[]){0}, 0, 1, &out.size), status);
     check_unwritten(mortarpink_len(&none, &out.number), status);
     check_unwritten(mortarpink_pruned_chunks(&none, &out.number), status);
     check_unwritten(mortarpink_get(&none, 0, &out.bit), status);
@@ -208,6 +244,10 @@ static void test_modes(uint32_t width) {
     fill_outputs();
     check_status(mortarpink_push_bytes(&bitmap, (const uint8_t *)"ab", 2, &out.size), MORTARPINK_WRONG_MODE);
     check_equal(out.size, 0);
+    fill_outputs();
+    check_status(mortarpink_set_many(&bitmap, (const uint64_t[]){1, 2}, 2, 1, &out.size), MORTARPINK_WRONG_MODE);
+    check_equal(out.size, 0);
+    check_value(mortarpink_set_many(&bitmap, (const uint64_t[]){1}, 0, 1, &out.size), out.size, 0);
     check(has_bits(visible(&bitmap), "101"));
 
     check_done(mortarpink_begin(&bitmap));
@@ -246,6 +286,7 @@ static void test_widths(void) {
         check_unwritten(mortarpink_new(&bitmap, others[k]), MORTARPINK_NO_SUCH_WIDTH);
         check_unwritten(mortarpink_read(&bitmap, others[k], 0, UINT64_MAX, bytes, 16, &out.size, &out.number),
                         MORTARPINK_NO_SUCH_WIDTH);
+        check_unwritten(load_any(&bitmap, others[k], bytes, 16, &out.size), MORTARPINK_NO_SUCH_WIDTH);
         check_unwritten(mortarpink_free(&bitmap), MORTARPINK_EMPTY_HANDLE);
     }
 }
@@ -257,6 +298,8 @@ static void test_full_handle(uint32_t width) {
     make(&other, width, "1");
     check_unwritten(mortarpink_new(&bitmap, width), MORTARPINK_FULL_HANDLE);
     check_unwritten(mortarpink_read(&bitmap, width, 0, 9, bytes, 16, &out.size, &out.number), MORTARPINK_FULL_HANDLE);
+    check_unwritten(load_any(&bitmap, width, bytes, 16, &out.size), MORTARPINK_FULL_HANDLE);
+    check_unwritten(load_any(&bitmap, 2, bytes, 16, &out.size), MORTARPINK_FULL_HANDLE);
     check_unwritten(mortarpink_clone(&other, &bitmap), MORTARPINK_FULL_HANDLE);
     check_unwritten(mortarpink_checkout(&other, 1, &bitmap), MORTARPINK_FULL_HANDLE);
     check(has_bits(visible(&bitmap), "01"));
@@ -461,6 +504,124 @@ static void test_prune(void) {
 }
 
 
+/* Each byte but 0 is a bit that is set. */
+static void test_push_bits(uint32_t width) {
+    const uint8_t bits[] = {0, 1, 2, 0, 255}, zeros[100] = {0};
+    mortarpink_bitmap bitmap = MORTARPINK_EMPTY;
+    make(&bitmap, width, "1");
+    check_done(mortarpink_push_bits(&bitmap, bits, 5));
+    check(has_bits(visible(&bitmap), "101101"));
+    check_done(mortarpink_push_bits(&bitmap, bits, 0));
+    check(has_bits(visible(&bitmap), "101101"));
+    check_done(mortarpink_push_bits(&bitmap, zeros, 100));
+    check_number(mortarpink_len(&bitmap, &out.number), 106);
+    commit(&bitmap, 1);
+    check_number(mortarpink_count_ones(&bitmap, 0, UINT64_MAX, &out.number), 4);
+    check_number(mortarpink_prev_one(&bitmap, UINT64_MAX, &out.number), 5);
+    check_done(mortarpink_free(&bitmap));
+}
+
+/* The length is cut and raised. Pruned bits count, and are not cut off. */
+static void test_lengths(uint32_t width) {
+    const uint64_t B = 8 * (uint64_t)width;
+    mortarpink_bitmap bitmap = MORTARPINK_EMPTY;
+    make(&bitmap, width, "1101");
+    check_done(mortarpink_truncate(&bitmap, 3));
+    check_done(mortarpink_truncate(&bitmap, 3));
+    check_unwritten(mortarpink_truncate(&bitmap, 4), MORTARPINK_OUT_OF_BOUNDS);
+    check(has_bits(visible(&bitmap), "110"));
+    check_done(mortarpink_extend_to(&bitmap, 2));
+    check_done(mortarpink_extend_to(&bitmap, 3));
+    check_done(mortarpink_extend_to(&bitmap, 5));
+    check(has_bits(visible(&bitmap), "11000"));
+    check_done(mortarpink_extend_to(&bitmap, 2 * B + 1));
+    check_number(mortarpink_len(&bitmap, &out.number), 2 * B + 1);
+    check_bit(mortarpink_get(&bitmap, 2 * B, &out.bit), 0);
+    check_done(mortarpink_prune(&bitmap, B));
+    check_unwritten(mortarpink_truncate(&bitmap, B - 1), MORTARPINK_PRUNED);
+    check_unwritten(mortarpink_truncate(&bitmap, 2 * B + 2), MORTARPINK_OUT_OF_BOUNDS);
+    check_done(mortarpink_truncate(&bitmap, B));
+    check_unwritten(mortarpink_pop(&bitmap, &out.bit), MORTARPINK_NO_RETAINED_BIT);
+    check_done(mortarpink_extend_to(&bitmap, 0));
+    commit(&bitmap, 1);
+    check_number(mortarpink_len(&bitmap, &out.number), B);
+    check_number(mortarpink_pruned_chunks(&bitmap, &out.number), 1);
+    check_done(mortarpink_free(&bitmap));
+}
+
+/* Ranges are set within the retained bits. */
+static void test_set_range(uint32_t width) {
+    const uint64_t B = 8 * (uint64_t)width;
+    mortarpink_bitmap bitmap = MORTARPINK_EMPTY;
+    make(&bitmap, width, "0000001");
+    check_done(mortarpink_set_range(&bitmap, 1, 4, 2));
+    check_done(mortarpink_set_range(&bitmap, 6, 7, 0));
+    check(has_bits(visible(&bitmap), "0111000"));
+    check_done(mortarpink_set_range(&bitmap, 2, 2, 0));
+    check_done(mortarpink_set_range(&bitmap, UINT64_MAX, 3, 0));
+    check_done(mortarpink_set_range(&bitmap, UINT64_MAX, UINT64_MAX, 1));
+    check_unwritten(mortarpink_set_range(&bitmap, 6, 8, 1), MORTARPINK_OUT_OF_BOUNDS);
+    check(has_bits(visible(&bitmap), "0111000"));
+    check_done(mortarpink_extend_to(&bitmap, 3 * B));
+    check_done(mortarpink_prune(&bitmap, B));
+    check_unwritten(mortarpink_set_range(&bitmap, B - 1, B + 1, 1), MORTARPINK_PRUNED);
+    check_unwritten(mortarpink_set_range(&bitmap, B - 1, 3 * B + 1, 1), MORTARPINK_OUT_OF_BOUNDS);
+    check_done(mortarpink_set_range(&bitmap, B - 1, B - 1, 1));
+    check_done(mortarpink_set_range(&bitmap, B, 3 * B, 1));
+    check_done(mortarpink_set_range(&bitmap, 2 * B - 1, 2 * B + 1, 0));
+    commit(&bitmap, 1);
+    check_number(mortarpink_count_ones(&bitmap, 0, UINT64_MAX, &out.number), 2 * B - 2);
+    check_number(mortarpink_next_zero(&bitmap, 0, &out.number), 2 * B - 1);
+    check_done(mortarpink_free(&bitmap));
+}
+
+/* The bits of a chunk are replaced, up to the length. */
+static void test_set_chunk(uint32_t width) {
+    const uint64_t B = 8 * (uint64_t)width;
+    mortarpink_bitmap bitmap = MORTARPINK_EMPTY;
+    uint8_t chunk[65];
+    memset(chunk, 0x5A, sizeof chunk);
+    make(&bitmap, width, "");
+    check_unwritten(mortarpink_set_chunk(&bitmap, 0, chunk, width), MORTARPINK_OUT_OF_BOUNDS);
+    check_done(mortarpink_extend_to(&bitmap, 2 * B + 4));
+    check_unwritten(mortarpink_set_chunk(&bitmap, 1, chunk, width - 1), MORTARPINK_WRONG_SIZE);
+    check_unwritten(mortarpink_set_chunk(&bitmap, 1, chunk, width + 1), MORTARPINK_WRONG_SIZE);
+    check_done(mortarpink_set_chunk(&bitmap, 1, chunk, width));
+    check_done(mortarpink_set_chunk(&bitmap, 2, chunk, width));
+    check_unwritten(mortarpink_set_chunk(&bitmap, 3, chunk, width), MORTARPINK_OUT_OF_BOUNDS);
+    check_unwritten(mortarpink_set_chunk(&bitmap, SIZE_MAX, chunk, width), MORTARPINK_OUT_OF_BOUNDS);
+    check_value(mortarpink_chunk(&bitmap, 0, out.bytes, width), out.bytes[0], 0);
+    check_value(mortarpink_chunk(&bitmap, B, out.bytes, width), memcmp(out.bytes, chunk, width), 0);
+    check_value(mortarpink_chunk(&bitmap, 2 * B, out.bytes, width), out.bytes[0], 0x0A);
+    check_done(mortarpink_prune(&bitmap, B));
+    check_unwritten(mortarpink_set_chunk(&bitmap, 0, chunk, width), MORTARPINK_PRUNED);
+    commit(&bitmap, 1);
+    check_number(mortarpink_count_ones(&bitmap, 0, UINT64_MAX, &out.number), 4 * (uint64_t)width + 2);
+    check_done(mortarpink_free(&bitmap));
+}
+
+/* Positions are set in order, up to the first that is refused. */
+static void test_set_many(uint32_t width) {
+    const uint64_t B = 8 * (uint64_t)width, positions[] = {B, 2 * B + 1, B + 3, 2 * B + 1, B - 1, B + 2, 2 * B + 2};
+    mortarpink_bitmap bitmap = MORTARPINK_EMPTY;
+    make(&bitmap, width, "");
+    check_done(mortarpink_extend_to(&bitmap, 2 * B + 2));
+    check_done(mortarpink_prune(&bitmap, B));
+    fill_outputs();
+    check_status(mortarpink_set_many(&bitmap, positions, 7, 255, &out.size), MORTARPINK_PRUNED);
+    check_equal(out.size, 4);
+    fill_outputs();
+    check_status(mortarpink_set_many(&bitmap, positions + 5, 2, 1, &out.size), MORTARPINK_OUT_OF_BOUNDS);
+    check_equal(out.size, 1);
+    check_value(mortarpink_set_many(&bitmap, positions, 0, 1, &out.size), out.size, 0);
+    check_value(mortarpink_set_many(&bitmap, positions + 2, 1, 0, &out.size), out.size, 1);
+    commit(&bitmap, 1);
+    check_page(mortarpink_ones(&bitmap, 0, UINT64_MAX, out.numbers, 8, &out.size),
+               ((const uint64_t[]){B, B + 2, 2 * B + 1}), 3);
+    check_done(mortarpink_free(&bitmap));
+}
+
+
 /* ---- Reads of one bitmap ---- */
 
 /* Commits, under 1, a bitmap of length 3B + 4 whose first chunk is pruned. B+1, 2B-1, 2B and 3B+2 are set. */
@@ -555,22 +716,6 @@ static void check_sample_counts(struct view view, uint64_t B) {
     check_none(read_of(view, select_one, 4, &out.number));
     check_none(read_of(view, select_one, UINT64_MAX, &out.number));
 }
-
-/* Whether `out` has a page of these numbers, and nothing after it. */
-static int has_page(const uint64_t *numbers, size_t count) {
-    struct outputs untouched;
-    memset(&untouched, 0xA5, sizeof untouched);
-    return out.size == count && memcmp(out.numbers, numbers, count * sizeof *numbers) == 0
-        && memcmp(out.numbers + count, untouched.numbers + count, (8 - count) * sizeof *numbers) == 0;
-}
-
-/* Checks that a call writes a page of these numbers, and nothing after it. */
-#define check_page(call, numbers, count)      \
-    do {                                      \
-        fill_outputs();                       \
-        check_done(call);                     \
-        check(has_page((numbers), (count)));  \
-    } while (0)
 
 static void check_sample_pages(struct view view, uint64_t B) {
     const uint64_t all[] = {B + 1, 2 * B - 1, 2 * B, 3 * B + 2};
@@ -897,6 +1042,299 @@ static void test_dropping(void) {
 }
 
 
+/* ---- Histories and deltas ---- */
+
+/* A history of width 1. Commit 2 has the bits 1011000001, and 9 two set bits more, with chunk 0 pruned. */
+static const char history_text[] =
+    "4d504249544c4f47" "0000000000000001" "0000000000000001" "0b5345d577e3df7b" /* magic, version, width, check */
+    "0000000000000024" "992088adb9e46f98"                                       /* 36 bytes of a base, head check */
+    "04" "02" "0000000000000002" "0000000000000001"                             /* a base: 2 is kept, and 1 more */
+    "0000000000000000" "000000000000000a" "0d" "02"                             /* pruned 0, 10 bits, two chunks */
+    "f0ba2420f99960b8"                                                          /* digest */
+    "0000000000000022" "c5d16092427c97d9"                                       /* 34 bytes of a commit, head check */
+    "01" "0000000000000009" "000000000000000c" "0000000000000001"               /* number 9, length 12, pruned 1 */
+    "0000000000000001" "0e"                                                     /* chunk 1 */
+    "81fb552b1a913976";                                                         /* digest */
+
+/* The delta from 2 to 9. It replaces the byte 02. */
+static const char delta_text[] =
+    "4d504244454c5441" "0000000000000001" "0000000000000001" /* magic, version, width */
+    "0000000000000002" "000000000000000a" "0000000000000000" /* from: number 2, length 10, pruned 0 */
+    "6432cecb7f52450b"                                       /* digest of the replaced byte */
+    "0000000000000009" "000000000000000c" "0000000000000001" /* to: number 9, length 12, pruned 1 */
+    "0000000000000001" "0e"                                  /* chunk 1 */
+    "a6237c783aedba3c";                                      /* digest */
+
+enum { HISTORY = 150, DELTA = 97, TEXT_BYTES = 160 };
+
+static uint8_t digit(char sign) {
+    return (uint8_t)(sign <= '9' ? sign - '0' : sign - 'a' + 10);
+}
+
+/* Writes the bytes that a text has in hexadecimal. */
+static void put_hex(uint8_t *bytes, const char *text) {
+    for (; text[0] != 0; text += 2) *bytes++ = (uint8_t)(digit(text[0]) << 4 | digit(text[1]));
+}
+
+/* Makes the bitmap of the worked history up to commit 2. */
+static void make_first(mortarpink_bitmap *bitmap, uint32_t width) {
+    make(bitmap, width, "1011000001");
+    commit(bitmap, 2);
+}
+
+/* Makes the whole bitmap of the worked history. */
+static void make_both(mortarpink_bitmap *bitmap) {
+    make_first(bitmap, 1);
+    check_done(mortarpink_begin(bitmap));
+    push_text(bitmap, "11");
+    check_done(mortarpink_prune(bitmap, 8));
+    commit(bitmap, 9);
+}
+
+/* Whether a bitmap is that of the worked history, or keeps only commit 9 of it. */
+static int is_worked(mortarpink_bitmap *bitmap, int keeps_first) {
+    const uint64_t numbers[] = {2, 9};
+    fill_outputs();
+    if (mortarpink_commits(bitmap, 0, out.numbers, 8, &out.size) != MORTARPINK_DONE) return 0;
+    if (!has_page(numbers + !keeps_first, 1 + (size_t)keeps_first)) return 0;
+    if (keeps_first && !has_bits(at_commit(bitmap, 2), "1011000001")) return 0;
+    return has_bits(at_commit(bitmap, 9), "........0111") && has_bits(visible(bitmap), "........0111");
+}
+
+static void test_save(void) {
+    uint8_t bytes[TEXT_BYTES];
+    mortarpink_bitmap bitmap = MORTARPINK_EMPTY;
+    put_hex(bytes, history_text);
+    make_both(&bitmap);
+    fill_outputs();
+    check_status(mortarpink_save(&bitmap, out.bytes, 0, &out.size), MORTARPINK_WRONG_SIZE);
+    check_equal(out.size, HISTORY);
+    check_equal(out.bytes[0], 0xA5);
+    fill_outputs();
+    check_status(mortarpink_save(&bitmap, out.bytes, HISTORY + 1, &out.size), MORTARPINK_WRONG_SIZE);
+    check_equal(out.size, HISTORY);
+    check_equal(out.bytes[0], 0xA5);
+    check_value(mortarpink_save(&bitmap, out.bytes, HISTORY, &out.size), out.size, HISTORY);
+    check(memcmp(out.bytes, bytes, HISTORY) == 0);
+    check_equal(out.bytes[HISTORY], 0xA5);
+    check_done(mortarpink_index(&bitmap, 1));
+    check_value(mortarpink_save(&bitmap, out.bytes, HISTORY, &out.size), memcmp(out.bytes, bytes, HISTORY), 0);
+    check(is_worked(&bitmap, 1));
+    check_done(mortarpink_free(&bitmap));
+}
+
+/* Without commits a history has the current bitmap, and the last number if there is one. */
+static void test_save_without_commits(uint32_t width) {
+    const size_t size = 32 + 16 + 18 + 16 + (size_t)width + 8;
+    mortarpink_bitmap bitmap = MORTARPINK_EMPTY, copy = MORTARPINK_EMPTY;
+    size_t used = 0;
+    make_first(&bitmap, width);
+    check_done(mortarpink_clear(&bitmap));
+    check_done(mortarpink_begin(&bitmap));
+    check_done(mortarpink_truncate(&bitmap, 4));
+    commit(&bitmap, 5);
+    check_done(mortarpink_clear(&bitmap));
+    check_value(mortarpink_save(&bitmap, out.bytes, size, &out.size), out.size, size);
+    check_equal(out.bytes[49], 1);
+    check_done(load_any(&copy, width, out.bytes, size, &used));
+    check_equal(used, size);
+    check(has_bits(visible(&copy), "1011"));
+    check_none(mortarpink_latest(&copy, &out.number));
+    check_done(mortarpink_begin(&copy));
+    check_not_above(&copy, 5, 5);
+    commit(&copy, 6);
+    check_done(mortarpink_free(&bitmap));
+    check_done(mortarpink_free(&copy));
+}
+
+static void test_load(void) {
+    uint8_t bytes[TEXT_BYTES] = {0};
+    mortarpink_bitmap bitmap = MORTARPINK_EMPTY;
+    put_hex(bytes, history_text);
+    fill_outputs();
+    check_done(mortarpink_load(&bitmap, 1, 4, 10, 1, 1, bytes, TEXT_BYTES, &out.size));
+    check_equal(out.size, HISTORY);
+    check(is_worked(&bitmap, 1));
+    check_done(mortarpink_rewind(&bitmap, 2));
+    check(has_bits(visible(&bitmap), "1011000001"));
+    check_done(mortarpink_free(&bitmap));
+    for (size_t len = 0; len < HISTORY; len++) {
+        check_unwritten(load_any(&bitmap, 1, bytes, len, &out.size), MORTARPINK_CUT_OFF);
+    }
+    for (uint32_t width = 8; width <= 64; width++) {
+        const int is_width = width == 8 || width == 32 || width == 64;
+        check_unwritten(load_any(&bitmap, width, bytes, HISTORY, &out.size),
+                        is_width ? MORTARPINK_WRONG_HEADER : MORTARPINK_NO_SUCH_WIDTH);
+    }
+    check_unwritten(mortarpink_free(&bitmap), MORTARPINK_EMPTY_HANDLE);
+}
+
+/* Loads the worked history in an empty handle, with these ranges. */
+static mortarpink_status load_within(uint64_t least_bits, uint64_t most_bits, uint64_t least, uint64_t most) {
+    uint8_t bytes[TEXT_BYTES];
+    mortarpink_bitmap bitmap = MORTARPINK_EMPTY;
+    mortarpink_status status;
+    put_hex(bytes, history_text);
+    status = mortarpink_load(&bitmap, 1, least_bits, most_bits, least, most, bytes, HISTORY, &out.size);
+    check_equal(mortarpink_free(&bitmap) == MORTARPINK_DONE, status == MORTARPINK_DONE);
+    return status;
+}
+
+/* Commit 2 retains ten bits, and 9 four. One commit follows the first. */
+static void test_load_ranges(void) {
+    check_done(load_within(4, 10, 0, UINT64_MAX));
+    check_done(load_within(0, UINT64_MAX, 1, 1));
+    check_unwritten(load_within(5, UINT64_MAX, 0, UINT64_MAX), MORTARPINK_OUT_OF_RANGE);
+    check_unwritten(load_within(0, 9, 0, UINT64_MAX), MORTARPINK_OUT_OF_RANGE);
+    check_unwritten(load_within(11, 4, 0, UINT64_MAX), MORTARPINK_OUT_OF_RANGE);
+    check_unwritten(load_within(0, UINT64_MAX, 2, UINT64_MAX), MORTARPINK_OUT_OF_RANGE);
+    check_unwritten(load_within(0, UINT64_MAX, 0, 0), MORTARPINK_OUT_OF_RANGE);
+    check_unwritten(load_within(0, UINT64_MAX, 1, 0), MORTARPINK_OUT_OF_RANGE);
+}
+
+/* Loads the worked history with these bytes in place of those from an index on, in hexadecimal. */
+static mortarpink_status load_with(size_t index, const char *text) {
+    uint8_t bytes[TEXT_BYTES];
+    mortarpink_bitmap bitmap = MORTARPINK_EMPTY;
+    mortarpink_status status;
+    put_hex(bytes, history_text);
+    put_hex(bytes + index, text);
+    status = load_any(&bitmap, 1, bytes, HISTORY, &out.size);
+    check_equal(mortarpink_free(&bitmap) == MORTARPINK_DONE, status == MORTARPINK_DONE);
+    return status;
+}
+
+/* Each bit that is flipped is found. With digests that are made anew, the bytes are whole, but not accepted. */
+static void test_damaged_history(void) {
+    uint8_t bytes[TEXT_BYTES];
+    mortarpink_bitmap bitmap = MORTARPINK_EMPTY;
+    for (size_t bit = 0; bit < 8 * HISTORY; bit++) {
+        put_hex(bytes, history_text);
+        bytes[bit / 8] ^= (uint8_t)(1 << bit % 8);
+        check_unwritten(load_any(&bitmap, 1, bytes, HISTORY, &out.size),
+                        bit < 8 * 32 ? MORTARPINK_WRONG_HEADER : MORTARPINK_DAMAGED);
+    }
+    check_done(load_with(0, ""));
+    check_unwritten(load_with(48, "05"), MORTARPINK_DAMAGED);
+    check_unwritten(load_with(48, "05" "020000000000000002" "0000000000000001" "0000000000000000" "000000000000000a"
+                                  "0d02" "1fc7a35b01096ee5"), MORTARPINK_NOT_ACCEPTED);
+    check_unwritten(load_with(108, "01" "0000000000000002" "000000000000000c" "0000000000000001" "0000000000000001"
+                                   "0e" "692a9ebd545fcb5f"), MORTARPINK_NOT_ACCEPTED);
+}
+
+static void test_delta(void) {
+    uint8_t bytes[TEXT_BYTES];
+    mortarpink_bitmap bitmap = MORTARPINK_EMPTY;
+    put_hex(bytes, delta_text);
+    make_both(&bitmap);
+    check_value(mortarpink_delta(&bitmap, 2, 9, out.bytes, DELTA, &out.size), out.size, DELTA);
+    check(memcmp(out.bytes, bytes, DELTA) == 0);
+    check_equal(out.bytes[DELTA], 0xA5);
+    fill_outputs();
+    check_status(mortarpink_delta(&bitmap, 2, 9, out.bytes, 0, &out.size), MORTARPINK_WRONG_SIZE);
+    check_equal(out.size, DELTA);
+    check_equal(out.bytes[0], 0xA5);
+    check_none(mortarpink_delta(&bitmap, 9, 2, out.bytes, DELTA, &out.size));
+    check_none(mortarpink_delta(&bitmap, 2, 2, out.bytes, DELTA, &out.size));
+    check_none(mortarpink_delta(&bitmap, 2, 8, out.bytes, DELTA, &out.size));
+    check_none(mortarpink_delta(&bitmap, 1, 9, out.bytes, DELTA, &out.size));
+    check_done(mortarpink_free(&bitmap));
+}
+
+/* The delta is applied once, whether or not the older bitmap is kept. */
+static void test_apply_delta(void) {
+    uint8_t bytes[TEXT_BYTES];
+    mortarpink_bitmap bitmap = MORTARPINK_EMPTY;
+    put_hex(bytes, delta_text);
+    make_first(&bitmap, 1);
+    for (size_t len = 0; len < DELTA; len++) {
+        check_unwritten(mortarpink_apply_delta(&bitmap, bytes, len), len < 88 ? MORTARPINK_CUT_OFF : MORTARPINK_DAMAGED);
+    }
+    check_unwritten(mortarpink_apply_delta(&bitmap, bytes, DELTA), MORTARPINK_DONE);
+    check(is_worked(&bitmap, 1));
+    check_unwritten(mortarpink_apply_delta(&bitmap, bytes, DELTA), MORTARPINK_NOT_AT_BASE);
+    check(is_worked(&bitmap, 1));
+    check_done(mortarpink_rewind(&bitmap, 2));
+    check_done(mortarpink_clear(&bitmap));
+    check_done(mortarpink_index(&bitmap, 1));
+    check_unwritten(mortarpink_apply_delta(&bitmap, bytes, DELTA), MORTARPINK_DONE);
+    check(is_worked(&bitmap, 0));
+    check_done(mortarpink_free(&bitmap));
+}
+
+/* Applies the worked delta, with these bytes in place of those from an index on, to a bitmap. It has to be unchanged. */
+static mortarpink_status apply_with(mortarpink_bitmap *bitmap, size_t index, const char *text, size_t len) {
+    uint8_t bytes[TEXT_BYTES] = {0};
+    put_hex(bytes, delta_text);
+    put_hex(bytes + index, text);
+    return mortarpink_apply_delta(bitmap, bytes, len);
+}
+
+static void test_delta_errors(void) {
+    mortarpink_bitmap bitmap = MORTARPINK_EMPTY, other = MORTARPINK_EMPTY;
+    make_first(&bitmap, 1);
+    check_unwritten(apply_with(&bitmap, 0, "4c", DELTA), MORTARPINK_WRONG_HEADER);
+    check_unwritten(apply_with(&bitmap, 15, "02", DELTA), MORTARPINK_WRONG_HEADER);
+    check_unwritten(apply_with(&bitmap, 88, "0f", DELTA), MORTARPINK_DAMAGED);
+    check_unwritten(apply_with(&bitmap, 23, "08", DELTA), MORTARPINK_DAMAGED);
+    check_unwritten(apply_with(&bitmap, 89, "00" "ba348906755ac714", DELTA + 1), MORTARPINK_CUT_OFF);
+    check(has_bits(visible(&bitmap), "1011000001"));
+    check_number(mortarpink_latest(&bitmap, &out.number), 2);
+    make_first(&other, 8);
+    check_unwritten(apply_with(&other, 0, "", DELTA), MORTARPINK_WRONG_HEADER);
+    check_done(mortarpink_free(&other));
+    check_done(mortarpink_new(&other, 1));
+    check_unwritten(apply_with(&other, 0, "", DELTA), MORTARPINK_NOT_AT_BASE);
+    check_done(mortarpink_free(&other));
+    check_done(mortarpink_begin(&bitmap));
+    check_unwritten(apply_with(&bitmap, 0, "", DELTA), MORTARPINK_WRONG_MODE);
+    check_done(mortarpink_set(&bitmap, 9, 0));
+    commit(&bitmap, 3);
+    check_unwritten(apply_with(&bitmap, 0, "", DELTA), MORTARPINK_NOT_AT_BASE);
+    check_done(mortarpink_free(&bitmap));
+}
+
+/* The number of the newer bitmap is 2, which is not above the last one, and the digest is made anew. */
+static void test_delta_not_accepted(void) {
+    uint8_t bytes[TEXT_BYTES];
+    mortarpink_bitmap bitmap = MORTARPINK_EMPTY;
+    make_first(&bitmap, 1);
+    put_hex(bytes, delta_text);
+    bytes[63] = 2;
+    put_hex(bytes + 89, "95b0c694dac7624e");
+    check_unwritten(mortarpink_apply_delta(&bitmap, bytes, DELTA), MORTARPINK_NOT_ACCEPTED);
+    check(has_bits(visible(&bitmap), "1011000001"));
+    check_done(mortarpink_free(&bitmap));
+}
+
+/* A bitmap of each width is saved and loaded, and follows another one by a delta. */
+static void test_replica(uint32_t width) {
+    mortarpink_bitmap bitmap = MORTARPINK_EMPTY, replica = MORTARPINK_EMPTY;
+    uint8_t bytes[1024];
+    size_t size = 0, used = 0;
+    make_sample(&bitmap, width);
+    check_status(mortarpink_save(&bitmap, bytes, 0, &size), MORTARPINK_WRONG_SIZE);
+    check_done(mortarpink_save(&bitmap, bytes, size, &size));
+    check_done(load_any(&replica, width, bytes, size, &used));
+    check_equal(used, size);
+    check_sample(visible(&replica), width);
+    check_sample(at_commit(&replica, 1), width);
+    check_done(mortarpink_begin(&bitmap));
+    push_text(&bitmap, "1101");
+    commit(&bitmap, 2);
+    check_status(mortarpink_delta(&bitmap, 1, 2, bytes, 0, &size), MORTARPINK_WRONG_SIZE);
+    check_equal(size, 88 + 8 + width);
+    check_done(mortarpink_delta(&bitmap, 1, 2, bytes, size, &size));
+    check_done(mortarpink_apply_delta(&replica, bytes, size));
+    check_sample(at_commit(&replica, 1), width);
+    check_number(mortarpink_len(&replica, &out.number), 24 * (uint64_t)width + 8);
+    check_number(mortarpink_count_ones(&replica, 0, UINT64_MAX, &out.number), 7);
+    check_number(mortarpink_latest(&replica, &out.number), 2);
+    check_done(mortarpink_free(&bitmap));
+    check_done(mortarpink_free(&replica));
+}
+
+
 /* ---- The ends of the positions ---- */
 
 /* Makes a bitmap of 2^64 - 1 bits, in a batch. Its last seven bits are set, and its other retained bits are not. */
@@ -924,6 +1362,12 @@ static void test_longest_edits(uint32_t width) {
     check_unwritten(mortarpink_push(&bitmap, 1), MORTARPINK_TOO_LONG);
     check_unwritten(mortarpink_push_byte(&bitmap, 1), MORTARPINK_TOO_LONG);
     check_unwritten(mortarpink_push_chunk(&bitmap, zeros, width), MORTARPINK_TOO_LONG);
+    check_unwritten(mortarpink_push_bits(&bitmap, zeros, 1), MORTARPINK_TOO_LONG);
+    check_done(mortarpink_push_bits(&bitmap, zeros, 0));
+    check_done(mortarpink_extend_to(&bitmap, UINT64_MAX));
+    check_unwritten(mortarpink_truncate(&bitmap, 0), MORTARPINK_PRUNED);
+    check_unwritten(mortarpink_set_range(&bitmap, 0, UINT64_MAX, 1), MORTARPINK_PRUNED);
+    check_unwritten(mortarpink_set_chunk(&bitmap, SIZE_MAX, zeros, width), MORTARPINK_OUT_OF_BOUNDS);
     check_value(mortarpink_chunk(&bitmap, UINT64_MAX - 1, out.bytes, width), out.bytes[width - 1], 0x7F);
     check_unwritten(mortarpink_chunk(&bitmap, UINT64_MAX, out.bytes, width), MORTARPINK_OUT_OF_BOUNDS);
     check_done(mortarpink_set(&bitmap, UINT64_MAX - 1, 0));
@@ -1007,7 +1451,14 @@ static void test_width(uint32_t width) {
     test_start(width);
     test_pushes(width);
     test_chunks(width);
+    test_push_bits(width);
+    test_lengths(width);
+    test_set_range(width);
+    test_set_chunk(width);
+    test_set_many(width);
     test_reads(width);
+    test_save_without_commits(width);
+    test_replica(width);
     test_longest_edits(width);
     test_longest_reads(width);
 }
@@ -1029,5 +1480,13 @@ int main(void) {
     test_rewind();
     test_index();
     test_dropping();
+    test_save();
+    test_load();
+    test_load_ranges();
+    test_damaged_history();
+    test_delta();
+    test_apply_delta();
+    test_delta_errors();
+    test_delta_not_accepted();
     return finish("checks", checks, failures);
 }

@@ -90,6 +90,10 @@ static inline void read_commits(const mortarpink_bitmap *bitmap, uint64_t number
     READ(mortarpink_earliest(bitmap, &out->number));
     READ(mortarpink_changed_chunks(bitmap, number, COMMITS, 0, out->numbers, READ_NUMBERS, &out->size));
     READ(mortarpink_entries(bitmap, &out->number));
+    READ(mortarpink_delta(bitmap, number, COMMITS, out->bytes, 0, &out->size));
+    READ(mortarpink_delta(bitmap, number, COMMITS, out->bytes, out->size <= READ_BYTES ? out->size : 0, &out->size));
+    READ(mortarpink_save(bitmap, out->bytes, 0, &out->size));
+    READ(mortarpink_save(bitmap, out->bytes, out->size <= READ_BYTES ? out->size : 0, &out->size));
 }
 
 /* Copies the bitmap, and the one at a commit, and reads the copies. */

@@ -3,3 +3,4 @@ pub mod ListPages
 pub mod MadeSessions
 pub mod Outputs
 pub mod ReadValues
+pub mod SavedStatuses

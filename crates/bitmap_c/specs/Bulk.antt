@@ -41,7 +41,7 @@ CallsEditChunk size (Some old) call status new =
     (now : AnySession) × (new ≡ Some now) × EditsAnyChunk size old call status now
 
 -- a session sets the bits at the first `count` positions; these are all, or the step of the next one is refused with the status
-abbrev pub SetsMany : ℕ → Machine → List ℕ → Bool → ℕ → ℕ → Machine → Type 0
+unfoldable pub SetsMany : ℕ → Machine → List ℕ → Bool → ℕ → ℕ → Machine → Type 0
 SetsMany N old positions value count status new =
     ((status ≡ 0) × (count ≡ length positions) × StepsOn N old (set_steps N positions value) new)
     ⊎ ((count < length positions) × ((refusal : Refusal) × (status ≡ refusal_status refusal)

@@ -40,10 +40,10 @@ Found (Some any) found Says Empty = FoundIn (machine any) (found (width any) (ma
 
 -- ---- a history that is read
 
--- the ranges admit the numbers of retained bits and the numbers of commits from one number to another, both included
-abbrev pub AreBetween : ℕ → ℕ → ℕ → ℕ → Ranges → Type 0
-AreBetween least_bits most_bits least_commits most_commits r =
-    ((k : ℕ) → r.bits k ≡ between least_bits most_bits k) × ((k : ℕ) → r.commits k ≡ between least_commits most_commits k)
+-- the numbers of retained bits, and those of commits, from one number to another, both included
+abbrev pub ranges_between : (least_bits most_bits least_commits most_commits : ℕ) → Ranges
+ranges_between least_bits most_bits least_commits most_commits =
+    record { bits = between least_bits most_bits; commits = between least_commits most_commits }
 
 -- a machine outside a batch has the history that the bytes begin with, which is of this size, and whose numbers are admitted
 pub record IsLoaded (n : ℕ) (r : Ranges) (bytes : List ℕ) (m : Machine) (size : ℕ) : Type 0 where

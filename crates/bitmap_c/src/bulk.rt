@@ -1,6 +1,6 @@
 //! Calls that edit many bits of a batch at once: all of them, or none.
 
-ghost use Rattle.std.specs.Prelude.{◌≡◌, ◌==◌, IfOk, length, map, not};
+ghost use Rattle.std.specs.Prelude.{◌≡◌, ◌<◌, ◌==◌, IfOk, OnErr, length, map, not};
 ghost use Rattle.bitmap_bytes.specs.Chunk.{IsWidth};
 ghost use Rattle.bitmap_session.specs.Edits.{EditsTo, appends_bits, lengthens, reason_in, sets_chunk, sets_range, shortens};
 ghost use Rattle.bitmap_c.specs.Bulk.{CallsEdit, CallsEditChunk, EditsAny, EditsAnyChunk, EditsChunk, edit_status};
@@ -8,7 +8,6 @@ ghost use Rattle.bitmap_c.specs.Bulk.{CallsEdit, CallsEditChunk, EditsAny, Edits
 use crate::any::AnySession;
 use crate::handle::Handle;
 use crate::status::{DONE, EMPTY_HANDLE, WRONG_SIZE, refusal_status};
-use bitmap_core::bitmap::Readable;
 use bitmap_session::reply::Refusal;
 use bitmap_session::session::Session;
 use std::alloc::{AllocError, Global};
@@ -174,7 +173,9 @@ pub extern "C" fn mortarpink_extend_to(bitmap: &mut Handle, length: u64) -> u32
 
 // Returns a bit per byte: 0 if the byte is 0, and otherwise 1.
 fn bits_of(alloc: Global, bytes: &[u8]) -> Result<Vec<bool>, AllocError>
-    ensures { IfOk result (λ bits. bits.items ≡ map (λ byte. not (byte == 0)) bytes.now) }
+    ensures value { IfOk result (λ bits. bits.items ≡ map (λ byte. not (byte == 0)) bytes.now) }
+    // Without bytes nothing is allocated.
+    ensures some { OnErr result (0 < length bytes.now) }
 {
     let mut bits = Vec::new(alloc);
     for i in 0..bytes.len() {
@@ -201,7 +202,7 @@ fn push_bits_of<const N: usize>(
     let Ok(bits) = bits_of(alloc, bytes) else {
         return Err(Refusal::NoMemory);
     };
-    session.push_bits(&bits)
+    session.push_bits(bits.as_slice())
 }
 
 // Does the same for a session of any width.

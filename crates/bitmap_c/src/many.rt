@@ -59,6 +59,7 @@ pub extern "C" fn mortarpink_push_bytes(bitmap: &mut Handle, bytes: &[u8], count
 }
 
 // Sets the bits at the positions in order, up to the first one that is refused. Returns its status, and writes the number of bits set.
+#[tactic(auto, unfolding(crate::specs::Bulk::SetsMany))]
 fn set_each<const N: usize>(
     session: &mut Session<N>,
     positions: &[u64],

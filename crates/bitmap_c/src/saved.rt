@@ -4,18 +4,20 @@ ghost use Rattle.std.specs.Prelude.{◌≡◌, Some, IfOk, IfSome, is_some};
 ghost use Rattle.bitmap_bytes.specs.Chunk.{IsWidth};
 ghost use Rattle.commit_log.specs.Delta.{delta_of};
 ghost use Rattle.commit_log.specs.History.{history_bytes};
-ghost use Rattle.commit_log.specs.Reading.{Ranges, ranges};
+ghost use Rattle.commit_log.specs.Reading.{ranges};
 ghost use Rattle.bitmap_session.specs.Abstraction.{reason};
 ghost use Rattle.bitmap_session.specs.Saved.{kept_part};
 ghost use Rattle.bitmap_c.specs.Reports.{ReportsBytes};
-ghost use Rattle.bitmap_c.specs.Saved.{Applies, AppliesAny, AreBetween, CallsApply, Found, FoundIn, Loads, ReadsHistory, as_machine, save_refusal};
+ghost use Rattle.bitmap_c.specs.Saved.{Applies, AppliesAny, CallsApply, Found, FoundIn, Loads, ReadsHistory, as_machine, ranges_between, save_refusal};
 ghost use Rattle.bitmap_c.specs.Widths.{is_width, machine, width};
 
 use crate::any::AnySession;
 use crate::handle::Handle;
 use crate::making::{fill, is_full};
 use crate::run::report_bytes;
-use crate::status::{DONE, EMPTY_HANDLE, FULL_HANDLE, NO_SUCH_WIDTH, apply_status, history_status};
+use crate::status::{
+    DONE, EMPTY_HANDLE, FULL_HANDLE, NO_MEMORY, NO_SUCH_WIDTH, apply_status, history_status,
+};
 use bitmap_core::bitmap::codec::RangeCfg;
 use bitmap_session::reply::{Refusal, Reply};
 use bitmap_session::session::{SaveError, Session};
@@ -49,21 +51,22 @@ fn save_of<const N: usize>(
     out: &mut [u8],
     size: &mut usize,
 ) -> u32
+    requires width { IsWidth N }
     ensures { FoundIn session.now (Some (history_bytes N (kept_part session.now.state)))
         (ReportsBytes result size.old size.new out.old out.new) }
 {
     let mut bytes = Vec::new(alloc);
-    let reply: Reply<N> = match session.save(&mut bytes) {
-        Ok(()) => Reply::Bytes(Some(bytes)),
-        Err(error) => Reply::Refused(save_refusal(&error)),
-    };
-    report_bytes(&reply, out, size)
+    match session.save(&mut bytes) {
+        Ok(()) => report_bytes::<N>(&Reply::Bytes(Some(bytes)), out, size),
+        Err(error) => report_bytes::<N>(&Reply::Refused(save_refusal(&error)), out, size),
+    }
 }
 
 // Does the same for a session of any width.
 fn save(alloc: Global, any: &AnySession, out: &mut [u8], size: &mut usize) -> u32
-    ensures { Found (Some any.now) (λ N m. Some (history_bytes N (kept_part m.state)))
-        (ReportsBytes result size.old size.new out.old out.new) ⊥ }
+    ensures { FoundIn (machine any.now)
+        (Some (history_bytes (width any.now) (kept_part (machine any.now).state)))
+        (ReportsBytes result size.old size.new out.old out.new) }
 {
     at_width!(any, session => save_of(alloc, session, out, size))
 }
@@ -76,20 +79,21 @@ fn delta_of<const N: usize>(
     out: &mut [u8],
     size: &mut usize,
 ) -> u32
+    requires width { IsWidth N }
     ensures { FoundIn session.now (delta_of N session.now.state.history from to)
         (ReportsBytes result size.old size.new out.old out.new) }
 {
-    let reply: Reply<N> = match session.delta(from, to) {
-        Ok(found) => Reply::Bytes(found),
-        Err(error) => Reply::Refused(save_refusal(&error)),
-    };
-    report_bytes(&reply, out, size)
+    match session.delta(from, to) {
+        Ok(found) => report_bytes::<N>(&Reply::Bytes(found), out, size),
+        Err(error) => report_bytes::<N>(&Reply::Refused(save_refusal(&error)), out, size),
+    }
 }
 
 // Does the same for a session of any width.
 fn delta(any: &AnySession, from: u64, to: u64, out: &mut [u8], size: &mut usize) -> u32
-    ensures { Found (Some any.now) (λ N m. delta_of N m.state.history from to)
-        (ReportsBytes result size.old size.new out.old out.new) ⊥ }
+    ensures { FoundIn (machine any.now)
+        (delta_of (width any.now) (machine any.now).state.history from to)
+        (ReportsBytes result size.old size.new out.old out.new) }
 {
     at_width!(any, session => self::delta_of(session, from, to, out, size))
 }
@@ -105,8 +109,10 @@ fn load_session<const N: usize>(
     ensures { ReadsHistory N (ranges bits.now commits.now) bytes.now result }
 {
     let mut rest = bytes;
-    let session = Session::load(alloc, &mut rest, bits, commits)?;
-    Ok((session, bytes.len() - rest.len()))
+    match Session::load(alloc, &mut rest, bits, commits) {
+        Ok(session) => Ok((session, bytes.len() - rest.len())),
+        Err(error) => Err(error),
+    }
 }
 
 // Reads a history as `load_session` does, with chunks of `size` bytes, or returns `None` if there is no such width.
@@ -149,11 +155,11 @@ fn load_into(
     }
     match load_any(alloc, size, bits, commits, bytes) {
         Some(Ok((any, read))) => {
-            let status = fill(alloc, bitmap, any);
-            if status == DONE {
-                *used = read;
+            if fill(alloc, bitmap, any) != DONE {
+                return NO_MEMORY;
             }
-            status
+            *used = read;
+            DONE
         }
         Some(Err(error)) => history_status(&error),
         None => NO_SUCH_WIDTH,
@@ -189,11 +195,12 @@ fn apply_delta(any: &mut AnySession, bytes: &[u8]) -> u32
 ///
 /// # Memory
 ///
-/// Allocates the history, which is freed before the return.
+/// Allocates the history and the bitmap at the first kept commit, which are freed before the return.
 ///
 /// # Complexity
 ///
-/// Linear in the history. Each chunk that differs from the commit before is read, which takes a search of each commit after it.
+/// Linear in the current bitmap and in the history. Each chunk in the history is read at its commit, which takes a search of each
+/// commit after it.
 #[unsafe(no_mangle)]
 pub extern "C" fn mortarpink_save(
     alloc: Global,
@@ -252,9 +259,9 @@ pub extern "C" fn mortarpink_load(
     bytes: &[u8],
     used: &mut usize,
 ) -> u32
-    ensures loaded { (r : Ranges)
-        × AreBetween least_bits most_bits least_commits most_commits r
-        × Loads bitmap.old.value width r bytes.now result used.old used.new bitmap.new.value }
+    ensures loaded { Loads bitmap.old.value width
+        (ranges_between least_bits most_bits least_commits most_commits) bytes.now
+        result used.old used.new bitmap.new.value }
 {
     let bits = RangeCfg::between(least_bits, most_bits);
     let commits = RangeCfg::between(least_commits, most_commits);
