@@ -135,12 +135,13 @@ class Replica:
             count += len(entries)
 
     def _apply(self, entries: list[Entry], stream: Stream) -> None:
-        for entry in entries:
-            try:
+        """Applies entries in order, or begins anew at the first that cannot be applied. Those after the history are read again then."""
+        try:
+            for entry in entries:
                 self.receive(entry)
-            except (MissingEntriesError, Error):
-                if not self._begins_anew(stream):
-                    raise
+        except (MissingEntriesError, Error):
+            if not self._begins_anew(stream):
+                raise
 
     def _begins_anew(self, stream: Stream) -> bool:
         """Takes the history that a stream keeps, if it goes further than this replica. Returns whether it does."""

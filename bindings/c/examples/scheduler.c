@@ -33,8 +33,8 @@ static void run_minute(mortarpink_bitmap *slots, uint64_t minute) {
     must(mortarpink_set_many(slots, PLAN[minute - 1].slots, PLAN[minute - 1].freed, 0, &done));
     must(mortarpink_set_many(slots, taken, count, 1, &done));
     must(mortarpink_commit(slots, minute, &previous));
-    printf("minute %" PRIu64 ": %zu of %zu jobs start, %zu slots become free\n", minute, count, PLAN[minute - 1].starting,
-           PLAN[minute - 1].freed);
+    printf("minute %" PRIu64 ": jobs that start: %zu of %zu, slots that become free: %zu\n", minute, count,
+           PLAN[minute - 1].starting, PLAN[minute - 1].freed);
 }
 
 int main(void) {

@@ -21,6 +21,7 @@ TYPES = {
     "mortarpink_bitmap *": _interface.HANDLE,
     "const mortarpink_bitmap *": _interface.HANDLE,
     "const uint8_t *": _interface.BYTES,
+    "const uint64_t *": _interface.NUMBERS,
     "uint8_t *": _interface.OUT_U8,
     "uint64_t *": _interface.OUT_U64,
     "size_t *": _interface.OUT_SIZE,
