@@ -167,7 +167,7 @@ static void check_edits(mortarpink_bitmap *bitmap, uint32_t width, mortarpink_st
     check_unwritten(mortarpink_abort(bitmap), status);
 }
 
-static void check_current_reads(mortarpink_bitmap *bitmap, mortarpink_status status) {
+static void check_searches(mortarpink_bitmap *bitmap, mortarpink_status status) {
     check_unwritten(mortarpink_ones(bitmap, 0, 9, out.numbers, 8, &out.size), status);
     check_unwritten(mortarpink_next_one(bitmap, 0, &out.number), status);
     check_unwritten(mortarpink_next_zero(bitmap, 0, &out.number), status);
@@ -175,7 +175,6 @@ static void check_current_reads(mortarpink_bitmap *bitmap, mortarpink_status sta
     check_unwritten(mortarpink_prev_zero(bitmap, 9, &out.number), status);
     check_unwritten(mortarpink_count_ones(bitmap, 0, 9, &out.number), status);
     check_unwritten(mortarpink_select_one(bitmap, 0, &out.number), status);
-    check_unwritten(mortarpink_encode(bitmap, out.bytes, sizeof out.bytes, &out.size), status);
 }
 
 static void check_past_reads(mortarpink_bitmap *bitmap, uint64_t number, mortarpink_status status) {
@@ -220,7 +219,8 @@ static void test_empty_handle(void) {
     mortarpink_bitmap none = MORTARPINK_EMPTY, copy = MORTARPINK_EMPTY;
     const mortarpink_status status = MORTARPINK_EMPTY_HANDLE;
     check_edits(&none, 8, status);
-    check_current_reads(&none, status);
+    check_searches(&none, status);
+    check_unwritten(mortarpink_encode(&none, out.bytes, sizeof out.bytes, &out.size), status);
     check_past_reads(&none, 1, status);
     check_commit_calls(&none, status);
     check_unwritten(mortarpink_push_bytes(&none, (const uint8_t *)"a", 1, &out.size), status);
@@ -252,13 +252,45 @@ static void test_modes(uint32_t width) {
 
     check_done(mortarpink_begin(&bitmap));
     push_text(&bitmap, "1");
-    check_current_reads(&bitmap, MORTARPINK_WRONG_MODE);
+    check_unwritten(mortarpink_encode(&bitmap, out.bytes, sizeof out.bytes, &out.size), MORTARPINK_WRONG_MODE);
     check_past_reads(&bitmap, 1, MORTARPINK_WRONG_MODE);
     check_commit_calls(&bitmap, MORTARPINK_WRONG_MODE);
     check(has_bits(visible(&bitmap), "1011"));
     check_done(mortarpink_abort(&bitmap));
     check(has_bits(visible(&bitmap), "101"));
     check(has_bits(at_commit(&bitmap, 1), "101"));
+    check_done(mortarpink_free(&bitmap));
+}
+
+/* Searches, counts and set positions are of the pending bitmap in a batch. */
+static void test_pending_searches(uint32_t width) {
+    mortarpink_bitmap bitmap = MORTARPINK_EMPTY;
+    make(&bitmap, width, "1010");
+    commit(&bitmap, 1);
+    check_done(mortarpink_begin(&bitmap));
+    check_done(mortarpink_set(&bitmap, 0, 0));
+    push_text(&bitmap, "11");
+    check_done(mortarpink_ones(&bitmap, 0, 9, out.numbers, 8, &out.size));
+    check_equal(out.size, 3);
+    check_equal(out.numbers[0], 2);
+    check_equal(out.numbers[1], 4);
+    check_equal(out.numbers[2], 5);
+    check_done(mortarpink_next_one(&bitmap, 0, &out.number));
+    check_equal(out.number, 2);
+    check_done(mortarpink_next_zero(&bitmap, 2, &out.number));
+    check_equal(out.number, 3);
+    check_done(mortarpink_prev_one(&bitmap, 9, &out.number));
+    check_equal(out.number, 5);
+    check_done(mortarpink_prev_zero(&bitmap, 3, &out.number));
+    check_equal(out.number, 1);
+    check_done(mortarpink_count_ones(&bitmap, 0, 5, &out.number));
+    check_equal(out.number, 2);
+    check_done(mortarpink_select_one(&bitmap, 2, &out.number));
+    check_equal(out.number, 5);
+    check_unwritten(mortarpink_select_one(&bitmap, 3, &out.number), MORTARPINK_NONE);
+    check_done(mortarpink_abort(&bitmap));
+    check_done(mortarpink_next_one(&bitmap, 0, &out.number));
+    check_equal(out.number, 0);
     check_done(mortarpink_free(&bitmap));
 }
 
@@ -1442,6 +1474,7 @@ static void test_longest_reads(uint32_t width) {
 
 static void test_width(uint32_t width) {
     test_modes(width);
+    test_pending_searches(width);
     test_unknown_commits(width);
     test_full_handle(width);
     test_free(width);
