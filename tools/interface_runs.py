@@ -21,7 +21,7 @@ from counter import blocks_now
 from declarations import HANDLES
 from formats import Formats, Historical, ReadError, be64, digest, first_place, framed, header
 from library import Handle, Library, Overrun, outcome
-from model import LAST, Bitmap, Commit, bytes_of
+from model import LAST, Bitmap, Commit, bits_of, bytes_of
 from replay import report
 
 WIDTHS = (1, 8, 32, 64)
@@ -338,45 +338,55 @@ class InterfaceScript(RandomScript):
             count += status == "DONE"
         self.expect("set_many", status, positions, bit, count=count)
 
-    def edit(self, name, refusal, lines, *given):
-        """Makes edits of one bit each in the model, and all of them by one call, unless it is refused."""
+    def edit(self, name, refusal, bits, start, end, *given):
+        """Replaces the retained bits of the batch, of which those from position `start` up to `end` are touched, by one call, unless it is refused."""
         status = "WRONG_MODE" if self.state.pending is None else refusal or "DONE"
-        for line in lines if status == "DONE" else ():
-            self.state = self.model.step(self.state, line.split(" ")).state
+        if status == "DONE":
+            size = self.model.chunk_bits
+            touched = range(start // size, (end - 1) // size + 1) if start < end else ()
+            self.state = self.model.edited(self.state, self.state.pending._replace(bits=bits), touched).state
         self.expect(name, status, *given)
 
     def push_bits(self):
         """Appends a bit per byte by one call."""
         data = bytes(self.random.choice([0, *ONES]) for _ in range(self.random.randint(0, 2 * self.model.chunk_bits + 1)))
-        is_long = self.length() + len(data) > LAST
-        self.edit("push_bits", "TOO_LONG" if is_long else None, [f"push {int(byte != 0)}" for byte in data], data)
+        start, end = self.length(), self.length() + len(data)
+        bits = self.bitmap().bits + tuple(int(byte != 0) for byte in data)
+        self.edit("push_bits", "TOO_LONG" if end > LAST else None, bits, start, end, data)
 
     def first_refusal(self, is_past, is_pruned):
         return "OUT_OF_BOUNDS" if is_past else "PRUNED" if is_pruned else None
 
+    def replaced(self, start, bits):
+        """The retained bits with others from a position on, as far as there are any."""
+        old, at = self.bitmap().bits, start - self.first()
+        return old[:at] + tuple(bits)[: len(old) - at] + old[at + len(bits) :]
+
     def set_chunk(self):
         """Replaces the bits of a chunk, up to the length."""
         size, data = self.model.chunk_bits, self.random.randbytes(self.model.width)
-        index = self.position() // size
-        bits = [(index * size + at, data[at // 8] >> at % 8 & 1) for at in range(size) if index * size + at < self.length()]
-        refusal = self.first_refusal(index * size >= self.length(), index * size < self.first())
-        self.edit("set_chunk", refusal, [f"set {position} {bit}" for position, bit in bits], index, data)
+        start = self.position() // size * size
+        refusal = self.first_refusal(start >= self.length(), start < self.first())
+        bits = self.replaced(start, bits_of(data)) if refusal is None else ()
+        self.edit("set_chunk", refusal, bits, start, min(start + size, self.length()), start // size, data)
 
     def set_range(self):
         """Sets the bits of a range. An empty one is never refused in a batch."""
         start, end, bit = self.position(), self.position(), self.random.choice([0, *ONES])
         refusal = self.first_refusal(end > self.length(), start < self.first()) if start < end else None
-        positions = range(start, end) if refusal is None else ()
-        self.edit("set_range", refusal, [f"set {position} {int(bit != 0)}" for position in positions], start, end, bit)
+        is_written = start < end and refusal is None
+        bits = self.replaced(start, [int(bit != 0)] * (end - start)) if is_written else self.bitmap().bits
+        self.edit("set_range", refusal, bits, start, end, start, end, bit)
 
     def change_length(self):
         """Removes bits down to a length, or appends zeros up to one."""
-        length = self.position() if self.random.random() < 0.5 else self.length() + self.random.randint(0, self.model.chunk_bits + 1)
-        refusal = self.first_refusal(length > self.length(), length < self.first())
+        old, first = self.length(), self.first()
+        length = self.position() if self.random.random() < 0.5 else old + self.random.randint(0, self.model.chunk_bits + 1)
         if self.random.random() < 0.3:
-            return self.edit("truncate", refusal, ["pop"] * (self.length() - length if refusal is None else 0), length)
-        if length < self.length() + 2 * self.model.chunk_bits and length <= LAST:
-            self.edit("extend_to", None, ["push 0"] * (length - self.length()), length)
+            refusal = self.first_refusal(length > old, length < first)
+            return self.edit("truncate", refusal, self.bitmap().bits[: max(length - first, 0)], length, old, length)
+        if length < old + 2 * self.model.chunk_bits and length <= LAST:
+            self.edit("extend_to", None, self.bitmap().bits + (0,) * max(length - old, 0), old, length, length)
 
     # Histories and deltas
 
