@@ -147,7 +147,7 @@ class InterfaceScript(RandomScript):
 
     def run_ones(self, start, end, _):
         """In a batch the call reads the pending bitmap, while the command is refused."""
-        self.pages("ones", [int(start), int(end)], 0, self.listed(self.model.set_positions(self.bitmap(), int(start), int(end))))
+        self.pages("ones", [int(start), int(end)], 0, self.model.set_positions(self.bitmap(), int(start), int(end)))
 
     def run_ones_at(self, number, start, end, reply):
         self.pages("ones_at", [int(number), int(start), int(end)], 1, self.reply_of_read(number, reply))
@@ -381,11 +381,11 @@ class InterfaceScript(RandomScript):
     def change_length(self):
         """Removes bits down to a length, or appends zeros up to one."""
         old, first = self.length(), self.first()
-        length = self.position() if self.random.random() < 0.5 else old + self.random.randint(0, self.model.chunk_bits + 1)
+        length = min(self.position() if self.random.random() < 0.5 else old + self.random.randint(0, self.model.chunk_bits + 1), LAST)
         if self.random.random() < 0.3:
             refusal = self.first_refusal(length > old, length < first)
             return self.edit("truncate", refusal, self.bitmap().bits[: max(length - first, 0)], length, old, length)
-        if length < old + 2 * self.model.chunk_bits and length <= LAST:
+        if length < old + 2 * self.model.chunk_bits:
             self.edit("extend_to", None, self.bitmap().bits + (0,) * max(length - old, 0), old, length, length)
 
     # Histories and deltas
