@@ -6,8 +6,10 @@ program, and the making of the bitmap, do not count. The programs take turns, so
 
 import fcntl
 import os
+import re
 import subprocess
 import sys
+import tempfile
 import time
 from math import inf
 from pathlib import Path
@@ -72,6 +74,48 @@ def run(program, words):
     if process.returncode:
         sys.exit(f"bench: {program.name}: {' '.join(map(str, words))}: exit status {process.returncode}")
     return Run(usage.ru_utime + usage.ru_stime, megabytes, checksum)
+
+
+def counted(program, words):
+    """Runs a program under valgrind, and returns how many instructions its calls take, in the place of seconds.
+
+    The program reads its clock before these calls and after them. At each reading callgrind writes what it has counted since the last one."""
+    with tempfile.TemporaryDirectory() as folder:
+        options = ["--tool=callgrind", "--dump-before=clock_gettime*", f"--callgrind-out-file={folder}/out"]
+        command = ["valgrind", *options, program.path, *map(str, words)]
+        ended = subprocess.run(command, stdin=subprocess.DEVNULL, capture_output=True, text=True)
+        part = Path(folder, "out.2")
+        if ended.returncode or not part.exists():
+            sys.exit(f"{ended.stderr}bench: {program.name}: {' '.join(map(str, words))}: valgrind failed")
+        return Run(int(re.search(r"^(?:summary|totals): (\d+)", part.read_text(), re.MULTILINE)[1]), 0, ended.stdout.strip())
+
+
+def timed(program, words):
+    """Runs a program that measures the processor time of its calls itself, and returns this time. Its memory is not measured."""
+    environment = {**os.environ, "BENCH_TIME": "1"}
+    ended = subprocess.run([program.path, *map(str, words)], env=environment, stdin=subprocess.DEVNULL, capture_output=True, text=True)
+    if ended.returncode:
+        sys.exit(f"{ended.stderr}bench: {program.name}: {' '.join(map(str, words))}: exit status {ended.returncode}")
+    return Run(int(ended.stderr) / 1e9, 0, ended.stdout.strip())
+
+
+def own_costs(programs, call, width, size, count, commits=()):
+    """The cost of a call per program, as `costs`, of programs that measure the time of their calls themselves. So the making of a bitmap, which may
+    take longer than the calls, is run once per run, and its time does not count."""
+    words, runs = [call.name, width, size, call.times, *commits], {program.name: [] for program in programs}
+    for _ in range(count):
+        for program in programs:
+            runs[program.name].append(timed(program, words))
+    compare(call, words, runs)
+    return {name: Cost(*least(each)) for name, each in runs.items()}
+
+
+def counts(programs, call, width, size):
+    """The instructions of a call per program. The load of the machine does not change them, so one run of each is enough."""
+    words = [call.name, width, size, call.times]
+    runs = {program.name: [counted(program, words)] for program in programs}
+    compare(call, words, runs)
+    return {name: max(each[0].seconds, 1) for name, each in runs.items()}
 
 
 def compare(call, words, runs):

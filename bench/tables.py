@@ -7,7 +7,7 @@ from itertools import product
 from math import exp, log
 from typing import Callable, NamedTuple
 
-from measure import Call, costs, ratio, run
+from measure import Call, costs, counts, own_costs, ratio, run
 from programs import COPIES, FIXED, NATIVE, ORIGINAL, OURS, PERSISTENT, ROARING
 
 LARGE, SMALL = 64 << 20, 1 << 20  # bytes of dense bitmaps
@@ -92,6 +92,28 @@ LOG_PAIRS = {"a commit with its entry, to one without": ("log_commit", "plain_co
              "`recover`, to making the commits": ("log_recover", "log_make")}
 KEEPS = {"keep_set_far": "1000 sets at random", "keep_set_near": "1000 sets, close together", "keep_push": "4096 pushes"}
 
+# The tables of the Rust crate in `native`. A run is short: it works on so many bytes in all if it takes one bit at a time, if it reads single bits at
+# random, if it copies bits, and if it takes whole words.
+NATIVE_GROUPS = {**DENSE_GROUPS, "get, at random": "get_far"}
+PAST_GROUPS = {
+    "get_at_commit of the oldest of many": "kept_rebuild",
+    "at without an index": "at_get at_scan",
+    "at with an index": "indexed_get indexed_scan",
+}
+BYTES = {"bits": 1 << 20, "far": 16 << 20, "copied": 8 << 20, "words": 32 << 20}
+COPIED = "hash extend_same extend_same_shifted extend_other extend_other_shifted sparse_ones_iter".split()
+FAR = ["get_far"]
+BITS = [*(name for name in SLOW if name not in COPIED), "push_new"]
+SHARED = """get get_far set push_new ones_iter sparse_ones_iter count_ones count_ones_range flip_all set_range and or xor and_not is_subset equal
+    clone""".split()  # calls of both the Rust crate and fixedbitset
+COUNTED = 1 << 14  # bytes of the bitmaps whose instructions are counted
+NOT_COUNTED = ("set_all", "clone")  # callgrind counts a fill or a copy of the C library as one instruction per byte
+PENDING = ("pending_bits", "pending_chunks")  # the instructions of other calls of `PAST` are not counted, because their commits take long to make
+# Reads of a past state with many kept commits, and how often they are run.
+READS = [Call("kept_rebuild", 50), Call("at_get", 500), Call("indexed_get", 50_000), Call("indexed_scan", 10), Call("at_scan", 1)]
+READ_AS = {"kept_rebuild": "`get_at_commit` of the oldest", "at_get": "`at` the oldest: a random bit", "at_scan": "`at` the oldest: all set positions",
+           "indexed_get": "with an index: a random bit", "indexed_scan": "with an index: all set positions"}
+
 # The names of the calls that tables measure.
 DENSE = [name for names in DENSE_GROUPS.values() for name in names.split()]
 BATCHES = [f"{end}_{edits}" for edits in EDITS for end in ("batch", "commit")]
@@ -103,6 +125,8 @@ class Session(NamedTuple):
     count: int  # how often each run is run
     wanted: list  # the names of the calls to measure; all if it is empty
     divisor: int  # a run makes so many times fewer calls than a table says
+    counted: bool = False  # instructions are counted, and no time is taken
+    large: bool = True  # dense bitmaps of 64 MB are measured too
 
     def chosen(self, calls):
         """The calls that are to be measured."""
@@ -112,6 +136,12 @@ class Session(NamedTuple):
         """The costs of a call, for those of some programs that are there."""
         fewer = call._replace(times=max(call.times // self.divisor, 1))
         found = costs([self.programs[name] for name in names if name in self.programs], fewer, width, size, self.count, commits)
+        return {name: cost._replace(seconds=cost.seconds * call.times / fewer.times) for name, cost in found.items()}
+
+    def own_costs(self, names, call, width, size, commits=()):
+        """The costs of a call, for some programs that measure the time of their calls themselves."""
+        fewer = call._replace(times=max(call.times // self.divisor, 1))
+        found = own_costs([self.programs[name] for name in names], fewer, width, size, self.count, commits)
         return {name: cost._replace(seconds=cost.seconds * call.times / fewer.times) for name, cost in found.items()}
 
     def printed(self, call, width, size, commits=()):
@@ -207,10 +237,94 @@ def batches(session, program=OURS):
     return print_groups(BATCH_GROUPS, "historical", found)
 
 
+def short_call(session, name, size):
+    """A dense call that is run so often that a run is short, but not too short to be measured."""
+    if session.counted:
+        return Call(name, 1 if name in BITS + FAR else 8)
+    kind = "bits" if name in BITS else "far" if name in FAR else "copied" if name in COPIED else "words"
+    return Call(name, max(BYTES[kind] // size, 1))
+
+
+def cells(session, name):
+    """The sizes and widths at which a dense call of the Rust crate is measured: large bitmaps at the default width alone."""
+    if session.counted:
+        return [(COUNTED, width) for width in WIDTHS] if name not in NOT_COUNTED else []
+    return ([(LARGE, 8)] if session.large else []) + [(SMALL, width) for width in WIDTHS]
+
+
+def compared(session, call, width, size):
+    """The ratio of the Rust crate's time to that of commonware-utils, or of its instructions if they are counted."""
+    if not session.counted:
+        found = session.own_costs([NATIVE, ORIGINAL], call, width, size)
+        return ratio(found[NATIVE], found[ORIGINAL])
+    found = counts([session.programs[name] for name in (NATIVE, ORIGINAL)], call, width, size)
+    return found[NATIVE] / found[ORIGINAL]
+
+
+def native_dense(session):
+    """The ratios of dense calls, by their names."""
+    found = {}
+    sizes = [(COUNTED, width) for width in WIDTHS] if session.counted else [(LARGE, 8), *product([SMALL], WIDTHS)]
+    head("Ratio, by width and size", *(f"{width}, {size >> 20} MB" if size >= SMALL else f"{width}, {size >> 10} KB" for size, width in sizes))
+    for name in [name for names in NATIVE_GROUPS.values() for name in names.split()]:
+        if session.chosen([Call(name, 1)]):
+            row = {cell: compared(session, short_call(session, name, cell[0]), cell[1], cell[0]) for cell in cells(session, name)}
+            found[name] = list(row.values())
+            say(f"`{name}`", *(short(row[cell]) if cell in row else "" for cell in sizes))
+    return found
+
+
+def native_batches(session):
+    """The ratios of batches, and of reads of bitmaps with commits, by the names of the calls."""
+    found = {}
+    head("Ratio, 2^20 bits", "Width 32", "8", "4")
+    calls = [call for _, calls in batch_calls(session) for call in calls]
+    calls += [call for call in PAST if not session.counted or call.name in PENDING]
+    for call in session.chosen(calls):
+        fewer = call._replace(times=max(call.times // (1000 if session.counted else 10), 2))
+        found[call.name] = [compared(session, fewer, width, HISTORICAL) for width in (32, 8, 4)]
+        say(f"`{call.name}`", *map(short, found[call.name]))
+    return found
+
+
+def native_reads(session):
+    """The ratios of reads of the oldest of many commits to rebuilding it in commonware-utils, and their times, by the names of the calls."""
+    found = {}
+    head("Microseconds, width 8, 2^20 bits", *(f"{kept:,} commits, {name}" for kept in COMMITS for name in ("the Rust crate", ORIGINAL)))
+    for call in session.chosen(READS):
+        taken = [session.own_costs([NATIVE, ORIGINAL], call, 8, HISTORICAL, [kept]) for kept in COMMITS]
+        found[call.name] = [ratio(each[NATIVE], each[ORIGINAL]) for each in taken]
+        say(READ_AS[call.name], *(microseconds(call, each[name]) for each in taken for name in (NATIVE, ORIGINAL)))
+    return found
+
+
 def native(session):
-    """Ratios of the Rust crate in `native` to commonware-utils, as in `dense` and `batches`. Both are built together."""
-    dense(session, NATIVE)
-    batches(session, NATIVE)
+    """Ratios of the Rust crate in `native` to commonware-utils, of short runs. Both are built together."""
+    print_groups(NATIVE_GROUPS, "dense and pruned", native_dense(session))
+    print_groups(BATCH_GROUPS, "historical", native_batches(session))
+    if not session.counted:
+        print_groups(PAST_GROUPS, "historical", native_reads(session))
+    return {}
+
+
+def native_peers(session):
+    """Times of the Rust crate in `native` beside fixedbitset, of short runs: nanoseconds per 1,000 bits of the bitmap."""
+    sizes = [(1 << 13, "8 KiB"), (SMALL, "1 MiB"), *([(LARGE, "64 MiB")] if session.large else [])]
+    ratios = {}
+    head("Call", *(f"{title}: {what}" for _, title in sizes for what in (FIXED, "ratio of times at width 8", "32")))
+    for name in session.wanted or SHARED:
+        row = []
+        for size, _ in sizes if name in SHARED else []:
+            call = short_call(session, name, size)
+            taken = [session.own_costs([NATIVE, FIXED], call, width, size) for width in (8, 32)]
+            ratios.setdefault(name, []).extend(ratio(each[NATIVE], each[FIXED]) for each in taken)
+            least = min(each[FIXED].seconds for each in taken)
+            row += [short(least * 1e9 / call.times / (8 * size) * 1000), *map(short, ratios[name][-2:])]
+        if row:
+            say(f"`{name}`", *row)
+    head("Calls", "Measurements", "Ratio of times")
+    values = [value for each in ratios.values() for value in each if value is not None]
+    say("all", len(values), short(mean(values)))
     return {}
 
 
@@ -336,7 +450,8 @@ class Table(NamedTuple):
 TABLES = {
     "dense": Table(dense, DENSE, [OURS, ORIGINAL], []),
     "batches": Table(batches, BATCHES + names_of(PAST), [OURS, ORIGINAL], []),
-    "native": Table(native, DENSE + BATCHES + names_of(PAST), [NATIVE, ORIGINAL], []),
+    "native": Table(native, [*DENSE, *FAR, *BATCHES, *names_of(PAST + READS)], [NATIVE, ORIGINAL], []),
+    "native-peers": Table(native_peers, SHARED, [NATIVE, FIXED], []),
     "growth": Table(growth, names_of(KEPT + INDEXED), [OURS], [ORIGINAL]),
     "lengths": Table(lengths, names_of(KEPT + INDEXED), [OURS], []),
     "logs": Table(logs, names_of([*LOGS, ENTRIES]), [OURS], []),

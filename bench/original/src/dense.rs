@@ -2,7 +2,7 @@
 
 use commonware_codec::{RangeCfg, Read, Write};
 use commonware_utils::bitmap::BitMap;
-use shared::{Arguments, Positions, SPARSE};
+use shared::{timed, Arguments, Positions, FAR, SPARSE};
 use std::hash::{DefaultHasher, Hash, Hasher};
 use std::hint::black_box;
 
@@ -20,55 +20,61 @@ pub fn filled<const N: usize>(bytes: u64) -> BitMap<N> {
 
 /// Returns the sum of what a read returns, which is run `times` times.
 pub fn sum_of(times: u64, mut read: impl FnMut() -> u64) -> u64 {
-    (0..times).fold(0, |sum: u64, _| sum.wrapping_add(read()))
+    timed(|| (0..times).fold(0, |sum: u64, _| sum.wrapping_add(read())))
 }
 
 fn push<const N: usize>(map: &mut BitMap<N>, times: u64) -> u64 {
     let bits = map.len();
-    for _ in 0..times {
-        map.truncate(0);
-        for position in 0..bits {
-            map.push(position % 3 == 0);
+    timed(|| {
+        for _ in 0..times {
+            map.truncate(0);
+            for position in 0..bits {
+                map.push(position % 3 == 0);
+            }
         }
-    }
+    });
     map.count_ones()
 }
 
 fn pop<const N: usize>(map: &mut BitMap<N>, times: u64) -> u64 {
     let bits = map.len();
-    let mut sum = 0;
-    for _ in 0..times {
+    sum_of(times, || {
+        let mut sum = 0;
         map.extend_to(bits);
         while !map.is_empty() {
             sum += u64::from(map.pop());
         }
-    }
-    sum
+        sum
+    })
 }
 
 fn set<const N: usize>(map: &mut BitMap<N>, times: u64) -> u64 {
-    for round in 0..times {
-        for position in 0..map.len() {
-            map.set(position, (position ^ round) % 3 == 0);
+    timed(|| {
+        for round in 0..times {
+            for position in 0..map.len() {
+                map.set(position, (position ^ round) % 3 == 0);
+            }
         }
-    }
+    });
     map.count_ones()
+}
+
+// Reads bits at random positions, one per `FAR` bits of the bitmap.
+fn get_far<const N: usize>(map: &BitMap<N>, times: u64) -> u64 {
+    let (bits, mut positions) = (map.len(), Positions::from_seed(FAR));
+    sum_of(times * bits / FAR, || u64::from(map.get(positions.step() % bits)))
 }
 
 // Repeats an edit that takes the round, and counts the set bits at the end.
 fn edited<const N: usize>(map: &mut BitMap<N>, times: u64, edit: impl Fn(&mut BitMap<N>, u64)) -> u64 {
-    for round in 0..times {
-        edit(map, round);
-    }
+    timed(|| (0..times).for_each(|round| edit(map, round)));
     map.count_ones()
 }
 
 // Repeats an operation with an equal bitmap, and counts the set bits at the end.
 fn combined<const N: usize>(map: &mut BitMap<N>, times: u64, combine: impl Fn(&mut BitMap<N>, &BitMap<N>)) -> u64 {
     let other = map.clone();
-    for _ in 0..times {
-        combine(map, &other);
-    }
+    timed(|| (0..times).for_each(|_| combine(map, &other)));
     map.count_ones()
 }
 
@@ -84,9 +90,7 @@ fn equal<const N: usize>(map: &mut BitMap<N>, times: u64) -> u64 {
 
 fn hash<const N: usize>(map: &BitMap<N>, times: u64) -> u64 {
     let mut state = DefaultHasher::new();
-    for _ in 0..times {
-        map.hash(&mut state);
-    }
+    timed(|| (0..times).for_each(|_| map.hash(&mut state)));
     state.finish()
 }
 
@@ -107,10 +111,12 @@ fn thin<const N: usize>(map: &mut BitMap<N>) {
 fn extend<const N: usize, const M: usize>(map: &BitMap<N>, mut target: BitMap<M>, times: u64) -> u64 {
     let first = target.len();
     target.extend_from_bitmap(map);
-    for _ in 0..times {
-        target.truncate(first);
-        target.extend_from_bitmap(map);
-    }
+    timed(|| {
+        for _ in 0..times {
+            target.truncate(first);
+            target.extend_from_bitmap(map);
+        }
+    });
     target.count_ones()
 }
 
@@ -128,10 +134,12 @@ fn from_bools<const N: usize>(map: &BitMap<N>, times: u64) -> u64 {
 fn write<const N: usize>(map: &BitMap<N>, times: u64) -> u64 {
     let mut bytes = Vec::new();
     map.write(&mut bytes);
-    for _ in 0..times {
-        bytes.clear();
-        map.write(&mut bytes);
-    }
+    timed(|| {
+        for _ in 0..times {
+            bytes.clear();
+            map.write(&mut bytes);
+        }
+    });
     bytes.len() as u64
 }
 
@@ -170,6 +178,7 @@ fn run_read<const N: usize>(call: &str, map: &mut BitMap<N>, times: u64) -> Opti
     let len = map.len();
     Some(match call {
         "get" => sum_of(times, || (0..len).fold(0, |sum, position| sum + u64::from(map.get(position)))),
+        "get_far" => get_far(map, times),
         "equal" => equal(map, times),
         "hash" => hash(map, times),
         "count_ones" => sum_of(times, || black_box(&*map).count_ones()),

@@ -3,7 +3,7 @@
 use crate::batches::{committed, count_random, edit, filled, read_random};
 use crate::dense::sum_of;
 use commonware_utils::bitmap::historical::{CleanBitMap, DirtyBitMap};
-use shared::{Arguments, Positions, SETS};
+use shared::{timed, Arguments, Positions, SETS};
 use std::hint::black_box;
 
 // The number of the last commit of the bitmap whose past states are read.
@@ -19,25 +19,30 @@ fn edited<const N: usize>(bitmap: CleanBitMap<N>, edits: &str, positions: &mut P
 // Edits a batch, reads one of its bits and aborts it, `times` times.
 fn abort_each<const N: usize>(mut bitmap: CleanBitMap<N>, edits: &str, times: u64) -> Option<u64> {
     let mut positions = Positions::from_seed(times);
-    let mut sum = 0;
-    for _ in 0..times {
-        let (batch, read) = edited(bitmap, edits, &mut positions)?;
-        sum += read + read_random(&batch, &mut positions) + batch.len();
-        bitmap = batch.abort();
-    }
-    Some(sum + bitmap.len())
+    timed(|| {
+        let mut sum = 0;
+        for _ in 0..times {
+            let (batch, read) = edited(bitmap, edits, &mut positions)?;
+            sum += read + read_random(&batch, &mut positions) + batch.len();
+            bitmap = batch.abort();
+        }
+        Some(sum + bitmap.len())
+    })
 }
 
 // Edits a batch and commits it, `times` times. Earlier commits are dropped.
 fn commit_each<const N: usize>(mut bitmap: CleanBitMap<N>, edits: &str, times: u64) -> Option<u64> {
     let mut positions = Positions::from_seed(times);
-    let mut sum = 0;
-    for round in 0..times {
-        let (batch, read) = edited(bitmap, edits, &mut positions)?;
-        sum += read;
-        bitmap = committed(batch, round + 1);
-        bitmap.prune_commits_before(round + 1);
-    }
+    let (sum, bitmap) = timed(|| {
+        let mut sum = 0;
+        for round in 0..times {
+            let (batch, read) = edited(bitmap, edits, &mut positions)?;
+            sum += read;
+            bitmap = committed(batch, round + 1);
+            bitmap.prune_commits_before(round + 1);
+        }
+        Some((sum, bitmap))
+    })?;
     Some(sum + bitmap.len() + count_random(bitmap.current(), &mut positions, SETS))
 }
 
@@ -65,17 +70,16 @@ fn with_commits<const N: usize>(mut bitmap: CleanBitMap<N>) -> Option<CleanBitMa
 // Rebuilds a past state as a bitmap, and reads one of its bits.
 fn read_owned<const N: usize>(bitmap: &CleanBitMap<N>, number: u64, times: u64) -> Option<u64> {
     let mut positions = Positions::from_seed(times);
-    let mut sum = 0;
-    for _ in 0..times {
-        let found = black_box(bitmap.get_at_commit(number)?);
-        sum += count_random(&found, &mut positions, 1);
-    }
-    Some(sum)
+    bitmap.commit_exists(number).then(|| {
+        sum_of(times, || bitmap.get_at_commit(number).map_or(0, |found| count_random(black_box(&found), &mut positions, 1)))
+    })
 }
 
 fn number_each<const N: usize>(bitmap: &CleanBitMap<N>, times: u64) -> u64 {
-    (0..times).fold(0, |sum, _| {
-        bitmap.commits().fold(sum, |sum: u64, number| sum.wrapping_mul(31).wrapping_add(number))
+    timed(|| {
+        (0..times).fold(0, |sum, _| {
+            bitmap.commits().fold(sum, |sum: u64, number| sum.wrapping_mul(31).wrapping_add(number))
+        })
     })
 }
 

@@ -2,15 +2,15 @@
 //!
 //! `commonware-utils` reads a past state by `get_at_commit` only, which rebuilds it:
 //!
-//! - `kept_get` rebuilds the oldest commit once per `READS` bits;
-//! - `kept_scan` rebuilds it each time;
+//! - `kept_get`, `at_get` and `indexed_get` rebuild the oldest commit once per `READS` bits;
+//! - `kept_scan`, `at_scan` and `indexed_scan` rebuild it each time;
 //! - `kept_rewind` rebuilds the commit to which it would rewind, and keeps the newer ones.
 
 use crate::batches::{committed, count_random, filled};
 use crate::dense::sum_of;
 use commonware_utils::bitmap::historical::CleanBitMap;
 use commonware_utils::bitmap::Readable;
-use shared::{Arguments, Positions};
+use shared::{timed, Arguments, Positions};
 use std::hint::black_box;
 
 // The number of bits that are read of a past state once it is rebuilt.
@@ -25,8 +25,8 @@ fn commit_one<const N: usize>(bitmap: CleanBitMap<N>, positions: &mut Positions,
     committed(batch, number)
 }
 
-// Commits, `times` times, after `count` commits. If `window` is true, then drops the oldest kept commit each time.
-fn commit_each<const N: usize>(
+/// Commits, `times` times, after `count` commits. If `window` is true, then drops the oldest kept commit each time.
+pub fn commit_each<const N: usize>(
     mut bitmap: CleanBitMap<N>,
     positions: &mut Positions,
     count: u64,
@@ -56,20 +56,24 @@ fn rewind_each<const N: usize>(mut bitmap: CleanBitMap<N>, positions: &mut Posit
 }
 
 fn get_each<const N: usize>(bitmap: &CleanBitMap<N>, positions: &mut Positions, times: u64) -> Option<u64> {
-    let mut sum = 0;
-    for first in (0..times).step_by(READS as usize) {
-        let found = black_box(bitmap.get_at_commit(0)?);
-        sum += count_random(&found, positions, READS.min(times - first));
-    }
-    Some(sum)
+    timed(|| {
+        let mut sum = 0;
+        for first in (0..times).step_by(READS as usize) {
+            let found = black_box(bitmap.get_at_commit(0)?);
+            sum += count_random(&found, positions, READS.min(times - first));
+        }
+        Some(sum)
+    })
 }
 
 fn scan_each<const N: usize>(bitmap: &CleanBitMap<N>, times: u64) -> Option<u64> {
-    let mut sum = 0;
-    for _ in 0..times {
-        sum += bitmap.get_at_commit(0)?.ones_iter_from(0).count() as u64;
-    }
-    Some(sum)
+    timed(|| {
+        let mut sum = 0;
+        for _ in 0..times {
+            sum += bitmap.get_at_commit(0)?.ones_iter_from(0).count() as u64;
+        }
+        Some(sum)
+    })
 }
 
 /// Runs a call on a bitmap with `count` small commits, if `arguments` name one.
@@ -82,8 +86,8 @@ pub fn run<const N: usize>(arguments: &Arguments, count: u64) -> Option<u64> {
         "kept_window" => Some(commits_of(&commit_each(bitmap, &mut positions, count, times, true))),
         "kept_rewind" => rewind_each(bitmap, &mut positions, count, times),
         "kept_rebuild" => Some(sum_of(times, || bitmap.get_at_commit(0).map_or(0, |found| black_box(found).len()))),
-        "kept_get" => get_each(&bitmap, &mut positions, times),
-        "kept_scan" => scan_each(&bitmap, times),
+        "kept_get" | "at_get" | "indexed_get" => get_each(&bitmap, &mut positions, times),
+        "kept_scan" | "at_scan" | "indexed_scan" => scan_each(&bitmap, times),
         _ => None,
     }
 }

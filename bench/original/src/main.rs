@@ -2,12 +2,16 @@
 //!
 //! A call that this crate does not have is left out, apart from those of `kept`, which say what they do instead.
 //!
-//! The package `native` compiles the same sources with the Rust crate of this repository under the name `commonware_utils`.
+//! The package `native` compiles the same sources with the Rust crate of this repository under the name `commonware_utils`, and adds the calls of `own`,
+//! which `commonware-utils` does not have.
 
 mod batches;
 mod dense;
 mod historical;
 mod kept;
+#[cfg(feature = "native")]
+#[path = "../../native/src/own.rs"]
+mod own;
 mod pruned;
 
 use shared::Arguments;
@@ -15,6 +19,10 @@ use std::process::ExitCode;
 
 // Runs a call on bitmaps with chunks of `N` bytes. Some calls take a second bitmap, with chunks of `M` bytes.
 fn run_at<const N: usize, const M: usize>(arguments: &Arguments) -> Option<u64> {
+    #[cfg(feature = "native")]
+    if let Some(sum) = own::run::<N>(arguments) {
+        return Some(sum);
+    }
     if let Some(commits) = arguments.commits {
         return kept::run::<N>(arguments, commits);
     }

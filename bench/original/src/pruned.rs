@@ -2,7 +2,7 @@
 
 use crate::dense::{filled, sum_of};
 use commonware_utils::bitmap::Prunable;
-use shared::{Arguments, BYTE};
+use shared::{timed, Arguments, BYTE};
 
 // A bitmap of `bytes` bytes, nothing pruned.
 fn filled_log<const N: usize>(bytes: u64) -> Prunable<N> {
@@ -13,25 +13,27 @@ fn filled_log<const N: usize>(bytes: u64) -> Prunable<N> {
 
 // Removes all bits and appends `count` items, `times` times. The capacity is reused.
 fn refilled<const N: usize>(mut log: Prunable<N>, times: u64, count: u64, append: impl Fn(&mut Prunable<N>, u64)) -> u64 {
-    for _ in 0..times {
-        log.truncate(log.pruned_bits());
-        for item in 0..count {
-            append(&mut log, item);
+    timed(|| {
+        for _ in 0..times {
+            log.truncate(log.pruned_bits());
+            for item in 0..count {
+                append(&mut log, item);
+            }
         }
-    }
+    });
     log.len()
 }
 
 fn pop<const N: usize>(mut log: Prunable<N>, times: u64) -> u64 {
     let bits = log.len();
-    let mut sum = 0;
-    for _ in 0..times {
+    sum_of(times, || {
+        let mut sum = 0;
         log.extend_to(bits);
         while log.len() > log.pruned_bits() {
             sum += u64::from(log.pop());
         }
-    }
-    sum
+        sum
+    })
 }
 
 fn get_bit<const N: usize>(mut log: Prunable<N>, times: u64) -> u64 {
@@ -43,11 +45,13 @@ fn get_bit<const N: usize>(mut log: Prunable<N>, times: u64) -> u64 {
 
 fn set_bit<const N: usize>(mut log: Prunable<N>, times: u64) -> u64 {
     log.prune_to_bit(8 * N as u64);
-    for round in 0..times {
-        for position in log.pruned_bits()..log.len() {
-            log.set_bit(position, (position ^ round) % 3 == 0);
+    timed(|| {
+        for round in 0..times {
+            for position in log.pruned_bits()..log.len() {
+                log.set_bit(position, (position ^ round) % 3 == 0);
+            }
         }
-    }
+    });
     u64::from(log.get_bit(log.len() - 1))
 }
 

@@ -1,6 +1,10 @@
-//! What all programs of the benchmarks share: their arguments, and the pseudorandom positions of their edits and reads.
+//! What all programs of the benchmarks share: their arguments, their clock, and the pseudorandom positions of their edits and reads.
 
+use std::env;
+use std::ffi::{c_int, c_long};
+use std::hint::black_box;
 use std::process::ExitCode;
+use std::sync::atomic::{AtomicU64, Ordering};
 
 /// The number of edits in a batch that sets or removes bits, and of the bits that are read to compare bitmaps.
 pub const SETS: u64 = 1000;
@@ -13,6 +17,9 @@ pub const BYTE: u8 = 105;
 
 /// One bit in so many is set in a sparse bitmap.
 pub const SPARSE: u64 = 1000;
+
+/// Calls that read bits at random positions read one per so many bits of the bitmap.
+pub const FAR: u64 = 32;
 
 /// The arguments of a program.
 pub struct Arguments {
@@ -49,12 +56,48 @@ impl Arguments {
     }
 }
 
+// The processor time that the measured calls have taken, in nanoseconds.
+static TAKEN: AtomicU64 = AtomicU64::new(0);
+
+// What `clock_gettime` of the C library writes, and its clock of the processor time of a process.
+#[repr(C)]
+struct Timespec {
+    seconds: c_long,
+    nanoseconds: c_long,
+}
+const PROCESSOR_TIME: c_int = 2;
+
+extern "C" {
+    fn clock_gettime(clock: c_int, time: *mut Timespec) -> c_int;
+}
+
+// The processor time of this process so far, in nanoseconds.
+fn processor_time() -> u64 {
+    let mut time = Timespec { seconds: 0, nanoseconds: 0 };
+    // SAFETY: `time` has the layout of the C library's `struct timespec` on 64-bit Linux, and is written before the call returns.
+    unsafe { clock_gettime(PROCESSOR_TIME, &mut time) };
+    time.seconds as u64 * 1_000_000_000 + time.nanoseconds as u64
+}
+
+/// Runs calls that are measured: their processor time is what the program prints, if it is asked for. What is before them makes a bitmap, say.
+pub fn timed<T>(calls: impl FnOnce() -> T) -> T {
+    let before = processor_time();
+    let result = black_box(calls());
+    TAKEN.fetch_add(processor_time() - before, Ordering::Relaxed);
+    result
+}
+
 /// Runs the call that the program's arguments name, and prints its checksum. `run` returns `None` if there is no such call.
+///
+/// If the environment has the variable `BENCH_TIME`, it also prints how many nanoseconds the measured calls took, as an error message.
 pub fn main(run: impl Fn(&Arguments) -> Option<u64>) -> ExitCode {
-    let words: Vec<String> = std::env::args().skip(1).collect();
+    let words: Vec<String> = env::args().skip(1).collect();
     match Arguments::from_words(&words).and_then(|arguments| run(&arguments)) {
         Some(sum) => {
             println!("{sum}");
+            if env::var_os("BENCH_TIME").is_some() {
+                eprintln!("{}", TAKEN.load(Ordering::Relaxed));
+            }
             ExitCode::SUCCESS
         }
         None => {
