@@ -7,6 +7,7 @@ from pathlib import Path
 
 from guide.all_or_none import set_all
 from guide.any_bits import next_around
+from guide.deltas import message_for, receive
 from guide.files import load, save
 from guide.last_versions import commit_set
 from guide.log import append
@@ -16,8 +17,8 @@ from guide.slots import new_slots, take_slot
 from guide.threads import add_flag
 from guide.updates import update_between
 from guide.versions import bit_then
-from mortarpink import Bitmap, InvalidError, InvalidLengthError, NoMemoryError, OutOfBoundsError
-from support import bitmap_of, failing
+from mortarpink import Bitmap, Error, InvalidError, InvalidLengthError, NoMemoryError, OutOfBoundsError
+from support import bitmap_of, failing, with_versions
 
 
 class Tasks(unittest.TestCase):
@@ -128,6 +129,19 @@ class Replicas(unittest.TestCase):
             with failing(call):
                 self.assertRaises(NoMemoryError, apply_update, replica, update_between(versions, 1, 2))
             self.assertEqual((bytes(replica), replica.latest), (bytes(versions.at(1)), 1))
+
+    def test_deltas(self):
+        writer = with_versions()
+        replicas = [Bitmap(1), *(writer.checkout(number) for number in writer.commits()), Bitmap.load(writer.save(), 1)]
+        replicas[-1].rewind_to(3)
+        for replica in replicas:
+            message = message_for(writer, replica.latest)
+            self.assertEqual(message[0], "history" if replica.latest is None else "delta")
+            replica = receive(replica, message)
+            self.assertEqual((replica.latest, bytes(replica)), (9, bytes(writer)))
+            self.assertIsNone(message_for(writer, replica.latest))
+            self.assertRaises(Error, receive, replica, ("delta", writer.delta(3, 9)))
+            self.assertEqual(bytes(replica), bytes(writer))
 
     def test_saved_versions(self):
         versions = self.versions(8)

@@ -2,7 +2,7 @@ from mortarpink import Bitmap
 
 
 def saved(versions: Bitmap) -> dict[int, bytes]:
-    """Returns the encoding of each kept version by its number. A history itself has no encoding."""
+    """Returns the encoding of each kept version by its number."""
     return {number: bytes(versions.at(number)) for number in versions.commits()}
 
 
