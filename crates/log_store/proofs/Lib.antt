@@ -1,4 +1,5 @@
 pub mod Appends
+pub mod Cuts
 pub mod Moments
 pub mod Past
 pub mod Prefixes

@@ -2,9 +2,11 @@
 #![tactic(auto)]
 
 mod appending;
+mod cutting;
 mod device;
 mod memory;
 
 pub use appending::append_synced;
+pub use cutting::cut_synced;
 pub use device::{Device, DeviceError};
 pub use memory::MemoryDevice;
