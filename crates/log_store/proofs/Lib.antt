@@ -1,4 +1,10 @@
 pub mod Appends
+pub mod AtRest
+pub mod Creating
+pub mod Cuts
+pub mod FirstEntries
 pub mod Moments
 pub mod Past
 pub mod Prefixes
+pub mod Reopening
+pub mod Stored

@@ -17,3 +17,23 @@ module _ {D : Type 0} (g : Ghosts D) where
     each = λ c left. ⊎_elim (so_far.each c) (here c) (time.nothing_else (g.moment old) c so_far.later left);
     before = λ t c le left. ⊎_elim (so_far.before t c le) (λ now. inr (here c now)) (time.nothing_else t c (omega (arith, le, so_far.later)) left);
   }
+
+  -- no call
+  pub unchanged : (device : D) (P : List ℕ → Type 0) → ((c : List ℕ) → g.left_since device (g.moment device) c → g.may_leave device c) → ((c : List ℕ) → g.may_leave device c → P c) → LeavesOnly g device device P
+  unchanged device P now here = started device P (λ c left. here c (now c left))
+
+  -- some calls, and then others
+  pub joined : (old mid new : D) (P Q R : List ℕ → Type 0) → LeavesOnly g old mid P → LeavesOnly g mid new Q → ((c : List ℕ) → P c → R c) → ((c : List ℕ) → Q c → R c) → LeavesOnly g old new R
+  joined old mid new P Q R one two p q = record {
+    later = omega (arith, one.later, two.later);
+    each = λ c left. ⊎_elim (λ was. p c (one.each c was)) (λ now. q c now) (two.before (g.moment old) c one.later left);
+    before = λ t c le left. ⊎_elim (λ was. ⊎_elim (λ w. inl w) (λ x. inr (p c x)) (one.before t c le was)) (λ now. inr (q c now)) (two.before t c (omega (arith, le, one.later)) left);
+  }
+
+  -- the same calls, of which less is said
+  pub weaker : (old new : D) (P Q : List ℕ → Type 0) → LeavesOnly g old new P → ((c : List ℕ) → P c → Q c) → LeavesOnly g old new Q
+  weaker old new P Q calls so = record {
+    later = calls.later;
+    each = λ c left. so c (calls.each c left);
+    before = λ t c le left. ⊎_elim (λ was. inl was) (λ now. inr (so c now)) (calls.before t c le left);
+  }

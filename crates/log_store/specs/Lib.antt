@@ -1,3 +1,5 @@
 pub mod Device
 pub mod Moments
+pub mod Opened
 pub mod Past
+pub mod Store

@@ -26,6 +26,9 @@ pub fn append_synced<D: Device>(device: &mut D, bytes: &[u8]) -> Result<(), Devi
     ensures any_moment { IsAtRest D.Device device.old → LeavesOnly D.Device device.old device.new
         (IsPrefix (length (D.seen device.old)) (D.seen device.old ++ bytes.now)) }
 
+    // A device that behaves as the model does so afterwards, whatever the result is.
+    ensures works { D.behaves device.old → D.behaves device.new }
+
     // The device is not blamed for what it did not do.
     ensures failed { D.behaves device.old
         → IfErr result (λ e. IsFailed e → D.faults device.old < D.faults device.new) }

@@ -1,10 +1,24 @@
-//! A device that keeps bytes, as a model of a disk that a crash may tear; a device in memory that behaves as the model; and an append that returns once it is kept.
+//! A store: a historical bitmap whose commits are kept on a device.
 #![tactic(auto)]
 
 mod appending;
+mod cutting;
 mod device;
+mod encoding;
+mod error;
+mod laws;
 mod memory;
+mod opening;
+mod reading;
+mod store;
+mod stored_log;
 
 pub use appending::append_synced;
+pub use cutting::cut_synced;
 pub use device::{Device, DeviceError};
+pub use error::StoreError;
+pub use laws::{a_crash_is_opened, a_crash_keeps_what_is_kept, calls_in_a_row};
 pub use memory::MemoryDevice;
+pub use opening::{CreateError, OpenError};
+pub use store::{Store, StoreBatch};
+pub use stored_log::StoredLog;

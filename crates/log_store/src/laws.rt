@@ -1,0 +1,63 @@
+//! Laws of stores: what holds of any sequence of calls, and after a crash at any moment of it. A law is the contract of a function whose body makes
+//! the calls that the law is about, or is empty.
+
+ghost use Rattle.std.specs.Prelude.{ℕ, ◌++◌, List, MatchResult};
+ghost use Rattle.bitmap_bytes.specs.Chunk.{IsWidth};
+ghost use Rattle.commit_log.specs.Base.{Base};
+ghost use Rattle.commit_log.specs.Entries.{Entry};
+ghost use Rattle.commit_log.specs.Kept.{Kept, kept_of};
+ghost use Rattle.log_store.specs.Moments.{IsAtRest};
+ghost use Rattle.log_store.specs.Opened.{IsPassing, OpensTo, RecoversTo};
+ghost use Rattle.log_store.specs.Store.{Becomes};
+
+use crate::device::Device;
+use crate::opening::OpenError;
+use crate::store::Store;
+use crate::stored_log::StoredLog;
+use std::alloc::Global;
+
+/// Calls, and further calls after them, are calls: what the contracts of the calls of a store say of each one holds of any sequence of them.
+///
+/// No call at all is a sequence too.
+pub fn calls_in_a_row<const N: usize, D: Device>(
+    old: &StoredLog<D>,
+    mid: &StoredLog<D>,
+    new: &StoredLog<D>,
+)
+    ensures { (base : Base) (begun further more : List Entry) (kept now last : ℕ)
+        (state later : Kept) → Becomes N D.Device base begun kept old.now further now state mid.now
+        → Becomes N D.Device base (begun ++ further) now mid.now more last later new.now
+        → Becomes N D.Device base begun kept old.now (further ++ more) last later new.now }
+{}
+
+/// A crash at any moment of some calls leaves bytes that recover to the state after some first ones of the entries that were begun, among them all
+/// that were kept when the calls began.
+pub fn a_crash_keeps_what_is_kept<const N: usize, D: Device>(old: &StoredLog<D>, new: &StoredLog<D>)
+    ensures { (base : Base) (begun further : List Entry) (kept now : ℕ) (state : Kept)
+        → Becomes N D.Device base begun kept old.now further now state new.now
+        → (c : List ℕ) → D.left_since new.now.device (D.moment old.now.device) c
+        → RecoversTo N base (begun ++ further) kept c }
+{}
+
+/// Opens a device that has what a crash left at any moment of some calls of a store.
+///
+/// The store is opened with some first ones of the entries that were begun, among them all that were kept when the calls began. So of all entries
+/// whose call had begun when the crash came, those are there whose call had returned `Ok`: the calls after the last of these are taken as the calls.
+///
+/// # Errors
+/// Those of [`Store::open`]. The device or an allocation has then failed.
+pub fn a_crash_is_opened<const N: usize, D: Device>(
+    alloc: Global,
+    old: &StoredLog<D>,
+    new: &StoredLog<D>,
+    device: D,
+) -> Result<Store<N, D>, (D, OpenError)>
+    requires { IsWidth N }
+    ensures { (base : Base) (begun further : List Entry) (kept now : ℕ) (state : Kept)
+        → Becomes N D.Device base begun kept old.now further now state new.now
+        → D.left_since new.now.device (D.moment old.now.device) (D.seen device)
+        → IsAtRest D.Device device → MatchResult result (λ store. OpensTo N D.Device base
+        (begun ++ further) kept (kept_of N store.bitmap) store.log) (λ e. IsPassing e.1) }
+{
+    Store::open(alloc, device)
+}
