@@ -1,0 +1,112 @@
+//! A crash after each byte of a run.
+
+use crate::checks::{equal, expect, ok};
+use crate::run::{CALLS, call, copy, finish, is_after};
+use commit_log::RecoverError;
+use log_frames::HeaderError;
+use log_store::{CreateError, MemoryDevice, OpenError, Store};
+use std::alloc::Global;
+use std::process::Abort;
+
+// Returns the bytes of the run, and their number after the creation of the store and after each call.
+fn bytes_of_run(rt: &impl Abort, alloc: Global) -> (Vec<u8>, Vec<usize>) {
+    let empty = MemoryDevice::new(alloc, Vec::new(alloc));
+    let mut store = ok(rt, Store::create(alloc, empty));
+    let mut ends = Vec::new(alloc);
+    ok(rt, ends.push(store.device().bytes().len()));
+    for index in 0..CALLS {
+        store = ok(rt, call(rt, store, index));
+        expect(rt, is_after(store.bitmap(), index.saturating_add(1)));
+        equal(rt, store.device().unsynced(), 0);
+        ok(rt, ends.push(store.device().bytes().len()));
+    }
+    (copy(rt, alloc, store.device().bytes()), ends)
+}
+
+// Returns how many calls of the run are whole in some first bytes, at whose end the last one is `end`.
+fn whole_calls(ends: &[usize], count: usize) -> (usize, usize) {
+    let mut calls = 0;
+    let mut last = 0;
+    for (index, end) in ends.iter().enumerate() {
+        if *end <= count {
+            calls = index;
+            last = *end;
+        }
+    }
+    (calls, last)
+}
+
+// From the bytes in which the base is whole, the store is opened after the calls that are whole in them, and goes on to the end of the run.
+#[test]
+fn opened_after_each_byte(rt: HostRuntime) {
+    let alloc = rt.alloc();
+    let (bytes, ends) = bytes_of_run(&rt, alloc);
+    expect(&rt, !ends.is_empty());
+    for count in ends[0]..bytes.len().saturating_add(1) {
+        expect(&rt, count <= bytes.len());
+        let (calls, end) = whole_calls(&ends, count);
+        let device = MemoryDevice::new(alloc, copy(&rt, alloc, &bytes[..count]));
+        let store = ok(&rt, Store::open(alloc, device));
+        expect(&rt, is_after(store.bitmap(), calls));
+        expect(
+            &rt,
+            end <= bytes.len() && store.device().bytes() == &bytes[..end],
+        );
+        let store = finish(&rt, store, calls);
+        expect(&rt, is_after(store.bitmap(), CALLS));
+        expect(&rt, store.device().bytes() == bytes.as_slice());
+    }
+}
+
+// Fewer bytes are not opened, and are left as they are.
+#[test]
+fn base_is_needed(rt: HostRuntime) {
+    let alloc = rt.alloc();
+    let (bytes, ends) = bytes_of_run(&rt, alloc);
+    expect(&rt, !ends.is_empty());
+    for count in 0..ends[0] {
+        expect(&rt, count <= bytes.len());
+        let device = MemoryDevice::new(alloc, copy(&rt, alloc, &bytes[..count]));
+        match Store::<1, MemoryDevice>::open(alloc, device) {
+            Err((device, OpenError::Log(RecoverError::Header(HeaderError::Short)))) => {
+                expect(&rt, count < 32 && device.bytes() == &bytes[..count]);
+            }
+            Err((device, OpenError::Log(RecoverError::NoBase))) => {
+                expect(&rt, count >= 32 && device.bytes() == &bytes[..count]);
+            }
+            _ => panic!(rt; "{count}"),
+        }
+    }
+}
+
+// A changed byte before the end is damage. It is not cut off, and the bytes are left as they are.
+#[test]
+fn damage_is_left(rt: HostRuntime) {
+    let alloc = rt.alloc();
+    let (bytes, ends) = bytes_of_run(&rt, alloc);
+    expect(&rt, !ends.is_empty());
+    for index in ends[0]..bytes.len() {
+        let mut changed = copy(&rt, alloc, &bytes);
+        expect(&rt, index < changed.len());
+        changed[index] ^= 0x10;
+        let expected = copy(&rt, alloc, &changed);
+        match Store::<1, MemoryDevice>::open(alloc, MemoryDevice::new(alloc, changed)) {
+            Err((device, OpenError::Log(RecoverError::Damaged { at, .. }))) => {
+                expect(&rt, at <= index as u64);
+                expect(&rt, device.bytes() == expected.as_slice());
+            }
+            _ => panic!(rt; "{index}"),
+        }
+    }
+}
+
+// A device that has bytes gets no store.
+#[test]
+fn only_empty_devices_get_a_store(rt: HostRuntime) {
+    let alloc = rt.alloc();
+    let device = MemoryDevice::new(alloc, copy(&rt, alloc, &[0]));
+    match Store::<1, MemoryDevice>::create(alloc, device) {
+        Err((device, CreateError::NotEmpty)) => expect(&rt, device.bytes() == [0].as_slice()),
+        _ => panic!(rt; "the device is not empty"),
+    }
+}

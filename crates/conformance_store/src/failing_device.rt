@@ -1,0 +1,93 @@
+//! A device in memory that fails.
+
+ghost use Rattle.std.specs.Prelude.{◌≡◌};
+
+use log_store::{Device, DeviceError};
+use std::alloc::{AllocError, Global};
+
+/// A device in memory that fails at one call, and works again after it.
+///
+/// Nothing is proved of what it does: its contract is that of a device that does not behave as the model. The tests look at its bytes.
+#[derive(Drop)]
+pub struct FailingDevice {
+    bytes: Vec<u8>,
+    // How many appends and syncs succeed before the one that fails, or `None` once one has failed.
+    left: Option<usize>,
+    // How many bytes an append that fails appends.
+    torn: usize,
+}
+
+impl FailingDevice {
+    /// Returns an empty device, of which the append or sync after the first `successes` fails. An append that fails appends at most `torn` bytes.
+    pub fn new(alloc: Global, successes: usize, torn: usize) -> FailingDevice {
+        FailingDevice {
+            bytes: Vec::new(alloc),
+            left: Some(successes),
+            torn,
+        }
+    }
+
+    /// Returns the bytes.
+    pub fn bytes(&self) -> &[u8] {
+        &self.bytes
+    }
+
+    // Counts a call, and returns whether it is the one that fails.
+    fn fails(&mut self) -> bool {
+        match self.left {
+            Some(0) => {
+                self.left = None;
+                true
+            }
+            Some(left) => {
+                self.left = Some(left.saturating_sub(1));
+                false
+            }
+            None => false,
+        }
+    }
+}
+
+impl Device for FailingDevice {
+    ghost behaves = { λ device. ⊥ };
+
+    ghost seen = { λ device. device.bytes.items };
+
+    ghost may_leave = { λ device c. ⊥ };
+
+    ghost moment = { λ device. 0 };
+
+    ghost left_since = { λ device t c. ⊥ };
+
+    ghost faults = { λ device. 0 };
+
+    ghost counts_now = { λ device t c behaves le left. absurd behaves };
+
+    ghost only_now = { λ device c behaves left. absurd behaves };
+
+    fn read_all(&mut self, alloc: Global) -> Result<Vec<u8>, DeviceError> {
+        Ok(self.bytes.to_vec(alloc)?)
+    }
+
+    fn append(&mut self, bytes: &[u8]) -> Result<(), DeviceError> {
+        if self.fails() {
+            let torn = bytes.len().min(self.torn);
+            self.bytes.extend_from_slice(&bytes[..torn])?;
+            return Err(DeviceError::Failed(None));
+        }
+        self.bytes.extend_from_slice(bytes)?;
+        Ok(())
+    }
+
+    fn cut_to(&mut self, len: u64) -> Result<(), DeviceError> {
+        self.bytes.truncate(len as usize);
+        Ok(())
+    }
+
+    fn sync(&mut self) -> Result<(), DeviceError> {
+        if self.fails() {
+            return Err(DeviceError::Failed(None));
+        }
+        Ok(())
+    }
+}

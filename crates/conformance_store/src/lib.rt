@@ -1,0 +1,13 @@
+//! Tests of stores, through the public calls of `log_store` alone.
+#![tactic(auto)]
+
+#[cfg(test)]
+mod checks;
+#[cfg(test)]
+mod crashes;
+#[cfg(test)]
+mod failing_device;
+#[cfg(test)]
+mod failures;
+#[cfg(test)]
+mod run;
