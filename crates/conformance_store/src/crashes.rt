@@ -1,6 +1,7 @@
 //! A crash after each byte of a run.
 
 use crate::checks::{equal, expect, ok};
+use crate::failing_device::FailingDevice;
 use crate::run::{CALLS, call, copy, finish, is_after};
 use commit_log::RecoverError;
 use log_frames::HeaderError;
@@ -10,7 +11,7 @@ use std::process::Abort;
 
 // Returns the bytes of the run, and their number after the creation of the store and after each call.
 fn bytes_of_run(rt: &impl Abort, alloc: Global) -> (Vec<u8>, Vec<usize>) {
-    let empty = MemoryDevice::new(alloc, Vec::new(alloc));
+    let empty = FailingDevice::reliable(Vec::new(alloc));
     let mut store = ok(rt, Store::create(alloc, empty));
     let mut ends = Vec::new(alloc);
     ok(rt, ends.push(store.device().bytes().len()));
@@ -45,7 +46,7 @@ fn opened_after_each_byte(rt: HostRuntime) {
     for count in ends[0]..bytes.len().saturating_add(1) {
         expect(&rt, count <= bytes.len());
         let (calls, end) = whole_calls(&ends, count);
-        let device = MemoryDevice::new(alloc, copy(&rt, alloc, &bytes[..count]));
+        let device = FailingDevice::reliable(copy(&rt, alloc, &bytes[..count]));
         let store = ok(&rt, Store::open(alloc, device));
         expect(&rt, is_after(store.bitmap(), calls));
         expect(

@@ -1,27 +1,40 @@
-//! A device in memory that fails.
+//! A device in memory that can fail.
 
 ghost use Rattle.std.specs.Prelude.{◌≡◌};
 
 use log_store::{Device, DeviceError};
 use std::alloc::{AllocError, Global};
 
-/// A device in memory that fails at one call, and works again after it.
+/// A device in memory that fails at one call, if at all, and works again after it.
 ///
 /// Nothing is proved of what it does: its contract is that of a device that does not behave as the model. The tests look at its bytes.
 #[derive(Drop)]
 pub struct FailingDevice {
     bytes: Vec<u8>,
-    // How many appends and syncs succeed before the one that fails, or `None` once one has failed.
+    // How many of the last bytes are not synced.
+    unsynced: usize,
+    // How many appends and syncs succeed before the one that fails, or `None` if none fails from now on.
     left: Option<usize>,
     // How many bytes an append that fails appends.
     torn: usize,
 }
 
 impl FailingDevice {
+    /// Returns a device that has bytes, all of which are synced, and that does not fail.
+    pub fn reliable(bytes: Vec<u8>) -> FailingDevice {
+        FailingDevice {
+            bytes,
+            unsynced: 0,
+            left: None,
+            torn: 0,
+        }
+    }
+
     /// Returns an empty device, of which the append or sync after the first `successes` fails. An append that fails appends at most `torn` bytes.
     pub fn new(alloc: Global, successes: usize, torn: usize) -> FailingDevice {
         FailingDevice {
             bytes: Vec::new(alloc),
+            unsynced: 0,
             left: Some(successes),
             torn,
         }
@@ -30,6 +43,11 @@ impl FailingDevice {
     /// Returns the bytes.
     pub fn bytes(&self) -> &[u8] {
         &self.bytes
+    }
+
+    /// Returns how many of the last bytes are not synced.
+    pub fn unsynced(&self) -> usize {
+        self.unsynced
     }
 
     // Counts a call, and returns whether it is the one that fails.
@@ -76,6 +94,7 @@ impl Device for FailingDevice {
             return Err(DeviceError::Failed(None));
         }
         self.bytes.extend_from_slice(bytes)?;
+        self.unsynced = self.unsynced.saturating_add(bytes.len());
         Ok(())
     }
 
@@ -88,6 +107,7 @@ impl Device for FailingDevice {
         if self.fails() {
             return Err(DeviceError::Failed(None));
         }
+        self.unsynced = 0;
         Ok(())
     }
 }

@@ -2,7 +2,7 @@
 
 use crate::checks::{expect, ok};
 use crate::failing_device::FailingDevice;
-use crate::run::{CALLS, call, copy, is_after};
+use crate::run::{CALLS, TestStore, call, copy, is_after};
 use log_store::{DeviceError, MemoryDevice, Store, StoreError};
 use std::alloc::Global;
 use std::process::Abort;
@@ -14,11 +14,7 @@ const TORN: [usize; 4] = [0, 1, 30, usize::MAX];
 const DEVICE_CALLS: usize = 2 * (CALLS + 1);
 
 // Each further call is refused, and the bitmap is that after the calls that succeeded.
-fn expect_read_only(
-    rt: &impl Abort,
-    store: Store<1, FailingDevice>,
-    count: usize,
-) -> Store<1, FailingDevice> {
+fn expect_read_only(rt: &impl Abort, store: TestStore, count: usize) -> TestStore {
     let mut store = store;
     for index in 0..CALLS {
         expect(rt, store.is_read_only() && is_after(store.bitmap(), count));
@@ -32,10 +28,7 @@ fn expect_read_only(
 }
 
 // Makes the calls of the run until one fails, and returns the store with the number of calls that succeeded.
-fn run_until_failure(
-    rt: &impl Abort,
-    store: Store<1, FailingDevice>,
-) -> (Store<1, FailingDevice>, usize) {
+fn run_until_failure(rt: &impl Abort, store: TestStore) -> (TestStore, usize) {
     let mut store = store;
     for index in 0..CALLS {
         match call(rt, store, index) {

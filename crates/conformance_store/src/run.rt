@@ -1,8 +1,9 @@
 //! A run of seven calls, and the state of the store after each of them.
 
 use crate::checks::ok;
+use crate::failing_device::FailingDevice;
 use historical_bitmap::bitmap::historical::{CleanBitMap, DirtyBitMap};
-use log_store::{Device, Store, StoreError};
+use log_store::{Store, StoreError};
 use std::alloc::Global;
 use std::process::Abort;
 use test_support::compare::has_bits;
@@ -10,8 +11,11 @@ use test_support::compare::has_bits;
 /// The number of calls of the run.
 pub const CALLS: usize = 7;
 
-/// A store whose chunks have one byte, or that store with the error of a call.
-pub type Called<D> = Result<Store<1, D>, (Store<1, D>, StoreError)>;
+/// A store whose chunks have one byte.
+pub type TestStore = Store<1, FailingDevice>;
+
+/// A store after a call, or the store with the error of the call.
+pub type Called = Result<TestStore, (TestStore, StoreError)>;
 
 // Appends bits, where `1` is a set bit.
 fn push_digits(rt: &impl Abort, batch: &mut DirtyBitMap<1>, digits: &[u8]) {
@@ -22,12 +26,7 @@ fn push_digits(rt: &impl Abort, batch: &mut DirtyBitMap<1>, digits: &[u8]) {
 }
 
 // Commits the bitmap with these bits appended.
-fn commit<D: Device + Drop>(
-    rt: &impl Abort,
-    store: Store<1, D>,
-    number: u64,
-    digits: &[u8],
-) -> Called<D> {
+fn commit(rt: &impl Abort, store: TestStore, number: u64, digits: &[u8]) -> Called {
     let mut batch = store.into_batch();
     push_digits(rt, &mut batch.batch, digits);
     match batch.commit(number) {
@@ -37,7 +36,7 @@ fn commit<D: Device + Drop>(
 }
 
 // Drops the commits before a number.
-fn drop_before<D: Device + Drop>(store: Store<1, D>, number: u64) -> Called<D> {
+fn drop_before(store: TestStore, number: u64) -> Called {
     let mut store = store;
     match store.drop_before(number) {
         Ok(()) => Ok(store),
@@ -46,7 +45,7 @@ fn drop_before<D: Device + Drop>(store: Store<1, D>, number: u64) -> Called<D> {
 }
 
 // Drops all commits.
-fn clear<D: Device + Drop>(store: Store<1, D>) -> Called<D> {
+fn clear(store: TestStore) -> Called {
     let mut store = store;
     match store.clear() {
         Ok(()) => Ok(store),
@@ -55,7 +54,7 @@ fn clear<D: Device + Drop>(store: Store<1, D>) -> Called<D> {
 }
 
 /// Makes the call of the run after the first `index` calls.
-pub fn call<D: Device + Drop>(rt: &impl Abort, store: Store<1, D>, index: usize) -> Called<D> {
+pub fn call(rt: &impl Abort, store: TestStore, index: usize) -> Called {
     match index {
         0 => commit(rt, store, 1, b"101"),
         1 => commit(rt, store, 5, b"11010011"),
@@ -89,7 +88,7 @@ pub fn is_after(map: &CleanBitMap<1>, count: usize) -> bool {
 }
 
 /// Makes the calls of the run after the first `count` calls. Each call succeeds.
-pub fn finish<D: Device + Drop>(rt: &impl Abort, store: Store<1, D>, count: usize) -> Store<1, D> {
+pub fn finish(rt: &impl Abort, store: TestStore, count: usize) -> TestStore {
     let mut store = store;
     for index in count..CALLS {
         store = ok(rt, call(rt, store, index));
