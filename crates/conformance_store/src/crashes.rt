@@ -91,13 +91,15 @@ fn damage_is_left(rt: HostRuntime) {
         expect(&rt, index < changed.len());
         changed[index] ^= 0x10;
         let expected = copy(&rt, alloc, &changed);
-        match Store::<1, MemoryDevice>::open(alloc, MemoryDevice::new(alloc, changed)) {
-            Err((device, OpenError::Log(RecoverError::Damaged { at, .. }))) => {
-                expect(&rt, at <= index as u64);
-                expect(&rt, device.bytes() == expected.as_slice());
-            }
-            _ => panic!(rt; "{index}"),
-        }
+        let device = MemoryDevice::new(alloc, changed);
+        let Err((device, error)) = Store::<1, MemoryDevice>::open(alloc, device) else {
+            panic!(rt; "{index}")
+        };
+        expect(&rt, device.bytes() == expected.as_slice());
+        let OpenError::Log(RecoverError::Damaged { at, .. }) = error else {
+            panic!(rt; "{index}")
+        };
+        expect(&rt, at <= index as u64);
     }
 }
 
