@@ -275,7 +275,8 @@ mortarpink_status mortarpink_extend_to(mortarpink_bitmap *bitmap, uint64_t lengt
 mortarpink_status mortarpink_prune(mortarpink_bitmap *bitmap, uint64_t position);
 
 /* Ends the batch: the pending bitmap becomes the current one, and is kept under the number. The number has to be
- * above the last one that was committed or rewound to, even if that commit was dropped since.
+ * above the last one that was committed or rewound to, even if that commit was dropped since. So after a commit
+ * under 2^64 - 2, the greatest number, there is none unless the bitmap is rewound to an earlier commit.
  * Errors: returns the first status that applies. The batch then goes on.
  * - MORTARPINK_WRONG_MODE if there is no batch
  * - MORTARPINK_RESERVED_COMMIT_NUMBER if the number is 2^64 - 1
@@ -495,8 +496,9 @@ mortarpink_status mortarpink_latest(const mortarpink_bitmap *bitmap, uint64_t *n
 mortarpink_status mortarpink_earliest(const mortarpink_bitmap *bitmap, uint64_t *number);
 
 /* Writes a page of the indices, from `first` on, of the chunks that differ between the bitmaps at two commits.
- * Indices count chunks. They are absolute and ascending. A chunk that only one of the bitmaps retains differs.
- * *count becomes how many are written. Pages are as those of mortarpink_ones.
+ * Indices count chunks. They are absolute and ascending. A chunk that only one of the bitmaps retains differs. Bits
+ * past a length count as zeros, so zeros that are appended to a partly filled chunk change no chunk: a replica needs
+ * the length too. *count becomes how many are written. Pages are as those of mortarpink_ones.
  * Errors: returns MORTARPINK_WRONG_MODE in a batch, and MORTARPINK_NO_SUCH_COMMIT unless both commits are kept and
  *   `from` is at most `to`. *count and `out` are then unchanged.
  * Cost: two searches of the kept commits, and per chunk examined a search of each commit after `from`. A page

@@ -388,7 +388,8 @@ class Batch(_Bits):
     def commit(self, number: int) -> None:
         """Ends the batch. The pending bitmap becomes the current one, and is kept under the number.
 
-        The number is above the last one that was committed or rewound to, even if that commit was dropped since.
+        The number is above the last one that was committed or rewound to, even if that commit was dropped since. After a
+        commit under 2^64 - 2, the greatest number, there is none unless the bitmap is rewound to an earlier commit.
         Raises ReservedCommitNumberError, NonMonotonicCommitError or NoMemoryError. The batch goes on then.
         """
         number, previous = u64(number), U64()
@@ -637,8 +638,9 @@ class Bitmap(_Reads):
         """Returns an iterator over the indices of the chunks that differ between two commits, ascending.
 
         The older number comes first: `changed_chunks(1, 2)`, and not `changed_chunks(2, 1)`. A chunk that only one of
-        the versions retains differs. The iterator reads in pages, as `ones`. A page takes time linear in its changed
-        chunks, with a search of each commit after `older` per chunk.
+        the versions retains differs. Bits past a length count as zeros, so zeros that are appended to a partly filled
+        chunk change no chunk: a replica needs the length too. The iterator reads in pages, as `ones`. A page takes time
+        linear in its changed chunks, with a search of each commit after `older` per chunk.
 
         Raises NoSuchCommitError unless both commits are kept and `older` is at most `newer`.
         """

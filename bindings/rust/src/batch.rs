@@ -313,7 +313,8 @@ impl<'a> Batch<'a> {
     /// Ends the batch. The pending bitmap becomes the current one, and is kept under a number.
     ///
     /// The number is above the last one that was committed or rewound to, even if that commit was
-    /// dropped since.
+    /// dropped since. After a commit under `u64::MAX - 1`, the greatest number, there is none unless
+    /// the bitmap is rewound to an earlier commit.
     ///
     /// # Errors
     ///

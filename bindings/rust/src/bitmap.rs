@@ -588,7 +588,8 @@ impl Bitmap {
     /// Returns an iterator over the indices of the chunks that differ between two commits.
     ///
     /// The indices are absolute and ascending. A chunk that only one of the versions retains
-    /// differs.
+    /// differs. Bits past a length count as zeros, so zeros that are appended to a partly filled
+    /// chunk change no chunk: a replica needs the length too.
     ///
     /// # Errors
     ///

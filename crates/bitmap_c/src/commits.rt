@@ -105,7 +105,8 @@ pub extern "C" fn mortarpink_commits(
 
 /// Writes a page of the indices, from `first` on, of the chunks that differ between the bitmaps at two commits.
 ///
-/// Indices count chunks. They are absolute and ascending. A chunk that only one of the bitmaps retains differs. `count` becomes how many
+/// Indices count chunks. They are absolute and ascending. A chunk that only one of the bitmaps retains differs. Bits past a length count as
+/// zeros, so zeros that are appended to a partly filled chunk change no chunk: a replica needs the length too. `count` becomes how many
 /// are written. Pages are as those of `mortarpink_ones`.
 ///
 /// # Errors

@@ -221,7 +221,8 @@ fn commit(any: &mut AnySession, number: u64, previous: &mut u64) -> u32
 
 /// Ends the batch: the pending bitmap becomes the current one, and is kept under the number.
 ///
-/// The number has to be above the last one that was committed or rewound to, even if that commit was dropped since.
+/// The number has to be above the last one that was committed or rewound to, even if that commit was dropped since. So after a commit under
+/// 2^64 - 2, the greatest number, there is none unless the bitmap is rewound to an earlier commit.
 ///
 /// # Errors
 ///
