@@ -114,7 +114,7 @@ still_rises N same old new command reply e rise step =
     numbers_rise_on N old new (command ∷ []) (reply ∷ []) before (step_is_run N old new command reply step)
 
 -- the latest number of two or more commits is the latest of those after the first
-pub latest-cons : (e f : ℕ × PrunedBits) (es : History) → latest (e ∷ f ∷ es) ≡ latest (f ∷ es)
+latest-cons : (e f : ℕ × PrunedBits) (es : History) → latest (e ∷ f ∷ es) ≡ latest (f ∷ es)
 latest-cons e f es =
     let a : length (e ∷ f ∷ es) - 1 ≡ suc (length es) = omega arith in
     let b : length (f ∷ es) - 1 ≡ length es = omega arith in

@@ -11,7 +11,7 @@ use Rattle.std.proofs.lemmas.Bool.{cases_eq, eq-eqb, ne_eqb}
 use Rattle.std.proofs.lemmas.List.{append-nil}
 use Rattle.std.proofs.lemmas.Option.{none-some, same_Some}
 use Rattle.bitmap_core.specs.PrunedBits.{PrunedBits, bit_len}
-use Rattle.historical_bitmap.specs.History.{LatestIsLast, RiseInNumber, kept_under, latest}
+use Rattle.historical_bitmap.specs.History.{LatestIsLast, RiseInNumber, kept_under}
 use Rattle.historical_bitmap.specs.Pending.{PendingEdits}
 use Rattle.historical_bitmap.specs.View.{View, pending_of}
 use Rattle.historical_bitmap.proofs.History.PastStates.{below}
@@ -23,7 +23,7 @@ use Rattle.bitmap_session.specs.Abstraction.{dirty}
 use Rattle.bitmap_session.specs.Machine.{Machine}
 use Rattle.bitmap_session.specs.Saved.{AppliesDelta, IsOutside}
 use Rattle.bitmap_session.specs.declared.session.saved.ApplyDeltaError.TheVariants.{InBatch}
-use Rattle.bitmap_session.proofs.KeptNumbers.{History, latest-cons}
+use Rattle.bitmap_session.proofs.KeptNumbers.{History}
 
 -- ---- kept states by their numbers
 
@@ -143,22 +143,6 @@ prunes : (history : History) → CountsRise history → RiseInNumber history →
 prunes [] counts rise = tt
 prunes (first ∷ later) counts rise = (omega arith, prunes_on (first ∷ later) [] first later counts rise refl)
 
--- ---- the last number
-
-latest_fits : (n : ℕ) (first : ℕ × PrunedBits) (later : History) → AllByRecursion (FitsKept n) (first ∷ later) → IfSome (latest (first ∷ later)) (λ number. number < 2 ^ 64 - 1) × IsSome (latest (first ∷ later))
-latest_fits n first [] fit = (fit.0.0, refl)
-latest_fits n first (kept ∷ later) fit = rw (latest-cons first kept later) (latest_fits n kept later fit.1)
-
-of_latest : (found last : Option ℕ) → IfSome found (λ number. number < 2 ^ 64 - 1) → IsSome found → IfSome found (λ number. last ≡ Some number) → IfSome last (λ number. number < 2 ^ 64 - 1)
-of_latest None last small there is = absurd cc
-of_latest (Some number) last small there is = rw is small
-
-last_fits : (n : ℕ) (history : History) (last : Option ℕ) → AllByRecursion (FitsKept n) history → LatestIsLast history last → (history ≡ [] → IfSome last (λ number. number < 2 ^ 64 - 1)) → IfSome last (λ number. number < 2 ^ 64 - 1)
-last_fits n [] last fit ends without = without refl
-last_fits n (first ∷ later) last fit ends without =
-    let l = latest_fits n first later fit in
-    of_latest (latest (first ∷ later)) last l.0 l.1 ends
-
 -- ---- the whole state
 
 all_numbers : (n : ℕ) (history : History) → AllByRecursion (FitsKept n) history → AllByRecursion (λ kept. kept.0 < 2 ^ 64 - 1) history
@@ -169,12 +153,12 @@ all_lens : (n : ℕ) (history : History) → AllByRecursion (FitsKept n) history
 all_lens n [] fit = tt
 all_lens n (kept ∷ later) fit = (fit.0.1, all_lens n later fit.1)
 
-pub has_log : (n : ℕ) (s : Kept) → RiseInNumber s.history → CountsRise s.history → AllByRecursion (FitsKept n) s.history → LatestIsLast s.history s.last → bit_len n s.current < 2 ^ 64
-    → (s.history ≡ [] → IfSome s.last (λ number. number < 2 ^ 64 - 1)) → length (history_bytes n s) < 2 ^ 64 → HasLog n s
-has_log n s rise counts fit ends len without small = record {
+pub has_log : (n : ℕ) (s : Kept) → RiseInNumber s.history → CountsRise s.history → AllByRecursion (FitsKept n) s.history → bit_len n s.current < 2 ^ 64
+    → IfSome s.last (λ number. number < 2 ^ 64 - 1) → length (history_bytes n s) < 2 ^ 64 → HasLog n s
+has_log n s rise counts fit len last small = record {
   rise = rise;
   numbers = all_numbers n s.history fit;
-  last = last_fits n s.history s.last fit ends without;
+  last = last;
   pruned = prunes s.history counts rise;
   lens = all_lens n s.history fit;
   len = len;

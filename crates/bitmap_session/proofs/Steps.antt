@@ -1,6 +1,6 @@
 -- Each command of a session is a step of the abstract machine.
 use Rattle.std.proofs.Common.{◌≡◌, ℕ, ◌+◌, ◌-◌, ◌*◌, ◌/◌, ◌<◌, ◌≤◌, ◌^◌, List, [], ◌∷◌, ◌++◌, Bool, Some, None, Option, refl, sym, ap, ◌∙◌, inl, inr, arith, append-nil, true, false, length}
-use Rattle.std.specs.Prelude.{not, ⊤, if◌then◌else◌, is_some, MatchOption, IsTrue, ◌⊎◌, nat_lt, nat_le, ◌==◌, option_and_then, unwrap_or, alloc_error}
+use Rattle.std.specs.Prelude.{not, ⊤, IsSome, if◌then◌else◌, is_some, MatchOption, IsTrue, ◌⊎◌, nat_lt, nat_le, ◌==◌, option_and_then, unwrap_or, alloc_error}
 use Rattle.std.specs.Option.{option_or, option_map}
 use Rattle.std.specs.Global.{Vec}
 use Rattle.std.proofs.lemmas.Bool.{cases_Bool, cases_lt, false≢true, lt-ltb}
@@ -400,6 +400,25 @@ not_rewound N number v None e = refused N (clean N v) (Rewind number) NoSuchComm
 not_rewound N number v (Some kept) e = out_of_memory N (clean N v) (Rewind number) (rw e refl) (rw e refl)
 
 -- a rewind makes the bitmap at the commit current
+pub rewound_as : (N number : ℕ) (old new : View ⊤)
+    → IsSome (kept_under (history_of N old) number)
+    → new.current ≡ unwrap_or (kept_under (history_of N old) number) old.current
+    → history_of N new ≡ up_to_number number (history_of N old)
+    → costs_of new ≡ up_to_number number (costs_of old)
+    → new.last ≡ Some number
+    → StepTo N Agrees (clean N old) (Rewind number) Done (clean N new)
+rewound_as N number old new there k h c l = rw there (inl (
+  refl,
+  (
+    0,
+    omega arith,
+    record {
+      same = same_state _ _ _ _ _ _ _ _ _ _ k refl h c l;
+      within = λ q m. m;
+    },
+  ),
+))
+
 pub rewound_to : (N number : ℕ) (old new : View ⊤)
     → kept_under (history_of N old) number ≡ Some new.current
     → history_of N new ≡ up_to_number number (history_of N old)

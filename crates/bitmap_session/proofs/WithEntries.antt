@@ -1,10 +1,10 @@
 -- A command that is run with its entry is a step of the machine, and the entry makes of what is kept what the step does.
-use Rattle.std.proofs.Common.{◌≡◌, ℕ, List, [], ◌∷◌, ◌++◌, Bool, true, false, Option, Some, None, Result, Ok, Err, refl, sym, ap, subst, ◌∙◌, append_assoc, append-nil, inl, inr, arith}
+use Rattle.std.proofs.Common.{◌≡◌, ℕ, List, [], ◌∷◌, ◌++◌, Bool, true, false, Option, Some, None, Result, Ok, Err, refl, sym, ap, subst, ◌∙◌, append_assoc, append-nil, inl, inr}
 use Rattle.std.specs.Prelude.{⊤, IfOk, IsTrue, OnErr, MatchOption, ◌⊎◌, alloc_error, if◌then◌else◌, is_some, unwrap_or}
 use Rattle.std.proofs.lemmas.Bool.{false≢true}
-use Rattle.historical_bitmap.specs.History.{kept_under}
+use Rattle.historical_bitmap.specs.History.{kept_under, up_to_number}
 use Rattle.historical_bitmap.specs.Pending.{PendingEdits}
-use Rattle.historical_bitmap.specs.View.{View, commit_error, history_of, pending_of}
+use Rattle.historical_bitmap.specs.View.{AddsCost, View, commit_error, costs_of, history_of, pending_of}
 use Rattle.historical_bitmap.specs.declared.bitmap.historical.error.Error.TheVariants as commit_errors
 use Rattle.historical_bitmap.specs.declared.bitmap.historical.error.RewindError.TheVariants as rewind_errors
 use Rattle.log_frames.specs.Frames.{frame, next}
@@ -22,39 +22,10 @@ use Rattle.bitmap_session.specs.Replies.{ReplyValue, Refusal}
 use Rattle.bitmap_session.specs.Replies.ReplyValue.{Done, Refused}
 use Rattle.bitmap_session.specs.Replies.Refusal.{NoMemory}
 use Rattle.bitmap_session.specs.Abstraction.{clean, dirty, reason_of, reason_of_rewind, value_of}
-use Rattle.bitmap_session.specs.Logged.{AgreesButCosts, IsLogged, LoggedView, Serves, accepted_entries, appended_all, entries_of, is_refused}
+use Rattle.bitmap_session.specs.Logged.{IsLogged, LoggedView, Serves, accepted_entries, appended_all, entries_of, is_refused}
 use Rattle.bitmap_session.specs.Machine.{Machine, State, Accepts, Agrees, Refuses, StepTo, allocates, is_dirty, refusal_of, state_after}
 use Rattle.bitmap_session.specs.Saved.{kept_part}
-use Rattle.bitmap_session.proofs.Steps.{commit_refusal, not_committed, not_rewound}
-
--- ---- steps up to costs
-
-pub but_costs : (a b : Machine) → Agrees a b → AgreesButCosts a b
-but_costs a b h = record {
-  current = ap (λ (s : State). s.current) h.same;
-  pending = ap (λ (s : State). s.pending) h.same;
-  history = ap (λ (s : State). s.history) h.same;
-  last = ap (λ (s : State). s.last) h.same;
-  within = h.within;
-}
-
--- a step, given the refusal that holds
-abbrev StepBy : (n : ℕ) → (Machine → Machine → Type 0) → Machine → Command n → ReplyValue → Machine → Option Refusal → Type 0
-StepBy n Is old command reply new refusal = MatchOption refusal
-    (Accepts n Is old command reply new ⊎ (IsTrue (allocates n old.state command) × Refuses n Is old NoMemory reply new))
-    (λ r. Refuses n Is old r reply new)
-
-step_by : (n : ℕ) (old : Machine) (command : Command n) (reply : ReplyValue) (new : Machine) (r : Option Refusal)
-    → StepBy n Agrees old command reply new r
-    → StepBy n AgreesButCosts old command reply new r
-step_by n old command reply new (Some refusal) h = (h.0, but_costs _ _ h.1)
-step_by n old command reply new None (inl h) = inl (h.0, (h.1.0, h.1.1, but_costs _ _ h.1.2))
-step_by n old command reply new None (inr h) = inr (h.0, (h.1.0, but_costs _ _ h.1.1))
-
-pub step_but_costs : (n : ℕ) (old : Machine) (command : Command n) (reply : ReplyValue) (new : Machine)
-    → StepTo n Agrees old command reply new
-    → StepTo n AgreesButCosts old command reply new
-step_but_costs n old command reply new step = step_by n old command reply new (refusal_of n old.state command) step
+use Rattle.bitmap_session.proofs.Steps.{not_committed, not_rewound, rewound_as, was_committed}
 
 -- ---- commands without an entry
 
@@ -98,9 +69,15 @@ keeps_all n s (DropBefore number) _ _ _ drop _ = absurd (drop number refl)
 keeps_all n s Clear _ _ _ _ clear = absurd (clear refl)
 keeps_all n s Entries _ _ _ _ _ = (refl, λ cost. refl)
 
+-- a step, given the refusal that holds
+abbrev StepBy : (n : ℕ) → Machine → Command n → ReplyValue → Machine → Option Refusal → Type 0
+StepBy n old command reply new refusal = MatchOption refusal
+    (Accepts n Agrees old command reply new ⊎ (IsTrue (allocates n old.state command) × Refuses n Agrees old NoMemory reply new))
+    (λ r. Refuses n Agrees old r reply new)
+
 kept_by : (n : ℕ) (old : Machine) (command : Command n) (reply : ReplyValue) (new : Machine) (r : Option Refusal)
     → ((cost : ℕ) → kept_part (state_after n old.state command cost) ≡ kept_part old.state)
-    → StepBy n Agrees old command reply new r
+    → StepBy n old command reply new r
     → kept_part new.state ≡ kept_part old.state
 kept_by n old command reply new (Some refusal) keeps h = ap (λ (s : State). kept_part s) h.1.same
 kept_by n old command reply new None keeps (inl h) = ap (λ (s : State). kept_part s) h.1.2.same ∙ keeps h.1.0
@@ -128,8 +105,7 @@ pub serves_exactly : (n : ℕ) (old new : LoggedView) (command : Command n) (rep
     → Logged n old new (entries_of n old.machine.state command reply)
     → Serves n old command reply new
 serves_exactly n old new command reply step logged = record {
-  step = step_but_costs n old.machine command reply new.machine step;
-  exact = λ other. step;
+  step = step;
   log = logged.0;
   follows = logged.1;
   kept = logged.2;
@@ -164,28 +140,13 @@ pub commit_served : (n number : ℕ) (v : View PendingEdits) (new : View ⊤) (l
     → kept_of n new ≡ after n (kept_of n v) (entry_of_commit n v number)
     → new.current ≡ pending_of n v
     → history_of n new ≡ history_of n v ++ (number, pending_of n v) ∷ []
+    → AddsCost n v number new
     → Serves n (record { machine = dirty n v; log = log }) (Commit number) Done (record { machine = clean n new; log = after_log })
-commit_served n number v new log after_log written follows entry current history =
-    record {
-      step = rw (commit_refusal n number v None follows.accepted.0) (inl (
-        refl,
-        (
-          0,
-          omega arith,
-          record {
-            current = current;
-            pending = refl;
-            history = history;
-            last = ap (λ (k : Kept). k.last) entry;
-            within = λ q m. m;
-          },
-        ),
-      ));
-      exact = λ other. absurd (other.no_commit number refl);
-      log = written;
-      follows = (follows, tt);
-      kept = entry;
-    }
+commit_served n number v new log after_log written follows entry current history costs =
+    let last = ap (λ (k : Kept). k.last) entry in
+    serves_exactly n (record { machine = dirty n v; log = log }) (record { machine = clean n new; log = after_log }) (Commit number) Done
+    (was_committed n number v new follows.accepted.0 current history last costs)
+    (written, (follows, tt), entry)
 
 pub commit_not_served : (n number : ℕ) (v : View PendingEdits) (log : LogView)
     → Serves n (record { machine = dirty n v; log = log }) (Commit number)
@@ -200,28 +161,12 @@ pub rewind_served : (n number : ℕ) (v new : View ⊤) (log after_log : LogView
     → after_log ≡ appended log (Entry.Rewind number)
     → MayFollow n (kept_of n v) (Entry.Rewind number)
     → kept_of n new ≡ after n (kept_of n v) (Entry.Rewind number)
+    → costs_of new ≡ up_to_number number (costs_of v)
     → Serves n (record { machine = clean n v; log = log }) (Rewind number) Done (record { machine = clean n new; log = after_log })
-rewind_served n number v new log after_log written follows entry =
-    record {
-      step = rw follows.accepted (inl (
-        refl,
-        (
-          0,
-          omega arith,
-          record {
-            current = ap (λ (k : Kept). k.current) entry;
-            pending = refl;
-            history = ap (λ (k : Kept). k.history) entry;
-            last = ap (λ (k : Kept). k.last) entry;
-            within = λ q m. m;
-          },
-        ),
-      ));
-      exact = λ other. absurd (other.no_rewind number refl);
-      log = written;
-      follows = (follows, tt);
-      kept = entry;
-    }
+rewind_served n number v new log after_log written follows entry costs =
+    serves_exactly n (record { machine = clean n v; log = log }) (record { machine = clean n new; log = after_log }) (Rewind number) Done
+    (rewound_as n number v new follows.accepted (ap (λ (k : Kept). k.current) entry) (ap (λ (k : Kept). k.history) entry) costs (ap (λ (k : Kept). k.last) entry))
+    (written, (follows, tt), entry)
 
 pub rewind_not_served : (n number : ℕ) (v : View ⊤) (log : LogView)
     → Serves n (record { machine = clean n v; log = log }) (Rewind number)

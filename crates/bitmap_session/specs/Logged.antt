@@ -1,6 +1,5 @@
 -- A session with its log: the entries of a command, and the log that the bytes of a session are. A chunk has n bytes.
 use Rattle.std.specs.Prelude.{◌≡◌, ◌⊎◌, ℕ, Bool, true, false, if◌then◌else◌, List, [], ◌∷◌, ◌++◌}
-use Rattle.historical_bitmap.specs.Edits.{IsWithin}
 use Rattle.commit_log.specs.Base.{Base}
 use Rattle.commit_log.specs.Entries.{Entry}
 use Rattle.commit_log.specs.Kept.{after_all, change_to}
@@ -76,23 +75,9 @@ appended_all log (e ∷ es) = appended_all (appended log e) es
 
 -- ---- what is served
 
--- a session agrees with a machine in all but the costs of the kept commits
-pub record AgreesButCosts (session machine : Machine) : Type 0 where
-  pub current : session.state.current ≡ machine.state.current
-  pub pending : session.state.pending ≡ machine.state.pending
-  pub history : session.state.history ≡ machine.state.history
-  pub last : session.state.last ≡ machine.state.last
-  pub within : IsWithin session.touched machine.touched
-
--- a command is neither a commit nor a rewind
-pub record IsOther {n : ℕ} (command : Command n) : Type 0 where
-  pub no_commit : (number : ℕ) → command ≡ Commit number → ⊥
-  pub no_rewind : (number : ℕ) → command ≡ Rewind number → ⊥
-
 -- a command with this reply makes of a session with its log another one: a step of the machine, and the entries of the command at the end of the log
 pub record Serves (n : ℕ) (old : LoggedView) (command : Command n) (reply : ReplyValue) (new : LoggedView) : Type 0 where
-  pub step : StepTo n AgreesButCosts old.machine command reply new.machine
-  pub exact : IsOther command → StepTo n Agrees old.machine command reply new.machine
+  pub step : StepTo n Agrees old.machine command reply new.machine
   pub log : new.log ≡ appended_all old.log (entries_of n old.machine.state command reply)
   pub follows : GoesOn n (kept_part old.machine.state)
       (entries_of n old.machine.state command reply)

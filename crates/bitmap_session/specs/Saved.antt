@@ -1,5 +1,5 @@
 -- What of a session outlives its process, and why a session does not apply a delta.
-use Rattle.std.specs.Prelude.{◌≡◌, ℕ, ◌-◌, ◌^◌, ◌<◌, true, List, [], None, Some, Result, IfErr, IfSome, MatchResult, OnErr, OnOk, alloc_error}
+use Rattle.std.specs.Prelude.{◌≡◌, ℕ, true, List, [], None, Some, Result, IfErr, MatchResult, OnErr, OnOk, alloc_error}
 use Rattle.bitmap_core.specs.PrunedBits.{PrunedBits}
 use Rattle.commit_log.specs.Delta.{Brings, IsDeltaError, IsStep, committed, delta_between, encode_delta}
 use Rattle.commit_log.specs.declared.deltas.DeltaError.TheVariants.{Memory}
@@ -16,10 +16,6 @@ kept_part s = record { current = s.current; history = s.history; last = s.last }
 -- a machine is outside a batch, and has touched no chunk
 abbrev pub IsOutside : Machine → Type 0
 IsOutside m = (m.state.pending ≡ None) × (m.touched ≡ [])
-
--- a state keeps a commit, or its last number, if there is one, is below the reserved one
-abbrev pub IsUnreserved : State → Type 0
-IsUnreserved s = s.history ≡ [] → IfSome s.last (λ number. number < 2 ^ 64 - 1)
 
 -- why a session of chunks of n bytes does not apply bytes as a delta: it is in a batch, or outside one the bytes have this error
 abbrev pub IsApplyDeltaError : ℕ → Machine → List ℕ → ApplyDeltaError → Type 0

@@ -10,7 +10,7 @@ ghost use Rattle.commit_log.specs.declared.recovery.RecoverError.TheVariants.{Me
 ghost use Rattle.bitmap_session.specs.Edits.{EditsAreRun};
 ghost use Rattle.bitmap_session.specs.Logged.{IsLogged, IsRecovered};
 ghost use Rattle.bitmap_session.specs.Machine.{first_machine, is_dirty};
-ghost use Rattle.bitmap_session.specs.Saved.{IsOutside, IsUnreserved, kept_part};
+ghost use Rattle.bitmap_session.specs.Saved.{IsOutside, kept_part};
 ghost use Rattle.bitmap_session.specs.declared.session.saved.SaveError.TheVariants.{InBatch, Memory};
 ghost use Rattle.bitmap_session.specs.Laws.{HasRisingNumbers, LatestIsGreatest, NoCommitsRise, NumbersRise, NumbersRiseOn, Rewinding, RunsJoin, StepIsRun, StepsAreRun};
 
@@ -87,8 +87,6 @@ pub fn rewinding_restores<const N: usize>()
 /// The loaded session is outside a batch, and has the same current bitmap, the same kept bitmaps under the same numbers, and the
 /// same last number. By the clause `complete` it is loaded unless an allocation fails, if the ranges admit it.
 ///
-/// The premise `IsUnreserved` is about a session that keeps no commit: its last number is not `u64::MAX`, which no commit has.
-///
 /// # Errors
 ///
 /// Those of `Session::save`, and those of `Session::load`.
@@ -98,10 +96,9 @@ pub fn a_saved_session_is_loaded<const N: usize>(
     bits: &RangeCfg,
     commits: &RangeCfg,
 ) -> Result<Result<Session<N>, HistoryError>, SaveError>
-    ensures same { IsUnreserved session.now.state → IfOk result (λ loaded. IfOk loaded (λ s.
+    ensures same { IfOk result (λ loaded. IfOk loaded (λ s.
         IsOutside s × (kept_part s.state ≡ kept_part session.now.state))) }
-    ensures complete { IsUnreserved session.now.state
-        → IsWithin (ranges bits.now commits.now) (kept_part session.now.state)
+    ensures complete { IsWithin (ranges bits.now commits.now) (kept_part session.now.state)
         → IfOk result (λ loaded. IfErr loaded (λ e. e ≡ HistoryMemory alloc_error)) }
     ensures refused { IfErr result (λ e. e
         ≡ (if is_dirty session.now.state then InBatch else Memory alloc_error)) }

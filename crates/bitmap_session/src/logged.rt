@@ -18,9 +18,9 @@ ghost use Rattle.commit_log.specs.declared.recovery.RecoverError.TheVariants.{He
 ghost use Rattle.log_frames.specs.declared.frame.Place.{Place as LogPlace};
 ghost use Rattle.log_frames.specs.declared.header.HeaderError.TheVariants.{Short};
 ghost use Rattle.bitmap_session.specs.Abstraction.{value_of};
-ghost use Rattle.bitmap_session.specs.Logged.{AgreesButCosts, IsLogError, IsLogged, IsOther, appended_all, entries_of};
+ghost use Rattle.bitmap_session.specs.Logged.{IsLogError, IsLogged, appended_all, entries_of};
 ghost use Rattle.bitmap_session.specs.Machine.{Agrees, StepTo, is_dirty};
-ghost use Rattle.bitmap_session.specs.Saved.{IsOutside, IsUnreserved, kept_part};
+ghost use Rattle.bitmap_session.specs.Saved.{IsOutside, kept_part};
 ghost use Rattle.bitmap_session.specs.declared.command.Command.TheVariants.{Start};
 ghost use Rattle.bitmap_session.specs.declared.session.entries.LogError.TheVariants.{NoEntry};
 ghost use Rattle.bitmap_session.specs.declared.session.saved.SaveError.TheVariants.{InBatch};
@@ -82,8 +82,7 @@ impl<const N: usize> LoggedSession<N> {
         }) }
         ensures outside { OnOk result (IsOutside session.entry) }
         // The bytes are a log that makes what the session keeps.
-        ensures logged { IsUnreserved session.entry.state
-            → IfOk result (λ s. IsLogged N [] s) }
+        ensures logged { IfOk result (λ s. IsLogged N [] s) }
         ensures refused { IfErr result (λ e. e.1
             ≡ (if is_dirty session.entry.state then InBatch else SaveMemory alloc_error)) }
         ensures unchanged { IfErr result (λ e. e.0 ≡ session.entry) }
@@ -97,8 +96,7 @@ impl<const N: usize> LoggedSession<N> {
     /// Runs one command as `Session::serve` does, and appends the entry of the command to the log if it has one and is accepted.
     ///
     /// A `Commit`, a `Rewind`, a `DropBefore` and a `Clear` have an entry. Any other command leaves the log unchanged, and so does a refused
-    /// one. What the session keeps afterwards is what the entry makes of what it kept before. The cost in entries of a commit, which `Entries`
-    /// replies, is not stated for `Commit` and `Rewind`.
+    /// one. What the session keeps afterwards is what the entry makes of what it kept before.
     ///
     /// # Errors
     ///
@@ -117,10 +115,7 @@ impl<const N: usize> LoggedSession<N> {
     /// As `Session::serve`. The entry of a commit takes time as `commit_log::commit_logged` says, and any other one constant time, amortized if
     /// it allocates.
     pub fn serve(&mut self, command: &Command<N>) -> Result<Reply<N>, LogError>
-        ensures step { IfOk result (λ reply. StepTo N AgreesButCosts
-            self.old.machine command.now (value_of reply) self.new.machine) }
-        // Only the costs of a commit and of a rewind are left out.
-        ensures exact { IsOther command.now → IfOk result (λ reply. StepTo N Agrees
+        ensures step { IfOk result (λ reply. StepTo N Agrees
             self.old.machine command.now (value_of reply) self.new.machine) }
         ensures log { IfOk result (λ reply. self.new.log ≡ appended_all self.old.log
             (entries_of N self.old.machine.state command.now (value_of reply))) }

@@ -3,8 +3,8 @@
 ghost use Rattle.std.specs.Prelude.{◌≡◌, ◌++◌, ◌∷◌, [], IfOk, IfErr, OnOk, None, is_some, unwrap_or, alloc_error, if◌then◌else◌};
 ghost use Rattle.historical_bitmap.specs.declared.bitmap.historical.error.Error.TheVariants as commit_errors;
 ghost use Rattle.historical_bitmap.specs.declared.bitmap.historical.error.RewindError.TheVariants.{Memory, NoSuchCommit};
-ghost use Rattle.historical_bitmap.specs.History.{kept_under};
-ghost use Rattle.historical_bitmap.specs.View.{commit_error, history_of, pending_of};
+ghost use Rattle.historical_bitmap.specs.History.{kept_under, up_to_number};
+ghost use Rattle.historical_bitmap.specs.View.{AddsCost, commit_error, costs_of, history_of, pending_of};
 ghost use Rattle.commit_log.specs.Accepted.{Accepts};
 ghost use Rattle.commit_log.specs.Entries.Entry.{Clear, DropBefore, Rewind};
 ghost use Rattle.commit_log.specs.Kept.{after, entry_of_commit, kept_of};
@@ -26,6 +26,7 @@ pub fn commit_is_an_entry<const N: usize>(
     ensures current { IfOk result (λ b. b.current ≡ pending_of N batch.entry) }
     ensures history { IfOk result (λ b. history_of N b
         ≡ history_of N batch.entry ++ (number, pending_of N batch.entry) ∷ []) }
+    ensures costs { IfOk result (AddsCost N batch.entry number) }
     ensures refused { IfErr result (λ e. e.1
         ≡ unwrap_or (commit_error batch.entry.last number) (commit_errors.Memory alloc_error)) }
     ensures unchanged { IfErr result (λ e. e.0 ≡ batch.entry) }
@@ -45,6 +46,7 @@ pub fn rewind_is_an_entry<const N: usize>(
 ) -> Result<CleanBitMap<N>, (CleanBitMap<N>, RewindError)>
     ensures entry { IfOk result (λ b. kept_of N b ≡ after N (kept_of N bitmap.entry) (Rewind number)) }
     ensures accepted { OnOk result (Accepts N (kept_of N bitmap.entry) (Rewind number)) }
+    ensures costs { IfOk result (λ b. costs_of b ≡ up_to_number number (costs_of bitmap.entry)) }
     ensures refused { IfErr result (λ e. e.1
         ≡ (if is_some (kept_under (history_of N bitmap.entry) number) then Memory alloc_error
         else NoSuchCommit)) }

@@ -9,8 +9,8 @@ ghost use Rattle.std.specs.Prelude.{◌≡◌, ◌^◌, ◌<◌, ◌++◌, ◌�
 ghost use Rattle.std.specs.Int.{w64, to_be_bytes};
 ghost use Rattle.std.specs.List.{flat_map};
 ghost use Rattle.historical_bitmap.specs.Changes.{changed};
-ghost use Rattle.historical_bitmap.specs.History.{kept_under};
-ghost use Rattle.historical_bitmap.specs.View.{commit_error, history_of, pending_of};
+ghost use Rattle.historical_bitmap.specs.History.{kept_under, up_to_number};
+ghost use Rattle.historical_bitmap.specs.View.{AddsCost, commit_error, costs_of, history_of, pending_of};
 ghost use Rattle.historical_bitmap.specs.declared.bitmap.historical.error.Error.TheVariants as commit_errors;
 ghost use Rattle.historical_bitmap.specs.declared.bitmap.historical.error.RewindError.TheVariants.{Memory, NoSuchCommit};
 ghost use Rattle.commit_log.specs.Entries.{encode_chunk, encode_entry};
@@ -212,6 +212,7 @@ pub fn commit_logged<const N: usize>(
     ensures current { IfOk result (λ b. b.current ≡ pending_of N batch.entry) }
     ensures history { IfOk result (λ b. history_of N b
         ≡ history_of N batch.entry ++ (number, pending_of N batch.entry) ∷ []) }
+    ensures costs { IfOk result (AddsCost N batch.entry number) }
 
     // The number is tested first.
     ensures refused { IfErr result (λ e. e.1
@@ -259,6 +260,8 @@ pub fn rewind_logged<const N: usize>(
     ensures follows { OnOk result (MayFollow N (kept_of N bitmap.entry) (Rewind number)) }
     ensures entry { IfOk result (λ b. kept_of N b
         ≡ after N (kept_of N bitmap.entry) (Rewind number)) }
+    // As for `rewind_to`.
+    ensures costs { IfOk result (λ b. costs_of b ≡ up_to_number number (costs_of bitmap.entry)) }
 
     // The number is tested first.
     ensures refused { IfErr result (λ e. e.1

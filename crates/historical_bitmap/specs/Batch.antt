@@ -6,9 +6,8 @@ use Rattle.historical_bitmap.specs.declared.bitmap.historical.error.ApplyError.T
 use Rattle.historical_bitmap.specs.declared.bitmap.historical.error.Error.{Error}
 use Rattle.historical_bitmap.specs.declared.bitmap.historical.error.Error.TheVariants.{Memory}
 use Rattle.historical_bitmap.specs.Pending.{PendingEdits, unedited}
-use Rattle.historical_bitmap.specs.Cost.{most_cost}
 use Rattle.historical_bitmap.specs.History.{before_latest}
-use Rattle.historical_bitmap.specs.View.{View, costs_of, history_of, marked_of, pending_of, commit_error}
+use Rattle.historical_bitmap.specs.View.{AddsCost, View, history_of, marked_of, pending_of, commit_error}
 
 -- the batch that a clean bitmap becomes, with no pending edits
 abbrev pub begun : ℕ → View ⊤ → View PendingEdits
@@ -33,7 +32,7 @@ pub record CommitGives (n : ℕ) (left : View PendingEdits) (number : ℕ) (resu
   pub history : IfOk result (λ b. history_of n b ≡ history_of n left ++ (number, pending_of n left) ∷ [])
   pub earlier : IfOk result (λ b. before_latest b.commits ≡ left.commits)
   pub last : IfOk result (λ b. b.last ≡ Some number)
-  pub costs : IfOk result (λ b. (cost : ℕ) × (cost ≤ most_cost n (marked_of n left) left.current (pending_of n left)) × (costs_of b ≡ costs_of left ++ (number, cost) ∷ []))
+  pub costs : IfOk result (AddsCost n left number)
 
 -- the result of a batch from the result of its commit: an error comes with the aborted batch, and says that the commit failed
 abbrev pub from_commit : {E : Type 0} → Result (View ⊤) (View PendingEdits × Error) → Result (View ⊤) (View ⊤ × ApplyError E)

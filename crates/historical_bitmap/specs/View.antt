@@ -1,8 +1,9 @@
 -- A historical bitmap, clean or with pending edits, as contracts describe it. A chunk has n bytes.
-use Rattle.std.specs.Prelude.{⊤, ◌≡◌, ℕ, ◌-◌, ◌*◌, ◌/◌, ◌^◌, ◌<◌, ◌≤◌, ◌⊎◌, ◌++◌, List, Option, Some, None, IsSome, nat_le, ◌==◌, if◌then◌else◌}
+use Rattle.std.specs.Prelude.{⊤, ◌≡◌, ℕ, ◌-◌, ◌*◌, ◌/◌, ◌^◌, ◌<◌, ◌≤◌, ◌⊎◌, [], ◌∷◌, ◌++◌, List, Option, Some, None, IsSome, nat_le, ◌==◌, if◌then◌else◌}
 use Rattle.bitmap_core.specs.PrunedBits.{PrunedBits, bit_len}
 use Rattle.historical_bitmap.specs.declared.bitmap.historical.error.Error.{Error}
 use Rattle.historical_bitmap.specs.declared.bitmap.historical.error.Error.TheVariants.{NonMonotonicCommit, ReservedCommitNumber}
+use Rattle.historical_bitmap.specs.Cost.{most_cost}
 use Rattle.historical_bitmap.specs.Edits.{Edit, IsReached, IsWithin, after, after_all, touches, touched}
 use Rattle.historical_bitmap.specs.History.{snapshots, costs}
 use Rattle.historical_bitmap.specs.Pending.{PendingEdits, edited_chunk, pending_bits, marked_chunks}
@@ -30,6 +31,11 @@ pending_of n v = pending_bits n v.current v.state
 -- the marked chunks: those that the pending edits have edited, cut off or pruned
 abbrev pub marked_of : ℕ → View PendingEdits → List ℕ
 marked_of n v = marked_chunks n v.current v.state
+
+-- a commit of a batch under a number adds its cost to the costs of the commits: at most one entry per marked chunk, and one more if the batch popped down to whole chunks
+abbrev pub AddsCost : ℕ → View PendingEdits → ℕ → View ⊤ → Type 0
+AddsCost n batch number new =
+    (cost : ℕ) × (cost ≤ most_cost n (marked_of n batch) batch.current (pending_of n batch)) × (costs_of new ≡ costs_of batch ++ (number, cost) ∷ [])
 
 -- the chunk of a position is an edited chunk, so that a further write to it does not allocate
 abbrev pub IsEditedAt : ℕ → View PendingEdits → ℕ → Type 0

@@ -8,7 +8,7 @@ ghost use Rattle.bitmap_session.specs.Abstraction.{clean, dirty, machine_of, val
 ghost use Rattle.bitmap_session.specs.Laws.{HasRisingNumbers};
 ghost use Rattle.bitmap_session.specs.Logged.{IsLogError, IsLogged, Serves, appended_all};
 ghost use Rattle.bitmap_session.specs.Machine.{is_dirty};
-ghost use Rattle.bitmap_session.specs.Saved.{IsOutside, IsUnreserved, kept_part};
+ghost use Rattle.bitmap_session.specs.Saved.{IsOutside, kept_part};
 ghost use Rattle.bitmap_session.specs.declared.command.Command.TheVariants.{Start};
 ghost use Rattle.bitmap_session.specs.declared.session.entries.LogError.TheVariants.{Memory, NoEntry};
 ghost use Rattle.bitmap_session.specs.declared.session.saved.SaveError.TheVariants.{InBatch};
@@ -28,7 +28,7 @@ use std::mem;
 use thiserror::Error as ErrorDerive;
 
 /// Why a session with a log did not run a command. Nothing is changed then.
-#[derive(Debug, Drop, ErrorDerive)]
+#[derive(Clone, Copy, Debug, PartialEq, Eq, ErrorDerive)]
 pub enum LogError {
     /// The command is `Start`, for which a log has no entry.
     #[error("a log has no entry for this command")]
@@ -121,7 +121,7 @@ impl<const N: usize> Session<N> {
           place = history_place N (kept_part self.now.state);
         }) }
         ensures outside { OnOk result (IsOutside self.now) }
-        ensures logged { IsUnreserved self.now.state → IfOk result (λ log.
+        ensures logged { IfOk result (λ log.
             IsLogged N [] (record { machine = self.now; log = log })) }
         ensures refused { IfErr result (λ e. e
             ≡ (if is_dirty self.now.state then InBatch else SaveMemory alloc_error)) }

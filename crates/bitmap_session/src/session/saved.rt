@@ -2,7 +2,7 @@
 //!
 //! A history has the current bitmap, the kept bitmaps and the last number of a session. It has no batch.
 
-ghost use Rattle.std.specs.Prelude.{◌≡◌, ℕ, ◌-◌, ◌^◌, ◌<◌, ◌≤◌, ◌++◌, List, [], length, take, if◌then◌else◌, Some, IfOk, IfErr, IfSome, IsErrOf, MatchResult, OnErr, OnOk, alloc_error};
+ghost use Rattle.std.specs.Prelude.{◌≡◌, ℕ, ◌-◌, ◌^◌, ◌<◌, ◌≤◌, ◌++◌, List, [], length, take, if◌then◌else◌, Some, IfOk, IfErr, IsErrOf, MatchResult, OnErr, OnOk, alloc_error};
 ghost use Rattle.std.specs.List.{AllByRecursion};
 ghost use Rattle.std.specs.Option.{option_map};
 ghost use Rattle.bitmap_bytes.specs.Chunk.{IsWidth};
@@ -17,7 +17,7 @@ ghost use Rattle.commit_log.specs.Reading.{IsCutOff, IsHistoryError, IsWithin, r
 ghost use Rattle.log_frames.specs.declared.header.HeaderError.TheVariants.{Short};
 ghost use Rattle.bitmap_session.specs.Abstraction.{clean, machine_of};
 ghost use Rattle.bitmap_session.specs.Machine.{is_dirty};
-ghost use Rattle.bitmap_session.specs.Saved.{AppliesDelta, IsApplyDeltaError, IsOutside, IsUnreserved, kept_part};
+ghost use Rattle.bitmap_session.specs.Saved.{AppliesDelta, IsApplyDeltaError, IsOutside, kept_part};
 ghost use Rattle.bitmap_session.specs.declared.session.saved.ApplyDeltaError.TheVariants.{Delta};
 ghost use Rattle.bitmap_session.specs.declared.session.saved.SaveError.TheVariants.{InBatch, Memory};
 
@@ -33,7 +33,7 @@ use std::mem;
 use thiserror::Error as ErrorDerive;
 
 /// Why the history of a session, or a delta between two of its commits, was not written.
-#[derive(Debug, Drop, ErrorDerive)]
+#[derive(Clone, Copy, Debug, PartialEq, Eq, ErrorDerive)]
 pub enum SaveError {
     /// The session is in a batch.
     #[error("the session is in a batch")]
@@ -45,7 +45,7 @@ pub enum SaveError {
 }
 
 /// Why a session did not apply a delta.
-#[derive(Debug, Drop, ErrorDerive)]
+#[derive(Clone, Copy, Debug, PartialEq, Eq, ErrorDerive)]
 pub enum ApplyDeltaError {
     /// The session is in a batch.
     #[error("the session is in a batch")]
@@ -98,9 +98,7 @@ fn kept_states_fit<const N: usize>(bitmap: &CleanBitMap<N>)
 
 // States that the history of a bitmap is a log, if its bytes fit 64 bits. Does not allocate.
 fn history_is_log<const N: usize>(bitmap: &CleanBitMap<N>)
-    ensures log { (history_of N bitmap.now ≡ []
-        → IfSome bitmap.now.last (λ number. number < 2 ^ 64 - 1))
-        → length (history_bytes N (kept_of N bitmap.now)) < 2 ^ 64
+    ensures log { length (history_bytes N (kept_of N bitmap.now)) < 2 ^ 64
         → HasLog N (kept_of N bitmap.now) }
     ensures ends { IsHistory (kept_of N bitmap.now) }
 {
@@ -299,7 +297,7 @@ impl<const N: usize> Session<N> {
     }
     // States that what the session keeps outside a batch fits a log, if its bytes fit 64 bits. Does not allocate.
     pub(crate) fn fits_a_log(&self)
-        ensures log { IsOutside self.now → IsUnreserved self.now.state
+        ensures log { IsOutside self.now
             → length (history_bytes N (kept_part self.now.state)) < 2 ^ 64
             → HasLog N (kept_part self.now.state) }
         ensures ends { IsOutside self.now → IsHistory (kept_part self.now.state) }

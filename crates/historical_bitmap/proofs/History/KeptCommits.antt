@@ -58,6 +58,11 @@ pub reserved_none : {X : Type 0} (es : List (ℕ × X)) (last : Option ℕ) → 
 reserved_none es None h = none_kept (2 ^ 64 - 1) es h
 reserved_none es (Some last) h = none_past (2 ^ 64 - 1) es (All-weaker (λ k. k ≤ last) (λ k. k < 2 ^ 64 - 1) (λ k l. omega (arith, h.0)) (keys_of es) h.1)
 
+-- the last number is not the reserved one
+pub last_unreserved : (numbers : List ℕ) (last : Option ℕ) → AreUpTo numbers last → IfSome last (λ number. number < 2 ^ 64 - 1)
+last_unreserved numbers None h = tt
+last_unreserved numbers (Some last) h = h.0
+
 -- a number above the last one is not kept
 above_none : {X : Type 0} (m : ℕ) (es : List (ℕ × X)) (last : Option ℕ) → AreUpTo (keys_of es) last → is_above last m ≡ true → kept_under es m ≡ None
 above_none m es None h _ = none_kept m es h

@@ -312,6 +312,7 @@ pub fn rewind_logged<const N: usize>(
     number: u64,
     log: &mut Log<N>,
 ) -> Result<CleanBitMap<N>, (CleanBitMap<N>, RewindError)>
+// As for `rewind_to`.
 // The number is tested first.
 {
     if !bitmap.commit_exists(number) {

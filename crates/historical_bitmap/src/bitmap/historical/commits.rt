@@ -1,6 +1,6 @@
 //! The commits of a historical bitmap: reading what is kept under a number, listing, dropping and rewinding.
 
-ghost use Rattle.std.specs.Prelude.{◌≡◌, ℕ, ◌+◌, ◌-◌, ◌^◌, [], length, None, Some, Ok, is_some, IsSome, IfErr, IfOk, OnOk, if◌then◌else◌, alloc_error};
+ghost use Rattle.std.specs.Prelude.{◌≡◌, ℕ, ◌+◌, ◌-◌, ◌^◌, ◌<◌, [], length, None, Some, Ok, is_some, IsSome, IfErr, IfOk, IfSome, OnOk, if◌then◌else◌, alloc_error};
 ghost use Rattle.std.specs.List.{sum_by};
 ghost use Rattle.std.specs.Map.{keys_of};
 ghost use Rattle.historical_bitmap.specs.History.{AllCanUndo, at_least, earliest, from_number, is_above, kept_under, latest, LatestIsLast, past_number, RiseInNumber, undone, up_to_number};
@@ -196,12 +196,13 @@ impl<const N: usize> BitMap<N, Clean> {
 
     /// Returns the number last committed or rewound to, even if its commit is not kept, or `None` if there is none.
     ///
-    /// If any commit is kept, it is the greatest number of a kept commit. A commit's number has to be above it.
+    /// If any commit is kept, it is the greatest number of a kept commit. A commit's number has to be above it. It is never `u64::MAX`.
     ///
     /// Does not allocate; constant time.
     pub fn last_number(&self) -> Option<u64>
         ensures value { result ≡ self.now.last }
         ensures latest { LatestIsLast (history_of N self.now) self.now.last }
+        ensures unreserved { IfSome self.now.last (λ number. number < 2 ^ 64 - 1) }
     {
         self.last
     }

@@ -10,11 +10,10 @@ ghost use Rattle.std.specs.Result.{result_err};
 ghost use Rattle.bitmap_bytes.specs.Chunk.{byte_bits, chunk_bits, IsWidth};
 ghost use Rattle.bitmap_core.specs.PrunedBits.{bit_at, bit_len, chunk, IsRetained, last_bit, pruned_bits};
 ghost use Rattle.historical_bitmap.specs.declared.bitmap.historical.error.Error.TheVariants.{Memory};
-ghost use Rattle.historical_bitmap.specs.Cost.{most_cost};
 ghost use Rattle.historical_bitmap.specs.Edits.Edit.{Pop, Prune, Push, Set};
 ghost use Rattle.historical_bitmap.specs.Edits.{pushes, sets};
 ghost use Rattle.historical_bitmap.specs.History.{before_latest};
-ghost use Rattle.historical_bitmap.specs.View.{costs_of, history_of, KeepsEdited, IsEditedAt, IsEditOf, IsRunOf, LeavesEdited, marked_of, pending_of, StaysEditedAt, commit_error};
+ghost use Rattle.historical_bitmap.specs.View.{AddsCost, history_of, KeepsEdited, IsEditedAt, IsEditOf, IsRunOf, LeavesEdited, marked_of, pending_of, StaysEditedAt, commit_error};
 
 use crate::bitmap::historical::apply::{grow, overwrite, shrink_back};
 use crate::bitmap::historical::commit_list::CommitList;
@@ -408,7 +407,7 @@ impl<const N: usize> BitMap<N, Dirty<N>> {
         ensures history { IfOk result (λ b. history_of N b ≡ history_of N self.entry ++ (number, pending_of N self.entry) ∷ []) }
         ensures earlier { IfOk result (λ b. before_latest b.commits ≡ self.entry.commits) }
         ensures last { IfOk result (λ b. b.last ≡ Some number) }
-        ensures costs { IfOk result (λ b. (cost : ℕ) × (cost ≤ most_cost N (marked_of N self.entry) self.entry.current (pending_of N self.entry)) × (costs_of b ≡ costs_of self.entry ++ (number, cost) ∷ [])) }
+        ensures costs { IfOk result (AddsCost N self.entry number) }
     {
         if let Err(why) = check_number(self.last, number) {
             return Err((self, why));
@@ -438,7 +437,7 @@ impl<const N: usize> BitMap<N, Dirty<N>> {
         ensures history { IfOk result (λ b. history_of N b ≡ history_of N self.entry ++ (number, pending_of N self.entry) ∷ []) }
         ensures earlier { IfOk result (λ b. before_latest b.commits ≡ self.entry.commits) }
         ensures last { IfOk result (λ b. b.last ≡ Some number) }
-        ensures costs { IfOk result (λ b. (cost : ℕ) × (cost ≤ most_cost N (marked_of N self.entry) self.entry.current (pending_of N self.entry)) × (costs_of b ≡ costs_of self.entry ++ (number, cost) ∷ [])) }
+        ensures costs { IfOk result (AddsCost N self.entry number) }
     {
         let alloc = self.state.allocator();
         let Ok(record) = self.state.record(&self.current, alloc) else {

@@ -9,7 +9,7 @@ use Rattle.bitmap_session.proofs.session.entries.commit_batch.Goals as goal
 pub returns-in-Ok-clause-served : goal.returns-in-Ok-clause-served
 returns-in-Ok-clause-served g c =
     let done = c.in-Ok.ensures in
-    commit_served g.row.N c.args.number c.args.batch c.in-Ok.bitmap c.args.log.now c.commit_logged.new.log done.written done.follows done.entry done.current done.history
+    commit_served g.row.N c.args.number c.args.batch c.in-Ok.bitmap c.args.log.now c.commit_logged.new.log done.written done.follows done.entry done.current done.history done.costs
 
 pub returns-in-Ok-clause-rises : goal.returns-in-Ok-clause-rises
 returns-in-Ok-clause-rises g c = λ rise. latest_is_last_rises _ c.commits.ensures.ascending c.last_number.ensures.latest

@@ -237,7 +237,7 @@ impl<const N: usize> BitMap<N, Clean> {
 
     /// Returns the number last committed or rewound to, even if its commit is not kept, or `None` if there is none.
     ///
-    /// If any commit is kept, it is the greatest number of a kept commit. A commit's number has to be above it.
+    /// If any commit is kept, it is the greatest number of a kept commit. A commit's number has to be above it. It is never `u64::MAX`.
     ///
     /// Does not allocate; constant time.
     ///
