@@ -59,7 +59,7 @@ LIBRARY = {"bitmap_bytes": None, "bitmap_core": (), "chunk_map": None, "historic
 
 # The crates that become modules of the test crate, and those that are in neither crate.
 TESTS = ["bitmap_session", "test_support", "conformance", "conformance_history", "conformance_log", "conformance_session", "uses", "replay"]
-LEFT_OUT = ["bench", "bitmap_c", "conformance_store", "log_runs", "log_store"]
+LEFT_OUT = ["authenticated_bitmap", "bench", "bitmap_c", "conformance_authenticated", "conformance_store", "log_runs", "log_store"]
 
 # The lints that are off in the generated modules: some items are for proofs alone, and the layout and the idioms are those of Rattle.
 ALLOWED = ["dead_code", "unused_imports", "unused_variables", "clippy::style", "clippy::complexity", "clippy::perf"]

@@ -1,0 +1,12 @@
+pub mod Tests
+pub mod Steps
+pub mod Sound
+pub mod Complete
+pub mod Heights
+pub mod Halves
+pub mod Roots
+pub mod Nodes
+pub mod Places
+pub mod FromStored
+pub mod StoredPaths
+pub mod Apart
