@@ -1,9 +1,9 @@
 -- The height that a tree is given does not matter, once its leaves fit.
 use Rattle.std.proofs.Common.{◌≡◌, ℕ, zero, suc, ◌+◌, ◌-◌, ◌^◌, ◌≤◌, List, [], ◌∷◌, length, take, drop, inl, inr, refl, sym, ap, ◌∙◌, arith}
 use Rattle.std.proofs.Math.Nat.{zero-add, suc-add}
-use Rattle.std.proofs.lemmas.List.{length-take-le, length-drop}
+use Rattle.std.proofs.lemmas.List.{length-take-le, length-drop, length-map, take-map, drop-map}
 use Rattle.std.proofs.Math.Pow.{pow_mono}
-use Rattle.authenticated_bitmap.specs.Tree.{leaf_hash, node_hash, subtree_hash, siblings, climbed, tree_hash, SplitsAtPower}
+use Rattle.authenticated_bitmap.specs.Tree.{leaf_hash, leaf_hashes, node_hash, subtree_hash, siblings, climbed, tree_hash, SplitsAtPower}
 use Rattle.authenticated_bitmap.proofs.Tests.{le_or_lt}
 use Rattle.authenticated_bitmap.proofs.Steps.{hash_low, hash_split, siblings_low, climbed_low}
 use Rattle.authenticated_bitmap.proofs.Complete.{twice, below_power}
@@ -25,39 +25,44 @@ same_at f n step j k hj hk =
     ]
 
 module _ (H : List ℕ → List ℕ) (j k : ℕ) where
-  pub hash_same : (leaves : List (List ℕ)) → length leaves ≤ 2 ^ j → length leaves ≤ 2 ^ k → subtree_hash H j leaves ≡ subtree_hash H k leaves
-  hash_same leaves hj hk = same_at (λ i. subtree_hash H i leaves) (length leaves) (λ i h. hash_low H i leaves h) j k hj hk
+  pub hash_same : (digests : List (List ℕ)) → length digests ≤ 2 ^ j → length digests ≤ 2 ^ k → subtree_hash H j digests ≡ subtree_hash H k digests
+  hash_same digests hj hk = same_at (λ i. subtree_hash H i digests) (length digests) (λ i h. hash_low H i digests h) j k hj hk
 
-  pub siblings_same : (i : ℕ) (leaves : List (List ℕ)) → length leaves ≤ 2 ^ j → length leaves ≤ 2 ^ k → siblings H j i leaves ≡ siblings H k i leaves
-  siblings_same i leaves hj hk = same_at (λ h. siblings H h i leaves) (length leaves) (λ h l. siblings_low H h i leaves l) j k hj hk
+  pub siblings_same : (i : ℕ) (digests : List (List ℕ)) → length digests ≤ 2 ^ j → length digests ≤ 2 ^ k → siblings H j i digests ≡ siblings H k i digests
+  siblings_same i digests hj hk = same_at (λ h. siblings H h i digests) (length digests) (λ h l. siblings_low H h i digests l) j k hj hk
 
-  pub climbed_same_height : (i n : ℕ) (leaf : List ℕ) (path : List (List ℕ)) → n ≤ 2 ^ j → n ≤ 2 ^ k → climbed H j i n leaf path ≡ climbed H k i n leaf path
-  climbed_same_height i n leaf path hj hk = same_at (λ h. climbed H h i n leaf path) n (λ h l. climbed_low H h i n leaf path l) j k hj hk
+  pub climbed_same_height : (i n : ℕ) (digest : List ℕ) (path : List (List ℕ)) → n ≤ 2 ^ j → n ≤ 2 ^ k → climbed H j i n digest path ≡ climbed H k i n digest path
+  climbed_same_height i n digest path hj hk = same_at (λ h. climbed H h i n digest path) n (λ h l. climbed_low H h i n digest path l) j k hj hk
 
 -- at any height that fits
-pub tree_at : (H : List ℕ → List ℕ) (k : ℕ) (leaves : List (List ℕ)) → length leaves ≤ 2 ^ k → subtree_hash H k leaves ≡ tree_hash H leaves
-tree_at H k leaves h = hash_same H k (length leaves) leaves h (below_power (length leaves))
+pub tree_at : (H : List ℕ → List ℕ) (k : ℕ) (digests : List (List ℕ)) → length digests ≤ 2 ^ k → subtree_hash H k digests ≡ tree_hash H digests
+tree_at H k digests h = hash_same H k (length digests) digests h (below_power (length digests))
 
-tree_none : (H : List ℕ → List ℕ) → tree_hash H [] ≡ H []
+pub tree_none : (H : List ℕ → List ℕ) → tree_hash H [] ≡ H []
 unfolding subtree_hash
 tree_none H = refl
 
-one_at_zero : (H : List ℕ → List ℕ) (leaf : List ℕ) → subtree_hash H zero (leaf ∷ []) ≡ leaf_hash H leaf
+one_at_zero : (H : List ℕ → List ℕ) (digest : List ℕ) → subtree_hash H zero (digest ∷ []) ≡ digest
 unfolding subtree_hash
-one_at_zero H leaf = refl
+one_at_zero H digest = refl
 
-tree_one : (H : List ℕ → List ℕ) (leaf : List ℕ) → tree_hash H (leaf ∷ []) ≡ leaf_hash H leaf
-tree_one H leaf = sym (tree_at H zero (leaf ∷ []) (omega arith)) ∙ one_at_zero H leaf
+tree_one : (H : List ℕ → List ℕ) (digest : List ℕ) → tree_hash H (digest ∷ []) ≡ digest
+tree_one H digest = sym (tree_at H zero (digest ∷ []) (omega arith)) ∙ one_at_zero H digest
 
+-- the tree of leaves by its parts
 pub splits : (H : List ℕ → List ℕ) → SplitsAtPower H
 splits H = record {
   none = tree_none H;
-  one = tree_one H;
+  one = λ leaf. tree_one H (leaf_hash H leaf);
   more = λ leaves k h l.
-      let front : length (take (2 ^ k) leaves) ≤ 2 ^ k = omega (arith, length-take-le (2 ^ k) leaves (omega arith)) in
-      let rest : length (drop (2 ^ k) leaves) ≤ 2 ^ k = omega (arith, length-drop (2 ^ k) leaves) in
-      let fits : length leaves ≤ 2 ^ suc k = omega (arith, twice k) in
-      sym (tree_at H (suc k) leaves fits) ∙ hash_split H k leaves h
-      ∙ ap (λ left. node_hash H left (subtree_hash H k (drop (2 ^ k) leaves))) (tree_at H k (take (2 ^ k) leaves) front)
-      ∙ ap (λ right. node_hash H (tree_hash H (take (2 ^ k) leaves)) right) (tree_at H k (drop (2 ^ k) leaves) rest);
+      let digests = leaf_hashes H leaves in
+      let len : length digests ≡ length leaves = length-map leaves (leaf_hash H) in
+      let front : length (take (2 ^ k) digests) ≤ 2 ^ k = omega (arith, length-take-le (2 ^ k) digests (omega arith)) in
+      let rest : length (drop (2 ^ k) digests) ≤ 2 ^ k = omega (arith, length-drop (2 ^ k) digests) in
+      let fits : length digests ≤ 2 ^ suc k = omega (arith, twice k) in
+      sym (tree_at H (suc k) digests fits) ∙ hash_split H k digests (omega arith)
+      ∙ ap (λ left. node_hash H left (subtree_hash H k (drop (2 ^ k) digests))) (tree_at H k (take (2 ^ k) digests) front)
+      ∙ ap (λ right. node_hash H (tree_hash H (take (2 ^ k) digests)) right) (tree_at H k (drop (2 ^ k) digests) rest)
+      ∙ ap (λ left. node_hash H (tree_hash H left) (tree_hash H (drop (2 ^ k) digests))) (take-map (leaf_hash H) (2 ^ k) leaves)
+      ∙ ap (λ right. node_hash H (tree_hash H (leaf_hashes H (take (2 ^ k) leaves))) (tree_hash H right)) (drop-map (leaf_hash H) (2 ^ k) leaves);
 }

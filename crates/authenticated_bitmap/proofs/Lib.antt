@@ -10,3 +10,4 @@ pub mod Places
 pub mod FromStored
 pub mod StoredPaths
 pub mod Apart
+pub mod Pigeonhole

@@ -18,13 +18,13 @@ eq_false : (a b : ℕ) → a ≢ b → (a == b) ≡ false
 eq_false a b h = grind (arith, nat_tests)
 
 module _ (H : List ℕ → List ℕ) (k : ℕ) where
-  pub below_part : (leaves : List (List ℕ)) → length leaves < 2 ^ suc k → stored_below H (suc k) leaves ≡ stored_below H k (take (2 ^ k) leaves) ++ stored_below H k (drop (2 ^ k) leaves)
+  pub below_part : (digests : List (List ℕ)) → length digests < 2 ^ suc k → stored_below H (suc k) digests ≡ stored_below H k (take (2 ^ k) digests) ++ stored_below H k (drop (2 ^ k) digests)
   unfolding stored_below
-  below_part leaves h = rw (eq_false (length leaves) (2 ^ suc k) (omega arith)) (append-nil (stored_below H k (take (2 ^ k) leaves) ++ stored_below H k (drop (2 ^ k) leaves)))
+  below_part digests h = rw (eq_false (length digests) (2 ^ suc k) (omega arith)) (append-nil (stored_below H k (take (2 ^ k) digests) ++ stored_below H k (drop (2 ^ k) digests)))
 
-  pub below_full : (leaves : List (List ℕ)) → length leaves ≡ 2 ^ suc k → stored_below H (suc k) leaves ≡ stored_below H k (take (2 ^ k) leaves) ++ stored_below H k (drop (2 ^ k) leaves) ++ subtree_hash H (suc k) leaves ∷ []
+  pub below_full : (digests : List (List ℕ)) → length digests ≡ 2 ^ suc k → stored_below H (suc k) digests ≡ stored_below H k (take (2 ^ k) digests) ++ stored_below H k (drop (2 ^ k) digests) ++ subtree_hash H (suc k) digests ∷ []
   unfolding stored_below
-  below_full leaves h = rw (eq_true (length leaves) (2 ^ suc k) h)
+  below_full digests h = rw (eq_true (length digests) (2 ^ suc k) h)
 
 none_at_zero : (H : List ℕ → List ℕ) → stored_below H zero [] ≡ []
 unfolding stored_below
@@ -38,15 +38,15 @@ below_none H (suc k) =
     below_part H k [] (omega (arith, pow_pos (suc k))) ∙ ap (λ xs. stored_below H k xs ++ stored_below H k (drop (2 ^ k) [])) t ∙ ap (λ xs. stored_below H k [] ++ stored_below H k xs) d
     ∙ ap (λ xs. xs ++ stored_below H k []) (below_none H k) ∙ below_none H k
 
-pub below_low : (H : List ℕ → List ℕ) (k : ℕ) (leaves : List (List ℕ)) → length leaves ≤ 2 ^ k → stored_below H (suc k) leaves ≡ stored_below H k leaves
-below_low H k leaves h =
-    let t : take (2 ^ k) leaves ≡ leaves = take_all (2 ^ k) leaves h in
-    let d : drop (2 ^ k) leaves ≡ [] = drop_all (2 ^ k) leaves h in
-    below_part H k leaves (omega (arith, pow_pos k, twice k)) ∙ ap (λ xs. stored_below H k xs ++ stored_below H k (drop (2 ^ k) leaves)) t ∙ ap (λ xs. stored_below H k leaves ++ stored_below H k xs) d
-    ∙ ap (λ xs. stored_below H k leaves ++ xs) (below_none H k) ∙ append-nil (stored_below H k leaves)
+pub below_low : (H : List ℕ → List ℕ) (k : ℕ) (digests : List (List ℕ)) → length digests ≤ 2 ^ k → stored_below H (suc k) digests ≡ stored_below H k digests
+below_low H k digests h =
+    let t : take (2 ^ k) digests ≡ digests = take_all (2 ^ k) digests h in
+    let d : drop (2 ^ k) digests ≡ [] = drop_all (2 ^ k) digests h in
+    below_part H k digests (omega (arith, pow_pos k, twice k)) ∙ ap (λ xs. stored_below H k xs ++ stored_below H k (drop (2 ^ k) digests)) t ∙ ap (λ xs. stored_below H k digests ++ stored_below H k xs) d
+    ∙ ap (λ xs. stored_below H k digests ++ xs) (below_none H k) ∙ append-nil (stored_below H k digests)
 
-pub stored_at_height : (H : List ℕ → List ℕ) (j k : ℕ) (leaves : List (List ℕ)) → length leaves ≤ 2 ^ j → length leaves ≤ 2 ^ k → stored_below H j leaves ≡ stored_below H k leaves
-stored_at_height H j k leaves hj hk = same_at (λ i. stored_below H i leaves) (length leaves) (λ i h. below_low H i leaves h) j k hj hk
+pub stored_at_height : (H : List ℕ → List ℕ) (j k : ℕ) (digests : List (List ℕ)) → length digests ≤ 2 ^ j → length digests ≤ 2 ^ k → stored_below H j digests ≡ stored_below H k digests
+stored_at_height H j k digests hj hk = same_at (λ i. stored_below H i digests) (length digests) (λ i h. below_low H i digests h) j k hj hk
 
 pub ones_zero : count_ones 0 ≡ 0
 unfolding lib.Count.ones
@@ -62,53 +62,53 @@ ones_power k = let e : 1 * 2 ^ k + 0 ≡ 2 ^ k = omega arith in sym (ap count_on
 pub ones_above : (k r : ℕ) → r < 2 ^ k → count_ones (2 ^ k + r) ≡ 1 + count_ones r
 ones_above k r h = let e : 1 * 2 ^ k + r ≡ 2 ^ k + r = omega arith in sym (ap count_ones e) ∙ ones_cat k 1 r h ∙ ap (λ x. x + count_ones r) ones_one
 
-count_at_zero : (H : List ℕ → List ℕ) (leaves : List (List ℕ)) → length leaves ≤ 1 → length (stored_below H zero leaves) + count_ones (length leaves) ≡ 2 * length leaves
+count_at_zero : (H : List ℕ → List ℕ) (digests : List (List ℕ)) → length digests ≤ 1 → length (stored_below H zero digests) + count_ones (length digests) ≡ 2 * length digests
 unfolding stored_below
 count_at_zero H [] h = omega (arith, ones_zero)
-count_at_zero H (leaf ∷ []) h = omega (arith, ones_one)
-count_at_zero H (leaf ∷ (other ∷ leaves)) h = absurd (omega arith)
+count_at_zero H (digest ∷ []) h = omega (arith, ones_one)
+count_at_zero H (digest ∷ (other ∷ digests)) h = absurd (omega arith)
 
-pub counted : (H : List ℕ → List ℕ) (k : ℕ) (leaves : List (List ℕ)) → length leaves ≤ 2 ^ k → length (stored_below H k leaves) + count_ones (length leaves) ≡ 2 * length leaves
-counted H zero leaves h = count_at_zero H leaves h
-counted H (suc k) leaves h =
-    elim (le_or_lt (length leaves) (2 ^ k)) [
-      | inl low ↦ (let b = counted H k leaves low in let e = ap length (below_low H k leaves low) in omega (arith, b, e))
+pub counted : (H : List ℕ → List ℕ) (k : ℕ) (digests : List (List ℕ)) → length digests ≤ 2 ^ k → length (stored_below H k digests) + count_ones (length digests) ≡ 2 * length digests
+counted H zero digests h = count_at_zero H digests h
+counted H (suc k) digests h =
+    elim (le_or_lt (length digests) (2 ^ k)) [
+      | inl low ↦ (let b = counted H k digests low in let e = ap length (below_low H k digests low) in omega (arith, b, e))
       | inr high ↦ (
-          let front = take (2 ^ k) leaves in
-          let rest = drop (2 ^ k) leaves in
-          let lf : length front ≡ 2 ^ k = length-take-le (2 ^ k) leaves (omega arith) in
-          let lr : length rest ≡ length leaves - 2 ^ k = length-drop (2 ^ k) leaves in
+          let front = take (2 ^ k) digests in
+          let rest = drop (2 ^ k) digests in
+          let lf : length front ≡ 2 ^ k = length-take-le (2 ^ k) digests (omega arith) in
+          let lr : length rest ≡ length digests - 2 ^ k = length-drop (2 ^ k) digests in
           let of : count_ones (length front) ≡ 1 = ap count_ones lf ∙ ones_power k in
           let a = counted H k front (omega arith) in
           let b = counted H k rest (omega (arith, twice k)) in
           let la = length-append (stored_below H k front) (stored_below H k rest) in
-          elim (le_or_lt (2 ^ suc k) (length leaves)) [
+          elim (le_or_lt (2 ^ suc k) (length digests)) [
             | inl full ↦ (
-                let e : length leaves ≡ 2 ^ suc k = omega arith in
-                let ol : count_ones (length leaves) ≡ 1 = ap count_ones e ∙ ones_power (suc k) in
+                let e : length digests ≡ 2 ^ suc k = omega arith in
+                let ol : count_ones (length digests) ≡ 1 = ap count_ones e ∙ ones_power (suc k) in
                 let half : length rest ≡ 2 ^ k = omega (arith, twice k) in
                 let or : count_ones (length rest) ≡ 1 = ap count_ones half ∙ ones_power k in
-                let lb = ap length (below_full H k leaves e) ∙ length-append (stored_below H k front ++ stored_below H k rest) (subtree_hash H (suc k) leaves ∷ []) in
+                let lb = ap length (below_full H k digests e) ∙ length-append (stored_below H k front ++ stored_below H k rest) (subtree_hash H (suc k) digests ∷ []) in
                 omega (arith, a, b, la, lb, of, or, ol, twice k))
             | inr part ↦ (
-                let e : 2 ^ k + length rest ≡ length leaves = omega arith in
-                let ol : count_ones (length leaves) ≡ 1 + count_ones (length rest) = sym (ap count_ones e) ∙ ones_above k (length rest) (omega (arith, twice k)) in
-                let lb = ap length (below_part H k leaves part) in
+                let e : 2 ^ k + length rest ≡ length digests = omega arith in
+                let ol : count_ones (length digests) ≡ 1 + count_ones (length rest) = sym (ap count_ones e) ∙ ones_above k (length rest) (omega (arith, twice k)) in
+                let lb = ap length (below_part H k digests part) in
                 omega (arith, a, b, la, lb, of, ol))
           ])
     ]
 
--- more leaves only append
+-- more digests only append
 pub record Grown (old new : List (List ℕ)) : Type 0 where
   pub rest : List (List ℕ)
   pub is : new ≡ old ++ rest
 
 pub top : (List ℕ → List ℕ) → ℕ → List (List ℕ) → List (List ℕ)
-top H k leaves = if length leaves == 2 ^ suc k then subtree_hash H (suc k) leaves ∷ [] else []
+top H k digests = if length digests == 2 ^ suc k then subtree_hash H (suc k) digests ∷ [] else []
 
-pub below_suc : (H : List ℕ → List ℕ) (k : ℕ) (leaves : List (List ℕ)) → stored_below H (suc k) leaves ≡ stored_below H k (take (2 ^ k) leaves) ++ stored_below H k (drop (2 ^ k) leaves) ++ top H k leaves
+pub below_suc : (H : List ℕ → List ℕ) (k : ℕ) (digests : List (List ℕ)) → stored_below H (suc k) digests ≡ stored_below H k (take (2 ^ k) digests) ++ stored_below H k (drop (2 ^ k) digests) ++ top H k digests
 unfolding stored_below top
-below_suc H k leaves = refl
+below_suc H k digests = refl
 
 regrouped : (a b c d : List (List ℕ)) → a ++ b ++ c ++ d ≡ a ++ (b ++ (c ++ d))
 regrouped a b c d = simp append_assoc
@@ -116,50 +116,50 @@ regrouped a b c d = simp append_assoc
 halved : (a b c d : List (List ℕ)) → a ++ (b ++ c) ++ d ≡ a ++ b ++ (c ++ d)
 halved a b c d = simp append_assoc
 
-grown_at_zero : (H : List ℕ → List ℕ) (leaves more : List (List ℕ)) → length (leaves ++ more) ≤ 1 → Grown (stored_below H zero leaves) (stored_below H zero (leaves ++ more))
+grown_at_zero : (H : List ℕ → List ℕ) (digests more : List (List ℕ)) → length (digests ++ more) ≤ 1 → Grown (stored_below H zero digests) (stored_below H zero (digests ++ more))
 unfolding stored_below
 grown_at_zero H [] more h = record { rest = stored_below H zero more; is = refl }
-grown_at_zero H (leaf ∷ leaves) more h = record { rest = []; is = refl }
+grown_at_zero H (digest ∷ digests) more h = record { rest = []; is = refl }
 
-pub grown : (H : List ℕ → List ℕ) (k : ℕ) (leaves more : List (List ℕ)) → length (leaves ++ more) ≤ 2 ^ k → Grown (stored_below H k leaves) (stored_below H k (leaves ++ more))
-grown H zero leaves more h = grown_at_zero H leaves more h
-grown H (suc k) leaves more h =
-    let both = leaves ++ more in
-    let sizes : length both ≡ length leaves + length more = length-append leaves more in
-    elim (le_or_lt (length leaves) (2 ^ k)) [
+pub grown : (H : List ℕ → List ℕ) (k : ℕ) (digests more : List (List ℕ)) → length (digests ++ more) ≤ 2 ^ k → Grown (stored_below H k digests) (stored_below H k (digests ++ more))
+grown H zero digests more h = grown_at_zero H digests more h
+grown H (suc k) digests more h =
+    let both = digests ++ more in
+    let sizes : length both ≡ length digests + length more = length-append digests more in
+    elim (le_or_lt (length digests) (2 ^ k)) [
       | inl low ↦ (
-          let room = 2 ^ k - length leaves in
+          let room = 2 ^ k - length digests in
           let fill = take room more in
-          let e : length leaves + room ≡ 2 ^ k = omega arith in
-          let t : take (2 ^ k) both ≡ leaves ++ fill = sym (ap (λ n. take n both) e) ∙ take-append-add leaves more room in
-          let fits : length (leaves ++ fill) ≤ 2 ^ k = omega (arith, length-append leaves fill, length-take room more) in
-          let below = grown H k leaves fill fits in
+          let e : length digests + room ≡ 2 ^ k = omega arith in
+          let t : take (2 ^ k) both ≡ digests ++ fill = sym (ap (λ n. take n both) e) ∙ take-append-add digests more room in
+          let fits : length (digests ++ fill) ≤ 2 ^ k = omega (arith, length-append digests fill, length-take room more) in
+          let below = grown H k digests fill fits in
           record {
             rest = below.rest ++ (stored_below H k (drop (2 ^ k) both) ++ top H k both);
             is = below_suc H k both ∙ ap (λ xs. stored_below H k xs ++ stored_below H k (drop (2 ^ k) both) ++ top H k both) t
                 ∙ ap (λ xs. xs ++ stored_below H k (drop (2 ^ k) both) ++ top H k both) below.is
-                ∙ regrouped (stored_below H k leaves) below.rest (stored_below H k (drop (2 ^ k) both)) (top H k both)
-                ∙ ap (λ xs. xs ++ (below.rest ++ (stored_below H k (drop (2 ^ k) both) ++ top H k both))) (sym (below_low H k leaves low));
+                ∙ regrouped (stored_below H k digests) below.rest (stored_below H k (drop (2 ^ k) both)) (top H k both)
+                ∙ ap (λ xs. xs ++ (below.rest ++ (stored_below H k (drop (2 ^ k) both) ++ top H k both))) (sym (below_low H k digests low));
           })
       | inr high ↦ (
-          let front = take (2 ^ k) leaves in
-          let back = drop (2 ^ k) leaves in
-          elim (le_or_lt (2 ^ suc k) (length leaves)) [
+          let front = take (2 ^ k) digests in
+          let back = drop (2 ^ k) digests in
+          elim (le_or_lt (2 ^ suc k) (length digests)) [
             | inl full ↦ (
                 let none : more ≡ [] = nil_from_length more (omega arith) in
-                let same : both ≡ leaves = ap (λ xs. leaves ++ xs) none ∙ append-nil leaves in
-                record { rest = []; is = ap (stored_below H (suc k)) same ∙ sym (append-nil (stored_below H (suc k) leaves)) })
+                let same : both ≡ digests = ap (λ xs. digests ++ xs) none ∙ append-nil digests in
+                record { rest = []; is = ap (stored_below H (suc k)) same ∙ sym (append-nil (stored_below H (suc k) digests)) })
             | inr part ↦ (
-                let t : take (2 ^ k) both ≡ front = take-append-le (2 ^ k) leaves more (omega arith) in
-                let d : drop (2 ^ k) both ≡ back ++ more = drop-append-le (2 ^ k) leaves more (omega arith) in
-                let fits : length (back ++ more) ≤ 2 ^ k = omega (arith, length-append back more, length-drop (2 ^ k) leaves, twice k) in
+                let t : take (2 ^ k) both ≡ front = take-append-le (2 ^ k) digests more (omega arith) in
+                let d : drop (2 ^ k) both ≡ back ++ more = drop-append-le (2 ^ k) digests more (omega arith) in
+                let fits : length (back ++ more) ≤ 2 ^ k = omega (arith, length-append back more, length-drop (2 ^ k) digests, twice k) in
                 let below = grown H k back more fits in
                 record {
                   rest = below.rest ++ top H k both;
                   is = below_suc H k both ∙ ap (λ xs. stored_below H k xs ++ stored_below H k (drop (2 ^ k) both) ++ top H k both) t
                       ∙ ap (λ xs. stored_below H k front ++ xs ++ top H k both) (ap (stored_below H k) d ∙ below.is)
                       ∙ halved (stored_below H k front) (stored_below H k back) below.rest (top H k both)
-                      ∙ ap (λ xs. xs ++ (below.rest ++ top H k both)) (sym (below_part H k leaves part));
+                      ∙ ap (λ xs. xs ++ (below.rest ++ top H k both)) (sym (below_part H k digests part));
                 })
           ])
     ]

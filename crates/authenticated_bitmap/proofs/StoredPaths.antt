@@ -11,59 +11,59 @@ use Rattle.authenticated_bitmap.proofs.FromStored.{left_part, right_part, part_l
 pushed : (old below : List (List ℕ)) (top : List ℕ) → (old ++ reverse below) ++ top ∷ [] ≡ old ++ reverse (top ∷ below)
 pushed old below top = append_assoc old (reverse below) (top ∷ []) ∙ ap (λ s. old ++ s) (sym (reverse-append (top ∷ []) below))
 
-module _ (H : List ℕ → List ℕ) (leaves : List (List ℕ)) (k index i : ℕ) where
+module _ (H : List ℕ → List ℕ) (digests : List (List ℕ)) (k index i : ℕ) where
   begin : (2 * index) * 2 ^ k ≡ index * 2 ^ suc k
   begin = omega (arith, ap (λ x. index * x) (twice k))
 
   middle : (2 * index + 1) * 2 ^ k ≡ index * 2 ^ suc k + 2 ^ k
   middle = omega (arith, ap (λ x. index * x) (twice k))
 
-  more : (2 * index + 1) * 2 ^ k < length leaves → 2 ^ k < length (leaves_under (suc k) index leaves)
-  more many = omega (arith, length-take (2 ^ suc k) (drop (index * 2 ^ suc k) leaves), length-drop (index * 2 ^ suc k) leaves, many, middle, twice k, pow_pos k)
+  more : (2 * index + 1) * 2 ^ k < length digests → 2 ^ k < length (leaves_under (suc k) index digests)
+  more many = omega (arith, length-take (2 ^ suc k) (drop (index * 2 ^ suc k) digests), length-drop (index * 2 ^ suc k) digests, many, middle, twice k, pow_pos k)
 
-  path_low : length leaves ≤ (2 * index + 1) * 2 ^ k → siblings H k (i - (2 * index) * 2 ^ k) (leaves_under k (2 * index) leaves) ≡ siblings H (suc k) (i - index * 2 ^ suc k) (leaves_under (suc k) index leaves)
+  path_low : length digests ≤ (2 * index + 1) * 2 ^ k → siblings H k (i - (2 * index) * 2 ^ k) (leaves_under k (2 * index) digests) ≡ siblings H (suc k) (i - index * 2 ^ suc k) (leaves_under (suc k) index digests)
   path_low few =
-      let fits : length (leaves_under (suc k) index leaves) ≤ 2 ^ k = omega (arith, part_length H leaves k index, few, middle) in
-      ap (λ b. siblings H k (i - b) (leaves_under k (2 * index) leaves)) begin
-      ∙ ap (siblings H k (i - index * 2 ^ suc k)) (left_part H leaves k index ∙ take_all (2 ^ k) (leaves_under (suc k) index leaves) fits)
-      ∙ sym (siblings_low H k (i - index * 2 ^ suc k) (leaves_under (suc k) index leaves) fits)
+      let fits : length (leaves_under (suc k) index digests) ≤ 2 ^ k = omega (arith, part_length H digests k index, few, middle) in
+      ap (λ b. siblings H k (i - b) (leaves_under k (2 * index) digests)) begin
+      ∙ ap (siblings H k (i - index * 2 ^ suc k)) (left_part H digests k index ∙ take_all (2 ^ k) (leaves_under (suc k) index digests) fits)
+      ∙ sym (siblings_low H k (i - index * 2 ^ suc k) (leaves_under (suc k) index digests) fits)
 
-  path_left : (2 * index + 1) * 2 ^ k < length leaves → index * 2 ^ suc k ≤ i → i < (2 * index + 1) * 2 ^ k
-      → subtree_hash H k (leaves_under k (2 * index + 1) leaves) ∷ siblings H k (i - (2 * index) * 2 ^ k) (leaves_under k (2 * index) leaves) ≡ siblings H (suc k) (i - index * 2 ^ suc k) (leaves_under (suc k) index leaves)
+  path_left : (2 * index + 1) * 2 ^ k < length digests → index * 2 ^ suc k ≤ i → i < (2 * index + 1) * 2 ^ k
+      → subtree_hash H k (leaves_under k (2 * index + 1) digests) ∷ siblings H k (i - (2 * index) * 2 ^ k) (leaves_under k (2 * index) digests) ≡ siblings H (suc k) (i - index * 2 ^ suc k) (leaves_under (suc k) index digests)
   path_left many from to =
-      ap (λ b. subtree_hash H k (leaves_under k (2 * index + 1) leaves) ∷ siblings H k (i - b) (leaves_under k (2 * index) leaves)) begin
-      ∙ ap (λ xs. subtree_hash H k xs ∷ siblings H k (i - index * 2 ^ suc k) (leaves_under k (2 * index) leaves)) (right_part H leaves k index)
-      ∙ ap (λ xs. subtree_hash H k (drop (2 ^ k) (leaves_under (suc k) index leaves)) ∷ siblings H k (i - index * 2 ^ suc k) xs) (left_part H leaves k index)
-      ∙ sym (siblings_left H k (i - index * 2 ^ suc k) (leaves_under (suc k) index leaves) (more many) (omega (arith, middle, to, from)))
+      ap (λ b. subtree_hash H k (leaves_under k (2 * index + 1) digests) ∷ siblings H k (i - b) (leaves_under k (2 * index) digests)) begin
+      ∙ ap (λ xs. subtree_hash H k xs ∷ siblings H k (i - index * 2 ^ suc k) (leaves_under k (2 * index) digests)) (right_part H digests k index)
+      ∙ ap (λ xs. subtree_hash H k (drop (2 ^ k) (leaves_under (suc k) index digests)) ∷ siblings H k (i - index * 2 ^ suc k) xs) (left_part H digests k index)
+      ∙ sym (siblings_left H k (i - index * 2 ^ suc k) (leaves_under (suc k) index digests) (more many) (omega (arith, middle, to, from)))
 
-  path_right : (2 * index + 1) * 2 ^ k < length leaves → (2 * index + 1) * 2 ^ k ≤ i
-      → subtree_hash H k (leaves_under k (2 * index) leaves) ∷ siblings H k (i - (2 * index + 1) * 2 ^ k) (leaves_under k (2 * index + 1) leaves) ≡ siblings H (suc k) (i - index * 2 ^ suc k) (leaves_under (suc k) index leaves)
+  path_right : (2 * index + 1) * 2 ^ k < length digests → (2 * index + 1) * 2 ^ k ≤ i
+      → subtree_hash H k (leaves_under k (2 * index) digests) ∷ siblings H k (i - (2 * index + 1) * 2 ^ k) (leaves_under k (2 * index + 1) digests) ≡ siblings H (suc k) (i - index * 2 ^ suc k) (leaves_under (suc k) index digests)
   path_right many from =
       let at : i - (2 * index + 1) * 2 ^ k ≡ (i - index * 2 ^ suc k) - 2 ^ k = omega (arith, middle) in
-      ap (λ j. subtree_hash H k (leaves_under k (2 * index) leaves) ∷ siblings H k j (leaves_under k (2 * index + 1) leaves)) at
-      ∙ ap (λ xs. subtree_hash H k xs ∷ siblings H k ((i - index * 2 ^ suc k) - 2 ^ k) (leaves_under k (2 * index + 1) leaves)) (left_part H leaves k index)
-      ∙ ap (λ xs. subtree_hash H k (take (2 ^ k) (leaves_under (suc k) index leaves)) ∷ siblings H k ((i - index * 2 ^ suc k) - 2 ^ k) xs) (right_part H leaves k index)
-      ∙ sym (siblings_right H k (i - index * 2 ^ suc k) (leaves_under (suc k) index leaves) (more many) (omega (arith, middle, from)))
+      ap (λ j. subtree_hash H k (leaves_under k (2 * index) digests) ∷ siblings H k j (leaves_under k (2 * index + 1) digests)) at
+      ∙ ap (λ xs. subtree_hash H k xs ∷ siblings H k ((i - index * 2 ^ suc k) - 2 ^ k) (leaves_under k (2 * index + 1) digests)) (left_part H digests k index)
+      ∙ ap (λ xs. subtree_hash H k (take (2 ^ k) (leaves_under (suc k) index digests)) ∷ siblings H k ((i - index * 2 ^ suc k) - 2 ^ k) xs) (right_part H digests k index)
+      ∙ sym (siblings_right H k (i - index * 2 ^ suc k) (leaves_under (suc k) index digests) (more many) (omega (arith, middle, from)))
 
 -- the same at a level above 0
-module _ (H : List ℕ → List ℕ) (leaves : List (List ℕ)) (level index i : ℕ) (p : 0 < level) where
+module _ (H : List ℕ → List ℕ) (digests : List (List ℕ)) (level index i : ℕ) (p : 0 < level) where
   up : suc (level - 1) ≡ level
   up = omega arith
 
-  pub code_path_low : length leaves ≤ (2 * index + 1) * 2 ^ (level - 1) → siblings H (level - 1) (i - (2 * index) * 2 ^ (level - 1)) (leaves_under (level - 1) (2 * index) leaves) ≡ siblings H level (i - index * 2 ^ level) (leaves_under level index leaves)
-  code_path_low few = path_low H leaves (level - 1) index i few ∙ ap (λ l. siblings H l (i - index * 2 ^ l) (leaves_under l index leaves)) up
+  pub code_path_low : length digests ≤ (2 * index + 1) * 2 ^ (level - 1) → siblings H (level - 1) (i - (2 * index) * 2 ^ (level - 1)) (leaves_under (level - 1) (2 * index) digests) ≡ siblings H level (i - index * 2 ^ level) (leaves_under level index digests)
+  code_path_low few = path_low H digests (level - 1) index i few ∙ ap (λ l. siblings H l (i - index * 2 ^ l) (leaves_under l index digests)) up
 
-  pub code_path_left : (old : List (List ℕ)) → (2 * index + 1) * 2 ^ (level - 1) < length leaves → index * 2 ^ level ≤ i → i < (2 * index + 1) * 2 ^ (level - 1)
-      → (old ++ reverse (siblings H (level - 1) (i - (2 * index) * 2 ^ (level - 1)) (leaves_under (level - 1) (2 * index) leaves))) ++ subtree_hash H (level - 1) (leaves_under (level - 1) (2 * index + 1) leaves) ∷ []
-      ≡ old ++ reverse (siblings H level (i - index * 2 ^ level) (leaves_under level index leaves))
+  pub code_path_left : (old : List (List ℕ)) → (2 * index + 1) * 2 ^ (level - 1) < length digests → index * 2 ^ level ≤ i → i < (2 * index + 1) * 2 ^ (level - 1)
+      → (old ++ reverse (siblings H (level - 1) (i - (2 * index) * 2 ^ (level - 1)) (leaves_under (level - 1) (2 * index) digests))) ++ subtree_hash H (level - 1) (leaves_under (level - 1) (2 * index + 1) digests) ∷ []
+      ≡ old ++ reverse (siblings H level (i - index * 2 ^ level) (leaves_under level index digests))
   code_path_left old many from to =
       let from' : index * 2 ^ suc (level - 1) ≤ i = omega (arith, from, ap (λ l. index * 2 ^ l) up) in
-      pushed old (siblings H (level - 1) (i - (2 * index) * 2 ^ (level - 1)) (leaves_under (level - 1) (2 * index) leaves)) (subtree_hash H (level - 1) (leaves_under (level - 1) (2 * index + 1) leaves))
-      ∙ ap (λ s. old ++ reverse s) (path_left H leaves (level - 1) index i many from' to ∙ ap (λ l. siblings H l (i - index * 2 ^ l) (leaves_under l index leaves)) up)
+      pushed old (siblings H (level - 1) (i - (2 * index) * 2 ^ (level - 1)) (leaves_under (level - 1) (2 * index) digests)) (subtree_hash H (level - 1) (leaves_under (level - 1) (2 * index + 1) digests))
+      ∙ ap (λ s. old ++ reverse s) (path_left H digests (level - 1) index i many from' to ∙ ap (λ l. siblings H l (i - index * 2 ^ l) (leaves_under l index digests)) up)
 
-  pub code_path_right : (old : List (List ℕ)) → (2 * index + 1) * 2 ^ (level - 1) < length leaves → (2 * index + 1) * 2 ^ (level - 1) ≤ i
-      → (old ++ reverse (siblings H (level - 1) (i - (2 * index + 1) * 2 ^ (level - 1)) (leaves_under (level - 1) (2 * index + 1) leaves))) ++ subtree_hash H (level - 1) (leaves_under (level - 1) (2 * index) leaves) ∷ []
-      ≡ old ++ reverse (siblings H level (i - index * 2 ^ level) (leaves_under level index leaves))
+  pub code_path_right : (old : List (List ℕ)) → (2 * index + 1) * 2 ^ (level - 1) < length digests → (2 * index + 1) * 2 ^ (level - 1) ≤ i
+      → (old ++ reverse (siblings H (level - 1) (i - (2 * index + 1) * 2 ^ (level - 1)) (leaves_under (level - 1) (2 * index + 1) digests))) ++ subtree_hash H (level - 1) (leaves_under (level - 1) (2 * index) digests) ∷ []
+      ≡ old ++ reverse (siblings H level (i - index * 2 ^ level) (leaves_under level index digests))
   code_path_right old many from =
-      pushed old (siblings H (level - 1) (i - (2 * index + 1) * 2 ^ (level - 1)) (leaves_under (level - 1) (2 * index + 1) leaves)) (subtree_hash H (level - 1) (leaves_under (level - 1) (2 * index) leaves))
-      ∙ ap (λ s. old ++ reverse s) (path_right H leaves (level - 1) index i many from ∙ ap (λ l. siblings H l (i - index * 2 ^ l) (leaves_under l index leaves)) up)
+      pushed old (siblings H (level - 1) (i - (2 * index + 1) * 2 ^ (level - 1)) (leaves_under (level - 1) (2 * index + 1) digests)) (subtree_hash H (level - 1) (leaves_under (level - 1) (2 * index) digests))
+      ∙ ap (λ s. old ++ reverse s) (path_right H digests (level - 1) index i many from ∙ ap (λ l. siblings H l (i - index * 2 ^ l) (leaves_under l index digests)) up)

@@ -1,4 +1,8 @@
-//! Where the digests of the complete subtrees are stored.
+//! A tree whose digests are stored: those of its complete subtrees, by place.
+//!
+//! A complete subtree has `2 ^ level` leaves, and begins at a multiple of that number. Its digest comes
+//! after those of its two halves. So the place of a digest does not depend on the number of leaves, and a
+//! leaf that is appended appends digests and moves none.
 
 ghost use Rattle.std.specs.Prelude.{◌++◌, ◌-◌, reverse, IfOk, OnOk, ◌≡◌, ◌+◌, ◌*◌, ◌^◌, ◌<◌, ◌≤◌, ℕ, List, length};
 ghost use Rattle.authenticated_bitmap.specs.Stored.{KeepsApart, StoresSubtrees, leaves_under, nodes, position, stored as stored_of};
@@ -8,17 +12,21 @@ use crate::hash::Digest;
 use crate::tree::node_digest;
 use std::alloc::{AllocError, Global};
 
-/// States what is stored, how much, and where, and that leaves that are appended move none of it.
+/// What is stored for a tree: how many digests, each complete subtree's at its place, and that leaves
+/// which are appended only append digests.
 pub fn subtrees_stay_where_they_are()
     ensures { (H : List ℕ → List ℕ) → StoresSubtrees H }
 {}
 
-/// States that two complete subtrees are stored at two places, and that a leaf that is replaced changes no subtree beside it.
+/// Two complete subtrees are stored at two places, and a leaf that is replaced changes no subtree that
+/// does not contain it.
 pub fn subtrees_are_kept_apart()
     ensures { KeepsApart }
 {}
 
-/// How many digests are stored for `n` leaves.
+/// Returns the number of digests that are stored for `n` leaves.
+///
+/// `n` is below 2 to the power 63. Does not allocate; constant time.
 pub fn node_count(n: u64) -> u64
     requires { n < 2 ^ 63 }
     ensures { result ≡ nodes n }
@@ -26,7 +34,10 @@ pub fn node_count(n: u64) -> u64
     2 * n - n.count_ones() as u64
 }
 
-/// Where the digest of the `index`-th subtree of `2 ^ level` leaves is stored.
+/// Returns the place of the digest of the complete subtree of `2 ^ level` leaves that begins at leaf
+/// `index * 2 ^ level`.
+///
+/// `level` is below 62, and the subtree ends below 2 to the power 62. Does not allocate; constant time.
 pub fn node_position(level: u32, index: u64) -> u64
     requires low { level < 62 }
     requires fits { (index + 1) * 2 ^ level < 2 ^ 62 }
@@ -35,7 +46,7 @@ pub fn node_position(level: u32, index: u64) -> u64
     node_count(index << level) + (2 << level) - 2
 }
 
-/// The number of leaves of a complete subtree.
+// The number of leaves of a complete subtree.
 fn size_of(level: u32) -> u64
     requires { level ≤ 61 }
     ensures { result ≡ 2 ^ level }
@@ -43,7 +54,8 @@ fn size_of(level: u32) -> u64
     1 << level
 }
 
-/// The digest of a part of a tree of `n` leaves, from the stored ones: of the `index`-th `2 ^ level` leaves, or what there is of them.
+// The digest of a part of a tree of `n` leaves, from the stored ones: of the `index`-th `2 ^ level`
+// leaves, or what there is of them.
 fn stored_digest<D: Digest>(
     hash: &D,
     stored: &[[u8; 32]],
@@ -55,7 +67,9 @@ fn stored_digest<D: Digest>(
     requires few { n ≤ 2 ^ 61 }
     requires some { index * 2 ^ level < n }
     requires count { length stored.now ≡ nodes n }
-    ensures { (leaves : List (List ℕ)) → length leaves ≡ n → stored.now ≡ stored_of (D.digest_of hash.now) leaves → result ≡ subtree_hash (D.digest_of hash.now) level (leaves_under level index leaves) }
+    ensures { (digests : List (List ℕ)) → length digests ≡ n
+        → stored.now ≡ stored_of (D.digest_of hash.now) digests
+        → result ≡ subtree_hash (D.digest_of hash.now) level (leaves_under level index digests) }
 {
     if index * size_of(level) + size_of(level) <= n {
         return stored[node_position(level, index) as usize];
@@ -68,11 +82,21 @@ fn stored_digest<D: Digest>(
     node_digest(hash, &left, &right)
 }
 
-/// The digest of the tree of `n` leaves, from the stored digests. Reads a number of them that is logarithmic in `n`.
+/// Returns the digest of the tree of `n` leaves, from the stored digests.
+///
+/// There are [`node_count(n)`](node_count) of them, and `n` is at most 2 to the power 61.
+///
+/// # Memory
+/// Does not allocate.
+///
+/// # Complexity
+/// Logarithmic in `n`: reads one digest per set bit of `n`, and hashes one time less.
 pub fn tree_from_stored<D: Digest>(hash: &D, stored: &[[u8; 32]], n: u64) -> [u8; 32]
     requires few { n ≤ 2 ^ 61 }
     requires count { length stored.now ≡ nodes n }
-    ensures { (leaves : List (List ℕ)) → length leaves ≡ n → stored.now ≡ stored_of (D.digest_of hash.now) leaves → result ≡ tree_hash (D.digest_of hash.now) leaves }
+    ensures { (digests : List (List ℕ)) → length digests ≡ n
+        → stored.now ≡ stored_of (D.digest_of hash.now) digests
+        → result ≡ tree_hash (D.digest_of hash.now) digests }
 {
     if n == 0 {
         return hash.digest_of_nothing();
@@ -80,7 +104,8 @@ pub fn tree_from_stored<D: Digest>(hash: &D, stored: &[[u8; 32]], n: u64) -> [u8
     stored_digest(hash, stored, n, 61, 0)
 }
 
-/// Appends the digests beside the way to leaf `i` in a part of the tree, the part's last, from the stored digests.
+// Appends the digests beside the way to leaf `i` in a part of the tree, the part's last, from the stored
+// digests.
 fn push_stored_siblings<D: Digest>(
     hash: &D,
     stored: &[[u8; 32]],
@@ -95,7 +120,10 @@ fn push_stored_siblings<D: Digest>(
     requires some { i < n }
     requires from { index * 2 ^ level ≤ i }
     requires count { length stored.now ≡ nodes n }
-    ensures { (leaves : List (List ℕ)) → length leaves ≡ n → stored.now ≡ stored_of (D.digest_of hash.now) leaves → OnOk result (path.new.items ≡ path.old.items ++ reverse (siblings (D.digest_of hash.now) level (i - index * 2 ^ level) (leaves_under level index leaves))) }
+    ensures { (digests : List (List ℕ)) → length digests ≡ n
+        → stored.now ≡ stored_of (D.digest_of hash.now) digests
+        → OnOk result (path.new.items ≡ path.old.items
+        ++ reverse (siblings (D.digest_of hash.now) level (i - index * 2 ^ level) (leaves_under level index digests))) }
 {
     if level == 0 {
         return Ok(());
@@ -114,10 +142,19 @@ fn push_stored_siblings<D: Digest>(
     Ok(())
 }
 
-/// Makes the audit path of leaf `i` of the tree of `n` leaves, from the stored digests.
+/// Returns the audit path of leaf `i` of the tree of `n` leaves, from the stored digests.
+///
+/// There are [`node_count(n)`](node_count) of them, `i` is below `n`, and `n` is at most 2 to the power
+/// 61.
 ///
 /// # Errors
 /// `AllocError` if an allocation fails.
+///
+/// # Memory
+/// Allocates 32 bytes per digest of the path, of which there are at most 61.
+///
+/// # Complexity
+/// Quadratic in the logarithm of `n`, and most digests of the path are read and not computed.
 pub fn prove_from_stored<D: Digest>(
     alloc: Global,
     hash: &D,
@@ -128,7 +165,9 @@ pub fn prove_from_stored<D: Digest>(
     requires few { n ≤ 2 ^ 61 }
     requires some { i < n }
     requires count { length stored.now ≡ nodes n }
-    ensures { (leaves : List (List ℕ)) → length leaves ≡ n → stored.now ≡ stored_of (D.digest_of hash.now) leaves → IfOk result (λ path. path.items ≡ audit_path (D.digest_of hash.now) i leaves) }
+    ensures { (digests : List (List ℕ)) → length digests ≡ n
+        → stored.now ≡ stored_of (D.digest_of hash.now) digests
+        → IfOk result (λ path. path.items ≡ audit_path (D.digest_of hash.now) i digests) }
 {
     let mut path = Vec::new(alloc);
     push_stored_siblings(hash, stored, n, 61, 0, i, &mut path)?;

@@ -1,12 +1,22 @@
 //! The digest of a tree, the audit path of a leaf, and the check of a leaf and its path.
+//!
+//! The tree is that of [RFC 9162](https://www.rfc-editor.org/rfc/rfc9162#section-2.1), section 2.1. A
+//! leaf is any bytes. The tree is computed from the digests of its leaves, so a leaf whose bytes are
+//! gone stays in the tree as long as its digest is kept.
 
-ghost use Rattle.std.specs.Prelude.{◌++◌, ◌≡◌, ◌≤◌, ◌<◌, ◌^◌, ◌-◌, ◌↔◌, ℕ, List, length, reverse, IsTrue, IfOk, OnOk, OnSome, Some, All, slice_index_or, ◌⊎◌, []};
-ghost use Rattle.authenticated_bitmap.specs.Tree.{AreBytes, Collision, audit_path, climbed, leaf_hash, node_hash, root_from_path, siblings, subtree_hash, tree_hash};
+ghost use Rattle.std.specs.Prelude.{◌++◌, ◌≡◌, ◌≤◌, ◌<◌, ◌^◌, ◌-◌, ◌↔◌, ℕ, List, length, reverse, IsTrue, IfOk, OnOk, OnSome, Some, All};
+ghost use Rattle.authenticated_bitmap.specs.Tree.{AreBytes, BindsLeaf, audit_path, climbed, leaf_hash, leaf_hashes, node_hash, root_from_path, siblings, subtree_hash, tree_hash};
 
 use crate::hash::Digest;
 use std::alloc::{AllocError, Global};
 
-/// The digest of a leaf.
+/// Returns the digest of a leaf: the hash of the byte 0 and the leaf.
+///
+/// # Memory
+/// Does not allocate.
+///
+/// # Complexity
+/// One hash.
 pub fn leaf_digest<D: Digest>(hash: &D, leaf: &[u8]) -> [u8; 32]
     ensures value { result ≡ leaf_hash (D.digest_of hash.now) leaf.now }
     ensures bytes { AreBytes leaf.now }
@@ -14,7 +24,13 @@ pub fn leaf_digest<D: Digest>(hash: &D, leaf: &[u8]) -> [u8; 32]
     hash.digest(0, leaf, &[])
 }
 
-/// The digest of a node, by those of its children.
+/// Returns the digest of a node: the hash of the byte 1 and the digests of its two children.
+///
+/// # Memory
+/// Does not allocate.
+///
+/// # Complexity
+/// One hash.
 pub fn node_digest<D: Digest>(hash: &D, left: &[u8; 32], right: &[u8; 32]) -> [u8; 32]
     ensures value { result ≡ node_hash (D.digest_of hash.now) left.now right.now }
     ensures left_bytes { AreBytes left.now }
@@ -23,7 +39,31 @@ pub fn node_digest<D: Digest>(hash: &D, left: &[u8; 32], right: &[u8; 32]) -> [u
     hash.digest(1, left, right)
 }
 
-/// Half of the leaves that fit a height.
+/// Returns the digest of each leaf, in the order of the leaves. Leaves have `N` bytes.
+///
+/// # Errors
+/// `AllocError` if an allocation fails.
+///
+/// # Memory
+/// Allocates 32 bytes per leaf.
+///
+/// # Complexity
+/// One hash per leaf.
+pub fn leaf_digests<D: Digest, const N: usize>(
+    alloc: Global,
+    hash: &D,
+    leaves: &[[u8; N]],
+) -> Result<Vec<[u8; 32]>, AllocError>
+    ensures { IfOk result (λ digests. digests.items ≡ leaf_hashes (D.digest_of hash.now) leaves.now) }
+{
+    let mut digests = Vec::new(alloc);
+    for leaf in leaves {
+        digests.push(leaf_digest(hash, leaf))?;
+    }
+    Ok(digests)
+}
+
+// Half of the leaves that fit a height.
 fn half_of(height: u32) -> usize
     requires low { 0 < height }
     requires high { height ≤ 64 }
@@ -32,87 +72,102 @@ fn half_of(height: u32) -> usize
     1 << (height - 1)
 }
 
-/// The digest of the tree of some chunks, of at most `2 ^ height`.
-fn subtree_digest<D: Digest, const N: usize>(hash: &D, height: u32, chunks: &[[u8; N]]) -> [u8; 32]
+// The digest of the tree of at most `2 ^ height` leaves.
+fn subtree_digest<D: Digest>(hash: &D, height: u32, digests: &[[u8; 32]]) -> [u8; 32]
     requires { height ≤ 64 }
-    ensures { result ≡ subtree_hash (D.digest_of hash.now) height chunks.now }
+    ensures { result ≡ subtree_hash (D.digest_of hash.now) height digests.now }
 {
     if height == 0 {
-        return match chunks.first() {
+        return match digests.first() {
             None => hash.digest_of_nothing(),
-            Some(leaf) => leaf_digest(hash, leaf),
+            Some(digest) => *digest,
         };
     }
     let half = half_of(height);
-    if chunks.len() <= half {
-        return subtree_digest(hash, height - 1, chunks);
+    if digests.len() <= half {
+        return subtree_digest(hash, height - 1, digests);
     }
-    let left = subtree_digest(hash, height - 1, &chunks[..half]);
-    let right = subtree_digest(hash, height - 1, &chunks[half..]);
+    let left = subtree_digest(hash, height - 1, &digests[..half]);
+    let right = subtree_digest(hash, height - 1, &digests[half..]);
     node_digest(hash, &left, &right)
 }
 
-/// The digest of the tree of all chunks.
-pub fn tree_digest<D: Digest, const N: usize>(hash: &D, chunks: &[[u8; N]]) -> [u8; 32]
-    ensures { result ≡ tree_hash (D.digest_of hash.now) chunks.now }
+/// Returns the digest of the tree, from the digests of its leaves.
+///
+/// # Memory
+/// Does not allocate.
+///
+/// # Complexity
+/// One hash per leaf, less one.
+pub fn tree_digest<D: Digest>(hash: &D, digests: &[[u8; 32]]) -> [u8; 32]
+    ensures { result ≡ tree_hash (D.digest_of hash.now) digests.now }
 {
-    subtree_digest(hash, 64, chunks)
+    subtree_digest(hash, 64, digests)
 }
 
-/// The digest of a tree of `n` leaves, at most `2 ^ height`, by leaf `i` and the digests beside its way, the root's last.
+// The digest of a tree of `n` leaves, at most `2 ^ height`, from the digest of leaf `i` and the digests
+// beside its way, the root's last.
 fn climb<D: Digest>(
     hash: &D,
     height: u32,
     i: u64,
     n: u64,
-    leaf: &[u8],
+    digest: &[u8; 32],
     path: &[[u8; 32]],
 ) -> Option<[u8; 32]>
     requires { height ≤ 64 }
-    ensures value { result ≡ climbed (D.digest_of hash.now) height i n leaf.now (reverse path.now) }
-    ensures bytes { OnSome result (AreBytes leaf.now × All AreBytes path.now) }
+    ensures value { result ≡ climbed (D.digest_of hash.now) height i n digest.now (reverse path.now) }
+    ensures bytes { OnSome result (All AreBytes path.now) }
 {
     if height == 0 {
-        return if path.is_empty() {
-            Some(leaf_digest(hash, leaf))
-        } else {
-            None
-        };
+        return if path.is_empty() { Some(*digest) } else { None };
     }
     let half = half_of(height) as u64;
     if n <= half {
-        return climb(hash, height - 1, i, n, leaf, path);
+        return climb(hash, height - 1, i, n, digest, path);
     }
     let (beside, below) = path.split_last()?;
     if i < half {
-        let left = climb(hash, height - 1, i, half, leaf, below)?;
+        let left = climb(hash, height - 1, i, half, digest, below)?;
         Some(node_digest(hash, &left, beside))
     } else {
-        let right = climb(hash, height - 1, i - half, n - half, leaf, below)?;
+        let right = climb(hash, height - 1, i - half, n - half, digest, below)?;
         Some(node_digest(hash, beside, &right))
     }
 }
 
-/// The digest of a tree of `n` leaves, by leaf `i` and its audit path. Returns `None` if the path is too long or too short.
+/// Recomputes the digest of a tree of `n` leaves from the digest of leaf `i` and its audit path.
 ///
+/// Returns `None` if the path has too many or too few digests.
+///
+/// # Memory
 /// Does not allocate.
+///
+/// # Complexity
+/// One hash per digest of the path.
 pub fn recompute<D: Digest>(
     hash: &D,
     i: u64,
     n: u64,
-    leaf: &[u8],
+    digest: &[u8; 32],
     path: &[[u8; 32]],
 ) -> Option<[u8; 32]>
-    ensures value { result ≡ root_from_path (D.digest_of hash.now) i n leaf.now path.now }
-    ensures bytes { OnSome result (AreBytes leaf.now × All AreBytes path.now) }
+    ensures value { result ≡ root_from_path (D.digest_of hash.now) i n digest.now path.now }
+    ensures bytes { OnSome result (All AreBytes path.now) }
 {
-    climb(hash, 64, i, n, leaf, path)
+    climb(hash, 64, i, n, digest, path)
 }
 
-/// Whether a leaf and its path show that the leaf is leaf `i` of the tree of `n` leaves with a digest.
+/// Returns whether a leaf and its audit path lead to the digest of a tree of `n` leaves, as leaf `i`.
 ///
-/// If so, it is, or else two different lists of bytes have one digest.
+/// If so, the leaf is leaf `i` of each tree of `n` leaves with that digest, or two different inputs
+/// have one digest: one that is hashed here, and one that is hashed for the tree.
+///
+/// # Memory
 /// Does not allocate.
+///
+/// # Complexity
+/// One hash for the leaf, and one per digest of the path.
 pub fn verify<D: Digest>(
     hash: &D,
     tree: &[u8; 32],
@@ -121,38 +176,40 @@ pub fn verify<D: Digest>(
     leaf: &[u8],
     path: &[[u8; 32]],
 ) -> bool
-    ensures value { IsTrue result ↔ ((i < n) × (root_from_path (D.digest_of hash.now) i n leaf.now path.now ≡ Some tree.now)) }
-    ensures binds { IsTrue result → (leaves : List (List ℕ)) → All AreBytes leaves → length leaves ≡ n → tree_hash (D.digest_of hash.now) leaves ≡ tree.now → (leaf.now ≡ slice_index_or leaves i []) ⊎ Collision (D.digest_of hash.now) }
+    ensures value { IsTrue result ↔ ((i < n)
+        × (root_from_path (D.digest_of hash.now) i n (leaf_hash (D.digest_of hash.now) leaf.now) path.now ≡ Some tree.now)) }
+    ensures binds { IsTrue result → BindsLeaf (D.digest_of hash.now) tree.now n i leaf.now path.now }
 {
     if i >= n {
         return false;
     }
-    match recompute(hash, i, n, leaf, path) {
+    match recompute(hash, i, n, &leaf_digest(hash, leaf), path) {
         None => false,
         Some(digest) => digest == *tree,
     }
 }
 
-/// Appends the digests beside the way to leaf `i`, the root's last.
-fn push_siblings<D: Digest, const N: usize>(
+// Appends the digests beside the way to leaf `i`, the root's last.
+fn push_siblings<D: Digest>(
     hash: &D,
     height: u32,
     i: usize,
-    chunks: &[[u8; N]],
+    digests: &[[u8; 32]],
     path: &mut Vec<[u8; 32]>,
 ) -> Result<(), AllocError>
     requires { height ≤ 64 }
-    ensures { OnOk result (path.new.items ≡ path.old.items ++ reverse (siblings (D.digest_of hash.now) height i chunks.now)) }
+    ensures { OnOk result (path.new.items
+        ≡ path.old.items ++ reverse (siblings (D.digest_of hash.now) height i digests.now)) }
 {
     if height == 0 {
         return Ok(());
     }
     let half = half_of(height);
-    if chunks.len() <= half {
-        return push_siblings(hash, height - 1, i, chunks, path);
+    if digests.len() <= half {
+        return push_siblings(hash, height - 1, i, digests, path);
     }
-    let left = &chunks[..half];
-    let right = &chunks[half..];
+    let left = &digests[..half];
+    let right = &digests[half..];
     if i < half {
         push_siblings(hash, height - 1, i, left, path)?;
         path.push(subtree_digest(hash, height - 1, right))?;
@@ -163,20 +220,29 @@ fn push_siblings<D: Digest, const N: usize>(
     Ok(())
 }
 
-/// Makes the audit path of leaf `i`.
+/// Returns the audit path of leaf `i`, from the digests of all leaves: the digests beside the way from
+/// the leaf to the root, the leaf's sibling first.
+///
+/// `i` is below the number of leaves.
 ///
 /// # Errors
 /// `AllocError` if an allocation fails.
-pub fn prove<D: Digest, const N: usize>(
+///
+/// # Memory
+/// Allocates 32 bytes per digest of the path, of which there are at most 64.
+///
+/// # Complexity
+/// One hash per leaf, less one.
+pub fn prove<D: Digest>(
     alloc: Global,
     hash: &D,
-    chunks: &[[u8; N]],
+    digests: &[[u8; 32]],
     i: usize,
 ) -> Result<Vec<[u8; 32]>, AllocError>
-    requires { i < length chunks.now }
-    ensures { IfOk result (λ path. path.items ≡ audit_path (D.digest_of hash.now) i chunks.now) }
+    requires { i < length digests.now }
+    ensures { IfOk result (λ path. path.items ≡ audit_path (D.digest_of hash.now) i digests.now) }
 {
     let mut path = Vec::new(alloc);
-    push_siblings(hash, 64, i, chunks, &mut path)?;
+    push_siblings(hash, 64, i, digests, &mut path)?;
     Ok(path)
 }

@@ -1,6 +1,14 @@
-//! Tests of authenticated bitmaps with SHA-256. The expected values are those of `hashlib`.
+//! Tests of authenticated bitmaps with SHA-256, through the public calls of `authenticated_bitmap`.
 #![tactic(auto)]
 
+#[cfg(test)]
+mod bitmaps;
+#[cfg(test)]
+mod checks;
+#[cfg(test)]
+mod known;
 mod sha;
+#[cfg(test)]
+mod stored;
 #[cfg(test)]
 mod trees;

@@ -8,8 +8,8 @@ use Rattle.authenticated_bitmap.proofs.StoredPaths.{code_path_low, code_path_lef
 use Rattle.authenticated_bitmap.proofs.store.+push_stored_siblings.Goals as goal
 
 pub returns-then-level-eq0 : goal.returns-then-level-eq0
-returns-then-level-eq0 g t c leaves l s =
-    code_no_siblings (g.D.Digest.digest_of c.args.hash.now) c.args.level (c.args.i - c.args.index * 2 ^ c.args.level) c.args.path.now.items (leaves_under c.args.level c.args.index leaves) c.if-level-eq0.true
+returns-then-level-eq0 g t c digests l s =
+    code_no_siblings (g.D.Digest.digest_of c.args.hash.now) c.args.level (c.args.i - c.args.index * 2 ^ c.args.level) c.args.path.now.items (leaves_under c.args.level c.args.index digests) c.if-level-eq0.true
 
 pub overflow_mul-middle-2 : goal.overflow_mul-middle-2
 overflow_mul-middle-2 g t c =
@@ -25,13 +25,13 @@ push_stored_siblings-requires g t c κs within =
     search (rules, from, p)
 
 pub returns-then-middle-n : goal.returns-then-middle-n
-returns-then-middle-n g t c leaves l s =
+returns-then-middle-n g t c digests l s =
     let H = g.D.Digest.digest_of c.args.hash.now in
     let p : 0 < c.args.level = omega (arith, c.if-level-eq0.false) in
     let half = ap (λ x. (2 * c.args.index + 1) * x) c.size_of.ensures in
-    let few : length leaves ≤ (2 * c.args.index + 1) * 2 ^ (c.args.level - 1) = omega (arith, half, c.if-middle-n.true, l) in
+    let few : length digests ≤ (2 * c.args.index + 1) * 2 ^ (c.args.level - 1) = omega (arith, half, c.if-middle-n.true, l) in
     subst (λ x. OnOk c.push_stored_siblings.result (c.push_stored_siblings.new.path.items ≡ c.args.path.now.items ++ reverse x))
-    (code_path_low H leaves c.args.level c.args.index c.args.i p few) (c.push_stored_siblings.ensures leaves l s)
+    (code_path_low H digests c.args.level c.args.index c.args.i p few) (c.push_stored_siblings.ensures digests l s)
 
 pub push_stored_siblings-requires-then-i-middle : goal.push_stored_siblings-requires-then-i-middle
 push_stored_siblings-requires-then-i-middle g t c κs within =
@@ -40,25 +40,25 @@ push_stored_siblings-requires-then-i-middle g t c κs within =
     search (rules, from, p)
 
 pub returns-in_ok-push : goal.returns-in_ok-push
-returns-in_ok-push g t c leaves l s =
+returns-in_ok-push g t c digests l s =
     let H = g.D.Digest.digest_of c.args.hash.now in
     let p : 0 < c.args.level = omega (arith, c.if-level-eq0.false) in
     let half = ap (λ x. (2 * c.args.index + 1) * x) c.size_of.ensures in
-    let many : (2 * c.args.index + 1) * 2 ^ (c.args.level - 1) < length leaves = omega (arith, half, c.if-middle-n.false, l) in
+    let many : (2 * c.args.index + 1) * 2 ^ (c.args.level - 1) < length digests = omega (arith, half, c.if-middle-n.false, l) in
     let to : c.args.i < (2 * c.args.index + 1) * 2 ^ (c.args.level - 1) = omega (arith, half, c.if-i-middle.true) in
     c.in_ok-push.ensures.items
-    ∙ ap (λ xs. xs ++ c.stored_digest.result ∷ []) (c.in_ok-push_stored_siblings.ensures leaves l s)
-    ∙ ap (λ x. c.args.path.now.items ++ reverse (siblings H (c.args.level - 1) (c.args.i - (2 * c.args.index) * 2 ^ (c.args.level - 1)) (leaves_under (c.args.level - 1) (2 * c.args.index) leaves)) ++ x ∷ []) (c.stored_digest.ensures leaves l s)
-    ∙ code_path_left H leaves c.args.level c.args.index c.args.i p c.args.path.now.items many c.requires.from to
+    ∙ ap (λ xs. xs ++ c.stored_digest.result ∷ []) (c.in_ok-push_stored_siblings.ensures digests l s)
+    ∙ ap (λ x. c.args.path.now.items ++ reverse (siblings H (c.args.level - 1) (c.args.i - (2 * c.args.index) * 2 ^ (c.args.level - 1)) (leaves_under (c.args.level - 1) (2 * c.args.index) digests)) ++ x ∷ []) (c.stored_digest.ensures digests l s)
+    ∙ code_path_left H digests c.args.level c.args.index c.args.i p c.args.path.now.items many c.requires.from to
 
 pub returns-in_ok-push-2 : goal.returns-in_ok-push-2
-returns-in_ok-push-2 g t c leaves l s =
+returns-in_ok-push-2 g t c digests l s =
     let H = g.D.Digest.digest_of c.args.hash.now in
     let p : 0 < c.args.level = omega (arith, c.if-level-eq0.false) in
     let half = ap (λ x. (2 * c.args.index + 1) * x) c.size_of.ensures in
-    let many : (2 * c.args.index + 1) * 2 ^ (c.args.level - 1) < length leaves = omega (arith, half, c.if-middle-n.false, l) in
+    let many : (2 * c.args.index + 1) * 2 ^ (c.args.level - 1) < length digests = omega (arith, half, c.if-middle-n.false, l) in
     let from : (2 * c.args.index + 1) * 2 ^ (c.args.level - 1) ≤ c.args.i = omega (arith, half, c.if-i-middle.false) in
     c.in_ok-push-2.ensures.items
-    ∙ ap (λ xs. xs ++ c.stored_digest-else-i-middle.result ∷ []) (c.in_ok-push_stored_siblings-2.ensures leaves l s)
-    ∙ ap (λ x. c.args.path.now.items ++ reverse (siblings H (c.args.level - 1) (c.args.i - (2 * c.args.index + 1) * 2 ^ (c.args.level - 1)) (leaves_under (c.args.level - 1) (2 * c.args.index + 1) leaves)) ++ x ∷ []) (c.stored_digest-else-i-middle.ensures leaves l s)
-    ∙ code_path_right H leaves c.args.level c.args.index c.args.i p c.args.path.now.items many from
+    ∙ ap (λ xs. xs ++ c.stored_digest-else-i-middle.result ∷ []) (c.in_ok-push_stored_siblings-2.ensures digests l s)
+    ∙ ap (λ x. c.args.path.now.items ++ reverse (siblings H (c.args.level - 1) (c.args.i - (2 * c.args.index + 1) * 2 ^ (c.args.level - 1)) (leaves_under (c.args.level - 1) (2 * c.args.index + 1) digests)) ++ x ∷ []) (c.stored_digest-else-i-middle.ensures digests l s)
+    ∙ code_path_right H digests c.args.level c.args.index c.args.i p c.args.path.now.items many from

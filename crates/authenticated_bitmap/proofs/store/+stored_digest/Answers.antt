@@ -12,11 +12,11 @@ bounds-stored-node_position g t c =
     omega (arith, place_within c.args.n c.args.level c.args.index complete, c.node_position.ensures, c.requires.count)
 
 pub returns-then-index-size_of : goal.returns-then-index-size_of
-returns-then-index-size_of g t c leaves l s =
+returns-then-index-size_of g t c digests l s =
     let H = g.D.Digest.digest_of c.args.hash.now in
     let sizes = ap (λ x. c.args.index * x) c.size_of.ensures in
-    let complete : (c.args.index + 1) * 2 ^ c.args.level ≤ length leaves = omega (arith, sizes, c.size_of-2.ensures, c.if-index-size_of.true, l) in
-    ap (λ xs. get_or xs c.node_position.result []) s ∙ ap (λ p. get_or (stored H leaves) p []) c.node_position.ensures ∙ whole H leaves c.args.level c.args.index complete
+    let complete : (c.args.index + 1) * 2 ^ c.args.level ≤ length digests = omega (arith, sizes, c.size_of-2.ensures, c.if-index-size_of.true, l) in
+    ap (λ xs. get_or xs c.node_position.result []) s ∙ ap (λ p. get_or (stored H digests) p []) c.node_position.ensures ∙ whole H digests c.args.level c.args.index complete
 
 pub stored_digest-left-requires : goal.stored_digest-left-requires
 stored_digest-left-requires g t c κs within =
@@ -34,22 +34,22 @@ overflow_mul-index-4 g t c =
     omega (arith, level_down c.args.level c.args.index p, c.requires.some, c.requires.few, small, half)
 
 pub returns-then-index-size_of-2 : goal.returns-then-index-size_of-2
-returns-then-index-size_of-2 g t c leaves l s =
+returns-then-index-size_of-2 g t c digests l s =
     let H = g.D.Digest.digest_of c.args.hash.now in
     let sizes = ap (λ x. c.args.index * x) c.size_of.ensures in
     let p = level_positive c.args.level c.args.index c.args.n c.requires.some (omega (arith, sizes, c.size_of-2.ensures, c.if-index-size_of.false)) in
     let half = ap (λ x. (2 * c.args.index + 1) * x) c.size_of-3.ensures in
-    let few : length leaves ≤ (2 * c.args.index + 1) * 2 ^ (c.args.level - 1) = omega (arith, half, c.if-index-size_of-2.true, l) in
-    c.stored_digest-left.ensures leaves l s ∙ code_one_part H leaves c.args.level c.args.index p few
+    let few : length digests ≤ (2 * c.args.index + 1) * 2 ^ (c.args.level - 1) = omega (arith, half, c.if-index-size_of-2.true, l) in
+    c.stored_digest-left.ensures digests l s ∙ code_one_part H digests c.args.level c.args.index p few
 
 pub returns : goal.returns
-returns g t c leaves l s =
+returns g t c digests l s =
     let H = g.D.Digest.digest_of c.args.hash.now in
     let sizes = ap (λ x. c.args.index * x) c.size_of.ensures in
     let p = level_positive c.args.level c.args.index c.args.n c.requires.some (omega (arith, sizes, c.size_of-2.ensures, c.if-index-size_of.false)) in
     let half = ap (λ x. (2 * c.args.index + 1) * x) c.size_of-3.ensures in
-    let many : (2 * c.args.index + 1) * 2 ^ (c.args.level - 1) < length leaves = omega (arith, half, c.if-index-size_of-2.false, l) in
+    let many : (2 * c.args.index + 1) * 2 ^ (c.args.level - 1) < length digests = omega (arith, half, c.if-index-size_of-2.false, l) in
     c.node_digest.ensures.value
-    ∙ ap (λ x. node_hash H x c.stored_digest-right.result) (c.stored_digest-left.ensures leaves l s)
-    ∙ ap (λ x. node_hash H (subtree_hash H (c.args.level - 1) (leaves_under (c.args.level - 1) (2 * c.args.index) leaves)) x) (c.stored_digest-right.ensures leaves l s)
-    ∙ code_two_parts H leaves c.args.level c.args.index p many
+    ∙ ap (λ x. node_hash H x c.stored_digest-right.result) (c.stored_digest-left.ensures digests l s)
+    ∙ ap (λ x. node_hash H (subtree_hash H (c.args.level - 1) (leaves_under (c.args.level - 1) (2 * c.args.index) digests)) x) (c.stored_digest-right.ensures digests l s)
+    ∙ code_two_parts H digests c.args.level c.args.index p many

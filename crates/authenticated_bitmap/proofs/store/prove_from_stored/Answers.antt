@@ -7,11 +7,11 @@ use Rattle.authenticated_bitmap.proofs.Heights.{siblings_same}
 use Rattle.authenticated_bitmap.proofs.store.prove_from_stored.Goals as goal
 
 pub returns : goal.returns
-returns g c leaves l s =
+returns g c digests l s =
     let H = g.D.Digest.digest_of c.args.hash.now in
-    let fits : length leaves ≤ 2 ^ 61 = omega (arith, l, c.requires.few) in
-    c.in_ok-push_stored_siblings.ensures leaves l s
-    ∙ ap (λ xs. xs ++ reverse (siblings H 61 (c.args.i - 0) (leaves_under 61 0 leaves))) c.new-path.ensures.items
-    ∙ ap (λ xs. reverse (siblings H 61 (c.args.i - 0) xs)) (take_all (2 ^ 61) leaves fits)
-    ∙ (let z : c.args.i - 0 ≡ c.args.i = omega arith in ap (λ i. reverse (siblings H 61 i leaves)) z)
-    ∙ ap reverse (siblings_same H 61 (length leaves) c.args.i leaves fits (below_power (length leaves)))
+    let fits : length digests ≤ 2 ^ 61 = omega (arith, l, c.requires.few) in
+    c.in_ok-push_stored_siblings.ensures digests l s
+    ∙ ap (λ xs. xs ++ reverse (siblings H 61 (c.args.i - 0) (leaves_under 61 0 digests))) c.new-path.ensures.items
+    ∙ ap (λ xs. reverse (siblings H 61 (c.args.i - 0) xs)) (take_all (2 ^ 61) digests fits)
+    ∙ (let z : c.args.i - 0 ≡ c.args.i = omega arith in ap (λ i. reverse (siblings H 61 i digests)) z)
+    ∙ ap reverse (siblings_same H 61 (length digests) c.args.i digests fits (below_power (length digests)))

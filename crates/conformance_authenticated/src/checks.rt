@@ -1,0 +1,26 @@
+//! Assertions. Each is proved once here, and not again at each place that uses it.
+
+ghost use Rattle.std.specs.Prelude.{◌≡◌, Ok};
+
+use std::fmt::Debug;
+use std::process::Abort;
+
+/// Returns the value of `returned`, and fails the test if it is an error.
+pub fn ok<T, E: Drop>(rt: &impl Abort, returned: Result<T, E>) -> T
+    ensures { returned ≡ Ok result }
+{
+    match returned {
+        Ok(value) => value,
+        Err(_) => panic!(rt; "the call failed"),
+    }
+}
+
+/// Fails the test unless two values are equal, and prints both.
+pub fn equal<T: PartialEq + Debug + Drop>(rt: &impl Abort, left: T, right: T) {
+    assert_eq!(rt; left, right);
+}
+
+/// Fails the test unless two lists of digests are equal, and prints both.
+pub fn equal_digests(rt: &impl Abort, left: &[[u8; 32]], right: &[[u8; 32]]) {
+    assert_eq!(rt; left, right);
+}

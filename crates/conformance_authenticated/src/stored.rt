@@ -1,0 +1,57 @@
+//! Trees from stored digests.
+
+use crate::checks::{equal, equal_digests, ok};
+use crate::known::{
+    PATH_5_OF_8_0, PATH_5_OF_8_1, PATH_5_OF_8_2, PATH_6_OF_7_0, PATH_6_OF_7_1, TREE_7, TREE_8,
+    eight_digests,
+};
+use crate::sha::Sha;
+use authenticated_bitmap::store::{node_count, node_position, prove_from_stored, tree_from_stored};
+use authenticated_bitmap::tree::node_digest;
+
+// The stored digests of the eight leaves: each complete subtree after its two halves.
+fn eight_stored() -> [[u8; 32]; 15] {
+    let [a, b, c, d, e, f, g, h] = eight_digests();
+    let ab = node_digest(&Sha, &a, &b);
+    let cd = node_digest(&Sha, &c, &d);
+    let abcd = node_digest(&Sha, &ab, &cd);
+    let ef = node_digest(&Sha, &e, &f);
+    let gh = node_digest(&Sha, &g, &h);
+    let efgh = node_digest(&Sha, &ef, &gh);
+    let all = node_digest(&Sha, &abcd, &efgh);
+    [a, b, ab, c, d, cd, abcd, e, f, ef, g, h, gh, efgh, all]
+}
+
+#[test]
+fn places(rt: HostRuntime) {
+    equal(&rt, node_count(0), 0);
+    equal(&rt, node_count(7), 11);
+    equal(&rt, node_count(8), 15);
+    equal(&rt, node_position(0, 0), 0);
+    equal(&rt, node_position(0, 1), 1);
+    equal(&rt, node_position(1, 0), 2);
+    equal(&rt, node_position(0, 5), 8);
+    equal(&rt, node_position(2, 1), 13);
+    equal(&rt, node_position(3, 0), 14);
+}
+
+#[test]
+fn eight_leaves(rt: HostRuntime) {
+    let stored = eight_stored();
+    if stored.len() as u64 == node_count(8) {
+        equal(&rt, tree_from_stored(&Sha, &stored, 8), TREE_8);
+        let path = ok(&rt, prove_from_stored(rt.alloc(), &Sha, &stored, 8, 5));
+        equal_digests(&rt, &path, &[PATH_5_OF_8_0, PATH_5_OF_8_1, PATH_5_OF_8_2]);
+    }
+}
+
+#[test]
+fn seven_leaves_have_the_same_places(rt: HostRuntime) {
+    let stored = eight_stored();
+    let seven = &stored[..11];
+    if seven.len() as u64 == node_count(7) {
+        equal(&rt, tree_from_stored(&Sha, seven, 7), TREE_7);
+        let path = ok(&rt, prove_from_stored(rt.alloc(), &Sha, seven, 7, 6));
+        equal_digests(&rt, &path, &[PATH_6_OF_7_0, PATH_6_OF_7_1]);
+    }
+}
