@@ -11,3 +11,4 @@ pub mod FromStored
 pub mod StoredPaths
 pub mod Apart
 pub mod Pigeonhole
+pub mod Encodings

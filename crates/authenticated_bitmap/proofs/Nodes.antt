@@ -11,10 +11,10 @@ use Rattle.authenticated_bitmap.proofs.Tests.{le_or_lt}
 use Rattle.authenticated_bitmap.proofs.Complete.{twice}
 use Rattle.authenticated_bitmap.proofs.Heights.{same_at}
 
-eq_true : (a b : ℕ) → a ≡ b → (a == b) ≡ true
+pub eq_true : (a b : ℕ) → a ≡ b → (a == b) ≡ true
 eq_true a b h = grind (arith, nat_tests)
 
-eq_false : (a b : ℕ) → a ≢ b → (a == b) ≡ false
+pub eq_false : (a b : ℕ) → a ≢ b → (a == b) ≡ false
 eq_false a b h = grind (arith, nat_tests)
 
 module _ (H : List ℕ → List ℕ) (k : ℕ) where

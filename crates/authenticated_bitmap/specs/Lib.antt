@@ -1,3 +1,4 @@
 pub mod Tree
 pub mod Root
 pub mod Stored
+pub mod Encoding

@@ -143,6 +143,10 @@ BindsTrees H = (leaves : List (List ℕ)) (i : ℕ) (leaf : List ℕ) (path : Li
     → root_from_path H i (length leaves) (leaf_hash H leaf) path ≡ Some (tree_hash H (leaf_hashes H leaves))
     → (leaf ≡ slice_index_or leaves i []) ⊎ Collision H (path_inputs H i (length leaves) leaf path) (tree_inputs H leaves)
 
+-- a leaf and a path lead to the digest of a tree of n leaves, as leaf i
+abbrev pub LeadsToTree : (List ℕ → List ℕ) → List ℕ → ℕ → ℕ → List ℕ → List (List ℕ) → Type 0
+LeadsToTree H tree n i leaf path = (i < n) × (root_from_path H i n (leaf_hash H leaf) path ≡ Some tree)
+
 -- whichever tree of n leaves has this digest, a leaf is its leaf i, unless an input of the path and one of the tree collide
 abbrev pub BindsLeaf : (List ℕ → List ℕ) → List ℕ → ℕ → ℕ → List ℕ → List (List ℕ) → Type 0
 BindsLeaf H tree n i leaf path = (leaves : List (List ℕ)) → All AreBytes leaves → length leaves ≡ n → tree_hash H (leaf_hashes H leaves) ≡ tree

@@ -1,6 +1,28 @@
-//! Authenticated bitmaps: a Merkle tree over the chunks of a bitmap, for any hash.
+//! Roots of bitmaps, and proofs of single chunks and bits, for any hash.
+//!
+//! A root is 32 bytes that stand for one state of a bitmap. With the root, the length and the
+//! number of pruned chunks, anyone can check a chunk or a bit of that state, and needs no other
+//! chunk.
+//!
+//! - The hash is a type that implements [`Digest`](hash::Digest).
+//! - [`leaf_digests`](tree::leaf_digests) returns the digests of the chunks,
+//!   [`tree_digest`](tree::tree_digest) that of their tree, and [`root_digest`](root::root_digest)
+//!   the root. The chunks are bytes, so a bitmap of any kind has a root.
+//! - [`prove`](tree::prove) returns the audit path of a chunk. A [`Proof`](encoding::Proof) has
+//!   what is checked against the root, and an encoding.
+//! - [`verify_chunk`](root::verify_chunk) and [`verify_bit`](root::verify_bit) check a chunk or a
+//!   bit. They do not allocate.
+//! - [`store`] computes trees and audit paths from stored digests, of which it reads few.
+//!
+//! A pruned chunk stays in the tree by its digest, so a proof stays good when chunks are pruned:
+//! only the number of pruned chunks in the root changes.
+//!
+//! The laws in [`laws`] and [`root`] say what a check is worth. A chunk that is checked against the
+//! root of a bitmap is in the bitmap, unless two different inputs with one digest were hashed: one
+//! for the check, and one for the bitmap. No one knows two such inputs for SHA-256.
 #![tactic(auto)]
 
+pub mod encoding;
 pub mod hash;
 pub mod laws;
 pub mod root;

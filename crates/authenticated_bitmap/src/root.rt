@@ -1,8 +1,8 @@
 //! The root of a bitmap, and the check of a chunk or of a bit against it.
 //!
-//! The leaves of the tree are the chunks by their absolute index. A pruned chunk stays in the tree by
-//! its digest, so that pruning moves no leaf, and changes the root only by the number of pruned chunks
-//! in its header: an audit path from before stays good.
+//! The leaves of the tree are the chunks by their absolute index. A pruned chunk stays in the tree
+//! by its digest, so that pruning moves no leaf, and changes the root only by the number of pruned
+//! chunks in its header: an audit path from before stays good.
 
 ghost use Rattle.std.specs.Prelude.{◌≡◌, ◌<◌, ◌*◌, ◌/◌, ◌^◌, ◌↔◌, ℕ, List, IsTrue};
 ghost use Rattle.authenticated_bitmap.specs.Tree.{IsHash};
@@ -16,10 +16,10 @@ pub fn paths_show_their_chunks()
     ensures { (H : List ℕ → List ℕ) → ShowsChunks H }
 {}
 
-/// A root binds its bitmap. If a chunk leads to the root of a bitmap, then the bitmap has that shape
-/// and that chunk at that index, or two different inputs with one digest are given: one that is hashed
-/// for the chunk and its path, and one that is hashed for the bitmap. Of a pruned chunk the bitmap has
-/// the digest alone, and the chunk has that digest.
+/// A root binds its bitmap. If a chunk leads to the root of a bitmap, then the bitmap has that
+/// shape and that chunk at that index, or two different inputs with one digest are given: one that
+/// is hashed for the chunk and its path, and one that is hashed for the bitmap. Of a pruned chunk
+/// the bitmap has the digest alone, and the chunk has that digest.
 pub fn roots_bind_their_bitmaps()
     ensures { (H : List ℕ → List ℕ) → IsHash H → BindsBitmaps H }
 {}
@@ -30,7 +30,7 @@ pub fn pruning_keeps_proofs()
 {}
 
 // The numbers of a root, each in eight bytes, most significant byte first.
-fn header_bytes(width: u64, len: u64, pruned: u64) -> [u8; 24]
+pub(crate) fn header_bytes(width: u64, len: u64, pruned: u64) -> [u8; 24]
     ensures { result ≡ header (record { width = width; len = len; pruned = pruned }) }
 {
     let w = width.to_be_bytes();
@@ -42,11 +42,11 @@ fn header_bytes(width: u64, len: u64, pruned: u64) -> [u8; 24]
     ]
 }
 
-/// Returns the root of a bitmap: the hash of the byte 2, `N`, the length, the number of pruned chunks,
-/// and the digest of the tree of all its chunks.
+/// Returns the root of a bitmap: the hash of the byte 2, `N`, the length, the number of pruned
+/// chunks, and the digest of the tree of all its chunks.
 ///
-/// Chunks have `N` bytes, `len` counts bits with the pruned ones, and each number is hashed as eight
-/// bytes, most significant byte first.
+/// Chunks have `N` bytes, `len` counts bits with the pruned ones, and each number is hashed as
+/// eight bytes, most significant byte first.
 ///
 /// # Memory
 /// Does not allocate.
@@ -59,19 +59,19 @@ pub fn root_digest<D: Digest, const N: usize>(
     pruned: u64,
     tree: &[u8; 32],
 ) -> [u8; 32]
-    ensures { result
-        ≡ root_over (D.digest_of hash.now) (record { width = N; len = len; pruned = pruned }) tree.now }
+    ensures { result ≡ root_over (D.digest_of hash.now)
+        (record { width = N; len = len; pruned = pruned }) tree.now }
 {
     hash.digest(2, &header_bytes(N as u64, len, pruned), tree)
 }
 
-/// Returns whether a chunk and its audit path lead to a root, as chunk `i` of a bitmap of `len` bits of
-/// which `pruned` chunks are pruned.
+/// Returns whether a chunk and its audit path lead to a root, as chunk `i` of a bitmap of `len`
+/// bits of which `pruned` chunks are pruned.
 ///
-/// `i` is the absolute index of the chunk, and `len` counts the pruned bits too. If it returns `true`,
-/// then each bitmap with that root has that length, that number of pruned chunks and that chunk, or two
-/// different inputs have one digest: one that is hashed here, and one that is hashed for the bitmap. Of
-/// a pruned chunk a bitmap has the digest alone, and the chunk has that digest.
+/// `i` is the absolute index of the chunk, and `len` counts the pruned bits too. If it returns
+/// `true`, then each bitmap with that root has that length, that number of pruned chunks and that
+/// chunk, or two different inputs have one digest: one that is hashed here, and one that is hashed
+/// for the bitmap. Of a pruned chunk a bitmap has the digest alone, and the chunk has that digest.
 ///
 /// `N` is at least 1, and `8N` fits `u64`.
 ///
@@ -116,10 +116,11 @@ fn bit_in<const N: usize>(chunk: &[u8; N], position: u64) -> bool
 
 /// Returns whether a chunk and its audit path show that a bitmap has `bit` at a position.
 ///
-/// They do if the position is below `len`, the chunk has that bit, and [`verify_chunk`] returns `true`
-/// for the chunk of the position. `position` is absolute: it counts the pruned bits too. If it returns
-/// `true`, then each bitmap with that root in which the chunk is retained has that bit, or two different
-/// inputs have one digest: one that is hashed here, and one that is hashed for the bitmap.
+/// They do if the position is below `len`, the chunk has that bit, and [`verify_chunk`] returns
+/// `true` for the chunk of the position. `position` is absolute: it counts the pruned bits too. If
+/// it returns `true`, then each bitmap with that root in which the chunk is retained has that bit,
+/// or two different inputs have one digest: one that is hashed here, and one that is hashed for the
+/// bitmap.
 ///
 /// `N` is at least 1, and `8N` fits `u64`.
 ///

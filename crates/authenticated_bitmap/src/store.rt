@@ -1,8 +1,8 @@
 //! A tree whose digests are stored: those of its complete subtrees, by place.
 //!
-//! A complete subtree has `2 ^ level` leaves, and begins at a multiple of that number. Its digest comes
-//! after those of its two halves. So the place of a digest does not depend on the number of leaves, and a
-//! leaf that is appended appends digests and moves none.
+//! A complete subtree has `2 ^ level` leaves, and begins at a multiple of that number. Its digest
+//! comes after those of its two halves. So the place of a digest does not depend on the number of
+//! leaves, and a leaf that is appended appends digests and moves none.
 
 ghost use Rattle.std.specs.Prelude.{◌++◌, ◌-◌, reverse, IfOk, OnOk, ◌≡◌, ◌+◌, ◌*◌, ◌^◌, ◌<◌, ◌≤◌, ℕ, List, length};
 ghost use Rattle.authenticated_bitmap.specs.Stored.{KeepsApart, StoresSubtrees, leaves_under, nodes, position, stored as stored_of};
@@ -12,14 +12,14 @@ use crate::hash::Digest;
 use crate::tree::node_digest;
 use std::alloc::{AllocError, Global};
 
-/// What is stored for a tree: how many digests, each complete subtree's at its place, and that leaves
-/// which are appended only append digests.
+/// What is stored for a tree: how many digests, each complete subtree's at its place, and that
+/// leaves which are appended only append digests.
 pub fn subtrees_stay_where_they_are()
     ensures { (H : List ℕ → List ℕ) → StoresSubtrees H }
 {}
 
-/// Two complete subtrees are stored at two places, and a leaf that is replaced changes no subtree that
-/// does not contain it.
+/// Two complete subtrees are stored at two places, and a leaf that is replaced changes no subtree
+/// that does not contain it.
 pub fn subtrees_are_kept_apart()
     ensures { KeepsApart }
 {}
@@ -34,10 +34,11 @@ pub fn node_count(n: u64) -> u64
     2 * n - n.count_ones() as u64
 }
 
-/// Returns the place of the digest of the complete subtree of `2 ^ level` leaves that begins at leaf
-/// `index * 2 ^ level`.
+/// Returns the place of the digest of the complete subtree of `2 ^ level` leaves that begins at
+/// leaf `index * 2 ^ level`.
 ///
-/// `level` is below 62, and the subtree ends below 2 to the power 62. Does not allocate; constant time.
+/// `level` is below 62, and the subtree ends below 2 to the power 62. Does not allocate; constant
+/// time.
 pub fn node_position(level: u32, index: u64) -> u64
     requires low { level < 62 }
     requires fits { (index + 1) * 2 ^ level < 2 ^ 62 }
@@ -104,8 +105,8 @@ pub fn tree_from_stored<D: Digest>(hash: &D, stored: &[[u8; 32]], n: u64) -> [u8
     stored_digest(hash, stored, n, 61, 0)
 }
 
-// Appends the digests beside the way to leaf `i` in a part of the tree, the part's last, from the stored
-// digests.
+// Appends the digests beside the way to leaf `i` in a part of the tree, the part's last, from the
+// stored digests.
 fn push_stored_siblings<D: Digest>(
     hash: &D,
     stored: &[[u8; 32]],
@@ -123,7 +124,8 @@ fn push_stored_siblings<D: Digest>(
     ensures { (digests : List (List ℕ)) → length digests ≡ n
         → stored.now ≡ stored_of (D.digest_of hash.now) digests
         → OnOk result (path.new.items ≡ path.old.items
-        ++ reverse (siblings (D.digest_of hash.now) level (i - index * 2 ^ level) (leaves_under level index digests))) }
+        ++ reverse (siblings (D.digest_of hash.now) level (i - index * 2 ^ level)
+        (leaves_under level index digests))) }
 {
     if level == 0 {
         return Ok(());
@@ -144,8 +146,8 @@ fn push_stored_siblings<D: Digest>(
 
 /// Returns the audit path of leaf `i` of the tree of `n` leaves, from the stored digests.
 ///
-/// There are [`node_count(n)`](node_count) of them, `i` is below `n`, and `n` is at most 2 to the power
-/// 61.
+/// There are [`node_count(n)`](node_count) of them, `i` is below `n`, and `n` is at most 2 to the
+/// power 61.
 ///
 /// # Errors
 /// `AllocError` if an allocation fails.

@@ -1,11 +1,11 @@
 //! The digest of a tree, the audit path of a leaf, and the check of a leaf and its path.
 //!
-//! The tree is that of [RFC 9162](https://www.rfc-editor.org/rfc/rfc9162#section-2.1), section 2.1. A
-//! leaf is any bytes. The tree is computed from the digests of its leaves, so a leaf whose bytes are
-//! gone stays in the tree as long as its digest is kept.
+//! The tree is that of [RFC 9162](https://www.rfc-editor.org/rfc/rfc9162#section-2.1), section 2.1.
+//! A leaf is any bytes. The tree is computed from the digests of its leaves, so a leaf whose bytes
+//! are gone stays in the tree as long as its digest is kept.
 
-ghost use Rattle.std.specs.Prelude.{◌++◌, ◌≡◌, ◌≤◌, ◌<◌, ◌^◌, ◌-◌, ◌↔◌, ℕ, List, length, reverse, IsTrue, IfOk, OnOk, OnSome, Some, All};
-ghost use Rattle.authenticated_bitmap.specs.Tree.{AreBytes, BindsLeaf, audit_path, climbed, leaf_hash, leaf_hashes, node_hash, root_from_path, siblings, subtree_hash, tree_hash};
+ghost use Rattle.std.specs.Prelude.{◌++◌, ◌≡◌, ◌≤◌, ◌<◌, ◌^◌, ◌-◌, ◌↔◌, ℕ, List, length, reverse, IsTrue, IfOk, OnOk, OnSome, All};
+ghost use Rattle.authenticated_bitmap.specs.Tree.{AreBytes, BindsLeaf, LeadsToTree, audit_path, climbed, leaf_hash, leaf_hashes, node_hash, root_from_path, siblings, subtree_hash, tree_hash};
 
 use crate::hash::Digest;
 use std::alloc::{AllocError, Global};
@@ -54,7 +54,8 @@ pub fn leaf_digests<D: Digest, const N: usize>(
     hash: &D,
     leaves: &[[u8; N]],
 ) -> Result<Vec<[u8; 32]>, AllocError>
-    ensures { IfOk result (λ digests. digests.items ≡ leaf_hashes (D.digest_of hash.now) leaves.now) }
+    ensures { IfOk result (λ digests.
+        digests.items ≡ leaf_hashes (D.digest_of hash.now) leaves.now) }
 {
     let mut digests = Vec::new(alloc);
     for leaf in leaves {
@@ -105,8 +106,8 @@ pub fn tree_digest<D: Digest>(hash: &D, digests: &[[u8; 32]]) -> [u8; 32]
     subtree_digest(hash, 64, digests)
 }
 
-// The digest of a tree of `n` leaves, at most `2 ^ height`, from the digest of leaf `i` and the digests
-// beside its way, the root's last.
+// The digest of a tree of `n` leaves, at most `2 ^ height`, from the digest of leaf `i` and the
+// digests beside its way, the root's last.
 fn climb<D: Digest>(
     hash: &D,
     height: u32,
@@ -116,7 +117,8 @@ fn climb<D: Digest>(
     path: &[[u8; 32]],
 ) -> Option<[u8; 32]>
     requires { height ≤ 64 }
-    ensures value { result ≡ climbed (D.digest_of hash.now) height i n digest.now (reverse path.now) }
+    ensures value { result
+        ≡ climbed (D.digest_of hash.now) height i n digest.now (reverse path.now) }
     ensures bytes { OnSome result (All AreBytes path.now) }
 {
     if height == 0 {
@@ -158,7 +160,8 @@ pub fn recompute<D: Digest>(
     climb(hash, 64, i, n, digest, path)
 }
 
-/// Returns whether a leaf and its audit path lead to the digest of a tree of `n` leaves, as leaf `i`.
+/// Returns whether a leaf and its audit path lead to the digest of a tree of `n` leaves, as leaf
+/// `i`.
 ///
 /// If so, the leaf is leaf `i` of each tree of `n` leaves with that digest, or two different inputs
 /// have one digest: one that is hashed here, and one that is hashed for the tree.
@@ -176,9 +179,10 @@ pub fn verify<D: Digest>(
     leaf: &[u8],
     path: &[[u8; 32]],
 ) -> bool
-    ensures value { IsTrue result ↔ ((i < n)
-        × (root_from_path (D.digest_of hash.now) i n (leaf_hash (D.digest_of hash.now) leaf.now) path.now ≡ Some tree.now)) }
-    ensures binds { IsTrue result → BindsLeaf (D.digest_of hash.now) tree.now n i leaf.now path.now }
+    ensures value { IsTrue result
+        ↔ LeadsToTree (D.digest_of hash.now) tree.now n i leaf.now path.now }
+    ensures binds { IsTrue result
+        → BindsLeaf (D.digest_of hash.now) tree.now n i leaf.now path.now }
 {
     if i >= n {
         return false;
@@ -220,8 +224,8 @@ fn push_siblings<D: Digest>(
     Ok(())
 }
 
-/// Returns the audit path of leaf `i`, from the digests of all leaves: the digests beside the way from
-/// the leaf to the root, the leaf's sibling first.
+/// Returns the audit path of leaf `i`, from the digests of all leaves: the digests beside the way
+/// from the leaf to the root, the leaf's sibling first.
 ///
 /// `i` is below the number of leaves.
 ///

@@ -67,7 +67,8 @@ fn a_proof_stays_good_when_chunks_are_pruned(rt: HostRuntime) {
 #[test]
 fn a_false_proof_of_a_chunk_does_not_verify(rt: HostRuntime) {
     let chunk = [2, 2, 2, 2];
-    // The root of another number of pruned chunks, another length, another place, and another chunk.
+    // The root of another number of pruned chunks, another length, another place, and another
+    // chunk.
     equal(
         &rt,
         verify_chunk(&Sha, &ROOT_PRUNED_0, 150, 2, 2, &chunk, &PATH),

@@ -152,7 +152,8 @@ pub const ROOT_PRUNED_4: [u8; 32] = [
     53, 217, 37, 180, 103, 171, 159, 133, 105, 105, 54, 182,
 ];
 
-/// The worked root of the document of byte formats: chunks of one byte, of which the first is pruned.
+/// The worked root of the document of byte formats: chunks of one byte, of which the first is
+/// pruned.
 pub const WORKED_ROOT: [u8; 32] = [
     227, 13, 246, 162, 76, 10, 70, 35, 220, 162, 84, 62, 125, 26, 226, 253, 146, 121, 132, 232, 91,
     226, 182, 119, 26, 3, 126, 217, 236, 88, 85, 145,

@@ -6,6 +6,8 @@ mod bitmaps;
 #[cfg(test)]
 mod checks;
 #[cfg(test)]
+mod encodings;
+#[cfg(test)]
 mod known;
 mod sha;
 #[cfg(test)]
