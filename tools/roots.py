@@ -1,0 +1,187 @@
+#!/usr/bin/env python3
+"""A second computation of roots, audit paths and proofs of chunks. It was written from docs/FORMATS.md alone, with Python's hashlib.
+
+    tools/roots.py      compares itself with the page's worked root and with the constants of the tests, and checks random proofs
+
+The check of a path goes from the leaf up, as the algorithm of RFC 9162, section 2.1.3.2. The library's goes from the root down.
+"""
+
+import random
+import re
+from hashlib import sha256
+
+from replay import TOP, report
+
+PAGE = TOP / "docs/FORMATS.md"
+CONSTANTS = TOP / "crates/conformance_authenticated/src/known.rt"
+CONSTANT = re.compile(r"pub const (\w+): \[u8; 32\] = \[([\d,\s]*)\];")
+LEAVES = ["", "00", "10", "2021", "3031", "40414243", "5051525354555657", "606162636465666768696a6b6c6d6e6f"]
+ROUNDS = 300
+
+
+def digest(data):
+    return sha256(data).digest()
+
+
+def be64(number):
+    return number.to_bytes(8, "big")
+
+
+def leaf(data):
+    return digest(b"\x00" + data)
+
+
+def node(left, right):
+    return digest(b"\x01" + left + right)
+
+
+def split(n):
+    """The largest power of two below n, which is at least 2."""
+    return 1 << ((n - 1).bit_length() - 1)
+
+
+def tree(digests):
+    if not digests:
+        return digest(b"")
+    if len(digests) == 1:
+        return digests[0]
+    k = split(len(digests))
+    return node(tree(digests[:k]), tree(digests[k:]))
+
+
+def audit_path(index, digests):
+    if len(digests) == 1:
+        return []
+    k = split(len(digests))
+    if index < k:
+        return [*audit_path(index, digests[:k]), tree(digests[k:])]
+    return [*audit_path(index - k, digests[k:]), tree(digests[:k])]
+
+
+def climbed(index, n, start, path):
+    """The digest of the tree of n leaves, from the digest of a leaf and its path. None if the path is too long or too short."""
+    place, last, found = index, n - 1, start
+    for beside in path:
+        if last == 0:
+            return None
+        if place & 1 or place == last:
+            found = node(beside, found)
+            while place and not place & 1:
+                place, last = place >> 1, last >> 1
+        else:
+            found = node(found, beside)
+        place, last = place >> 1, last >> 1
+    return found if last == 0 else None
+
+
+def root(width, length, pruned, top):
+    return digest(b"\x02" + be64(width) + be64(length) + be64(pruned) + top)
+
+
+def verifies(wanted, width, length, pruned, index, chunk, path):
+    n = -(-length // (8 * width))
+    if index >= n:
+        return False
+    top = climbed(index, n, leaf(chunk), path)
+    return top is not None and root(width, length, pruned, top) == wanted
+
+
+def encoding(width, length, pruned, index, chunk, path):
+    return b"".join(map(be64, (width, length, pruned, index, len(path)))) + chunk + b"".join(path)
+
+
+def read(width, data):
+    """The proof that bytes are the encoding of, or the name of the first error."""
+    if len(data) < 40:
+        return "Short"
+    found, length, pruned, index, count = (int.from_bytes(data[at : at + 8], "big") for at in range(0, 40, 8))
+    if found != width:
+        return "Width"
+    if count > 64:
+        return "TooManyDigests"
+    if len(data) != 40 + width + 32 * count:
+        return "Length"
+    path = [data[at : at + 32] for at in range(40 + width, len(data), 32)]
+    return width, length, pruned, index, data[40 : 40 + width], path
+
+
+def nodes(n):
+    return 2 * n - n.bit_count()
+
+
+def stored(digests):
+    """The digests of the complete subtrees, each appended when its last leaf is."""
+    found, waiting = [], []  # waiting: the complete subtrees that have no sibling yet
+    for one in digests:
+        found.append(one)
+        waiting.append((0, one))
+        while len(waiting) > 1 and waiting[-1][0] == waiting[-2][0]:
+            (level, right), (_, left) = waiting.pop(), waiting.pop()
+            found.append(node(left, right))
+            waiting.append((level + 1, found[-1]))
+    return found
+
+
+def constants():
+    """The values that the constants of the tests have to have."""
+    eight = [leaf(bytes.fromhex(text)) for text in LEAVES]
+    five = [leaf(bytes([k]) * 4) for k in range(5)]
+    worked = [leaf(bytes.fromhex(text)) for text in ("01", "80", "0f")]
+    values = {"NOTHING": tree([]), "LAST_FOUR": tree(eight[4:]), "FIVE_CHUNKS": tree(five)}
+    values |= {f"TREE_{n}": tree(eight[:n]) for n in range(1, 9)}
+    values |= {f"PATH_{index}_OF_{n}_{k}": one for index, n in ((5, 8), (6, 7)) for k, one in enumerate(audit_path(index, eight[:n]))}
+    values |= {f"PATH_CHUNK_2_{k}": one for k, one in enumerate(audit_path(2, five))}
+    values |= {f"ROOT_PRUNED_{pruned}": root(4, 150, pruned, tree(five)) for pruned in (0, 2, 4)}
+    values |= {"WORKED_0": worked[0], "WORKED_2": worked[2], "WORKED_ROOT": root(1, 20, 1, tree(worked))}
+    return values
+
+
+def constant_cases():
+    values = constants()
+    for name, numbers in CONSTANT.findall(CONSTANTS.read_text()):
+        found = bytes(int(number) for number in re.findall(r"\d+", numbers))
+        wanted = values.pop(name, None)
+        yield name, None if found == wanted else "has another value"
+    yield "constants", f"there is no {' '.join(values)}" if values else None
+
+
+def worked_cases():
+    """Compares the table of the worked root: each digest is that of the bytes and digests beside it."""
+    rows = re.findall(r"^\| (\w+) \| (`[^|]*) \| `([0-9a-f]{64})` \|$", PAGE.read_text(), re.MULTILINE)
+    yield "the worked root", None if [name for name, *_ in rows] == ["d0", "d1", "d2", "n", "tree", "root"] else "its rows are others"
+    known = {}
+    for name, parts, found in rows:
+        data = b"".join(bytes.fromhex(part.strip("`")) if part.startswith("`") else known[part] for part in parts.split(", "))
+        known[name] = bytes.fromhex(found)
+        yield f"worked {name}", None if digest(data) == known[name] else digest(data).hex()
+
+
+def random_cases(rounds, seed="0"):
+    """True proofs verify and false ones do not, paths have the right lengths, and each encoding is read again."""
+    source = random.Random(seed)
+    for number in range(rounds):
+        width, bits = source.randint(1, 5), source.randint(1, 400)
+        chunks = [source.randbytes(width) for _ in range(-(-bits // (8 * width)))]
+        digests = [leaf(chunk) for chunk in chunks]
+        pruned, index = source.randint(0, len(chunks)), source.randrange(len(chunks))
+        wanted, path = root(width, bits, pruned, tree(digests)), audit_path(index, digests)
+        proof = (width, bits, pruned, index, chunks[index], path)
+        other = bytes([chunks[index][0] ^ 1]) + chunks[index][1:]
+        false = [
+            (width, bits + 1, *proof[2:]), (width, bits, pruned + 1, *proof[3:]), (width, bits, pruned, index, other, path),
+            (width, bits, pruned, index, chunks[index], [*path, wanted]), (width, bits, pruned, index, chunks[index], path[:-1] if path else [wanted]),
+        ]
+        data, places = encoding(*proof), stored(digests)
+        subtree = source.randrange(len(digests).bit_length())
+        start = source.randrange(len(digests) >> subtree) << subtree
+        yield f"proof {number}", None if verifies(wanted, *proof) else "does not verify"
+        yield f"false proofs {number}", None if not any(verifies(wanted, *one) for one in false) else "one verifies"
+        yield f"encoding {number}", None if read(width, data) == proof else "is read as another"
+        yield f"errors {number}", None if read(width, data[:39]) == "Short" and read(width + 1, data) == "Width" and read(width, data + b"\0") == "Length" else "others"
+        yield f"stored {number}", None if len(places) == nodes(len(digests)) else f"{len(places)} digests"
+        at = nodes(start) + 2 * (1 << subtree) - 2
+        yield f"place {number}", None if places[at] == tree(digests[start : start + (1 << subtree)]) else f"another digest is at {at}"
+
+
+if __name__ == "__main__":
+    raise SystemExit(report("roots", [*constant_cases(), *worked_cases(), *random_cases(ROUNDS)], "values"))
