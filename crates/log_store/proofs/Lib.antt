@@ -1,10 +1,11 @@
-pub mod Appends
 pub mod AtRest
 pub mod Creating
-pub mod Cuts
-pub mod FirstEntries
+pub mod FramesRead
+pub mod Gates
+pub mod Left
 pub mod Moments
 pub mod Past
-pub mod Prefixes
 pub mod Reopening
 pub mod Stored
+pub mod Synced
+pub mod Tears

@@ -1,83 +1,78 @@
 -- One more content among those that a device has had, and what a crash may leave after each call.
-use Rattle.std.proofs.Common.{◌≡◌, ◌⊎◌, inl, inr, ⊎_elim, ℕ, zero, suc, ◌+◌, ◌-◌, ◌≤◌, List, [], ◌∷◌, ◌++◌, length, take, drop, Vec, refl, sym, ap, ◌∙◌, subst, arith, length-append, take-append-drop}
-use Rattle.std.proofs.lemmas.Bool.{cases_lt}
-use Rattle.std.proofs.lemmas.List.{take-append-le, length-take-le, take_all}
+use Rattle.std.proofs.Common.{◌≡◌, ◌⊎◌, inl, inr, ⊎_elim, ℕ, zero, suc, ◌≤◌, List, [], ◌∷◌, ◌++◌, length, drop, Option, Some, None, Vec, refl, sym, subst, arith, length-append}
+use Rattle.std.specs.Option.{unwrap_or}
 use Rattle.std.specs.declared.alloc.Global.{Global}
-use Rattle.log_store.specs.Device.{Elapses, MayTear}
-use Rattle.log_store.specs.Past.{HadBeen, MayLeave}
+use Rattle.log_store.specs.Device.{Elapses, MayTear, Only}
+use Rattle.log_store.specs.Past.{HadBeen, MayLeave, Since, kept_before}
+use Rattle.log_store.proofs.Tears.{as_after, as_before}
 
-abbrev Contents : Type 0
-Contents = List (Vec ℕ Global × ℕ)
+abbrev Content : Type 0
+Content = Vec ℕ Global × Option (Vec ℕ Global)
+
+-- what a past content could leave
+abbrev Left : Content → List ℕ → Type 0
+Left v c = MayLeave (kept_before v.1) v.0.items c
 
 -- what a past content could leave, it could leave still
-keeps : (past : Contents) (v : Vec ℕ Global × ℕ) (c : List ℕ) → HadBeen past c → HadBeen (past ++ v ∷ []) c
+keeps : (past : List Content) (v : Content) (c : List ℕ) → HadBeen past c → HadBeen (past ++ v ∷ []) c
 keeps [] v c had = absurd had
 keeps (p ∷ past) v c (inl here) = inl here
 keeps (p ∷ past) v c (inr there) = inr (keeps past v c there)
 
 -- what one more content adds
-adds : (past : Contents) (v : Vec ℕ Global × ℕ) (c : List ℕ) → HadBeen (past ++ v ∷ []) c → HadBeen past c ⊎ MayLeave v.0.items v.1 c
+adds : (past : List Content) (v : Content) (c : List ℕ) → HadBeen (past ++ v ∷ []) c → HadBeen past c ⊎ Left v c
 adds [] v c (inl here) = inr here
 adds [] v c (inr none) = absurd none
 adds (p ∷ past) v c (inl here) = inl (inl here)
 adds (p ∷ past) v c (inr there) = ⊎_elim (λ had. inl (inr had)) (λ new. inr new) (adds past v c there)
 
 -- the last content could leave this
-newest : (past : Contents) (v : Vec ℕ Global × ℕ) (c : List ℕ) → MayLeave v.0.items v.1 c → HadBeen (past ++ v ∷ []) c
+newest : (past : List Content) (v : Content) (c : List ℕ) → Left v c → HadBeen (past ++ v ∷ []) c
 newest [] v c is = inl is
 newest (p ∷ past) v c is = inr (newest past v c is)
 
-drop_push : (t : ℕ) (past : Contents) (v : Vec ℕ Global × ℕ) → t ≤ length past → drop t (past ++ v ∷ []) ≡ drop t past ++ v ∷ []
+drop_push : (t : ℕ) (past : List Content) (v : Content) → t ≤ length past → drop t (past ++ v ∷ []) ≡ drop t past ++ v ∷ []
 drop_push zero past v le = refl
 drop_push (suc t) [] v le = absurd (omega arith)
 drop_push (suc t) (p ∷ past) v le = drop_push t past v (omega arith)
 
--- what a crash since t might have left
-abbrev pub Since : Contents → List ℕ → ℕ → ℕ → List ℕ → Type 0
-Since past bytes unsynced t c = MayLeave bytes unsynced c ⊎ HadBeen (drop t past) c
-
 -- nothing has happened
-pub elapses_same : (past : Contents) (bytes : List ℕ) (u : ℕ) → Elapses (length past) (length past) (Since past bytes u) (Since past bytes u) (MayLeave bytes u)
-elapses_same past bytes u = record { later = omega arith; nothing_else = λ t c le left. inl left; keeps = λ t c le left. left }
+pub elapses_same : (past : List Content) (before : Option (Vec ℕ Global)) (bytes : List ℕ) → Elapses (length past) (length past) (Since past before bytes) (Since past before bytes) (MayLeave (kept_before before) bytes)
+elapses_same past before bytes = record { later = omega arith; nothing_else = λ t c le left. inl left; keeps = λ t c le left. left }
+
+-- the present content, as the last of the past ones
+is_past : (v : Content) (before : Option (Vec ℕ Global)) (old : List ℕ) → v.0.items ≡ old → kept_before v.1 ≡ kept_before before → (c : List ℕ) → Left v c ≡ MayLeave (kept_before before) old c
+is_past v before old is same c = λ i. MayLeave (same i) (is i) c
 
 -- one content more is a past one
-elapses_push : (past : Contents) (v : Vec ℕ Global × ℕ) (old new : List ℕ) (u w : ℕ) → v.0.items ≡ old → v.1 ≡ u → Elapses (length past) (length (past ++ v ∷ [])) (Since past old u) (Since (past ++ v ∷ []) new w) (MayLeave new w)
-elapses_push past v old new u w is same = record {
+elapses_push : (past : List Content) (v : Content) (old new : List ℕ) (before after : Option (Vec ℕ Global)) → v.0.items ≡ old → kept_before v.1 ≡ kept_before before
+    → Elapses (length past) (length (past ++ v ∷ [])) (Since past before old) (Since (past ++ v ∷ []) after new) (MayLeave (kept_before after) new)
+elapses_push past v old new before after is same = record {
   later = omega (arith, length-append past (v ∷ []));
-  nothing_else = λ t c le left. ⊎_elim (λ now. inr now) (λ had. inl (was t c (adds (drop t past) v c (subst (λ (l : Contents). HadBeen l c) (drop_push t past v le) had)))) left;
-  keeps = λ t c le left. inr (subst (λ (l : Contents). HadBeen l c) (sym (drop_push t past v le)) (⊎_elim (λ now. newest (drop t past) v c (subst (λ (l : List ℕ). MayLeave l v.1 c) (sym is) (subst (λ (x : ℕ). MayLeave old x c) (sym same) now))) (keeps (drop t past) v c) left));
+  nothing_else = λ t c le left. ⊎_elim (λ now. inr now) (λ had. inl (was t c (adds (drop t past) v c (subst (λ (l : List Content). HadBeen l c) (drop_push t past v le) had)))) left;
+  keeps = λ t c le left. inr (subst (λ (l : List Content). HadBeen l c) (sym (drop_push t past v le)) (⊎_elim (λ now. newest (drop t past) v c (subst (λ (X : Type 0). X) (sym (is_past v before old is same c)) now)) (keeps (drop t past) v c) left));
 }
   where
-    was : (t : ℕ) (c : List ℕ) → HadBeen (drop t past) c ⊎ MayLeave v.0.items v.1 c → Since past old u t c
+    was : (t : ℕ) (c : List ℕ) → HadBeen (drop t past) c ⊎ Left v c → Since past before old t c
     was t c (inl had) = inr had
-    was t c (inr new) = inl (subst (λ (x : ℕ). MayLeave old x c) same (subst (λ (l : List ℕ). MayLeave l v.1 c) is new))
+    was t c (inr new) = inl (subst (λ (X : Type 0). X) (is_past v before old is same c) new)
 
-pub elapses_to : (past later : Contents) (v : Vec ℕ Global × ℕ) (old new : List ℕ) (u w : ℕ) → v.0.items ≡ old → v.1 ≡ u → later ≡ past ++ v ∷ [] → Elapses (length past) (length later) (Since past old u) (Since later new w) (MayLeave new w)
-elapses_to past later v old new u w is same to =
-    subst (λ (l : Contents). Elapses (length past) (length l) (Since past old u) (Since l new w) (MayLeave new w)) (sym to) (elapses_push past v old new u w is same)
+pub elapses_to : (past later : List Content) (v : Content) (old new : List ℕ) (before after : Option (Vec ℕ Global)) → v.0.items ≡ old → kept_before v.1 ≡ kept_before before → later ≡ past ++ v ∷ []
+    → Elapses (length past) (length later) (Since past before old) (Since later after new) (MayLeave (kept_before after) new)
+elapses_to past later v old new before after is same to =
+    subst (λ (l : List Content). Elapses (length past) (length l) (Since past before old) (Since l after new) (MayLeave (kept_before after) new)) (sym to) (elapses_push past v old new before after is same)
 
--- after an append
-pub append_splits : (old bytes c : List ℕ) (u w : ℕ) → w ≤ u + length bytes → MayLeave (old ++ bytes) w c → MayLeave old u c ⊎ MayTear old (old ++ bytes) c
-append_splits old bytes c u w le f =
-    let l = length-append old bytes in
-    elim (cases_lt f.count (length old)) [
-      | inl less ↦ inl (record { count = f.count; least_is = omega (arith, f.least_is, l, le); within = omega (arith, less); is = f.is ∙ take-append-le f.count old bytes (omega (arith, less)) })
-      | inr more ↦ inr (record { count = f.count; least_is = more; within = f.within; is = f.is })
-    ]
+-- a change of bytes that were all kept: what was kept before it is what was there
+pub change_tears : (before after : Option (Vec ℕ Global)) (old new c : List ℕ) → kept_before after ≡ Some (unwrap_or (kept_before before) old) → Only old (MayLeave (kept_before before) old) → MayLeave (kept_before after) new c → MayTear old new c
+change_tears None after old new c is only left = subst (λ (x : Option (List ℕ)). MayLeave x new c) is left
+change_tears (Some bytes) after old new c is only left =
+    subst (λ (x : List ℕ). MayTear x new c) (only bytes.items (as_before bytes.items old)) (subst (λ (x : Option (List ℕ)). MayLeave x new c) is left)
 
--- after a cut
-pub cut_splits : (old c : List ℕ) (len u : ℕ) → len ≤ length old → MayLeave (take len old) (u - (length old - len)) c → MayLeave old u c ⊎ MayTear (take len old) old c
-cut_splits old c len u le f =
-    let l = length-take-le len old le in
-    let is : c ≡ take f.count old = f.is ∙ sym (take-append-le f.count (take len old) (drop len old) f.within) ∙ ap (take f.count) (take-append-drop len old) in
-    elim (cases_lt u (length old - len)) [
-      | inl less ↦ inr (record { count = f.count; least_is = omega (arith, f.least_is, l, less); within = omega (arith, f.within, l, le); is = is })
-      | inr more ↦ inl (record { count = f.count; least_is = omega (arith, f.least_is, l, le, more); within = omega (arith, f.within, l, le); is = is })
-    ]
+-- a call that failed
+pub same_tears : (before : Option (Vec ℕ Global)) (old new c : List ℕ) → Only old (MayLeave (kept_before before) old) → MayLeave (kept_before before) old c → MayTear old new c
+same_tears before old new c only left = subst (λ (x : List ℕ). MayTear old new x) (sym (only c left)) (as_before old new)
 
 -- after a sync
-pub sync_keeps : (old c : List ℕ) (u : ℕ) → MayLeave old 0 c → MayLeave old u c
-sync_keeps old c u f = record { count = f.count; least_is = omega (arith, f.least_is); within = f.within; is = f.is }
-
-pub sync_only : (old c : List ℕ) → MayLeave old 0 c → c ≡ old
-sync_only old c f = f.is ∙ take_all f.count old (omega (arith, f.least_is))
+pub sync_keeps : (before : Option (Vec ℕ Global)) (old c : List ℕ) → c ≡ old → MayLeave (kept_before before) old c
+sync_keeps None old c is = is
+sync_keeps (Some bytes) old c is = subst (MayTear bytes.items old) (sym is) (as_after bytes.items old)

@@ -1,19 +1,19 @@
 -- What the calls of a device do to its bytes, and what a crash may leave between two syncs.
-use Rattle.std.specs.Prelude.{◌≡◌, ◌⊎◌, ℕ, ◌<◌, ◌≤◌, List, length, take, Result, IfErr}
+use Rattle.std.specs.Prelude.{◌≡◌, ◌⊎◌, ℕ, ◌+◌, ◌<◌, ◌≤◌, List, [], ◌∷◌, ◌++◌, length, take, drop, Result, IfErr}
 use Rattle.log_store.specs.declared.device.DeviceError.{DeviceError}
 use Rattle.log_store.specs.declared.device.DeviceError.TheVariants.{Memory, Failed}
 
--- the first of some bytes, at least so many
-pub record IsPrefix (least : ℕ) (bytes c : List ℕ) : Type 0 where
-  pub count : ℕ
-  pub least_is : least ≤ count
-  pub within : count ≤ length bytes
-  pub is : c ≡ take count bytes
+-- some bytes with another one at a position
+abbrev pub with_byte : ℕ → ℕ → List ℕ → List ℕ
+with_byte at byte bytes = take at bytes ++ byte ∷ drop (at + 1) bytes
 
--- THE HYPOTHESIS OF AN ORDERED FILE, about two contents of which one begins with the other: while an append or a cut leads from one to the other and is not synced, a crash leaves the shorter one and some of the further bytes, the first of them first.
--- It is a model of a file whose bytes reach the disk in their order. A weaker one, such as that any of the further blocks are kept and the others are zero, would stand here, and nowhere else.
+-- THE HYPOTHESIS OF TORN BLOCKS, about the bytes before an append, a cut or the setting of a byte, and the bytes after it: if all bytes were kept before, a crash before the next sync leaves one of the two bytes at each position at which both have a byte, and any bytes after these, no more than the longer one has.
+-- So any blocks of a change, of any size, may have reached the disk, in any order; where a file grew, there may be zeros or whatever the disk had there; and its length is anywhere between. What is assumed is that a byte which a change leaves as it was is kept, and that one byte is never half written.
 abbrev pub MayTear : List ℕ → List ℕ → List ℕ → Type 0
-MayTear shorter longer c = IsPrefix (length shorter) longer c
+MayTear [] new c = length c ≤ length new
+MayTear (x ∷ old) [] c = length c ≤ length (x ∷ old)
+MayTear (x ∷ old) (y ∷ new) [] = ⊥
+MayTear (x ∷ old) (y ∷ new) (z ∷ c) = ((z ≡ x) ⊎ (z ≡ y)) × MayTear old new c
 
 -- a crash leaves these bytes and nothing else
 abbrev pub Only : List ℕ → (List ℕ → Type 0) → Type 0

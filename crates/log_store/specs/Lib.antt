@@ -1,4 +1,5 @@
 pub mod Device
+pub mod Gate
 pub mod Moments
 pub mod Opened
 pub mod Past

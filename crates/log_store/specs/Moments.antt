@@ -1,6 +1,6 @@
 -- What a crash leaves of a device, at a moment and during calls.
-use Rattle.std.specs.Prelude.{◌⊎◌, ℕ, ◌≤◌, List}
-use Rattle.log_store.specs.Device.{Only}
+use Rattle.std.specs.Prelude.{◌≡◌, ◌⊎◌, ℕ, ◌≤◌, List}
+use Rattle.log_store.specs.Device.{Elapses, Only}
 use Rattle.log_store.specs.declared.device.Device.{Ghosts}
 
 -- a device behaves as the model, and a crash leaves what a read returns and nothing else

@@ -1,7 +1,7 @@
 //! A device that keeps bytes: what a read returns, what a crash may leave, and what is assumed of both.
 
-ghost use Rattle.std.specs.Prelude.{◌≡◌, ◌⊎◌, ◌≤◌, ◌++◌, List, ℕ, length, take, IfOk, OnOk};
-ghost use Rattle.log_store.specs.Device.{Elapses, HasCause, MayTear, Only};
+ghost use Rattle.std.specs.Prelude.{◌≡◌, ◌<◌, ◌≤◌, ◌++◌, List, ℕ, length, take, IfOk, OnOk};
+ghost use Rattle.log_store.specs.Device.{Elapses, HasCause, MayTear, Only, with_byte};
 
 use std::alloc::{AllocError, Global};
 use thiserror::Error as ErrorDerive;
@@ -29,10 +29,11 @@ impl From<AllocError> for DeviceError {
     }
 }
 
-/// A device that keeps bytes, which are appended to, and cut at their end.
+/// A device that keeps bytes, which are appended to, cut at their end, and set one by one.
 ///
-/// The contracts describe a model of a disk. What a crash may leave of an append or a cut that is not synced is the definition `MayTear`, and nowhere
-/// else. Each contract holds only while the device behaves as the model. No contract can say that a real disk does: that is assumed.
+/// The contracts describe a model of a disk. What a crash may leave of a change that is not synced is the definition `MayTear`, and nowhere else: any
+/// bytes may be where the device grew or was cut, and any blocks of a change may be kept, in any order. Of a second change before a sync, nothing is
+/// said. Each contract holds only while the device behaves as the model. No contract can say that a real disk does: that is assumed.
 pub trait Device {
     /// The device behaves as the model. Of a device that does not, nothing is said.
     ghost behaves: { Self → Type 0 };
@@ -65,29 +66,44 @@ pub trait Device {
         ensures cause { behaves self.old → HasCause (faults self.old) (faults self.new) result }
         ensures behaves { behaves self.old → behaves self.new };
 
-    /// Appends bytes. Until a sync, a crash may leave them torn.
+    /// Appends bytes. Until a sync, a crash may leave any bytes in their place, and fewer of them.
     ///
     /// # Errors
     /// `Memory` if an allocation fails, and `Failed` if the device does. Some of the bytes may then be appended.
     fn append(&mut self, bytes: &[u8]) -> Result<(), DeviceError>
         ensures written { behaves self.old → OnOk result (seen self.new ≡ seen self.old ++ bytes.now) }
-        ensures crash { behaves self.old → (c : List ℕ) → may_leave self.new c
-            → may_leave self.old c ⊎ MayTear (seen self.old) (seen self.old ++ bytes.now) c }
+        ensures crash { behaves self.old → Only (seen self.old) (may_leave self.old) → (c : List ℕ)
+            → may_leave self.new c → MayTear (seen self.old) (seen self.old ++ bytes.now) c }
         ensures time { behaves self.old → Elapses (moment self.old) (moment self.new)
             (left_since self.old) (left_since self.new) (may_leave self.new) }
         ensures cause { behaves self.old → HasCause (faults self.old) (faults self.new) result }
         ensures behaves { behaves self.old → behaves self.new };
 
-    /// Removes the bytes after the first `len`. Until a sync, a crash may leave some of them.
+    /// Replaces the byte at position `at`, if there is one. Until a sync, a crash may leave the old byte or the new one.
+    ///
+    /// # Errors
+    /// `Memory` if an allocation fails, and `Failed` if the device does. The byte may then be replaced.
+    fn set_byte(&mut self, at: u64, byte: u8) -> Result<(), DeviceError>
+        ensures written { behaves self.old → at < length (seen self.old)
+            → OnOk result (seen self.new ≡ with_byte at byte (seen self.old)) }
+        ensures crash { behaves self.old → Only (seen self.old) (may_leave self.old)
+            → at < length (seen self.old) → (c : List ℕ) → may_leave self.new c
+            → MayTear (seen self.old) (with_byte at byte (seen self.old)) c }
+        ensures time { behaves self.old → Elapses (moment self.old) (moment self.new)
+            (left_since self.old) (left_since self.new) (may_leave self.new) }
+        ensures cause { behaves self.old → HasCause (faults self.old) (faults self.new) result }
+        ensures behaves { behaves self.old → behaves self.new };
+
+    /// Removes the bytes after the first `len`. Until a sync, a crash may leave any bytes in their place, and fewer of them.
     ///
     /// # Errors
     /// `Memory` if an allocation fails, and `Failed` if the device does. Some of the bytes may then be removed.
     fn cut_to(&mut self, len: u64) -> Result<(), DeviceError>
         ensures cut { behaves self.old → len ≤ length (seen self.old)
             → OnOk result (seen self.new ≡ take len (seen self.old)) }
-        ensures crash { behaves self.old → len ≤ length (seen self.old) → (c : List ℕ)
-            → may_leave self.new c
-            → may_leave self.old c ⊎ MayTear (take len (seen self.old)) (seen self.old) c }
+        ensures crash { behaves self.old → Only (seen self.old) (may_leave self.old)
+            → len ≤ length (seen self.old) → (c : List ℕ) → may_leave self.new c
+            → MayTear (seen self.old) (take len (seen self.old)) c }
         ensures time { behaves self.old → Elapses (moment self.old) (moment self.new)
             (left_since self.old) (left_since self.new) (may_leave self.new) }
         ensures cause { behaves self.old → HasCause (faults self.old) (faults self.new) result }

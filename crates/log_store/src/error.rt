@@ -20,7 +20,7 @@ pub enum StoreError {
     #[error("no commit is kept under this number")]
     NoSuchCommit,
 
-    /// An allocation failed, or the log would have 2^64 bytes or more. Nothing was written.
+    /// An allocation failed, or the entry is too long: its frame would have 2^56 bytes or more, or the log 2^64. Nothing was written.
     #[error("out of memory")]
     Memory(AllocError),
 

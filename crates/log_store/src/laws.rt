@@ -1,14 +1,14 @@
 //! Laws of stores: what holds of any sequence of calls, and after a crash at any moment of it. A law is the contract of a function whose body makes
 //! the calls that the law is about, or is empty.
 
-ghost use Rattle.std.specs.Prelude.{ℕ, ◌++◌, List, MatchResult};
+ghost use Rattle.std.specs.Prelude.{ℕ, ◌++◌, [], List, MatchResult};
 ghost use Rattle.bitmap_bytes.specs.Chunk.{IsWidth};
 ghost use Rattle.commit_log.specs.Base.{Base};
 ghost use Rattle.commit_log.specs.Entries.{Entry};
 ghost use Rattle.commit_log.specs.Kept.{Kept, kept_of};
 ghost use Rattle.log_store.specs.Moments.{IsAtRest};
 ghost use Rattle.log_store.specs.Opened.{IsPassing, OpensTo, RecoversTo};
-ghost use Rattle.log_store.specs.Store.{Becomes};
+ghost use Rattle.log_store.specs.Store.{Becomes, IsStored};
 
 use crate::device::Device;
 use crate::opening::OpenError;
@@ -24,10 +24,13 @@ pub fn calls_in_a_row<const N: usize, D: Device>(
     mid: &StoredLog<D>,
     new: &StoredLog<D>,
 )
-    ensures { (base : Base) (begun further more : List Entry) (kept now last : ℕ)
+    ensures more { (base : Base) (begun further more : List Entry) (kept now last : ℕ)
         (state later : Kept) → Becomes N D.Device base begun kept old.now further now state mid.now
         → Becomes N D.Device base (begun ++ further) now mid.now more last later new.now
         → Becomes N D.Device base begun kept old.now (further ++ more) last later new.now }
+    ensures none { (base : Base) (begun : List Entry) (kept : ℕ) (state : Kept)
+        → IsStored N D.Device base begun kept state old.now
+        → Becomes N D.Device base begun kept old.now [] kept state old.now }
 {}
 
 /// A crash at any moment of some calls leaves bytes that recover to the state after some first ones of the entries that were begun, among them all

@@ -1,7 +1,8 @@
 //! A historical bitmap whose commits are kept on a device.
 //!
 //! Each call that changes what a [`Store`] keeps writes its entry to the device first, syncs it, and then makes its change in memory. So when the
-//! call returns `Ok`, the entry is kept (clause `keeps`). If the call fails, the bitmap is unchanged, and the entry is begun or not (`fails`). The
+//! call returns `Ok`, the entry is kept (clause `keeps`). The entry is written behind a closed gate: a byte in the place of its first one until
+//! all others are kept. So a crash leaves an entry that is read as whole, or one that is known as not finished, whatever blocks the disk wrote. If the call fails, the bitmap is unchanged, and the entry is begun or not (`fails`). The
 //! law [`calls_in_a_row`](crate::calls_in_a_row) says the same of any sequence of calls, and the law
 //! [`a_crash_is_opened`](crate::a_crash_is_opened) what [`Store::open`] makes of what a crash leaves at any moment of it.
 //!
@@ -136,14 +137,14 @@ impl<const N: usize, D: Device> Store<N, D> {
     ///
     /// - `ReadOnly` if an earlier call failed after it had begun to write;
     /// - `NoSuchCommit` if no commit is kept under the number;
-    /// - `Memory` if an allocation fails before anything is written, or if the log would have 2^64 bytes or more;
+    /// - `Memory` if an allocation fails before anything is written, or if the entry is too long: a frame of 2^56 bytes, or a log of 2^64;
     /// - `Device` if the device fails, and `NotApplied` if an allocation fails once the entry is kept. The store is then read-only.
     ///
     /// # Memory
     /// As `rewind_to` of the bitmap. Temporarily also the entry and its frame, and what the calls of the device allocate.
     ///
     /// # Complexity
-    /// As `rewind_to` of the bitmap, with one append and one sync of the device.
+    /// As `rewind_to` of the bitmap, with one append, one byte set and two syncs of the device.
     pub fn rewind_to(self, number: u64) -> Result<Store<N, D>, (Store<N, D>, StoreError)>
         // The entry of the rewind is kept, and makes the new state.
         ensures keeps { (base : Base) (begun : List Entry) (kept : ℕ)
@@ -193,14 +194,14 @@ impl<const N: usize, D: Device> Store<N, D> {
     /// Returns the first error that applies, with the bitmap unchanged:
     ///
     /// - `ReadOnly` if an earlier call failed after it had begun to write;
-    /// - `Memory` if an allocation fails before anything is written, or if the log would have 2^64 bytes or more;
+    /// - `Memory` if an allocation fails before anything is written, or if the entry is too long: a frame of 2^56 bytes, or a log of 2^64;
     /// - `Device` if the device fails. The store is then read-only.
     ///
     /// # Memory
     /// Temporarily the entry and its frame, and what the calls of the device allocate.
     ///
     /// # Complexity
-    /// As `prune_commits_before` of the bitmap, with one append and one sync of the device.
+    /// As `prune_commits_before` of the bitmap, with one append, one byte set and two syncs of the device.
     pub fn drop_before(&mut self, number: u64) -> Result<(), StoreError>
         ensures keeps { (base : Base) (begun : List Entry) (kept : ℕ)
             → IsStored N D.Device base begun kept (kept_of N self.old.bitmap) self.old.log
@@ -236,7 +237,7 @@ impl<const N: usize, D: Device> Store<N, D> {
     /// As [`drop_before`](Store::drop_before).
     ///
     /// # Complexity
-    /// As `clear_history` of the bitmap, with one append and one sync of the device.
+    /// As `clear_history` of the bitmap, with one append, one byte set and two syncs of the device.
     pub fn clear(&mut self) -> Result<(), StoreError>
         ensures keeps { (base : Base) (begun : List Entry) (kept : ℕ)
             → IsStored N D.Device base begun kept (kept_of N self.old.bitmap) self.old.log
@@ -325,7 +326,7 @@ impl<const N: usize, D: Device> StoreBatch<N, D> {
     ///
     /// - `ReadOnly` if an earlier call failed after it had begun to write;
     /// - `Number` if the number is `u64::MAX`, or if it is not above the last number;
-    /// - `Memory` if an allocation fails before anything is written, or if the log would have 2^64 bytes or more;
+    /// - `Memory` if an allocation fails before anything is written, or if the entry is too long: a frame of 2^56 bytes, or a log of 2^64;
     /// - `Device` if the device fails, and `NotApplied` if an allocation fails once the entry is kept. The store is then read-only.
     ///
     /// # Memory
@@ -333,7 +334,7 @@ impl<const N: usize, D: Device> StoreBatch<N, D> {
     ///
     /// # Complexity
     /// As `commit` of `DirtyBitMap`, and linear in the bytes of the marked chunks, with a few searches among the edited chunks for each one. One
-    /// append and one sync of the device.
+    /// append, one byte set and two syncs of the device.
     pub fn commit(self, number: u64) -> Result<Store<N, D>, (StoreBatch<N, D>, StoreError)>
         // The entry of the commit is kept, and makes the new state.
         ensures keeps { (base : Base) (begun : List Entry) (kept : ℕ)

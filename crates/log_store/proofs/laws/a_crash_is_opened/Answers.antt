@@ -1,4 +1,4 @@
-use Rattle.std.proofs.Common.{Result, Ok, Err, IfOk, IfErr, ◌++◌, arith}
+use Rattle.std.proofs.Common.{Result, Ok, Err, IfOk, IfErr, ◌++◌}
 use Rattle.std.specs.Prelude.{MatchResult}
 use Rattle.log_store.proofs.laws.a_crash_is_opened.Goals as goal
 
@@ -10,5 +10,5 @@ pub returns : goal.returns
 returns g c base begun further kept now state h left rest =
     let entries = begun ++ further in
     let within = h.any_moment.each (g.D.Device.seen c.args.device) left in
-    both c.open.result _ _ (c.open.ensures.opened base entries kept rest h.stored.log_is (omega (arith, h.rises, h.stored.within)) within)
-    (c.open.ensures.complete base entries kept rest h.stored.log_is (omega (arith, h.rises, h.stored.within)) within)
+    both c.open.result _ _ (c.open.ensures.opened base entries kept rest h.stored.log_is within)
+    (c.open.ensures.complete base entries kept rest h.stored.log_is within)
