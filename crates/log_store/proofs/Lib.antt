@@ -1,4 +1,5 @@
 pub mod AtRest
+pub mod Compactions
 pub mod Creating
 pub mod FramesRead
 pub mod Gates
@@ -6,6 +7,7 @@ pub mod Left
 pub mod Moments
 pub mod Past
 pub mod Reopening
+pub mod Replaced
 pub mod Stored
 pub mod Synced
 pub mod Tears

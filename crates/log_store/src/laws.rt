@@ -1,19 +1,23 @@
 //! Laws of stores: what holds of any sequence of calls, and after a crash at any moment of it. A law is the contract of a function whose body makes
 //! the calls that the law is about, or is empty.
 
-ghost use Rattle.std.specs.Prelude.{ℕ, ◌++◌, [], List, MatchResult};
+ghost use Rattle.std.specs.Prelude.{◌≡◌, ℕ, ◌++◌, [], List, MatchResult, false};
 ghost use Rattle.bitmap_bytes.specs.Chunk.{IsWidth};
 ghost use Rattle.commit_log.specs.Base.{Base};
 ghost use Rattle.commit_log.specs.Entries.{Entry};
+ghost use Rattle.commit_log.specs.History.{HasLog, IsHistory};
 ghost use Rattle.commit_log.specs.Kept.{Kept, kept_of};
-ghost use Rattle.log_store.specs.Moments.{IsAtRest};
+ghost use Rattle.log_store.specs.Compacted.{IsCompacting};
+ghost use Rattle.log_store.specs.Moments.{IsAtRest, LeavesOnly};
 ghost use Rattle.log_store.specs.Opened.{IsPassing, OpensTo, RecoversTo};
 ghost use Rattle.log_store.specs.Store.{Becomes, IsStored};
 
 use crate::device::Device;
 use crate::opening::OpenError;
+use crate::replacing::Replaceable;
 use crate::store::Store;
 use crate::stored_log::StoredLog;
+use commit_log::a_compacted_log_makes_each_state;
 use std::alloc::Global;
 
 /// Calls, and further calls after them, are calls: what the contracts of the calls of a store say of each one holds of any sequence of them.
@@ -62,5 +66,30 @@ pub fn a_crash_is_opened<const N: usize, D: Device>(
         → IsAtRest D.Device device → MatchResult result (λ store. OpensTo N D.Device base
         (begun ++ further) kept (kept_of N store.bitmap) store.log) (λ e. IsPassing e.1) }
 {
+    Store::open(alloc, device)
+}
+
+/// Opens a device that has what a crash left at any moment of a call of [`Store::compact`], which did not refuse it as read-only.
+///
+/// The store has the bitmap that it had: the crash left the old log, of which all entries are kept, or the new one.
+///
+/// # Errors
+/// Those of [`Store::open`]. The device or an allocation has then failed.
+pub fn a_compaction_is_opened<const N: usize, D: Replaceable>(
+    alloc: Global,
+    old: &StoredLog<D>,
+    new: &StoredLog<D>,
+    device: D,
+) -> Result<Store<N, D>, (D, OpenError)>
+    requires { IsWidth N }
+    ensures { (base : Base) (begun : List Entry) (kept : ℕ) (state : Kept)
+        → IsStored N D.Device base begun kept state old.now → old.now.is_read_only ≡ false
+        → HasLog N state → IsHistory state
+        → LeavesOnly D.Device old.now.device new.now.device (IsCompacting N base begun kept state)
+        → D.Device.left_since new.now.device (D.Device.moment old.now.device) (D.Device.seen device)
+        → IsAtRest D.Device device
+        → MatchResult result (λ store. kept_of N store.bitmap ≡ state) (λ e. IsPassing e.1) }
+{
+    a_compacted_log_makes_each_state();
     Store::open(alloc, device)
 }

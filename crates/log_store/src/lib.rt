@@ -2,6 +2,7 @@
 #![tactic(auto)]
 
 mod appending;
+mod compacting;
 mod cutting;
 mod device;
 mod encoding;
@@ -12,6 +13,7 @@ mod memory;
 mod opening;
 mod reading;
 mod recovering;
+mod replacing;
 mod setting;
 mod store;
 mod stored_log;
@@ -21,9 +23,12 @@ pub use appending::append_synced;
 pub use cutting::cut_synced;
 pub use device::{Device, DeviceError};
 pub use error::StoreError;
-pub use laws::{a_crash_is_opened, a_crash_keeps_what_is_kept, calls_in_a_row};
+pub use laws::{
+    a_compaction_is_opened, a_crash_is_opened, a_crash_keeps_what_is_kept, calls_in_a_row,
+};
 pub use memory::MemoryDevice;
 pub use opening::{CreateError, OpenError};
+pub use replacing::{Replaceable, replace_synced};
 pub use setting::set_synced;
 pub use store::{Store, StoreBatch};
 pub use stored_log::StoredLog;

@@ -76,7 +76,8 @@ fn keep(
     past: &mut Vec<(Vec<u8>, Option<Vec<u8>>)>,
 ) -> Result<(), AllocError>
     ensures ok { OnOk result ((v : _) × (v.0.items ≡ bytes.now)
-        × (kept_before v.1 ≡ kept_before before.now) × (past.new.items ≡ past.old.items ++ v ∷ [])) }
+        × (kept_before v.1 ≡ kept_before before.now)
+        × (past.new.items ≡ past.old.items ++ v ∷ [])) }
     ensures err { OnErr result (past.new.items ≡ past.old.items) }
 {
     let before = copy(alloc, before)?;

@@ -1,0 +1,70 @@
+//! A log that is replaced by the history of the bitmap.
+
+ghost use Rattle.std.specs.Prelude.{◌≡◌, ℕ, List, true, IfErr, IsErrOf, OnOk};
+ghost use Rattle.commit_log.specs.Base.{Base};
+ghost use Rattle.commit_log.specs.Entries.{Entry};
+ghost use Rattle.commit_log.specs.History.{HasLog};
+ghost use Rattle.commit_log.specs.Kept.{kept_of};
+ghost use Rattle.log_store.specs.Compacted.{IsCompacted, IsCompacting};
+ghost use Rattle.log_store.specs.Moments.{LeavesOnly};
+ghost use Rattle.log_store.specs.Store.{IsStored, LeavesLog};
+ghost use Rattle.log_store.specs.declared.error.StoreError.TheVariants.{ReadOnly};
+
+use crate::error::StoreError;
+use crate::opening::whole_log;
+use crate::replacing::{Replaceable, replace_synced};
+use crate::store::Store;
+use commit_log::a_compacted_log_makes_each_state;
+use std::alloc::AllocError;
+
+impl<const N: usize, D: Replaceable> Store<N, D> {
+    /// Replaces the log by the history of the bitmap, which has one commit for each kept state after the first, and no rewind or drop. Returns once
+    /// it is kept.
+    ///
+    /// The bitmap is unchanged. A crash during the call leaves the old log or the new one, and [`open`](Store::open) makes the same bitmap of both.
+    ///
+    /// # Errors
+    /// Returns the first error that applies:
+    ///
+    /// - `ReadOnly` if an earlier call failed after it had begun to write;
+    /// - `Memory` if an allocation fails, or if the new log would have 2^64 bytes or more. Nothing was written.
+    /// - `Device` if the device fails. The store is then read-only.
+    ///
+    /// # Memory
+    /// Temporarily the bytes of the new log, and what the calls of the device allocate.
+    ///
+    /// # Complexity
+    /// As [`write_history`](commit_log::write_history), with one replacement of all bytes of the device.
+    pub fn compact(&mut self) -> Result<(), StoreError>
+        // The log has the history of the bitmap, and is kept.
+        ensures compacted { (base : Base) (begun : List Entry) (kept : ℕ)
+            → IsStored N D.Device base begun kept (kept_of N self.old.bitmap) self.old.log
+            → HasLog N (kept_of N self.old.bitmap)
+            → OnOk result (IsCompacted N D.Device (kept_of N self.old.bitmap) self.new.log) }
+        // A crash at any moment of the call leaves the old log or the new one.
+        ensures any_moment { (base : Base) (begun : List Entry) (kept : ℕ)
+            → IsStored N D.Device base begun kept (kept_of N self.old.bitmap) self.old.log
+            → LeavesOnly D.Device self.old.log.device self.new.log.device
+            (IsCompacting N base begun kept (kept_of N self.old.bitmap)) }
+        ensures unchanged { self.new.bitmap ≡ self.old.bitmap }
+        ensures log { IfErr result (λ e. LeavesLog D.Device self.old.log e self.new.log) }
+        ensures read_only { self.old.log.is_read_only ≡ true → IsErrOf result ReadOnly }
+    {
+        if self.log.is_read_only {
+            return Err(StoreError::ReadOnly);
+        }
+        // The prover learns from these calls that the history makes the bitmap again.
+        a_compacted_log_makes_each_state();
+        let _ = self.bitmap.len();
+        let _ = self.bitmap.last_number();
+        let Ok((bytes, place)) = whole_log(self.alloc, &self.bitmap) else {
+            return Err(StoreError::Memory(AllocError));
+        };
+        if let Err(error) = replace_synced(&mut self.log.device, &bytes) {
+            self.log.is_read_only = true;
+            return Err(StoreError::Device(error));
+        }
+        self.log.place = place;
+        Ok(())
+    }
+}
