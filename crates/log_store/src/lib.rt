@@ -7,6 +7,7 @@ mod cutting;
 mod device;
 mod encoding;
 mod error;
+mod file;
 mod gate;
 mod laws;
 mod memory;
@@ -23,6 +24,7 @@ pub use appending::append_synced;
 pub use cutting::cut_synced;
 pub use device::{Device, DeviceError};
 pub use error::StoreError;
+pub use file::FileDevice;
 pub use laws::{
     a_compaction_is_opened, a_crash_is_opened, a_crash_keeps_what_is_kept, calls_in_a_row,
 };
