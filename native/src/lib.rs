@@ -52,6 +52,8 @@ pub mod bitmap;
 #[doc(hidden)]
 pub mod generated;
 pub mod log;
+#[cfg(feature = "std")]
+pub mod store;
 #[doc(hidden)]
 pub mod support;
 
