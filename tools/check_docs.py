@@ -2,7 +2,7 @@
 """Checks the documents and doc comments.
 
 - Each Rattle example is in the crate `uses`, word for word and with its imports, so that it is proved and tested.
-- Each example in C, Rust or Python is in a tested file of `bindings`.
+- Each example in C, Rust or Python is in a tested file of `bindings`, or in an example of `native`.
 - Each relative link of a document leads to a file, and to a heading if it names one.
 - Each file that a document names exists.
 - Each mutant that a table names exists, and each clause that a table names is the label of a clause.
@@ -21,8 +21,12 @@ DOCUMENTS = [
     "docs/SCRIPT.md", "docs/FORMATS.md", "docs/BENCHMARKS.md", "bench/README.md",
 ]
 
-# The files of `bindings` that are tested, by the word of a fence.
-TESTED = [("c", "c", ["**/*.c"]), ("rs", "rust", ["README.md", "examples/*.rs", "tests/**/*.rs"]), ("python", "python", ["README.md", "tests/**/*.py"])]
+# The folders and their files that are tested, by the word of a fence.
+TESTED = [
+    ("c", "bindings/c", ["**/*.c"]),
+    ("rs", ".", [*(f"bindings/rust/{name}" for name in ("README.md", "examples/*.rs", "tests/**/*.rs")), "native/examples/*.rs"]),
+    ("python", "bindings/python", ["README.md", "tests/**/*.py"]),
+]
 
 
 class Example(NamedTuple):
@@ -96,12 +100,12 @@ def example_errors(example, callers):
 
 
 def foreign_errors():
-    """The examples of the documents that are in no tested file of `bindings`. A fence of Rust has the word `rs`."""
+    """The examples of the documents that are in no tested file. A fence of Rust has the word `rs`."""
     for word, folder, names in TESTED:
-        callers = [lines_of(path) for name in names for path in sorted((TOP / "bindings" / folder).glob(name))]
+        callers = [lines_of(path) for name in names for path in sorted((TOP / folder).glob(name))]
         for path in documents():
             for example in examples(path, word):
-                yield from difference(example, callers, f"bindings/{folder}")
+                yield from difference(example, callers, folder if folder != "." else "bindings/rust and native/examples")
 
 
 def difference(example, callers, folder):

@@ -1,11 +1,13 @@
 #!/usr/bin/env python3
 """Checks the Rust crate in native/, which erase.py generates from the sources.
 
-usage: check_native.py [--after-gate] [--target DIR] [PART..]    runs the parts, or all: generated, tests, erased, replay, proved, original, mutants
+usage: check_native.py [--after-gate] [--target DIR] [PART..]    runs the parts, or all: generated, tests, store, erased, replay, proved, original,
+                                                               mutants
 
 - generated: native/src/generated is what erase.py writes. docs/NATIVE.md has the forms of conditions that erase.py knows.
 - tests: the crate's tests, examples and doc tests pass, with checks of overflow and as a release; its examples print what they should.
   It builds without the feature `std`. Clippy and rustdoc have no warning, and rustfmt has no change.
+- store: a program that changes a store is killed again and again, for a minute, and what was acknowledged is there (tools/crash.sh).
 - erased: the repository's own tests, erased, pass on the crate.
 - replay: the program `replay` over the crate prints what the rows say, and what the reference model gives for random scripts and small batches.
 - proved: it prints the same bytes as the proved program on random scripts, if that is built from the sources as they are. With --after-gate the
@@ -38,7 +40,8 @@ from replay import PROVED, TOP, WIDTHS, report
 NATIVE = TOP / "native"
 JOBS = "2"
 SECONDS = 1200  # the most that one command may take, on a busy machine
-PARTS = ("generated", "tests", "erased", "replay", "proved", "original", "mutants")
+PARTS = ("generated", "tests", "store", "erased", "replay", "proved", "original", "mutants")
+CRASH_SECONDS = 60  # how long the program that changes a store is killed again and again
 SCRIPTS = 1000  # random scripts for the comparison with the proved program
 
 # The files of the crate that are written for commonware-utils, in each of which one `use` is changed.
@@ -122,6 +125,13 @@ def check_example(place, file):
     """The case of an example: it prints the text of the file."""
     status, printed = place.run(*cargo("run", "--quiet", "--example", file.stem))
     return f"examples/{file.stem}", None if status == 0 and printed == file.read_text() else printed
+
+
+def check_store(place):
+    """The case of the program that is killed: its last lines say how often it was."""
+    status, printed = place.run(str(TOP / "tools/crash.sh"), str(CRASH_SECONDS), CARGO_BUILD_JOBS=JOBS)
+    print(printed.rstrip())
+    return [("tools/crash.sh", None if status == 0 else f"it ends with status {status}")]
 
 
 def write_tests(place):
@@ -253,8 +263,8 @@ def main():
     if not shutil.which("cargo"):
         print("check_native: cargo is missing, so the Rust crate is compared with the sources, and not built")
         parts = [part for part in parts if part == "generated" and shutil.which("rustfmt")]
-    checks = {"generated": check_generated, "tests": check_tests, "erased": check_erased, "replay": check_replay, "proved": check_proved,
-              "original": check_original, "mutants": check_mutants}
+    checks = {"generated": check_generated, "tests": check_tests, "store": check_store, "erased": check_erased, "replay": check_replay,
+              "proved": check_proved, "original": check_original, "mutants": check_mutants}
     with tempfile.TemporaryDirectory() as folder:
         place = Place(folder, arguments.target, arguments.after_gate)
         return max([report(f"native crate, {part}", checks[part](place)) for part in parts], default=0)

@@ -25,7 +25,7 @@ from model import Refused, bytes_of
 from replay import TOP, report
 
 PAGE = TOP / "docs/FORMATS.md"
-LOG_MAGIC, DELTA_MAGIC, VERSION = b"MPBITLOG", b"MPBDELTA", 1
+LOG_MAGIC, DELTA_MAGIC, RECEIPT_MAGIC, VERSION = b"MPBITLOG", b"MPBDELTA", b"MPBRECPT", 1
 COMMIT, REWIND, DROP, BASE, CLEAR = 1, 2, 3, 4, 5
 NAMES = {COMMIT: "commit", REWIND: "rewind", DROP: "drop", BASE: "base", CLEAR: "clear"}
 HEADER_SIZE, LEAST_DELTA = 32, 88
@@ -593,6 +593,37 @@ def delta_rows(older, width, data):
     yield data[-8:], f"digest of the {len(data) - 8} bytes before"
 
 
+def receipt_rows(data):
+    yield data[:8], f"magic: `{data[:8].decode()}` in ASCII"
+    yield from number_rows(["version", "number", "kind", "at"], data[8:])
+    yield data[40:48], f"digest: `{data[40:48].hex()}`"
+    yield data[48:], "check: digest of the 48 bytes before"
+
+
+# Receipts
+
+
+class Receipt(NamedTuple):
+    """A receipt of a log: its number, its kind, and its place."""
+
+    number: int
+    kind: int
+    at: int
+    digest: int
+
+
+def write_receipt(receipt):
+    data = RECEIPT_MAGIC + struct.pack(">5Q", VERSION, *receipt)
+    return data + struct.pack(">Q", digest(data))
+
+
+def read_receipt(data):
+    magic, (version, *fields, check) = data[:8], values(data[8:])
+    if magic != RECEIPT_MAGIC or version != VERSION or check != digest(data[:48]) or fields[1] not in (1, 2):
+        raise ReadError("damaged")
+    return Receipt(*fields)
+
+
 # Worked examples and small inputs
 
 
@@ -696,6 +727,11 @@ class Page:
         data, _ = framed(self.one.recover(start).place, map(self.one.write_entry, entries))
         return start + data, [Historical(), at_first, Historical(fifth, {1: first, 5: fifth}, 5), at_first, at_first, Historical(first, {}, 1)]
 
+    @property
+    def receipt(self):
+        """The first receipt of a log that has a header and a base, which are the first 90 bytes of the worked log."""
+        return Receipt(1, 2, 90, value(self.log[82:90]))
+
     def examples(self):
         """The worked examples, in the order of the page."""
         ten, four = bits("1011000001"), Formats(4)
@@ -708,6 +744,7 @@ class Page:
             Example(self.log, lambda data: [step.bitmap for step in self.one.steps(data)], self.log_bitmaps, partial(log_rows, 1)),
             Example(self.history, self.three.read_history, (self.sender, b""), partial(log_rows, 3)),
             Example(self.delta, partial(self.three.apply_delta, self.replica), self.sender, partial(delta_rows, self.two, 3)),
+            Example(write_receipt(self.receipt), read_receipt, self.receipt, receipt_rows),
         ]
 
     # What a row of a table of small inputs is read as

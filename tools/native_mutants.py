@@ -11,6 +11,7 @@ class Mutant(NamedTuple):
 
 
 SUPPORT = "native/src/support"
+STORE = "native/src/store"
 
 HAND_WRITTEN = [
     Mutant("a copy of a deque has its front alone", f"{SUPPORT}/clone.rs", "        T::append_clones(back, &mut copy)?;\n", "        let _ = back;\n"),
@@ -40,6 +41,32 @@ HAND_WRITTEN = [
     Mutant("the error of a closure has no source", "native/src/bitmap/versions.rs", "ApplyError::Batch(error) => error.source(),", "ApplyError::Batch(_) => None,"),
     Mutant("the numbers of commits end with the first ones", "native/src/bitmap/versions.rs", "self.commits.next_back()", "self.commits.next()"),
     Mutant("a range of lengths has the end that it leaves out", "native/src/bitmap/ranges.rs", "above.checked_sub(1)", "above.checked_sub(0)"),
+    Mutant("a store acknowledges before the sync", f"{STORE}/stored_log.rs",
+           "        self.files.sync(Name::Log)?;\n        self.write_receipt(Kind::Kept, place)?;\n", "        self.write_receipt(Kind::Kept, place)?;\n"),
+    Mutant("a store writes no receipt", f"{STORE}/stored_log.rs",
+           "        self.files.sync(Name::Log)?;\n        self.write_receipt(Kind::Kept, place)?;\n", "        self.files.sync(Name::Log)?;\n        self.place = place;\n"),
+    Mutant("a receipt is not synced", f"{STORE}/stored_log.rs",
+           "        self.files.write_at(Name::Receipts, at, &block)?;\n        self.files.sync(Name::Receipts)?;\n",
+           "        self.files.write_at(Name::Receipts, at, &block)?;\n"),
+    Mutant("a store is written after a failed sync", f"{STORE}/stored_log.rs", "        self.is_read_only = true;\n        calls(self)?;\n", "        calls(self)?;\n"),
+    Mutant("a new log is not synced", f"{STORE}/stored_log.rs", "        self.files.sync(Name::New)\n", "        Ok(())\n"),
+    Mutant("a new log replaces the log without a receipt", f"{STORE}/stored_log.rs", "            log.write_receipt(Kind::Begun, place)?;\n", ""),
+    Mutant("a new name is not synced", f"{STORE}/stored_log.rs", "            log.files.sync_folder()?;\n", ""),
+    Mutant("what a failed sync has left in memory is taken for kept", f"{STORE}/stored_log.rs", ".filter(|from| from.at < place.at)", ".filter(|from| from.at > place.at)"),
+    Mutant("a torn end stays", f"{STORE}/stored_log.rs", "        if is_cut {\n", "        if is_cut && place.at == 0 {\n"),
+    Mutant("a store that is dropped syncs nothing", f"{STORE}/stored_log.rs", "        let _ = self.sync();\n", ""),
+    Mutant("a damaged receipt counts as none", f"{STORE}/receipts.rs", "self.whole()[0].is_some() && !self.blocks", "self.whole()[0].is_some() || !self.blocks"),
+    Mutant("both receipts are in one block", f"{STORE}/receipts.rs", "(receipt.number % 2) as usize", "(receipt.number / u64::MAX) as usize"),
+    Mutant("a log that was not replaced is not known", f"{STORE}/receipts.rs", "before.filter(|_| last.kind == Kind::Begun)", "before.filter(|_| last.kind == Kind::Kept)"),
+    Mutant("damage is cut off", f"{STORE}/opening.rs", "        (_, Some(error)) => Err(OpenError::Log(error)),\n", "        (_, Some(_)) => Ok((found, None)),\n"),
+    Mutant("a missing end is not missed", f"{STORE}/opening.rs", "if place.at > good => Err(OpenError::MissingEnd { good, acknowledged: place.at })", "if place.at > good => Ok((found, None))"),
+    Mutant("a damaged entry without an effect is cut off", f"{STORE}/opening.rs", "damage: Damage::Head | Damage::Digest }", "damage: Damage::Head | Damage::Digest | Damage::Entry(_) }"),
+    Mutant("a second store gets the lock", f"{STORE}/files.rs", "Err(TryLockError::WouldBlock) => Ok(false)", "Err(TryLockError::WouldBlock) => Ok(true)"),
+    Mutant("a compacted file has other permissions", f"{STORE}/files.rs", "            new.set_permissions(log.metadata()?.permissions())?;\n", "            log.metadata()?;\n"),
+    Mutant("a batch that is dropped takes the bitmap", f"{STORE}/batch.rs", "            self.store.bitmap = Some(batch.abort());\n", "            drop(batch);\n"),
+    Mutant("a commit lists no chunk", f"{STORE}/encoding.rs", "            push_chunk(&mut out, chunk as u64, &bytes)?;\n", "            let _ = bytes;\n            let _ = push_chunk::<N>;\n"),
+    Mutant("a rewind is applied and not written", "native/src/store.rs", "        self.log.append(&encode_number(REWIND, number)?)?;\n", "        let _ = encode_number(REWIND, number)?;\n"),
+    Mutant("a log is never compacted by itself", "native/src/store.rs", "if position > most && self.compact().is_ok()", "if position == most && self.compact().is_ok()"),
 ]
 
 # Where the text of each erased source ends up, so that a mutant of the eraser can change it.

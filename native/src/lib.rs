@@ -2,7 +2,8 @@
 //! read the list as it was under that number, or go back to it.
 //!
 //! The module [`bitmap`] has the types of `commonware_utils::bitmap`, under the same names. The module [`log`] has the bytes from which such a
-//! bitmap is made again after a restart. The module [`prelude`] has what most programs import. The crate has no dependency and no `unsafe`.
+//! bitmap is made again after a restart, and the module `store` keeps them in a file. The module [`prelude`] has what most programs import. The
+//! crate has no dependency and no `unsafe`.
 //!
 //! ```
 //! use mortarpink::bitmap::Readable;
@@ -25,18 +26,19 @@
 //! # Trust
 //!
 //! The modules that do the work are generated from source that a theorem prover has checked, and tested against the program that it has
-//! proved. They are not themselves proved. `docs/NATIVE.md` of the repository says what is trusted in addition.
+//! proved. They are not themselves proved. The module `store` is written by hand, and tested. `docs/NATIVE.md` of the repository says what is
+//! trusted in addition.
 //!
 //! # Memory
 //!
 //! A call that may allocate panics if memory runs out, as those of Rust's collections abort. Its form `try_..` returns an [`AllocError`]
-//! instead, and leaves the value unchanged. [`TryClone`] has the copies that return an error. The calls of [`log`] have one form, which returns
-//! its errors.
+//! instead, and leaves the value unchanged. [`TryClone`] has the copies that return an error. The calls of [`log`] and of `store` have one
+//! form, which returns its errors.
 //!
 //! # Features
 //!
-//! The crate is `no_std`, with `alloc`. The feature `std`, which is on by default, adds the conversion of [`AllocError`] to
-//! `std::io::Error`.
+//! The crate is `no_std`, with `alloc`. The feature `std`, which is on by default, adds the module `store`, and the conversion of
+//! [`AllocError`] to `std::io::Error`.
 #![no_std]
 #![forbid(unsafe_code)]
 

@@ -455,3 +455,48 @@ fn of_calls_that_return_no_error() {
     }));
     assert!(panics(&|| drop(CleanBitMap::<4>::new().into_dirty().commit(1))));
 }
+
+/// A store whose changes fail for an allocation has none of the change, or has it when it is opened again.
+#[test]
+fn changes_of_stores() {
+    use mortarpink::store::{Store, StoreError};
+
+    type Change = fn(&mut Store<4>) -> Result<(), StoreError>;
+    let changes: [Change; 4] = [
+        |store| {
+            let mut batch = store.batch();
+            batch.try_push(true)?;
+            batch.try_set_bit(330, true)?;
+            batch.try_prune_to_bit(240)?;
+            batch.commit(8)
+        },
+        |store| store.rewind_to(3),
+        |store| store.drop_before(4),
+        Store::compact,
+    ];
+    let folder = std::env::temp_dir().join(format!("mortarpink-memory-{}", std::process::id()));
+    std::fs::create_dir(&folder).unwrap();
+    for (index, change) in changes.into_iter().enumerate() {
+        for count in 0.. {
+            let path = folder.join(format!("{index}-{count}.log"));
+            std::fs::write(&path, Log::begin(&versions()).unwrap().bytes()).unwrap();
+            let mut store = Store::<4>::open(&path).unwrap();
+            let (result, failed) = with_failure(count, || change(&mut store));
+            match result {
+                Ok(()) => assert!(!failed),
+                Err(StoreError::Memory(_)) => assert!(!store.is_read_only()),
+                Err(StoreError::NotApplied(_)) => assert!(store.is_read_only()),
+                Err(error) => panic!("{error}"),
+            }
+            let (kept, is_read_only) = (clean_image(store.bitmap()), store.is_read_only());
+            drop(store);
+            let store = Store::<4>::open(&path).unwrap();
+            assert_eq!(clean_image(store.bitmap()) == kept, !is_read_only, "allocation {count}");
+            if !failed {
+                break;
+            }
+            assert_eq!(kept, clean_image(&versions()), "allocation {count}");
+        }
+    }
+    std::fs::remove_dir_all(&folder).unwrap();
+}

@@ -96,6 +96,23 @@ fn the_file_is_a_log() {
     assert!(recover::<8>(&bytes).unwrap().bitmap.commits().eq(1..=20));
 }
 
+/// The first receipt of a new log, as the page on formats has it.
+#[test]
+fn receipts_are_those_of_the_formats() {
+    let formats = include_str!("../../docs/FORMATS.md");
+    let (_, section) = formats.split_once("\n## Receipts\n").unwrap();
+    let (_, worked) = section.split_once("**Worked bytes.**").unwrap();
+    let rows = worked.lines().filter(|line| line.starts_with("| ") && line.contains("| `"));
+    let digits: String = rows.map(|line| line.split('`').nth(1).unwrap()).take(7).collect();
+
+    let folder = Folder::new();
+    Store::<1>::create(folder.log()).unwrap();
+    let receipts = fs::read(folder.0.join("orders.log.receipts")).unwrap();
+    let found: String = receipts[512..568].iter().map(|byte| format!("{byte:02x}")).collect();
+    assert_eq!(found, digits);
+    assert!(receipts.len() == 1024 && receipts[568..].iter().all(|byte| *byte == 0));
+}
+
 /// A log that a program has written itself, without receipts, is opened.
 #[test]
 fn a_log_without_receipts_is_opened() {

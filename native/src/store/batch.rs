@@ -122,6 +122,8 @@ impl<'a, const N: usize> Batch<'a, N> {
     /// # std::fs::remove_dir_all(&folder)?;
     /// # Ok::<(), Box<dyn std::error::Error>>(())
     /// ```
+    // The error has the batch itself, as that of `try_commit` of `DirtyBitMap` has.
+    #[allow(clippy::result_large_err)]
     pub fn try_commit(mut self, number: u64) -> Result<(), (Self, StoreError)> {
         match self.commit_pending(number) {
             Ok(()) => Ok(()),
