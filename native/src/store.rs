@@ -72,7 +72,8 @@
 //!
 //! These hold for a disk that keeps what was synced, writes each block of 512 bytes as a whole or not at all, and leaves zeros or the old bytes in
 //! the blocks that it did not write. No program can test this of a disk. The store is tested with such a disk in memory and by processes that are
-//! killed, and it is not proved. Other programs must not write to the files of a store.
+//! killed, and it is not proved. Only on systems of the Unix family are the names of files synced too, so elsewhere a crash may lose a store that was
+//! just created. Other programs must not write to the files of a store.
 
 mod batch;
 mod encoding;
@@ -479,7 +480,7 @@ impl<const N: usize> Store<N> {
     /// Temporarily the bytes of the new log.
     ///
     /// # Complexity
-    /// As [`Log::begin`]. Four writes or renames, and four syncs.
+    /// As [`Log::begin`]. Three writes, a rename and four syncs.
     ///
     /// # Panics
     /// Panics if [`mem::forget`](core::mem::forget) was called on a batch of the store.

@@ -157,6 +157,19 @@ fn errors_say_what_to_do() {
     assert!(matches!(Store::<8>::open(folder.log()), Err(OpenError::Log(RecoverError::Header(_)))));
 }
 
+/// A file that is no log stays, and so does one whose name is that of a new log.
+#[test]
+fn other_files_stay() {
+    let folder = Folder::new();
+    let new = folder.0.join("orders.log.new");
+    fs::write(folder.log(), "a list of what is to be bought, which is longer than a header").unwrap();
+    fs::write(&new, "a newer list").unwrap();
+    assert!(matches!(Store::<8>::open(folder.log()), Err(OpenError::Log(RecoverError::Header(_)))));
+    assert!(matches!(Store::<8>::open_or_create(folder.log()), Err(OpenError::Log(RecoverError::Header(_)))));
+    assert!(matches!(Store::<8>::create(folder.log()), Err(OpenError::NotEmpty)));
+    assert_eq!(fs::read_to_string(new).unwrap(), "a newer list");
+}
+
 #[test]
 fn errors_have_sources_and_conversions() {
     assert_eq!(StoreError::from(AllocError).to_string(), "out of memory");
@@ -289,6 +302,20 @@ fn a_compacted_file_keeps_its_permissions_and_links() {
     assert!(fs::symlink_metadata(&link).unwrap().is_symlink());
     assert_eq!(fs::metadata(folder.log()).unwrap().permissions().mode() & 0o777, 0o640);
     assert_eq!(folder.names(), ["link.log", "orders.log", "orders.log.receipts"]);
+}
+
+/// A store that is opened by a relative path stays where it is. No other test of this file depends on the current folder.
+#[test]
+fn a_relative_path_is_that_of_the_opening() {
+    let folder = Folder::new();
+    std::env::set_current_dir(&folder.0).unwrap();
+    let mut store = Store::create("orders.log").unwrap();
+    std::env::set_current_dir(std::env::temp_dir()).unwrap();
+    commit(&mut store, 1..=20);
+    store.drop_before(20).unwrap();
+    store.compact().unwrap();
+    assert_eq!(fs::metadata(folder.log()).unwrap().len(), store.position());
+    assert_eq!(folder.names(), ["orders.log", "orders.log.receipts"]);
 }
 
 #[test]

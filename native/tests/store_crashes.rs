@@ -398,9 +398,11 @@ fn damaged_receipts_cut_off_no_damaged_entry() {
     let (log, receipts, ends) = small();
     let mut damaged = log.clone();
     *damaged.last_mut().unwrap() ^= 1;
-    for at in [8, 512 + 8] {
+    let changes: [fn(&mut [u8]); 4] =
+        [|bytes| bytes[8] ^= 1, |bytes| bytes[520] ^= 1, |bytes| bytes[..512].fill(0), |bytes| bytes[512..].fill(0)];
+    for change in changes {
         let mut receipts = receipts.clone();
-        receipts[at] ^= 1;
+        change(&mut receipts);
         let error = open_bytes(&damaged, Some(&receipts)).unwrap_err();
         assert!(matches!(error, OpenError::Log(RecoverError::Damaged { at, .. }) if at == ends[ends.len() - 2]));
     }
@@ -454,6 +456,10 @@ fn a_log_that_is_gone_is_missed() {
         drop(create(&disk, Durability::Synced).unwrap());
         assert!(open(&disk).unwrap().bitmap().is_empty());
     }
+    // Receipts that are damaged do not say that there was no log.
+    let disk = Disk::with(&[(Name::Receipts, &[1; 1024])]);
+    let result: Result<Store<8>, _> = Options::new().start(disk.files(), Start::OpenOrCreate);
+    assert!(matches!(result, Err(OpenError::MissingEnd { good: 0, acknowledged: 0 })));
 }
 
 /// A log is opened without its damaged end, at the position of the error. A crash of this call leaves the damaged log or what it was to leave.

@@ -126,18 +126,14 @@ impl Options {
             return Err(OpenError::Locked);
         }
         let receipts = Receipts::read(&files.read(Name::Receipts)?.unwrap_or_default());
-        // A compaction that was cut off has left this file.
-        files.remove_new()?;
         let bytes = files.read(Name::Log)?;
         let log = StoredLog::new(files, receipts, self.durability);
         let has_bytes = bytes.as_ref().is_some_and(|bytes| !bytes.is_empty());
         match start {
             Start::Create if has_bytes => Err(OpenError::NotEmpty),
             Start::Create => self.create_in(log),
-            Start::OpenOrCreate if !has_bytes => match receipts.least() {
-                Some(place) => Err(OpenError::MissingEnd { good: 0, acknowledged: place.at }),
-                None => self.create_in(log),
-            },
+            Start::OpenOrCreate if !has_bytes && receipts.are_before_a_log() => self.create_in(log),
+            Start::OpenOrCreate if !has_bytes => Err(OpenError::MissingEnd { good: 0, acknowledged: receipts.least() }),
             Start::Open | Start::OpenOrCreate => self.open_in(log, &receipts, &found(bytes)?),
             Start::OpenCut(at) => self.open_cut_in(log, &found(bytes)?, at),
         }
@@ -145,21 +141,22 @@ impl Options {
 
     /// Begins a store with an empty bitmap.
     fn create_in<const N: usize>(&self, mut log: StoredLog) -> Result<Store<N>, OpenError> {
-        let bitmap = CleanBitMap::new();
+        let bitmap = self.with_index(CleanBitMap::new())?;
         let begun = Log::begin(&bitmap).map_err(OpenError::Memory)?;
         log.forget_receipts()?;
         log.replace(begun.bytes(), place_after(&begun)).map_err(|error| match error {
             StoreError::Io(error) => OpenError::Io(error),
             error => OpenError::Io(io::Error::other(error)),
         })?;
-        self.store(bitmap, log, 0)
+        Ok(self.store(bitmap, log, 0))
     }
 
     fn open_in<const N: usize>(&self, mut log: StoredLog, receipts: &Receipts, bytes: &[u8]) -> Result<Store<N>, OpenError> {
         let (found, acknowledged) = find::<N>(bytes, receipts)?;
+        let bitmap = self.with_index(found.bitmap)?;
         let place = place_after(&found.log);
         log.go_on(bytes, acknowledged, place)?;
-        self.store(found.bitmap, log, bytes.len() as u64 - place.at)
+        Ok(self.store(bitmap, log, bytes.len() as u64 - place.at))
     }
 
     fn open_cut_in<const N: usize>(&self, mut log: StoredLog, bytes: &[u8], at: u64) -> Result<Store<N>, OpenError> {
@@ -168,13 +165,17 @@ impl Options {
         if found.log.position() != at {
             return Err(OpenError::NotAnEnd);
         }
+        let bitmap = self.with_index(found.bitmap)?;
         log.cut_back(place_after(&found.log))?;
-        self.store(found.bitmap, log, bytes.len() as u64 - at)
+        Ok(self.store(bitmap, log, bytes.len() as u64 - at))
     }
 
-    fn store<const N: usize>(&self, bitmap: CleanBitMap<N>, log: StoredLog, cut_bytes: u64) -> Result<Store<N>, OpenError> {
-        let bitmap = if self.is_indexed { bitmap.indexed().map_err(|(_, error)| OpenError::Memory(error))? } else { bitmap };
-        Ok(Store { bitmap: Some(bitmap), log, cut_bytes, compacts: self.compacts, next_test: 0 })
+    fn with_index<const N: usize>(&self, bitmap: CleanBitMap<N>) -> Result<CleanBitMap<N>, OpenError> {
+        if self.is_indexed { bitmap.indexed().map_err(|(_, error)| OpenError::Memory(error)) } else { Ok(bitmap) }
+    }
+
+    fn store<const N: usize>(&self, bitmap: CleanBitMap<N>, log: StoredLog, cut_bytes: u64) -> Store<N> {
+        Store { bitmap: Some(bitmap), log, cut_bytes, compacts: self.compacts, next_test: 0 }
     }
 }
 

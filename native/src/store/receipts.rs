@@ -130,9 +130,13 @@ impl Receipts {
         found
     }
 
-    /// Whether the last receipt is known: there is one, and no block is damaged.
+    /// Whether the last receipt is known: no block is damaged, and the receipt before the last one is there, unless it is the first.
     pub(super) fn are_exact(&self) -> bool {
-        self.whole()[0].is_some() && !self.blocks.iter().any(|block| matches!(block, Block::Damaged))
+        match self.blocks {
+            [Block::Whole(one), Block::Whole(other)] => one.number.abs_diff(other.number) == 1,
+            [Block::Empty, Block::Whole(first)] => first.number == 1,
+            _ => false,
+        }
     }
 
     /// Whether the last receipt is known, and says that the bytes before this place are acknowledged.
@@ -145,12 +149,14 @@ impl Receipts {
         self.blocks.iter().all(|block| matches!(block, Block::Empty))
     }
 
-    /// The place up to which bytes of a log were acknowledged, or `None` if none were: there are no receipts, or a first log was only begun.
-    pub(super) fn least(&self) -> Option<Place> {
-        match self.whole() {
-            [Some(last), None] if last.kind == Kind::Begun => None,
-            [last, _] => last.map(|last| last.place),
-        }
+    /// Whether no log was there yet: there are no receipts, or a first log was only begun.
+    pub(super) fn are_before_a_log(&self) -> bool {
+        self.are_none() || self.are_exact() && matches!(self.whole(), [Some(Receipt { number: 1, kind: Kind::Begun, .. }), _])
+    }
+
+    /// The number of bytes that are acknowledged by the last receipt that is whole.
+    pub(super) fn least(&self) -> u64 {
+        self.whole()[0].map_or(0, |last| last.place.at)
     }
 
     /// What the receipts say of the good bytes of a log.

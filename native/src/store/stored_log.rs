@@ -136,6 +136,8 @@ impl StoredLog {
     /// The bytes between the two places are written again, since a sync that failed may have left them in memory alone.
     pub(super) fn go_on(&mut self, bytes: &[u8], acknowledged: Option<Place>, place: Place) -> io::Result<()> {
         self.place = place;
+        // A compaction that was cut off has left this file.
+        self.files.remove_new()?;
         let is_cut = place.at < bytes.len() as u64;
         if !is_cut && self.receipts.keep(place) {
             return Ok(());
