@@ -70,10 +70,11 @@
 //!
 //! # What is assumed
 //!
-//! These hold for a disk that keeps what was synced, writes each block of 512 bytes as a whole or not at all, and leaves zeros or the old bytes in
-//! the blocks that it did not write. No program can test this of a disk. The store is tested with such a disk in memory and by processes that are
-//! killed, and it is not proved. Only on systems of the Unix family are the names of files synced too, so elsewhere a crash may lose a store that was
-//! just created. Other programs must not write to the files of a store.
+//! What a sync has reported as kept is assumed to stay as it is, also while bytes beside it are written. A file that is renamed is assumed to have
+//! its old name or its new one after a crash. Nothing is assumed of bytes that were written and not synced: a crash may leave any of them, or
+//! others. No program can test this of a disk. The store is tested with such a disk in memory and by processes that are killed, and it is not
+//! proved. Only on systems of the Unix family are the names of files synced too, so elsewhere a crash may lose a store that was just created, or
+//! bring back the log before a compaction. Other programs must not write to the files of a store.
 
 mod batch;
 mod encoding;
@@ -480,7 +481,7 @@ impl<const N: usize> Store<N> {
     /// Temporarily the bytes of the new log.
     ///
     /// # Complexity
-    /// As [`Log::begin`]. Three writes, a rename and four syncs.
+    /// As [`Log::begin`]. Three writes, a rename and four syncs; if there are changes that are not on the disk, also a write and two syncs.
     ///
     /// # Panics
     /// Panics if [`mem::forget`](core::mem::forget) was called on a batch of the store.

@@ -7,7 +7,7 @@
 use crate::log::frames::Place;
 use crate::support::hash::{DefaultHasher, Hasher};
 
-/// The number of bytes of a block. A disk writes it as a whole, or not at all.
+/// The number of bytes of a block. It is no smaller than what a disk writes at once.
 const BLOCK: usize = 512;
 
 /// The number of bytes of a receipt. Those after it, up to the end of its block, are zero.
@@ -149,9 +149,13 @@ impl Receipts {
         self.blocks.iter().all(|block| matches!(block, Block::Empty))
     }
 
-    /// Whether no log was there yet: there are no receipts, or a first log was only begun.
+    /// Whether nothing was acknowledged yet: the second receipt is missing, and of the first one there is what a crash may leave.
     pub(super) fn are_before_a_log(&self) -> bool {
-        self.are_none() || self.are_exact() && matches!(self.whole(), [Some(Receipt { number: 1, kind: Kind::Begun, .. }), _])
+        match self.blocks {
+            [Block::Empty, Block::Whole(first)] => (first.number, first.kind) == (1, Kind::Begun),
+            [Block::Empty, _] => true,
+            _ => false,
+        }
     }
 
     /// The number of bytes that are acknowledged by the last receipt that is whole.
@@ -172,6 +176,15 @@ impl Receipts {
             Some(place) => Acknowledged::UpTo(place),
             None => Acknowledged::Missing(before.unwrap_or(last).place),
         }
+    }
+
+    /// Returns the receipts without that of a new log which has not replaced the log, if this place is acknowledged.
+    ///
+    /// The next receipt is then written over it, and not over the one that applies: a crash may leave neither of what a block had and gets.
+    pub(super) fn of_the_log(&self, acknowledged: Place) -> Receipts {
+        let is_begun =
+            |block: &Block| matches!(block, Block::Whole(receipt) if receipt.kind == Kind::Begun && receipt.place != acknowledged);
+        Receipts { blocks: self.blocks.map(|block| if is_begun(&block) { Block::Empty } else { block }) }
     }
 
     /// Returns the receipts after a further one, with the position and the bytes of the block that it is written to.

@@ -98,7 +98,8 @@ impl StoredLog {
 
     /// Replaces the log by a new one, which ends at a place. If the new one cannot be written, the log is as it was and can be written to.
     pub(super) fn replace(&mut self, bytes: &[u8], place: Place) -> Result<(), StoreError> {
-        self.check_writable()?;
+        // While a receipt is written, the log that it may not replace has no entry that a crash may damage.
+        self.sync()?;
         if let Err(error) = self.write_new(bytes) {
             let _ = self.files.remove_new();
             return Err(error.into());
@@ -142,7 +143,8 @@ impl StoredLog {
         if !is_cut && self.receipts.keep(place) {
             return Ok(());
         }
-        if let Some(from) = acknowledged.filter(|from| from.at < place.at) {
+        if let Some(from) = acknowledged {
+            self.receipts = self.receipts.of_the_log(from);
             self.files.write_at(Name::Log, from.at, &bytes[from.at as usize..place.at as usize])?;
         }
         if is_cut {

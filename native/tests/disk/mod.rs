@@ -1,7 +1,8 @@
 //! A disk in memory, for tests of stores. It loses blocks in a crash, and its calls can fail.
 //!
 //! A file has blocks of 512 bytes. Until it is synced, a crash leaves each block as it was at the last sync or after any write since, in any
-//! combination, and the file with any length that it had since. Names are found as they were after any rename since the last sync of the folder.
+//! combination, or with other bytes where it was written; and the file with any length that it had since. Names are found as they were after any
+//! rename since the last sync of the folder.
 
 use mortarpink::store::files::{Files, Name};
 use std::collections::{BTreeMap, BTreeSet};
@@ -29,6 +30,16 @@ fn block_of(bytes: &[u8], index: usize) -> Block {
     let len = bytes.len().min(BLOCK);
     block[..len].copy_from_slice(&bytes[..len]);
     block
+}
+
+/// What a crash may leave of a block while it is written: half of it, and other bytes in the place of those that change.
+fn torn(old: &Block, new: &Block) -> [Block; 2] {
+    let (mut half, mut other) = (*old, *old);
+    half[..BLOCK / 2].copy_from_slice(&new[..BLOCK / 2]);
+    for (byte, new) in other.iter_mut().zip(new).filter(|(byte, new)| byte != new) {
+        *byte ^= new.wrapping_mul(7) | 1;
+    }
+    [half, other]
 }
 
 /// The values, each once, in their order.
@@ -64,22 +75,27 @@ impl Content {
         self.dirty.clear();
     }
 
+    /// All that a crash may leave of a block.
+    fn choices(&self, index: usize) -> Vec<Block> {
+        let old = block_of(&self.durable, index);
+        if !self.dirty.contains(&index) {
+            return vec![old];
+        }
+        let written = self.versions.iter().map(|bytes| block_of(bytes, index));
+        distinct([old].into_iter().chain(written).chain(torn(&old, &block_of(&self.seen, index))))
+    }
+
     /// All that a crash may leave, or `most` of them if there are more.
     fn outcomes(&self, most: usize) -> Vec<Vec<u8>> {
         let all = || [&self.durable].into_iter().chain(&self.versions);
         let lens = distinct(all().map(Vec::len));
         let blocks = all().map(Vec::len).max().unwrap_or(0).div_ceil(BLOCK);
-        let choices: Vec<Vec<Block>> = (0..blocks)
-            .map(|index| {
-                let is_dirty = self.dirty.contains(&index);
-                distinct(all().take(if is_dirty { usize::MAX } else { 1 }).map(|bytes| block_of(bytes, index)))
-            })
-            .collect();
+        let choices: Vec<Vec<Block>> = (0..blocks).map(|index| self.choices(index)).collect();
         let count = choices.iter().fold(lens.len(), |count, choice| count.saturating_mul(choice.len()));
-        // A number has the choices as its digits. If there are too many, the numbers are spread over all.
-        let step = count.div_ceil(most) | 1;
+        // A number has the choices as its digits. If there are too many numbers, each so many is taken, by a step that leaves out no digit.
+        let step = (count.div_ceil(most)..).find(|step| [2, 3, 5, 7].iter().all(|factor| step % factor != 0)).unwrap();
         let numbers = (0..count).step_by(step);
-        distinct(numbers.map(|mut number| {
+        let outcomes = numbers.map(|mut number| {
             let mut digit = |base: usize| {
                 let digit = number % base;
                 number /= base;
@@ -89,7 +105,8 @@ impl Content {
             let mut bytes = choices.iter().map(|choice| choice[digit(choice.len())]).collect::<Vec<_>>().concat();
             bytes.resize(len, 0);
             bytes
-        }))
+        });
+        outcomes.collect::<BTreeSet<_>>().into_iter().collect()
     }
 }
 
