@@ -19,6 +19,10 @@ const MOST_AGAIN: usize = if cfg!(debug_assertions) { 3 } else { 20 };
 const ENOSPC: i32 = 28;
 const EIO: i32 = 5;
 
+/// The ways in which a call fails.
+const FAULTS: [Fault; 6] =
+    [Fault::Half(ENOSPC), Fault::Half(EIO), Fault::Whole(ENOSPC), Fault::Whole(EIO), Fault::Lost(ENOSPC), Fault::Lost(EIO)];
+
 fn most(durability: Durability) -> usize {
     if durability == Durability::Synced { MOST } else { MOST_BUFFERED }
 }
@@ -261,22 +265,19 @@ fn check_faults(durability: Durability) -> usize {
     STEPS.into_iter().for_each(|step| take(&mut store, step).unwrap());
     let mut count = 0;
     for call in first..disk.calls() {
-        for code in [ENOSPC, EIO] {
-            for fault in [Fault::Half(code), Fault::Whole(code), Fault::Lost(code)] {
-                let (disk, acknowledged, begun) = run_with_fault(durability, &images, call, fault);
-                let allowed = &images[acknowledged..=begun];
-                for crashed in disk.after_crash(most(durability)) {
-                    assert!(allowed.contains(&reopen(&crashed)), "{fault:?} of call {call}, and a crash");
-                }
-                // What is read may be in memory alone. Once the store is opened, a crash does not lose it.
-                let found = open(&disk).map(|store| image(store.bitmap())).unwrap();
-                assert!(allowed.contains(&found), "{fault:?} of call {call}");
-                assert!(
-                    disk.after_crash(most(durability)).iter().all(|crashed| reopen(crashed) == found),
-                    "{fault:?} of call {call}, opened, and a crash"
-                );
-                count += 1;
+        for fault in FAULTS {
+            let (disk, acknowledged, begun) = run_with_fault(durability, &images, call, fault);
+            let allowed = &images[acknowledged..=begun];
+            for crashed in disk.after_crash(most(durability)) {
+                assert!(allowed.contains(&reopen(&crashed)), "{fault:?} of call {call}, and a crash");
             }
+            // What is read may be in memory alone. Once the store is opened, a crash does not lose it.
+            let found = open(&disk).map(|store| image(store.bitmap())).unwrap();
+            assert!(allowed.contains(&found), "{fault:?} of call {call}");
+            for crashed in disk.after_crash(most(durability)) {
+                assert_eq!(reopen(&crashed), found, "{fault:?} of call {call}, opened, and a crash");
+            }
+            count += 1;
         }
     }
     count
@@ -292,19 +293,39 @@ fn a_call_of_a_buffered_store_that_fails_leaves_its_first_changes() {
     println!("{} faults", check_faults(Durability::Buffered));
 }
 
-/// Each call of `open` fails once. The store is opened after it all the same.
+/// Each call of `open` fails once, in each way. The store is opened after it all the same, with a crash before it and without.
 #[test]
 fn opening_that_fails_changes_nothing() {
     let images = images();
     for (acknowledged, begun, moment) in run(Durability::Buffered) {
-        for crashed in moment.after_crash(MOST_BUFFERED).into_iter().step_by(3) {
+        let allowed = &images[acknowledged..=begun];
+        for (index, crashed) in moment.after_crash(MOST_BUFFERED).into_iter().step_by(3).enumerate() {
             for call in 0.. {
                 let disk = crashed.moments().remove(0).1;
-                disk.fail(call, Fault::Half(EIO));
-                let result = open(&disk);
-                let Err(error) = result else { break };
+                disk.fail(call, FAULTS[(index + call) % FAULTS.len()]);
+                let Err(error) = open(&disk) else { break };
                 assert!(matches!(error, OpenError::Io(_)));
-                assert!(images[acknowledged..=begun].contains(&reopen(&disk)));
+                for disk in disk.after_crash(MOST_AGAIN) {
+                    assert!(allowed.contains(&reopen(&disk)));
+                }
+                assert!(allowed.contains(&reopen(&disk)));
+            }
+        }
+    }
+}
+
+/// Each call of `create` fails once, in each way. Then the store is opened if it is there, and is created if it is not.
+#[test]
+fn creating_that_fails_leaves_no_half_store() {
+    for fault in FAULTS {
+        for call in 0.. {
+            let disk = Disk::default();
+            disk.fail(call, fault);
+            let Err(error) = create(&disk, Durability::Synced) else { break };
+            assert!(matches!(error, OpenError::Io(_)));
+            for disk in disk.after_crash(MOST).into_iter().chain([disk]) {
+                let store: Store<8> = Options::new().start(disk.files(), Start::OpenOrCreate).unwrap();
+                assert!(store.bitmap().is_empty() && store.bitmap().last_number().is_none());
             }
         }
     }
