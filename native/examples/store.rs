@@ -2,11 +2,8 @@
 //!
 //! Run it with `cargo run --example store`.
 
-use mortarpink::bitmap::Readable;
 use mortarpink::bitmap::historical::DirtyBitMap;
 use mortarpink::store::{OpenError, Options, Store, StoreError};
-use std::error::Error;
-use std::fs;
 use std::path::Path;
 
 /// Opens the orders, or begins them. Fails if another process has them open, or if the file is damaged.
@@ -34,13 +31,15 @@ fn keep_days(orders: &mut Store<8>, days: usize) -> Result<(), StoreError> {
 }
 
 fn print(orders: &Store<8>) {
+    use mortarpink::bitmap::Readable;
+
     let open_orders: Vec<u64> = orders.bitmap().current().ones_iter_from(0).collect();
     println!("days {:?}, open orders {open_orders:?}, {} bytes", orders.bitmap().commits().collect::<Vec<_>>(), orders.position());
 }
 
-fn main() -> Result<(), Box<dyn Error>> {
+fn main() -> Result<(), Box<dyn std::error::Error>> {
     let folder = std::env::temp_dir().join(format!("mortarpink-store-{}", std::process::id()));
-    fs::create_dir(&folder)?;
+    std::fs::create_dir(&folder)?;
     let path = folder.join("orders.log");
 
     // The first start: three orders come in on day 1, and order 1 is closed on day 2.
@@ -56,13 +55,13 @@ fn main() -> Result<(), Box<dyn Error>> {
     orders.rewind_to(1)?;
     close_day(&mut orders, 2, |day| _ = day.set_bit(2, false).push(true))?;
     print(&orders);
-    println!("open on day 1: {:?}", orders.bitmap().at(1).unwrap().ones_iter_from(0).collect::<Vec<_>>());
+    println!("order 2 on day 1: {}", if orders.bitmap().get_at_commit(1).unwrap().get_bit(2) { "open" } else { "closed" });
 
     // Only the last day is kept, and the file is made short.
     keep_days(&mut orders, 1)?;
     print(&orders);
     orders.compact()?;
     print(&orders);
-    fs::remove_dir_all(&folder)?;
+    std::fs::remove_dir_all(&folder)?;
     Ok(())
 }

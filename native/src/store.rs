@@ -243,6 +243,22 @@ impl<const N: usize> Store<N> {
     ///
     /// # Complexity
     /// As [`open`](Store::open).
+    ///
+    /// # Examples
+    ///
+    /// ```
+    /// use mortarpink::store::Store;
+    ///
+    /// # let folder = std::env::temp_dir().join(format!("mortarpink-open-or-create-{}", std::process::id()));
+    /// # std::fs::create_dir_all(&folder)?;
+    /// let path = folder.join("orders.log");
+    /// Store::<8>::open_or_create(&path)?.batch().commit(1)?;
+    /// let store = Store::<8>::open_or_create(&path)?;
+    /// assert!(store.bitmap().commits().eq([1]));
+    /// # drop(store);
+    /// # std::fs::remove_dir_all(&folder)?;
+    /// # Ok::<(), Box<dyn std::error::Error>>(())
+    /// ```
     pub fn open_or_create(path: impl AsRef<Path>) -> Result<Store<N>, OpenError> {
         Options::new().open_or_create(path)
     }
@@ -305,6 +321,27 @@ impl<const N: usize> Store<N> {
     ///
     /// # Panics
     /// Panics if [`mem::forget`](core::mem::forget) was called on a batch of the store.
+    ///
+    /// # Examples
+    ///
+    /// ```
+    /// use mortarpink::bitmap::Readable;
+    /// use mortarpink::store::Store;
+    ///
+    /// # let folder = std::env::temp_dir().join(format!("mortarpink-bitmap-{}", std::process::id()));
+    /// # std::fs::create_dir_all(&folder)?;
+    /// let mut store = Store::<8>::create(folder.join("orders.log"))?;
+    /// for number in [1, 2] {
+    ///     let mut batch = store.batch();
+    ///     batch.push(true);
+    ///     batch.commit(number)?;
+    /// }
+    /// assert_eq!(store.bitmap().len(), 2);
+    /// assert_eq!(store.bitmap().at(1).map(|past| past.len()), Some(1));
+    /// # drop(store);
+    /// # std::fs::remove_dir_all(&folder)?;
+    /// # Ok::<(), Box<dyn std::error::Error>>(())
+    /// ```
     pub fn bitmap(&self) -> &CleanBitMap<N> {
         self.bitmap.as_ref().expect(LEAKED)
     }
@@ -312,6 +349,22 @@ impl<const N: usize> Store<N> {
     /// Returns the number of bytes of the log up to the last change.
     ///
     /// Does not allocate; constant time.
+    ///
+    /// # Examples
+    ///
+    /// ```
+    /// use mortarpink::store::Store;
+    ///
+    /// # let folder = std::env::temp_dir().join(format!("mortarpink-position-{}", std::process::id()));
+    /// # std::fs::create_dir_all(&folder)?;
+    /// let path = folder.join("orders.log");
+    /// let mut store = Store::<8>::create(&path)?;
+    /// store.batch().commit(1)?;
+    /// assert_eq!(store.position(), std::fs::metadata(&path)?.len());
+    /// # drop(store);
+    /// # std::fs::remove_dir_all(&folder)?;
+    /// # Ok::<(), Box<dyn std::error::Error>>(())
+    /// ```
     pub fn position(&self) -> u64 {
         self.log.position()
     }
@@ -319,6 +372,26 @@ impl<const N: usize> Store<N> {
     /// Returns the number of bytes that were cut off the end of the file when the store was opened.
     ///
     /// Does not allocate; constant time.
+    ///
+    /// # Examples
+    ///
+    /// ```
+    /// use mortarpink::store::Store;
+    /// use std::io::Write;
+    ///
+    /// # let folder = std::env::temp_dir().join(format!("mortarpink-cut-bytes-{}", std::process::id()));
+    /// # std::fs::create_dir_all(&folder)?;
+    /// let path = folder.join("orders.log");
+    /// drop(Store::<8>::create(&path)?);
+    ///
+    /// // A crash has left five bytes of a commit.
+    /// std::fs::OpenOptions::new().append(true).open(&path)?.write_all(&[0, 0, 0, 0, 1])?;
+    /// let store = Store::<8>::open(&path)?;
+    /// assert_eq!(store.cut_bytes(), 5);
+    /// # drop(store);
+    /// # std::fs::remove_dir_all(&folder)?;
+    /// # Ok::<(), Box<dyn std::error::Error>>(())
+    /// ```
     pub fn cut_bytes(&self) -> u64 {
         self.cut_bytes
     }
@@ -326,6 +399,22 @@ impl<const N: usize> Store<N> {
     /// Returns whether the store can only be read, since a call failed after it had begun to write. It can be changed once it is opened again.
     ///
     /// Does not allocate; constant time.
+    ///
+    /// # Examples
+    ///
+    /// ```
+    /// use mortarpink::store::Store;
+    ///
+    /// # let folder = std::env::temp_dir().join(format!("mortarpink-is-read-only-{}", std::process::id()));
+    /// # std::fs::create_dir_all(&folder)?;
+    /// let mut store = Store::<8>::create(folder.join("orders.log"))?;
+    /// // An error before anything is written leaves the store as it was.
+    /// assert!(store.batch().commit(u64::MAX).is_err());
+    /// assert!(!store.is_read_only());
+    /// # drop(store);
+    /// # std::fs::remove_dir_all(&folder)?;
+    /// # Ok::<(), Box<dyn std::error::Error>>(())
+    /// ```
     pub fn is_read_only(&self) -> bool {
         self.log.is_read_only()
     }
@@ -339,6 +428,23 @@ impl<const N: usize> Store<N> {
     ///
     /// # Panics
     /// Panics if [`mem::forget`](core::mem::forget) was called on an earlier batch of the store.
+    ///
+    /// # Examples
+    ///
+    /// ```
+    /// use mortarpink::store::Store;
+    ///
+    /// # let folder = std::env::temp_dir().join(format!("mortarpink-begin-batch-{}", std::process::id()));
+    /// # std::fs::create_dir_all(&folder)?;
+    /// let mut store = Store::<8>::create(folder.join("orders.log"))?;
+    /// let mut batch = store.batch();
+    /// batch.push(true).push(false);
+    /// batch.commit(1)?;
+    /// assert_eq!(store.bitmap().len(), 2);
+    /// # drop(store);
+    /// # std::fs::remove_dir_all(&folder)?;
+    /// # Ok::<(), Box<dyn std::error::Error>>(())
+    /// ```
     pub fn batch(&mut self) -> Batch<'_, N> {
         Batch::new(self)
     }
@@ -424,6 +530,24 @@ impl<const N: usize> Store<N> {
     ///
     /// # Panics
     /// Panics if [`mem::forget`](core::mem::forget) was called on a batch of the store.
+    ///
+    /// # Examples
+    ///
+    /// ```
+    /// use mortarpink::store::Store;
+    ///
+    /// # let folder = std::env::temp_dir().join(format!("mortarpink-drop-before-{}", std::process::id()));
+    /// # std::fs::create_dir_all(&folder)?;
+    /// let mut store = Store::<8>::create(folder.join("orders.log"))?;
+    /// for number in 1..=5 {
+    ///     store.batch().commit(number)?;
+    /// }
+    /// store.drop_before(4)?;
+    /// assert!(store.bitmap().commits().eq([4, 5]));
+    /// # drop(store);
+    /// # std::fs::remove_dir_all(&folder)?;
+    /// # Ok::<(), Box<dyn std::error::Error>>(())
+    /// ```
     pub fn drop_before(&mut self, number: u64) -> Result<(), StoreError> {
         self.log.check_writable()?;
         let entry = encode_number(DROP_BEFORE, number)?;
@@ -446,6 +570,25 @@ impl<const N: usize> Store<N> {
     ///
     /// # Panics
     /// Panics if [`mem::forget`](core::mem::forget) was called on a batch of the store.
+    ///
+    /// # Examples
+    ///
+    /// ```
+    /// use mortarpink::store::Store;
+    ///
+    /// # let folder = std::env::temp_dir().join(format!("mortarpink-clear-{}", std::process::id()));
+    /// # std::fs::create_dir_all(&folder)?;
+    /// let mut store = Store::<8>::create(folder.join("orders.log"))?;
+    /// let mut batch = store.batch();
+    /// batch.push(true);
+    /// batch.commit(1)?;
+    /// store.clear()?;
+    /// // The current bitmap and the last number stay.
+    /// assert_eq!((store.bitmap().commits().count(), store.bitmap().len(), store.bitmap().last_number()), (0, 1, Some(1)));
+    /// # drop(store);
+    /// # std::fs::remove_dir_all(&folder)?;
+    /// # Ok::<(), Box<dyn std::error::Error>>(())
+    /// ```
     pub fn clear(&mut self) -> Result<(), StoreError> {
         self.drop_commits(&CLEARED, CleanBitMap::clear_history)
     }
@@ -462,6 +605,23 @@ impl<const N: usize> Store<N> {
     ///
     /// # Complexity
     /// One write and two syncs, or none if all changes are on the disk.
+    ///
+    /// # Examples
+    ///
+    /// ```
+    /// use mortarpink::store::{Durability, Options};
+    ///
+    /// # let folder = std::env::temp_dir().join(format!("mortarpink-sync-{}", std::process::id()));
+    /// # std::fs::create_dir_all(&folder)?;
+    /// let mut store = Options::new().durability(Durability::Buffered).create::<8>(folder.join("orders.log"))?;
+    /// for number in 1..=1000 {
+    ///     store.batch().commit(number)?;
+    /// }
+    /// store.sync()?;
+    /// # drop(store);
+    /// # std::fs::remove_dir_all(&folder)?;
+    /// # Ok::<(), Box<dyn std::error::Error>>(())
+    /// ```
     pub fn sync(&mut self) -> Result<(), StoreError> {
         self.log.sync()
     }

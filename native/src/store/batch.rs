@@ -134,6 +134,23 @@ impl<'a, const N: usize> Batch<'a, N> {
     /// Drops the pending edits. The store is as it was before the batch.
     ///
     /// Does not allocate. Dropping the batch does the same.
+    ///
+    /// # Examples
+    ///
+    /// ```
+    /// use mortarpink::store::Store;
+    ///
+    /// # let folder = std::env::temp_dir().join(format!("mortarpink-abort-{}", std::process::id()));
+    /// # std::fs::create_dir_all(&folder)?;
+    /// let mut store = Store::<8>::create(folder.join("orders.log"))?;
+    /// let mut batch = store.batch();
+    /// batch.push(true);
+    /// batch.abort();
+    /// assert!(store.bitmap().is_empty());
+    /// # drop(store);
+    /// # std::fs::remove_dir_all(&folder)?;
+    /// # Ok::<(), Box<dyn std::error::Error>>(())
+    /// ```
     pub fn abort(self) {}
 
     fn commit_pending(&mut self, number: u64) -> Result<(), StoreError> {

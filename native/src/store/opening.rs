@@ -56,12 +56,36 @@ pub enum Start {
 
 impl Options {
     /// Returns the options of [`Store::open`]: [`Durability::Synced`], without automatic compaction and without an index. Does not allocate.
+    ///
+    /// # Examples
+    ///
+    /// ```
+    /// use mortarpink::store::{Durability, Options};
+    ///
+    /// assert_eq!(&Options::new(), Options::new().durability(Durability::Synced).compact_automatically(false).indexed(false));
+    /// ```
     #[must_use]
     pub fn new() -> Options {
         Options::default()
     }
 
     /// Sets when a change is on the disk: when its call returns, or when [`sync`](Store::sync) does.
+    ///
+    /// # Examples
+    ///
+    /// ```
+    /// use mortarpink::store::{Durability, Options};
+    ///
+    /// # let folder = std::env::temp_dir().join(format!("mortarpink-durability-{}", std::process::id()));
+    /// # std::fs::create_dir_all(&folder)?;
+    /// let mut store = Options::new().durability(Durability::Buffered).create::<8>(folder.join("orders.log"))?;
+    /// // The commit is written, and is not on the disk yet.
+    /// store.batch().commit(1)?;
+    /// store.sync()?;
+    /// # drop(store);
+    /// # std::fs::remove_dir_all(&folder)?;
+    /// # Ok::<(), Box<dyn std::error::Error>>(())
+    /// ```
     pub fn durability(&mut self, durability: Durability) -> &mut Options {
         self.durability = durability;
         self
@@ -72,6 +96,29 @@ impl Options {
     /// A call that changes the store tests this once it has made its change. To know the size of the compacted log takes time for all kept
     /// commits, so the log may grow by a quarter between two tests. If a compaction fails, the call succeeds all the same, since its change is
     /// kept. [`is_read_only`](Store::is_read_only) says whether the store can still be changed.
+    ///
+    /// # Examples
+    ///
+    /// ```
+    /// use mortarpink::store::{Durability, Options};
+    ///
+    /// # let folder = std::env::temp_dir().join(format!("mortarpink-automatically-{}", std::process::id()));
+    /// # std::fs::create_dir_all(&folder)?;
+    /// let mut options = Options::new();
+    /// options.compact_automatically(true).durability(Durability::Buffered);
+    /// let mut store = options.create::<8>(folder.join("orders.log"))?;
+    /// for number in 1..=1000 {
+    ///     let mut batch = store.batch();
+    ///     batch.push(true);
+    ///     batch.commit(number)?;
+    ///     store.drop_before(number)?;
+    /// }
+    /// // Without compaction the log would have nearly 100,000 bytes.
+    /// assert!(store.position() < 6000);
+    /// # drop(store);
+    /// # std::fs::remove_dir_all(&folder)?;
+    /// # Ok::<(), Box<dyn std::error::Error>>(())
+    /// ```
     pub fn compact_automatically(&mut self, compacts: bool) -> &mut Options {
         self.compacts = compacts;
         self
@@ -79,6 +126,23 @@ impl Options {
 
     /// Sets whether the bitmap has an [index](CleanBitMap::indexed) of its kept commits. With it, reads of past states and compactions take less
     /// time if many commits are kept, and commits take more memory.
+    ///
+    /// # Examples
+    ///
+    /// ```
+    /// use mortarpink::store::Options;
+    ///
+    /// # let folder = std::env::temp_dir().join(format!("mortarpink-indexed-{}", std::process::id()));
+    /// # std::fs::create_dir_all(&folder)?;
+    /// let mut store = Options::new().indexed(true).create::<8>(folder.join("orders.log"))?;
+    /// let mut batch = store.batch();
+    /// batch.push(true);
+    /// batch.commit(1)?;
+    /// assert!(store.bitmap().at(1).is_some());
+    /// # drop(store);
+    /// # std::fs::remove_dir_all(&folder)?;
+    /// # Ok::<(), Box<dyn std::error::Error>>(())
+    /// ```
     pub fn indexed(&mut self, is_indexed: bool) -> &mut Options {
         self.is_indexed = is_indexed;
         self
@@ -88,6 +152,22 @@ impl Options {
     ///
     /// # Errors
     /// As [`Store::open`].
+    ///
+    /// # Examples
+    ///
+    /// ```
+    /// use mortarpink::store::{Options, Store};
+    ///
+    /// # let folder = std::env::temp_dir().join(format!("mortarpink-options-open-{}", std::process::id()));
+    /// # std::fs::create_dir_all(&folder)?;
+    /// let path = folder.join("orders.log");
+    /// drop(Store::<8>::create(&path)?);
+    /// let store = Options::new().compact_automatically(true).open::<8>(&path)?;
+    /// assert!(store.bitmap().is_empty());
+    /// # drop(store);
+    /// # std::fs::remove_dir_all(&folder)?;
+    /// # Ok::<(), Box<dyn std::error::Error>>(())
+    /// ```
     pub fn open<const N: usize>(&self, path: impl AsRef<Path>) -> Result<Store<N>, OpenError> {
         let files = OsFiles::new(path.as_ref())?;
         if !files.has_log()? {
@@ -100,6 +180,20 @@ impl Options {
     ///
     /// # Errors
     /// As [`Store::create`].
+    ///
+    /// # Examples
+    ///
+    /// ```
+    /// use mortarpink::store::Options;
+    ///
+    /// # let folder = std::env::temp_dir().join(format!("mortarpink-options-create-{}", std::process::id()));
+    /// # std::fs::create_dir_all(&folder)?;
+    /// let store = Options::new().indexed(true).create::<8>(folder.join("orders.log"))?;
+    /// assert!(store.bitmap().is_empty());
+    /// # drop(store);
+    /// # std::fs::remove_dir_all(&folder)?;
+    /// # Ok::<(), Box<dyn std::error::Error>>(())
+    /// ```
     pub fn create<const N: usize>(&self, path: impl AsRef<Path>) -> Result<Store<N>, OpenError> {
         self.start(OsFiles::new(path.as_ref())?.boxed(), Start::Create)
     }
@@ -108,6 +202,20 @@ impl Options {
     ///
     /// # Errors
     /// As [`Store::open_or_create`].
+    ///
+    /// # Examples
+    ///
+    /// ```
+    /// use mortarpink::store::Options;
+    ///
+    /// # let folder = std::env::temp_dir().join(format!("mortarpink-options-either-{}", std::process::id()));
+    /// # std::fs::create_dir_all(&folder)?;
+    /// let store = Options::new().indexed(true).open_or_create::<8>(folder.join("orders.log"))?;
+    /// assert!(store.bitmap().is_empty());
+    /// # drop(store);
+    /// # std::fs::remove_dir_all(&folder)?;
+    /// # Ok::<(), Box<dyn std::error::Error>>(())
+    /// ```
     pub fn open_or_create<const N: usize>(&self, path: impl AsRef<Path>) -> Result<Store<N>, OpenError> {
         self.start(OsFiles::new(path.as_ref())?.boxed(), Start::OpenOrCreate)
     }
@@ -116,6 +224,26 @@ impl Options {
     ///
     /// # Errors
     /// As [`Store::open_cut`].
+    ///
+    /// # Examples
+    ///
+    /// ```
+    /// use mortarpink::store::{Options, Store};
+    ///
+    /// # let folder = std::env::temp_dir().join(format!("mortarpink-options-cut-{}", std::process::id()));
+    /// # std::fs::create_dir_all(&folder)?;
+    /// let path = folder.join("orders.log");
+    /// let mut store = Store::<8>::create(&path)?;
+    /// store.batch().commit(1)?;
+    /// let end = store.position();
+    /// store.batch().commit(2)?;
+    /// drop(store);
+    /// let store = Options::new().indexed(true).open_cut::<8>(&path, end)?;
+    /// assert!(store.bitmap().commits().eq([1]));
+    /// # drop(store);
+    /// # std::fs::remove_dir_all(&folder)?;
+    /// # Ok::<(), Box<dyn std::error::Error>>(())
+    /// ```
     pub fn open_cut<const N: usize>(&self, path: impl AsRef<Path>, at: u64) -> Result<Store<N>, OpenError> {
         self.start(OsFiles::new(path.as_ref())?.boxed(), Start::OpenCut(at))
     }
