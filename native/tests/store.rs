@@ -182,7 +182,7 @@ fn errors_have_sources_and_conversions() {
 }
 
 #[test]
-fn all_types_are_threads_own() {
+fn all_types_are_shared_by_threads() {
     fn is_shared<T: Send + Sync + std::fmt::Debug>() {}
     is_shared::<Store<8>>();
     is_shared::<Batch<'_, 8>>();

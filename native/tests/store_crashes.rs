@@ -357,7 +357,7 @@ fn open_bytes(log: &[u8], receipts: Option<&[u8]>) -> Result<Store<8>, OpenError
 
 /// Without receipts, each prefix with the base is opened with the entries that are whole in it. With them, each one is too short.
 #[test]
-fn each_prefix_of_a_log_is_cut_off_or_refused() {
+fn each_prefix_of_a_log_is_cut_off_or_an_error() {
     let (log, receipts, ends) = small();
     for len in 0..log.len() {
         let prefix = &log[..len];
@@ -447,7 +447,7 @@ fn bytes_after_what_is_acknowledged_are_cut_off() {
 }
 
 #[test]
-fn another_log_is_refused() {
+fn another_log_is_an_error() {
     let (log, receipts, _) = small();
     let disk = Disk::default();
     let mut store = create(&disk, Durability::Synced).unwrap();
