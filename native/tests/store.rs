@@ -127,6 +127,21 @@ fn a_log_without_receipts_is_opened() {
     assert_eq!(folder.names(), ["orders.log", "orders.log.receipts"]);
 }
 
+/// The store of the crate `log_store` keeps this byte after the last entry of its log.
+const CLOSED_GATE: u8 = 165;
+
+#[test]
+fn a_log_behind_a_closed_gate_is_opened() {
+    let folder = Folder::new();
+    commit(&mut Store::create(folder.log()).unwrap(), [1, 2]);
+    fs::remove_file(folder.0.join("orders.log.receipts")).unwrap();
+    let mut bytes = fs::read(folder.log()).unwrap();
+    bytes.push(CLOSED_GATE);
+    fs::write(folder.log(), &bytes).unwrap();
+    let store = Store::<8>::open(folder.log()).unwrap();
+    assert!(store.bitmap().commits().eq([1, 2]) && store.cut_bytes() == 1);
+}
+
 #[test]
 fn errors_say_what_to_do() {
     let folder = Folder::new();
