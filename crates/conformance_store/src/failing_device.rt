@@ -13,9 +13,9 @@ pub struct FailingDevice {
     bytes: Vec<u8>,
     // How many of the last bytes are not synced.
     unsynced: usize,
-    // How many appends and syncs succeed before the one that fails, or `None` if none fails from now on.
+    // How many appends, syncs and bytes set succeed before the one that fails, or `None` if none fails from now on.
     left: Option<usize>,
-    // How many bytes an append that fails appends.
+    // How many bytes an append that fails appends, and whether a byte is set by a call that fails.
     torn: usize,
 }
 
@@ -30,7 +30,8 @@ impl FailingDevice {
         }
     }
 
-    /// Returns an empty device, of which the append or sync after the first `successes` fails. An append that fails appends at most `torn` bytes.
+    /// Returns an empty device, of which the append, sync or byte set after the first `successes` fails. An append that fails appends at most `torn`
+    /// bytes, and a byte is not set by the call that fails if `torn` is 0.
     pub fn new(alloc: Global, successes: usize, torn: usize) -> FailingDevice {
         FailingDevice {
             bytes: Vec::new(alloc),
@@ -95,6 +96,19 @@ impl Device for FailingDevice {
         }
         self.bytes.extend_from_slice(bytes)?;
         self.unsynced = self.unsynced.saturating_add(bytes.len());
+        Ok(())
+    }
+
+    fn set_byte(&mut self, at: u64, byte: u8) -> Result<(), DeviceError> {
+        let fails = self.fails();
+        if !fails || self.torn > 0 {
+            if let Some(place) = self.bytes.get_mut(at as usize) {
+                *place = byte;
+            }
+        }
+        if fails {
+            return Err(DeviceError::Failed(None));
+        }
         Ok(())
     }
 

@@ -1,4 +1,4 @@
-//! Devices of which an append or a sync fails.
+//! Devices of which an append, a sync or the setting of a byte fails.
 
 use crate::checks::{expect, ok};
 use crate::failing_device::FailingDevice;
@@ -10,8 +10,13 @@ use std::process::Abort;
 // How many bytes an append that fails appends.
 const TORN: [usize; 4] = [0, 1, 30, usize::MAX];
 
-// The creation of a store and each call of the run make two calls of the device that can fail.
-const DEVICE_CALLS: usize = 2 * (CALLS + 1);
+// How many calls of the device can fail in the creation of a store.
+const CREATE_CALLS: usize = 6;
+
+// How many can fail in each call of the run.
+const CALL_CALLS: usize = 4;
+
+const DEVICE_CALLS: usize = CREATE_CALLS + CALL_CALLS * CALLS;
 
 // Each further call is refused, and the bitmap is that after the calls that succeeded.
 fn expect_read_only(rt: &impl Abort, store: TestStore, count: usize) -> TestStore {
@@ -47,7 +52,7 @@ fn check_failure(rt: &impl Abort, alloc: Global, successes: usize, torn: usize) 
             let (store, count) = run_until_failure(rt, store);
             expect(
                 rt,
-                count < CALLS && successes / 2 == count.saturating_add(1),
+                count < CALLS && successes.saturating_sub(CREATE_CALLS) / CALL_CALLS == count,
             );
             let store = expect_read_only(rt, store, count);
             let left = copy(rt, alloc, store.device().bytes());
@@ -58,7 +63,7 @@ fn check_failure(rt: &impl Abort, alloc: Global, successes: usize, torn: usize) 
                 is_after(now, count) || is_after(now, count.saturating_add(1)),
             );
         }
-        Err(_) => expect(rt, successes < 2),
+        Err(_) => expect(rt, successes < CREATE_CALLS),
     }
 }
 

@@ -10,4 +10,6 @@ mod failing_device;
 #[cfg(test)]
 mod failures;
 #[cfg(test)]
+mod files;
+#[cfg(test)]
 mod run;

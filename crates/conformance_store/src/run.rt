@@ -17,8 +17,8 @@ pub type TestStore = Store<1, FailingDevice>;
 /// A store after a call, or the store with the error of the call.
 pub type Called = Result<TestStore, (TestStore, StoreError)>;
 
-// Appends bits, where `1` is a set bit.
-fn push_digits(rt: &impl Abort, batch: &mut DirtyBitMap<1>, digits: &[u8]) {
+/// Appends bits, where `1` is a set bit.
+pub fn push_digits(rt: &impl Abort, batch: &mut DirtyBitMap<1>, digits: &[u8]) {
     for digit in digits {
         assert!(rt; batch.len() < u64::MAX);
         ok(rt, batch.try_push(*digit == b'1'));

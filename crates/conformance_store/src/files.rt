@@ -1,0 +1,79 @@
+//! A store on a file of the operating system.
+
+use crate::checks::{expect, ok};
+use crate::run::push_digits;
+use log_store::{FileDevice, Store};
+use std::path::PathBuf;
+use std::process::Abort;
+use std::{env, fs};
+use test_support::compare::has_bits;
+
+// A store whose chunks have one byte.
+type FileStore = Store<1, FileDevice>;
+
+// Returns the path of the file of a test.
+fn path_of(abort: &impl Abort, rt: &HostRuntime, name: &str) -> PathBuf {
+    let mut path = ok(abort, env::temp_dir(rt));
+    ok(abort, path.push(name));
+    path
+}
+
+// Commits the bitmap with these bits appended.
+fn commit(rt: &impl Abort, store: FileStore, number: u64, digits: &[u8]) -> FileStore {
+    let mut batch = store.into_batch();
+    push_digits(rt, &mut batch.batch, digits);
+    match batch.commit(number) {
+        Ok(store) => store,
+        Err(_) => panic!(rt; "{number}"),
+    }
+}
+
+// Opens the store of a file.
+fn open(abort: &impl Abort, rt: &HostRuntime, path: &str) -> FileStore {
+    let device = ok(abort, FileDevice::open(rt, path));
+    ok(abort, Store::open(rt.alloc(), device))
+}
+
+// A store is created on a new file, which is locked meanwhile, and opened again with the commits that were kept.
+#[test]
+fn kept_in_a_file(rt: HostRuntime) {
+    let path = path_of(&rt, &rt, "mortarpink_kept_in_a_file");
+    let _ = fs::remove_file(&rt, path.as_str());
+    let device = ok(&rt, FileDevice::create(&rt, path.as_str()));
+    expect(&rt, FileDevice::create(&rt, path.as_str()).is_err());
+    expect(&rt, FileDevice::open(&rt, path.as_str()).is_err());
+    let store = ok(&rt, FileStore::create(rt.alloc(), device));
+    let store = commit(&rt, store, 1, b"101");
+    let store = commit(&rt, store, 5, b"11010011");
+    drop(store);
+    let store = open(&rt, &rt, path.as_str());
+    expect(&rt, has_bits(store.bitmap().current(), 0, b"10111010011"));
+    let Ok(store) = store.rewind_to(1) else {
+        panic!(rt; "the rewind failed")
+    };
+    drop(store);
+    let store = open(&rt, &rt, path.as_str());
+    expect(&rt, has_bits(store.bitmap().current(), 0, b"101"));
+    expect(&rt, store.bitmap().last_number() == Some(1));
+    drop(store);
+    ok(&rt, fs::remove_file(&rt, path.as_str()));
+}
+
+// What a crash may leave behind the closed gate of a file is cut off.
+#[test]
+fn torn_file_is_opened(rt: HostRuntime) {
+    let path = path_of(&rt, &rt, "mortarpink_torn_file");
+    let _ = fs::remove_file(&rt, path.as_str());
+    let device = ok(&rt, FileDevice::create(&rt, path.as_str()));
+    let store = ok(&rt, FileStore::create(rt.alloc(), device));
+    drop(commit(&rt, store, 1, b"101"));
+    let mut bytes = ok(&rt, fs::read(&rt, path.as_str()));
+    let whole = bytes.len();
+    ok(&rt, bytes.resize(whole.saturating_add(100), 255));
+    ok(&rt, fs::write(&rt, path.as_str(), bytes));
+    let store = open(&rt, &rt, path.as_str());
+    expect(&rt, has_bits(store.bitmap().current(), 0, b"101"));
+    drop(store);
+    expect(&rt, ok(&rt, fs::read(&rt, path.as_str())).len() == whole);
+    ok(&rt, fs::remove_file(&rt, path.as_str()));
+}
