@@ -1,21 +1,20 @@
 -- A log that is replaced by the history of its state: what a crash leaves, and what it is opened to.
-use Rattle.std.proofs.Common.{◌≡◌, ◌⊎◌, inl, inr, ⊎_elim, ℕ, ◌<◌, ◌≤◌, List, [], ◌∷◌, ◌++◌, length, take, Option, Some, None, refl, sym, ap, subst, ◌∙◌, arith}
+use Rattle.std.proofs.Common.{◌≡◌, inl, inr, ⊎_elim, ℕ, List, [], ◌∷◌, ◌++◌, length, take, Option, Some, None, sym, ap, subst, ◌∙◌, arith}
 use Rattle.std.specs.Prelude.{IfSome}
 use Rattle.std.specs.Option.{option_map}
 use Rattle.std.proofs.lemmas.List.{take_all}
 use Rattle.bitmap_core.specs.PrunedBits.{PrunedBits}
 use Rattle.historical_bitmap.specs.History.{LatestIsLast}
-use Rattle.log_frames.specs.declared.frame.Place.{Place}
 use Rattle.commit_log.specs.Base.{Base}
 use Rattle.commit_log.specs.Entries.{Entry}
-use Rattle.commit_log.specs.History.{HasLog, IsHistory, history_base, history_bytes, history_entries, history_place, last_of}
+use Rattle.commit_log.specs.History.{IsHistory, history_base, history_bytes, history_entries, history_place, last_of}
 use Rattle.commit_log.specs.Kept.{Kept}
 use Rattle.commit_log.specs.Logs.{IsLog, log_bytes, place_of, state_of}
 use Rattle.log_store.specs.Compacted.{IsCompacted, IsCompacting}
 use Rattle.log_store.specs.Gate.{closed}
 use Rattle.log_store.specs.Moments.{IsAtRest, IsEither, LeavesOnly}
 use Rattle.log_store.specs.Opened.{OpensTo}
-use Rattle.log_store.specs.Store.{IsStored, IsTornLog}
+use Rattle.log_store.specs.Store.{IsStored}
 use Rattle.log_store.specs.declared.device.Device.{Ghosts}
 use Rattle.log_store.specs.declared.stored_log.StoredLog.{StoredLog}
 use Rattle.log_store.proofs.Moments.{unchanged, weaker}

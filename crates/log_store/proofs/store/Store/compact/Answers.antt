@@ -1,6 +1,5 @@
-use Rattle.std.proofs.Common.{◌≡◌, ◌++◌, ◌∷◌, [], List, ℕ, ap, ◌∙◌}
+use Rattle.std.proofs.Common.{◌∙◌}
 use Rattle.commit_log.specs.Kept.{kept_of}
-use Rattle.log_store.specs.Gate.{closed}
 use Rattle.log_store.proofs.Compactions.{compacted, compacting, is_history, not_compacted}
 use Rattle.log_store.proofs.store.Store.compact.Goals as goal
 
