@@ -9,7 +9,7 @@ use std::{env, fs};
 use test_support::compare::has_bits;
 
 // A store whose chunks have one byte.
-type FileStore = Store<1, FileDevice>;
+type FileStore<'a> = Store<1, FileDevice<'a>>;
 
 // Returns the path of the file of a test.
 fn path_of(abort: &impl Abort, rt: &HostRuntime, name: &str) -> PathBuf {
@@ -19,7 +19,7 @@ fn path_of(abort: &impl Abort, rt: &HostRuntime, name: &str) -> PathBuf {
 }
 
 // Commits the bitmap with these bits appended.
-fn commit(rt: &impl Abort, store: FileStore, number: u64, digits: &[u8]) -> FileStore {
+fn commit<'a>(rt: &impl Abort, store: FileStore<'a>, number: u64, digits: &[u8]) -> FileStore<'a> {
     let mut batch = store.into_batch();
     push_digits(rt, &mut batch.batch, digits);
     match batch.commit(number) {
@@ -29,7 +29,7 @@ fn commit(rt: &impl Abort, store: FileStore, number: u64, digits: &[u8]) -> File
 }
 
 // Opens the store of a file.
-fn open(abort: &impl Abort, rt: &HostRuntime, path: &str) -> FileStore {
+fn open<'a>(abort: &impl Abort, rt: &'a HostRuntime, path: &str) -> FileStore<'a> {
     let device = ok(abort, FileDevice::open(rt, path));
     ok(abort, Store::open(rt.alloc(), device))
 }
@@ -75,5 +75,64 @@ fn torn_file_is_opened(rt: HostRuntime) {
     expect(&rt, has_bits(store.bitmap().current(), 0, b"101"));
     drop(store);
     expect(&rt, ok(&rt, fs::read(&rt, path.as_str())).len() == whole);
+    ok(&rt, fs::remove_file(&rt, path.as_str()));
+}
+
+// Returns the path of the second file of a replacement.
+fn path_beside(abort: &impl Abort, rt: &HostRuntime, path: &str) -> String {
+    let mut beside = ok(abort, String::from_str(rt.alloc(), path));
+    ok(abort, beside.push_str(".new"));
+    beside
+}
+
+// A compaction gives the file the history of the bitmap, and the store goes on with it. What an earlier compaction has left is written anew.
+#[test]
+fn compacted_in_a_file(rt: HostRuntime) {
+    let path = path_of(&rt, &rt, "mortarpink_compacted_in_a_file");
+    let beside = path_beside(&rt, &rt, path.as_str());
+    let _ = fs::remove_file(&rt, path.as_str());
+    ok(
+        &rt,
+        fs::write(&rt, beside.as_str(), "what a crash has left"),
+    );
+    let device = ok(&rt, FileDevice::create(&rt, path.as_str()));
+    let store = ok(&rt, FileStore::create(rt.alloc(), device));
+    let store = commit(&rt, store, 1, b"101");
+    let store = commit(&rt, store, 2, b"1111");
+    let Ok(mut store) = store.rewind_to(1) else {
+        panic!(rt; "the rewind failed")
+    };
+    let before = ok(&rt, fs::read(&rt, path.as_str())).len();
+    ok(&rt, store.compact());
+    expect(&rt, ok(&rt, fs::read(&rt, path.as_str())).len() < before);
+    expect(&rt, !ok(&rt, fs::exists(&rt, beside.as_str())));
+    expect(&rt, FileDevice::open(&rt, path.as_str()).is_err());
+    drop(commit(&rt, store, 3, b"0"));
+    let store = open(&rt, &rt, path.as_str());
+    expect(&rt, has_bits(store.bitmap().current(), 0, b"1010"));
+    expect(&rt, store.bitmap().commit_exists(1));
+    expect(&rt, store.bitmap().last_number() == Some(3));
+    drop(store);
+    ok(&rt, fs::remove_file(&rt, path.as_str()));
+}
+
+// A compaction that cannot write its file leaves the log, and the store is read-only until it is opened again.
+#[test]
+fn failed_compaction_leaves_the_file(rt: HostRuntime) {
+    let path = path_of(&rt, &rt, "mortarpink_failed_compaction");
+    let beside = path_beside(&rt, &rt, path.as_str());
+    let _ = fs::remove_file(&rt, path.as_str());
+    let _ = fs::remove_dir(&rt, beside.as_str());
+    ok(&rt, fs::create_dir(&rt, beside.as_str()));
+    let device = ok(&rt, FileDevice::create(&rt, path.as_str()));
+    let store = ok(&rt, FileStore::create(rt.alloc(), device));
+    let mut store = commit(&rt, store, 1, b"101");
+    expect(&rt, store.compact().is_err());
+    expect(&rt, store.is_read_only());
+    drop(store);
+    let store = open(&rt, &rt, path.as_str());
+    expect(&rt, has_bits(store.bitmap().current(), 0, b"101"));
+    drop(store);
+    ok(&rt, fs::remove_dir(&rt, beside.as_str()));
     ok(&rt, fs::remove_file(&rt, path.as_str()));
 }

@@ -3,21 +3,30 @@
 ghost use Rattle.std.specs.Prelude.{[]};
 
 use crate::device::{Device, DeviceError};
-use std::alloc::Global;
+use crate::replacing::Replaceable;
+use std::alloc::{AllocError, Global};
 use std::fs::{File, OpenOptions};
-use std::io;
-use std::os::unix::fs::FileExt;
+use std::os::unix::fs::{FileExt, MetadataExt};
 use std::path::PathBuf;
+use std::{fs, io};
 
 /// A file of the operating system, which is locked while the device exists.
 ///
-/// That a file behaves as the model of [`Device`] is assumed, and no contract of this type says so: it depends on the operating system, on the file
-/// system and on the disk. What the calls do is tested on a real file. The lock is advisory: it keeps out other devices, and not other programs.
+/// The second file of a replacement is beside it: its name has `.new` at the end. A crash may leave it, and the next replacement writes it anew. If
+/// the path is relative, it is that of the folder in which the program runs, which must not change while the device exists.
+///
+/// That a file behaves as the models of [`Device`] and [`Replaceable`] is assumed, and no contract of this type says so: it depends on the operating
+/// system, on the file system and on the disk. What the calls do is tested on a real file. The lock is advisory: it keeps out other devices, and not
+/// other programs.
 #[derive(Drop)]
-pub struct FileDevice {
+pub struct FileDevice<'a> {
+    rt: &'a HostRuntime,
+    path: String,
     file: File,
     // The number of bytes.
     len: u64,
+    // The second file, until it is given the name.
+    beside: Option<File>,
 }
 
 impl From<io::Error> for DeviceError {
@@ -37,14 +46,45 @@ fn sync_folder(rt: &HostRuntime, path: &str) -> Result<(), DeviceError> {
     Ok(())
 }
 
-impl FileDevice {
-    // Locks a file, and returns it as a device.
-    fn locked(file: File) -> Result<FileDevice, DeviceError> {
-        if let Err(error) = file.try_lock() {
-            return Err(DeviceError::from(io::Error::from(error)));
-        }
+// Returns the path of the second file of a replacement.
+fn path_beside(rt: &HostRuntime, path: &str) -> Result<String, AllocError> {
+    let mut beside = String::from_str(rt.alloc(), path)?;
+    beside.push_str(".new")?;
+    Ok(beside)
+}
+
+// Locks a file.
+fn lock(file: &File) -> Result<(), DeviceError> {
+    if let Err(error) = file.try_lock() {
+        return Err(DeviceError::from(io::Error::from(error)));
+    }
+    Ok(())
+}
+
+// Fails unless the path leads to the file. A replacement by another device may have given the path to another file before this one was locked.
+fn check_path(rt: &HostRuntime, path: &str, file: &File) -> Result<(), DeviceError> {
+    let named = fs::metadata(rt, path)?;
+    let locked = file.metadata()?;
+    if named.dev() != locked.dev() || named.ino() != locked.ino() {
+        return Err(DeviceError::Failed(None));
+    }
+    Ok(())
+}
+
+impl<'a> FileDevice<'a> {
+    // Locks the file that has the path, and returns it as a device.
+    fn locked(rt: &'a HostRuntime, path: &str, file: File) -> Result<Self, DeviceError> {
+        lock(&file)?;
+        check_path(rt, path, &file)?;
+        let path = String::from_str(rt.alloc(), path)?;
         let len = file.metadata()?.len();
-        Ok(FileDevice { file, len })
+        Ok(FileDevice {
+            rt,
+            path,
+            file,
+            len,
+            beside: None,
+        })
     }
 
     /// Creates an empty file, and returns once its name is kept.
@@ -53,9 +93,9 @@ impl FileDevice {
     /// `Memory` if an allocation fails. `Failed` if there is a file of this name, or if the operating system fails. A file may then be left.
     ///
     /// # Memory
-    /// Temporarily the path of its folder.
-    pub fn create(rt: &HostRuntime, path: &str) -> Result<FileDevice, DeviceError> {
-        let device = FileDevice::locked(File::create_new(rt, path)?)?;
+    /// The path. Temporarily also the path of its folder.
+    pub fn create(rt: &'a HostRuntime, path: &str) -> Result<Self, DeviceError> {
+        let device = FileDevice::locked(rt, path, File::create_new(rt, path)?)?;
         sync_folder(rt, path)?;
         Ok(device)
     }
@@ -63,19 +103,20 @@ impl FileDevice {
     /// Opens a file, and returns once its bytes are kept: then it is at rest.
     ///
     /// # Errors
-    /// `Failed` if there is no file of this name, if another device has locked it, or if the operating system fails.
+    /// `Memory` if an allocation fails. `Failed` if there is no file of this name, if another device has locked it, if another device replaced it
+    /// during the call, or if the operating system fails.
     ///
     /// # Memory
-    /// Does not allocate.
-    pub fn open(rt: &HostRuntime, path: &str) -> Result<FileDevice, DeviceError> {
+    /// The path.
+    pub fn open(rt: &'a HostRuntime, path: &str) -> Result<Self, DeviceError> {
         let file = OpenOptions::new().read(true).write(true).open(rt, path)?;
-        let device = FileDevice::locked(file)?;
+        let device = FileDevice::locked(rt, path, file)?;
         device.file.sync_all()?;
         Ok(device)
     }
 }
 
-impl Device for FileDevice {
+impl<'a> Device for FileDevice<'a> {
     ghost behaves = { λ device. ⊥ };
 
     ghost seen = { λ device. [] };
@@ -119,5 +160,50 @@ impl Device for FileDevice {
     fn sync(&mut self) -> Result<(), DeviceError> {
         self.file.sync_data()?;
         Ok(())
+    }
+}
+
+impl<'a> Replaceable for FileDevice<'a> {
+    ghost beside = { λ device. [] };
+
+    ghost beside_may_leave = { λ device c. ⊥ };
+
+    ghost named_may_leave = { λ device c. ⊥ };
+
+    // The second file is locked before it has the name, so that no other device opens it then.
+    fn write_beside(&mut self, bytes: &[u8]) -> Result<(), DeviceError> {
+        let path = path_beside(self.rt, self.path.as_str())?;
+        let mut options = OpenOptions::new();
+        options.read(true).write(true).create(true);
+        let file = options.open(self.rt, path.as_str())?;
+        lock(&file)?;
+        file.set_len(0)?;
+        file.write_all_at(bytes, 0)?;
+        self.beside = Some(file);
+        Ok(())
+    }
+
+    fn sync_beside(&mut self) -> Result<(), DeviceError> {
+        let Some(file) = &self.beside else {
+            return Err(DeviceError::Failed(None));
+        };
+        file.sync_all()?;
+        Ok(())
+    }
+
+    fn rename(&mut self) -> Result<(), DeviceError> {
+        let Some(file) = self.beside.take() else {
+            return Err(DeviceError::Failed(None));
+        };
+        let len = file.metadata()?.len();
+        let path = path_beside(self.rt, self.path.as_str())?;
+        fs::rename(self.rt, path.as_str(), self.path.as_str())?;
+        self.file = file;
+        self.len = len;
+        Ok(())
+    }
+
+    fn sync_folder(&mut self) -> Result<(), DeviceError> {
+        sync_folder(self.rt, self.path.as_str())
     }
 }
