@@ -45,9 +45,10 @@ KEPT = [Call("kept_commit", 20_000), Call("kept_window", 100_000), Call("kept_re
 INDEXED = [Call("indexed_get", 500_000), Call("indexed_scan", 100)]
 # The calls of logs. One with units works on all of so many commits each time. `ENTRIES` prints the mean number of bytes of an entry.
 LOGS = [Call("log_commit", 20_000), Call("plain_commit", 20_000), Call("log_recover", 100, 1000), Call("log_make", 100, 1000),
-        Call("log_delta", 2000), Call("log_write_history", 10, 1000), Call("log_read_history", 100, 1000)]
-# Not measured: they write a history, whose time per commit grows with the kept commits.
-TOO_LONG = {("log_write_history", 100_000), ("log_read_history", 100_000)}
+        Call("log_delta", 2000), Call("log_indexed_delta", 200_000), Call("log_write_history", 10, 1000),
+        Call("log_indexed_write_history", 100, 1000), Call("log_read_history", 100, 1000)]
+# Not measured: without an index, the time of a history per commit grows with the kept commits.
+TOO_LONG = {("log_write_history", 100_000)}
 ENTRIES = Call("log_bytes", 2000)
 
 # The groups of calls whose ratios to commonware-utils are in ratios.csv.
@@ -86,7 +87,9 @@ GROWTH = {
 LOGGED = {
     "log_commit": "commit of 100 sets with its entry, oldest dropped", "plain_commit": "the same without an entry",
     "log_recover": "`recover`, commits of 10 sets", "log_make": "the same commits made without a log",
-    "log_delta": "`delta` between neighbours", "log_write_history": "`write_history`", "log_read_history": "`read_history`",
+    "log_delta": "`delta` between neighbours, without an index", "log_indexed_delta": "the same, with an index",
+    "log_write_history": "`write_history`, without an index", "log_indexed_write_history": "the same, with an index",
+    "log_read_history": "`read_history`",
 }
 LOG_PAIRS = {"a commit with its entry, to one without": ("log_commit", "plain_commit"),
              "`recover`, to making the commits": ("log_recover", "log_make")}

@@ -23,18 +23,22 @@ pub enum Call {
     Recover,
     Make,
     Delta,
+    IndexedDelta,
     WriteHistory,
+    IndexedWriteHistory,
     ReadHistory,
 }
 
-const NAMES: [(&str, Call); 8] = [
+const NAMES: [(&str, Call); 10] = [
     ("log_commit", Call::Logged),
     ("plain_commit", Call::Plain),
     ("log_bytes", Call::Bytes),
     ("log_recover", Call::Recover),
     ("log_make", Call::Make),
     ("log_delta", Call::Delta),
+    ("log_indexed_delta", Call::IndexedDelta),
     ("log_write_history", Call::WriteHistory),
+    ("log_indexed_write_history", Call::IndexedWriteHistory),
     ("log_read_history", Call::ReadHistory),
 ];
 
@@ -81,7 +85,18 @@ fn with_commits<const N: usize>(
     Ok(bitmap)
 }
 
-// The same, with a log that begins with the bitmap and has the entries of these commits.
+// The same, with an index.
+fn with_indexed_commits<const N: usize>(
+    bitmap: CleanBitMap<N>,
+    count: u64,
+) -> Result<CleanBitMap<N>, AllocError> {
+    match with_commits(bitmap, count)?.indexed() {
+        Ok(bitmap) => Ok(bitmap),
+        Err((_, why)) => Err(why),
+    }
+}
+
+// Adds the same commits, with a log that begins with the bitmap and has the entries of these commits.
 fn with_entries<const N: usize>(
     alloc: Global,
     mut bitmap: CleanBitMap<N>,
@@ -241,7 +256,9 @@ pub fn run<const N: usize>(
         Call::Plain => commit_each(with_commits(first, count)?, count, times),
         Call::Make => make_each(&first, count, times),
         Call::Delta => delta_each(alloc, &with_commits(first, count)?, count, times),
+        Call::IndexedDelta => delta_each(alloc, &with_indexed_commits(first, count)?, count, times),
         Call::WriteHistory => write_each(alloc, &with_commits(first, count)?, times),
-        Call::ReadHistory => read_each(alloc, &with_commits(first, count)?, times),
+        Call::IndexedWriteHistory => write_each(alloc, &with_indexed_commits(first, count)?, times),
+        Call::ReadHistory => read_each(alloc, &with_indexed_commits(first, count)?, times),
     }
 }
