@@ -1,4 +1,5 @@
-/* Prints the nanoseconds per call at widths 8 and 32, each the least of several rounds, on 2^20 bits.
+/* Prints what calls cost on 2^20 bits, each figure the least of several rounds: the nanoseconds per call at widths 8 and 32, and the
+ * microseconds per read of an old version at width 8, by the number of kept commits. Each commit sets one bit.
  *
  *     cc -O2 speed.c $(pkg-config --cflags --libs mortarpink) -o speed && ./speed */
 #define _POSIX_C_SOURCE 199309L
@@ -9,9 +10,12 @@
 #include <stdlib.h>
 #include <time.h>
 
-enum { BITS = 1 << 20, COMMITS = 1000, ROUNDS = 9, WIDTHS = 2 };
+enum { BITS = 1 << 20, COMMITS = 1000, READS = 1000, PAGE = 4096, ROUNDS = 9, WIDTHS = 2, COUNTS = 3 };
 
 static const uint32_t widths[WIDTHS] = { 8, 32 };
+
+/* The numbers of kept commits. */
+static const uint64_t counts[COUNTS] = { 1000, 10000, 100000 };
 
 /* What the reads return is added up, so that no loop is left out. */
 static uint64_t total;
@@ -77,23 +81,70 @@ static uint64_t past_gets(mortarpink_bitmap *bitmap) {
 }
 
 /* Commits batches of one set. */
-static uint64_t commits(mortarpink_bitmap *bitmap) {
+static void commit_sets(mortarpink_bitmap *bitmap, uint64_t count) {
     uint64_t latest = 0, previous = 0;
     check(mortarpink_latest(bitmap, &latest));
-    for (uint64_t k = 1; k <= COMMITS; k++) {
+    for (uint64_t k = 1; k <= count; k++) {
         check(mortarpink_begin(bitmap));
         check(mortarpink_set(bitmap, scattered(k), k & 1));
         check(mortarpink_commit(bitmap, latest + k, &previous));
     }
+}
+
+static uint64_t commits(mortarpink_bitmap *bitmap) {
+    commit_sets(bitmap, COMMITS);
     return COMMITS;
 }
 
-static void fill(mortarpink_bitmap *bitmap) {
+/* Makes a bitmap with commit 0, which has all bits, and `count` commits after it. */
+static void make(mortarpink_bitmap *bitmap, uint32_t width, uint64_t count) {
     uint64_t previous = 0;
+    check(mortarpink_new(bitmap, width));
     check(mortarpink_begin(bitmap));
     for (uint64_t k = 0; k < BITS; k++) check(mortarpink_push(bitmap, k % 3 == 0));
     check(mortarpink_commit(bitmap, 0, &previous));
-    commits(bitmap);
+    commit_sets(bitmap, count);
+}
+
+/* Reads single bits at commit 0. */
+static uint64_t oldest_bits(mortarpink_bitmap *bitmap) {
+    uint8_t bit = 0;
+    for (uint64_t k = 0; k < READS; k++) {
+        check(mortarpink_get_at(bitmap, 0, scattered(k), &bit));
+        total += bit;
+    }
+    return READS;
+}
+
+/* Lists all set positions of the current bitmap. */
+static uint64_t current_ones(mortarpink_bitmap *bitmap) {
+    static uint64_t page[PAGE];
+    size_t count = PAGE;
+    for (uint64_t from = 0; count == PAGE; from = page[PAGE - 1] + 1) {
+        check(mortarpink_ones(bitmap, from, UINT64_MAX, page, PAGE, &count));
+        total += count;
+    }
+    return 1;
+}
+
+/* Lists all set positions at commit 0, in place. */
+static uint64_t oldest_ones(mortarpink_bitmap *bitmap) {
+    static uint64_t page[PAGE];
+    size_t count = PAGE;
+    for (uint64_t from = 0; count == PAGE; from = page[PAGE - 1] + 1) {
+        check(mortarpink_ones_at(bitmap, 0, from, UINT64_MAX, page, PAGE, &count));
+        total += count;
+    }
+    return 1;
+}
+
+/* Makes a bitmap of commit 0, and lists all its set positions. */
+static uint64_t oldest_copied_ones(mortarpink_bitmap *bitmap) {
+    mortarpink_bitmap copy = MORTARPINK_EMPTY;
+    check(mortarpink_checkout(bitmap, 0, &copy));
+    current_ones(&copy);
+    check(mortarpink_free(&copy));
+    return 1;
 }
 
 static double seconds(void) {
@@ -114,7 +165,7 @@ static double least(uint64_t (*calls)(mortarpink_bitmap *), mortarpink_bitmap *b
     return best;
 }
 
-int main(void) {
+static void print_calls(void) {
     static const struct {
         const char *name;
         uint64_t (*calls)(mortarpink_bitmap *);
@@ -128,10 +179,7 @@ int main(void) {
         { "begin, set and commit", commits },
     };
     mortarpink_bitmap bitmaps[WIDTHS] = { MORTARPINK_EMPTY, MORTARPINK_EMPTY };
-    for (int k = 0; k < WIDTHS; k++) {
-        check(mortarpink_new(&bitmaps[k], widths[k]));
-        fill(&bitmaps[k]);
-    }
+    for (int k = 0; k < WIDTHS; k++) make(&bitmaps[k], widths[k], COMMITS);
     printf("| ns per call | width 8 | 32 |\n|---|---|---|\n");
     for (size_t row = 0; row < sizeof rows / sizeof *rows; row++) {
         printf("| %s |", rows[row].name);
@@ -139,6 +187,39 @@ int main(void) {
         printf("\n");
     }
     for (int k = 0; k < WIDTHS; k++) check(mortarpink_free(&bitmaps[k]));
+}
+
+static void print_reads(void) {
+    static const struct {
+        const char *name;
+        uint64_t (*calls)(mortarpink_bitmap *);
+        uint8_t indexed;
+    } rows[] = {
+        { "a bit of the oldest version, in place", oldest_bits, 0 },
+        { "the same, with an index", oldest_bits, 1 },
+        { "all set positions of the current bitmap", current_ones, 0 },
+        { "all set positions of the oldest version, in place", oldest_ones, 0 },
+        { "the same, with an index", oldest_ones, 1 },
+        { "the same, by checkout, which is made and freed", oldest_copied_ones, 0 },
+    };
+    mortarpink_bitmap bitmaps[COUNTS] = { MORTARPINK_EMPTY, MORTARPINK_EMPTY, MORTARPINK_EMPTY };
+    for (int k = 0; k < COUNTS; k++) make(&bitmaps[k], 8, counts[k]);
+    printf("\n| us per read | 1,000 commits | 10,000 | 100,000 |\n|---|---|---|---|\n");
+    for (size_t row = 0; row < sizeof rows / sizeof *rows; row++) {
+        printf("| %s |", rows[row].name);
+        for (int k = 0; k < COUNTS; k++) {
+            check(mortarpink_index(&bitmaps[k], rows[row].indexed));
+            printf(" %.3g |", 1e-3 * least(rows[row].calls, &bitmaps[k]));
+        }
+        printf("\n");
+        fflush(stdout);
+    }
+    for (int k = 0; k < COUNTS; k++) check(mortarpink_free(&bitmaps[k]));
+}
+
+int main(void) {
+    print_calls();
+    print_reads();
     fprintf(stderr, "speed: %" PRIu64 " set bits were read\n", total);
     return 0;
 }
