@@ -9,6 +9,7 @@ from guide.all_or_none import set_all
 from guide.any_bits import next_around
 from guide.deltas import message_for, receive
 from guide.files import load, save
+from guide.histories import load_versions, save_versions
 from guide.last_versions import commit_set
 from guide.log import append
 from guide.replicas import apply_update
@@ -17,7 +18,7 @@ from guide.slots import new_slots, take_slot
 from guide.threads import add_flag
 from guide.updates import update_between
 from guide.versions import bit_then
-from mortarpink import Bitmap, Error, InvalidError, InvalidLengthError, NoMemoryError, OutOfBoundsError
+from mortarpink import Bitmap, DecodeError, Error, InvalidError, InvalidLengthError, NoMemoryError, OutOfBoundsError
 from support import bitmap_of, failing, with_versions
 
 
@@ -160,6 +161,17 @@ class Replicas(unittest.TestCase):
                 for bits in versions, versions.at(1), Bitmap(width):
                     save(bits, path)
                     self.assertEqual((bytes(load(path)), load(path).width), (bytes(bits), width))
+
+    def test_a_file_of_all_versions(self):
+        with tempfile.TemporaryDirectory() as folder:
+            path = Path(folder, "versions")
+            for width in 1, 64:
+                versions = self.versions(width)
+                save_versions(versions, path)
+                self.assertEqual(load_versions(path, width).save(), versions.save())
+            self.assertEqual(list(Path(folder).iterdir()), [path])
+            path.write_bytes(path.read_bytes()[:-1])
+            self.assertRaises(DecodeError, load_versions, path, 64)
 
     def test_a_damaged_file(self):
         with tempfile.TemporaryDirectory() as folder:

@@ -15,7 +15,7 @@ enum Message {
 /// Returns the message for a replica that is at a version, or `None` if it is at the latest one. A
 /// replica whose version the writer does not keep gets the history.
 fn message_for(writer: &Bitmap, at: Option<u64>) -> Result<Option<Message>, Error> {
-    if at == writer.latest() {
+    if at.is_some() && at == writer.latest() {
         return Ok(None);
     }
     if let (Some(older), Some(newer)) = (at, writer.latest()) {

@@ -10,7 +10,7 @@ def message_for(writer: Bitmap, at: Optional[int]) -> Optional[tuple[str, bytes]
 
     A replica whose version the writer does not keep gets the history.
     """
-    if at == writer.latest:
+    if at is not None and at == writer.latest:
         return None
     if at is not None and writer.commit_exists(at):
         return "delta", writer.delta(at, writer.latest)

@@ -7,8 +7,7 @@ def new_slots(count: int) -> Bitmap:
     """Makes a slot map of free slots, as version 0. It begins as an empty bitmap."""
     slots = Bitmap()
     with slots.batch(commit=0) as batch:
-        for _ in range(count):
-            batch.push(False)
+        batch.extend_to(count)
     return slots
 
 
