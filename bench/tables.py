@@ -7,8 +7,9 @@ from itertools import product
 from math import exp, log
 from typing import Callable, NamedTuple
 
+import disk
 from measure import Call, costs, counts, own_costs, ratio, run
-from programs import COPIES, FIXED, NATIVE, ORIGINAL, OURS, PERSISTENT, ROARING
+from programs import COPIES, FIXED, LMDB, NATIVE, ORIGINAL, OURS, PERSISTENT, ROARING, SQLITE, STORE, WHOLE
 
 LARGE, SMALL = 64 << 20, 1 << 20  # bytes of dense bitmaps
 HISTORICAL = 1 << 17  # bytes of historical bitmaps, which are 2^20 bits
@@ -117,6 +118,16 @@ READS = [Call("kept_rebuild", 50), Call("at_get", 500), Call("indexed_get", 50_0
 READ_AS = {"kept_rebuild": "`get_at_commit` of the oldest", "at_get": "`at` the oldest: a random bit", "at_scan": "`at` the oldest: all set positions",
            "indexed_get": "with an index: a random bit", "indexed_scan": "with an index: all set positions"}
 
+# The columns of the table stores, by their names in stores.csv.
+STORED = {
+    "sets": "Sets per commit", "way": "Way to keep versions", "synced_per_second": "Synced: commits per second",
+    "synced_write_bytes": "bytes written per commit", "synced_call_bytes": "bytes passed to write calls per commit",
+    "buffered_per_second": "Buffered: commits per second", "buffered_write_bytes": "bytes written per commit",
+    "buffered_call_bytes": "bytes passed to write calls per commit", "commits": "After so many commits", "open_ms": "open, ms",
+    "bit_us": "one bit of an old version, µs", "version_ms": "a whole old version, ms", "files_mb": "files, MB", "compacted_mb": "compacted, MB",
+    "memory_mb": "memory, MB",
+}
+
 # The names of the calls that tables measure.
 DENSE = [name for names in DENSE_GROUPS.values() for name in names.split()]
 BATCHES = [f"{end}_{edits}" for edits in EDITS for end in ("batch", "commit")]
@@ -130,6 +141,7 @@ class Session(NamedTuple):
     divisor: int  # a run makes so many times fewer calls than a table says
     counted: bool = False  # instructions are counted, and no time is taken
     large: bool = True  # dense bitmaps of 64 MB are measured too
+    folder: str = "."  # where the programs of the table stores write
 
     def chosen(self, calls):
         """The calls that are to be measured."""
@@ -438,6 +450,62 @@ def logs(session):
     return {}
 
 
+def describe_disk(folder, count):
+    """Prints which file system the table stores is about, and what the disk does without any of its programs."""
+    kind, device = disk.file_system(folder)
+    head("Disk of", folder)
+    say("File system", f"{kind} on {device}" + (", which is in memory: the figures say nothing about a disk" if kind in disk.IN_MEMORY else ""))
+    say("Figures", f"elapsed time: the median of {count} runs for synced commits, and one run for buffered ones and for reads")
+    say_disk(folder)
+
+
+def say_disk(folder):
+    """Prints how often per second the disk syncs a block."""
+    for appends, what in ((False, "in place"), (True, "at the end of a file")):
+        say(f"`fdatasync` of {disk.BLOCK} bytes {what}, alone", f"{disk.syncs_per_second(folder, appends):.0f} per second")
+
+
+def synced_runs(session, ways, folder, setting):
+    """The runs of some ways whose commits are synced: a list per way. The ways take turns."""
+    found = {name: [] for name in ways}
+    for _ in range(session.count):
+        for name, way in ways.items():
+            found[name].append(disk.run(session.programs[way.program], way, folder, setting.synced, setting.sets, "synced"))
+    return found
+
+
+def stored(session, ways, folder, setting):
+    """The rows of the table stores with a setting, which are printed as soon as they are there."""
+    synced = synced_runs(session, ways, folder, setting)
+    disk.compare(f"{setting.synced} commits of {setting.sets} sets", {ways[name].title: runs[-1] for name, runs in synced.items()})
+    rows, last = [], {}
+    for name, way in ways.items():
+        last[way.title] = disk.run(session.programs[way.program], way, folder, setting.buffered, setting.sets, "buffered")
+        costs = {**disk.write_costs("synced", synced[name], setting.synced), **disk.write_costs("buffered", [last[way.title]], setting.buffered)}
+        figures = {**costs, "commits": setting.buffered, **disk.read_costs(last[way.title])}
+        row = {"sets": setting.sets, "way": way.title, **figures}
+        rows.append({column: short(row[column]) if isinstance(row[column], float) else row[column] for column in STORED})
+        say(*("none" if cell is None else cell for cell in rows[-1].values()))
+    disk.compare(f"{setting.buffered} commits of {setting.sets} sets", last)
+    return rows
+
+
+def stores(session):
+    """Costs of commits and reads of versions that are kept in files: 2^20 bits, width 8.
+
+    A synced commit is on the disk when its call returns. Buffered commits are synced once per 1,000."""
+    ways = {name: way for name, way in disk.WAYS.items() if not session.wanted or name in session.wanted}
+    folder = disk.prepare(session.folder)
+    settings = [disk.fewer(setting, session.divisor) for setting in disk.SETTINGS]
+    disk.check_space(folder, ways.values(), max(setting.buffered for setting in settings))
+    describe_disk(folder, session.count)
+    head(*STORED.values())
+    rows = [row for setting in settings for row in stored(session, ways, folder, setting)]
+    head("Disk after the runs", folder)
+    say_disk(folder)
+    return {"stores": rows}
+
+
 def names_of(calls):
     """The names of some calls."""
     return [call.name for call in calls]
@@ -460,5 +528,6 @@ TABLES = {
     "logs": Table(logs, names_of([*LOGS, ENTRIES]), [OURS], []),
     "commits": Table(commits, list(KEEPS), [OURS, COPIES, ROARING, PERSISTENT], []),
     "peers": Table(peers, COMPARED, [OURS, FIXED, ROARING], []),
+    "stores": Table(stores, list(disk.WAYS), [STORE, SQLITE, LMDB, WHOLE], []),
     "alone": Table(alone, FAST + SLOW + BATCHES + names_of(PAST + ALONE), [OURS], []),
 }
