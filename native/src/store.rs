@@ -65,8 +65,9 @@
 //! | an entry is damaged that was acknowledged, or of which no receipt is there | It returns `Log(Damaged)` with the position, and writes nothing. |
 //! | entries that were acknowledged are missing at the end | It returns `MissingEnd`, and writes nothing. |
 //!
-//! [`Store::cut_bytes`] returns how many bytes were cut off. A log without receipts is opened as well, such as one that was copied alone or made by
-//! [`Log::begin`](crate::log::Log::begin). Then nothing says what was acknowledged, so that a missing end is not found, and any damage is an error.
+//! [`Store::cut_bytes`] returns how many bytes were cut off. Once `open` has returned, a crash loses nothing of what it has found. A log without
+//! receipts is opened as well, such as one that was copied alone or made by [`Log::begin`](crate::log::Log::begin). Then nothing says what was
+//! acknowledged, so that a missing end is not found, and any damage is an error.
 //!
 //! # What is assumed
 //!
@@ -176,7 +177,7 @@ impl<const N: usize> Store<N> {
     /// As [`recover`](crate::log::recover), and temporarily all bytes of the file.
     ///
     /// # Complexity
-    /// As [`recover`](crate::log::recover).
+    /// As [`recover`](crate::log::recover). A write and a sync, or up to two writes and three syncs if not all bytes were acknowledged.
     ///
     /// # Examples
     ///

@@ -16,6 +16,9 @@ const MOST_BUFFERED: usize = if cfg!(debug_assertions) { 16 } else { 20_000 };
 /// The same of a second crash, which cuts off the opening after the first one.
 const MOST_AGAIN: usize = if cfg!(debug_assertions) { 3 } else { 20 };
 
+/// The same of a crash after a store is opened again and takes further commits.
+const MOST_LATER: usize = if cfg!(debug_assertions) { 2 } else { 8 };
+
 const ENOSPC: i32 = 28;
 const EIO: i32 = 5;
 
@@ -293,6 +296,93 @@ fn a_call_of_a_buffered_store_that_fails_leaves_its_first_changes() {
     println!("{} faults", check_faults(Durability::Buffered));
 }
 
+/// Opens a store again, and takes two commits, each with an entry of several blocks. A crash at any moment of this loses nothing that is acknowledged,
+/// and what it leaves of an entry is cut off. `allowed` has what may be found at first. Returns the number of crashes.
+fn check_further_commits(disk: &Disk, allowed: &[Vec<u8>], most: usize) -> usize {
+    disk.set_label(0);
+    disk.record();
+    let mut store = open(disk).unwrap();
+    let mut images = vec![image(store.bitmap())];
+    assert!(allowed.contains(&images[0]));
+    for chunks in [70, 80] {
+        disk.set_label(images.len() as u64);
+        let number = store.bitmap().last_number().map_or(1, |last| last + 1);
+        take(&mut store, Commit { number, chunks }).unwrap();
+        images.push(image(store.bitmap()));
+    }
+    disk.set_label(images.len() as u64);
+    drop(store);
+    let mut crashes = 0;
+    for (label, moment) in disk.moments() {
+        let expected = if label == 0 { allowed } else { &images[label as usize - 1..images.len().min(label as usize + 1)] };
+        for crashed in moment.after_crash(most) {
+            let found =
+                open(&crashed).map(|store| image(store.bitmap())).unwrap_or_else(|error| panic!("a crash in commit {label}: {error}"));
+            assert!(expected.contains(&found), "a crash in commit {label}");
+            crashes += 1;
+        }
+    }
+    crashes
+}
+
+/// If the sync of a receipt fails, the receipt may be in memory alone. It is on the disk once the store is opened again. Otherwise the two receipts
+/// that a crash leaves would not follow each other, and an entry that it tears would be reported as damage. The compaction makes the same log again,
+/// so its receipt has the place of the one before it.
+#[test]
+fn a_receipt_whose_sync_failed_is_on_the_disk_once_the_store_is_opened() {
+    let receipt_syncs = [(Commit { number: 2, chunks: 1 }, 3), (Compact, 4)];
+    let mut crashes = 0;
+    for ((step, call), fault) in receipt_syncs.into_iter().flat_map(|sync| FAULTS.map(|fault| (sync, fault))) {
+        let disk = Disk::default();
+        let mut store = create(&disk, Durability::Synced).unwrap();
+        take(&mut store, Commit { number: 1, chunks: 1 }).unwrap();
+        take(&mut store, Compact).unwrap();
+        let before = image(store.bitmap());
+        disk.fail(disk.calls() + call, fault);
+        assert!(matches!(take(&mut store, step), Err(StoreError::Io(_))) && store.is_read_only(), "{step:?}");
+        drop(store);
+        let after = open(&disk.after_kill()).map(|store| image(store.bitmap())).unwrap();
+        crashes += check_further_commits(&disk, &[before, after], 300);
+    }
+    println!("{crashes} crashes");
+    assert!(crashes > 1000);
+}
+
+/// Each call fails once, and the store is opened again and goes on.
+#[test]
+fn a_store_goes_on_after_a_call_that_failed() {
+    let images = images();
+    let mut crashes = 0;
+    for durability in [Durability::Synced, Durability::Buffered] {
+        let disk = Disk::default();
+        let mut store = create(&disk, durability).unwrap();
+        let first = disk.calls();
+        STEPS.into_iter().for_each(|step| take(&mut store, step).unwrap());
+        for call in first..disk.calls() {
+            for fault in [Fault::Half(EIO), Fault::Whole(EIO), Fault::Lost(EIO)] {
+                let (disk, acknowledged, begun) = run_with_fault(durability, &images, call, fault);
+                crashes += check_further_commits(&disk, &images[acknowledged..=begun], MOST_LATER);
+            }
+        }
+    }
+    println!("{crashes} crashes");
+    assert!(crashes > 1000);
+}
+
+/// The process is killed at each moment of a run, and the store is opened again and goes on.
+#[test]
+fn a_store_goes_on_after_a_kill() {
+    let images = images();
+    let mut crashes = 0;
+    for durability in [Durability::Synced, Durability::Buffered] {
+        for (acknowledged, begun, moment) in run(durability) {
+            crashes += check_further_commits(&moment.after_kill(), &images[acknowledged..=begun], MOST_LATER);
+        }
+    }
+    println!("{crashes} crashes");
+    assert!(crashes > 1000);
+}
+
 /// Each call of `open` fails once, in each way. The store is opened after it all the same, with a crash before it and without.
 #[test]
 fn opening_that_fails_changes_nothing() {
@@ -503,6 +593,12 @@ fn a_damaged_log_is_cut_back_by_an_explicit_call() {
         assert_eq!((store.position(), store.cut_bytes()), (at, log.len() as u64 - at));
         let cut = image(store.bitmap());
         drop(store);
+        // Each of the two receipts is of this log.
+        for block in [0, 512] {
+            let mut receipts = disk.bytes(Name::Receipts).unwrap();
+            receipts[block] ^= 1;
+            assert_eq!(open_bytes(&disk.bytes(Name::Log).unwrap(), Some(&receipts)).unwrap().position(), at);
+        }
         assert_eq!(reopen(&disk), cut);
         for crashed in disk.moments().into_iter().flat_map(|(_, moment)| moment.after_crash(MOST)) {
             let found = open(&crashed).map(|store| (image(store.bitmap()), store.position()));

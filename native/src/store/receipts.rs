@@ -97,6 +97,16 @@ impl Receipt {
         is_receipt.then_some(Receipt { number: number_in(bytes, 2), kind, place })
     }
 
+    /// The index of its block.
+    fn index(self) -> usize {
+        (self.number % 2) as usize
+    }
+
+    /// The position of its block.
+    fn position(self) -> u64 {
+        (self.index() * BLOCK) as u64
+    }
+
     /// Whether these first bytes of a log have the place of the receipt: those before it end with its digest.
     fn is_in(&self, good: &[u8]) -> bool {
         let before = usize::try_from(self.place.at).ok().and_then(|at| good.get(..at));
@@ -139,9 +149,11 @@ impl Receipts {
         }
     }
 
-    /// Whether the last receipt is known, and says that the bytes before this place are acknowledged.
-    pub(super) fn keep(&self, place: Place) -> bool {
-        self.are_exact() && self.whole()[0].is_some_and(|last| (last.kind, last.place) == (Kind::Kept, place))
+    /// Returns the position and the bytes of the last receipt's block, if this receipt is known and says that the bytes before this place are
+    /// acknowledged.
+    pub(super) fn kept(&self, place: Place) -> Option<(u64, [u8; BLOCK])> {
+        let last = self.whole()[0].filter(|last| self.are_exact() && (last.kind, last.place) == (Kind::Kept, place))?;
+        Some((last.position(), last.encode()))
     }
 
     /// Whether there are no receipts, neither whole nor damaged.
@@ -178,21 +190,24 @@ impl Receipts {
         }
     }
 
-    /// Returns the receipts without that of a new log which has not replaced the log, if this place is acknowledged.
+    /// Returns the receipts without the last one, if that is of a new log and the one before it has this place, which is acknowledged.
     ///
-    /// The next receipt is then written over it, and not over the one that applies: a crash may leave neither of what a block had and gets.
+    /// The next receipt is then written over it, and not over the one that applies: a crash may leave neither of what a block had and gets. The new
+    /// log has not replaced the log, or it is the same. If its receipt was not synced, that is written over too.
     pub(super) fn of_the_log(&self, acknowledged: Place) -> Receipts {
-        let is_begun =
-            |block: &Block| matches!(block, Block::Whole(receipt) if receipt.kind == Kind::Begun && receipt.place != acknowledged);
-        Receipts { blocks: self.blocks.map(|block| if is_begun(&block) { Block::Empty } else { block }) }
+        let [last, before] = self.whole();
+        let mut blocks = self.blocks;
+        if let Some(begun) = last.filter(|last| last.kind == Kind::Begun && before.is_some_and(|before| before.place == acknowledged)) {
+            blocks[begun.index()] = Block::Empty;
+        }
+        Receipts { blocks }
     }
 
     /// Returns the receipts after a further one, with the position and the bytes of the block that it is written to.
     pub(super) fn with(&self, kind: Kind, place: Place) -> (Receipts, u64, [u8; BLOCK]) {
         let receipt = Receipt { number: self.whole()[0].map_or(1, |last| last.number.wrapping_add(1)), kind, place };
-        let index = (receipt.number % 2) as usize;
         let mut blocks = self.blocks;
-        blocks[index] = Block::Whole(receipt);
-        (Receipts { blocks }, (index * BLOCK) as u64, receipt.encode())
+        blocks[receipt.index()] = Block::Whole(receipt);
+        (Receipts { blocks }, receipt.position(), receipt.encode())
     }
 }

@@ -90,10 +90,15 @@ impl StoredLog {
 
     fn write_receipt(&mut self, kind: Kind, place: Place) -> io::Result<()> {
         let (receipts, at, block) = self.receipts.with(kind, place);
-        self.files.write_at(Name::Receipts, at, &block)?;
-        self.files.sync(Name::Receipts)?;
+        self.write_block(at, &block)?;
         self.receipts = receipts;
         Ok(())
+    }
+
+    /// Returns once a block of the receipts is on the disk.
+    fn write_block(&mut self, at: u64, block: &[u8]) -> io::Result<()> {
+        self.files.write_at(Name::Receipts, at, block)?;
+        self.files.sync(Name::Receipts)
     }
 
     /// Replaces the log by a new one, which ends at a place. If the new one cannot be written, the log is as it was and can be written to.
@@ -134,14 +139,16 @@ impl StoredLog {
 
     /// Goes on at a place in the bytes of the log, and cuts off the bytes after it. The bytes before `acknowledged` are acknowledged.
     ///
-    /// The bytes between the two places are written again, since a sync that failed may have left them in memory alone.
+    /// The bytes between the two places are written again, since a sync that failed, or a process that ended, may have left them in memory alone. If
+    /// all bytes are acknowledged, the last receipt is written again for the same reason. So the disk has the receipts before an entry is appended,
+    /// and an entry that a crash damages is known not to be acknowledged.
     pub(super) fn go_on(&mut self, bytes: &[u8], acknowledged: Option<Place>, place: Place) -> io::Result<()> {
         self.place = place;
         // A compaction that was cut off has left this file.
         self.files.remove_new()?;
         let is_cut = place.at < bytes.len() as u64;
-        if !is_cut && self.receipts.keep(place) {
-            return Ok(());
+        if let Some((at, block)) = self.receipts.kept(place).filter(|_| !is_cut) {
+            return self.write_block(at, &block);
         }
         if let Some(from) = acknowledged {
             self.receipts = self.receipts.of_the_log(from);
@@ -154,13 +161,14 @@ impl StoredLog {
         self.acknowledge(place)
     }
 
-    /// Goes on at a place before which all bytes are good, whatever the receipts say, and cuts off the bytes after it.
+    /// Goes on at a place before which all bytes are good, whatever the receipts say, and cuts off the bytes after it. Both receipts then have this
+    /// place.
     pub(super) fn cut_back(&mut self, place: Place) -> io::Result<()> {
         self.files.sync_folder()?;
         self.acknowledge(place)?;
         self.place = place;
         self.files.cut_to(Name::Log, place.at)?;
-        self.files.sync(Name::Log)
+        self.acknowledge(place)
     }
 }
 

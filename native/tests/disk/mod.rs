@@ -246,6 +246,12 @@ impl Disk {
         self.state().outcomes(most).into_iter().map(|state| Disk(Arc::new(Mutex::new(state)))).collect()
     }
 
+    /// The disk after the process was killed. What is not synced is not lost by this, and the lock has ended.
+    pub fn after_kill(&self) -> Disk {
+        let state = State { is_locked: false, moments: None, ..self.state().clone() };
+        Disk(Arc::new(Mutex::new(state)))
+    }
+
     /// The recorded moments and the present one: the label, and the disk.
     pub fn moments(&self) -> Vec<(u64, Disk)> {
         let state = self.state();
