@@ -1,5 +1,8 @@
 //! Logs: frames that are cut off or damaged, bases, and the worked log of docs/FORMATS.md, read and written.
 
+mod formats;
+
+use formats::{bytes_of, rows, section};
 use mortarpink::bitmap::codec::RangeCfg;
 use mortarpink::bitmap::historical::{CleanBitMap, DirtyBitMap, Error, RewindError};
 use mortarpink::bitmap::{Prunable, Readable};
@@ -11,28 +14,10 @@ use mortarpink::log::{
 use mortarpink::support::hash::{DefaultHasher, Hasher};
 use std::time::{Duration, Instant};
 
-const FORMATS: &str = include_str!("../../docs/FORMATS.md");
-
-/// The bytes of some hexadecimal digits.
-fn bytes_of(digits: &str) -> Vec<u8> {
-    (0..digits.len() / 2).map(|at| u8::from_str_radix(&digits[2 * at..2 * at + 2], 16).unwrap()).collect()
-}
-
 fn digest(bytes: &[u8]) -> u64 {
     let mut hasher = DefaultHasher::new();
     hasher.write(bytes);
     hasher.finish()
-}
-
-/// A section of the formats, up to the next heading.
-fn section(heading: &str) -> &str {
-    let (_, rest) = FORMATS.split_once(&format!("\n{heading}\n")).unwrap();
-    rest.split("\n#").next().unwrap()
-}
-
-/// The cells of the rows of the tables in a text.
-fn rows(text: &str) -> impl Iterator<Item = Vec<&str>> {
-    text.lines().filter(|line| line.starts_with("| ")).map(|line| line.split('|').map(str::trim).collect())
 }
 
 /// The cells of the rows of the one table in a text, without its heading.
