@@ -50,14 +50,21 @@ CONSTRUCTORS = {
     "zeroes": "zeroes_within",
 }
 
-# Types that are Rust's own, whose constructors keep their names.
-FOREIGN = ("Cell", "DefaultHasher")
+# The same for methods that take the allocator, among others of their name that do not.
+METHODS_WITHIN = {"write": "write_within"}
+
+# The same for functions of modules, where they are defined, imported and called. Nothing else has these names.
+FUNCTIONS = {"leaf_digests": "try_leaf_digests", "prove": "try_prove", "prove_from_stored": "try_prove_from_stored"}
+
+# Types that are Rust's own or the host's, whose constructors keep their names.
+FOREIGN = ("Cell", "DefaultHasher", "Sha256")
 
 # Renamed functions that the public API replaces, as it does those that are renamed and return no error. Documentation does not show them.
-HIDDEN = {new for old, new in METHODS.items() if old.startswith("try_")} | set(CONSTRUCTORS.values()) | {METHODS["allocator"]}
+HIDDEN = {new for old, new in METHODS.items() if old.startswith("try_")} | {METHODS["allocator"]}
+HIDDEN |= {*CONSTRUCTORS.values(), *METHODS_WITHIN.values()}
 
 # Public functions that take the allocator first. In Rust they take none: in their bodies it is the global one.
-WITHOUT_ALLOCATOR = {"Log::begin", "base_bytes", "delta", "from_base", "read_base", "read_history", "recover"}
+WITHOUT_ALLOCATOR = {"Log::begin", "base_bytes", "delta", "from_base", "read_base", "read_history", "recover", *FUNCTIONS.values()}
 
 # Public methods that do nothing when code runs, which proofs call for what their contracts state. Documentation does not show them.
 STATEMENTS = {"pruned_counts_rise"}
@@ -86,12 +93,19 @@ SENTENCES = {
     "Commits a batch, as `commit` does, and appends": "Commits a batch, as `try_commit` does, and appends",
     "Returns the batch, unchanged, with the error of `commit`: that of the number": "Returns the batch, unchanged, with the error of `try_commit`: that of the number",
     "Allocates at most once, from the allocator of `out`, and only": "Allocates at most once, and only",
+    "[`leaf_digests`](tree::leaf_digests)": "[`try_leaf_digests`](tree::try_leaf_digests)",
+    "[`prove`](tree::prove)": "[`try_prove`](tree::try_prove)",
+    ", and no proof depends on it.": ".",
+    "The laws in [`laws`] and [`root`] say what a check is worth. ": "",
 }
 
 KNOWN_DERIVES = {"Clone", "Copy", "Debug", "Eq", "Hash", "Ord", "PartialEq", "PartialOrd"}
 
 # What an error derives in Rust, whatever it derives in Rattle. An error with a field that cannot be copied does not compile then.
 DERIVES_OF_ERRORS = ["Clone", "Copy", "Debug", "PartialEq", "Eq"]
+
+# What some types derive in Rust in addition.
+ADDED_DERIVES = {"Proof": ["Debug", "PartialEq", "Eq"]}
 
 # Errors that do not derive thiserror's Error: the hand-written modules have their impls of Display and Error.
 HAND_WRITTEN_ERRORS = {"ApplyError"}
@@ -224,7 +238,7 @@ def rewrite_derives(tokens, error_names, formatted, errors, counts):
     """Takes thiserror's derive out of derives, and writes the error out. A derived `Clone` becomes a `TryClone` too.
 
     `Drop` becomes `Debug`, but for the types in `formatted`, which have an impl of it. An error derives DERIVES_OF_ERRORS. `errors` has the names
-    of all types that are errors.
+    of all types that are errors. The types in ADDED_DERIVES derive more.
     """
     at = 0
     while at < len(tokens):
@@ -249,6 +263,7 @@ def rewrite_derives(tokens, error_names, formatted, errors, counts):
             write_try_clone(tokens, closed + 1)
         if error_names & set(names) or named in HAND_WRITTEN_ERRORS:
             kept = DERIVES_OF_ERRORS + [name for name in kept if name not in DERIVES_OF_ERRORS]
+        kept += [name for name in ADDED_DERIVES.get(named, []) if name not in kept]
         if kept:
             tokens[at:closed + 1] = [made(f"#[derive({', '.join(kept)})]", tokens[at].line)]
         else:
@@ -282,7 +297,7 @@ def write_try_clone(tokens, at):
     if is_mark(tokens, opened, "<"):
         closed = closing_angle(tokens, opened)
         parameters = text_of(tokens, opened + 1, closed)
-        names = [re.match(r"(?:const )?(\w+)", parameter.strip()).group(1) for parameter in parameters.split(",")]
+        names = [re.match(r"(?:const )?('?\w+)", parameter.strip()).group(1) for parameter in parameters.split(",")]
         arguments = f"<{', '.join(names)}>"
     text = f"\n\ncrate::support::clones_by_copy! {{ [{parameters}] {tokens[named].text}{arguments} }}\n"
     tokens.insert(end_of_type(tokens, start), made(text, tokens[start].line))
@@ -363,25 +378,47 @@ def source_function(arms):
     return f"{head}{''.join(found)}{others}        }}\n    }}\n" if found else ""
 
 
+def new_name(tokens, function):
+    """The name that a function gets."""
+    name, (opened, _) = function.name, signature_end(tokens, function.at)
+    if not function.scope:
+        return FUNCTIONS.get(name, name)
+    if name in METHODS_WITHIN and re.match(r"&self, alloc: Global\b", text_of(tokens, opened + 1, closing(tokens, opened))):
+        return METHODS_WITHIN[name]
+    return (METHODS if function.takes_self else CONSTRUCTORS).get(name, name)
+
+
 def rename_functions(tokens, counts):
-    """Renames the functions of METHODS and CONSTRUCTORS where impls and traits define them, and where they are called."""
+    """Renames the functions of METHODS and CONSTRUCTORS where impls and traits define them, and where they are called. So it does those of
+    METHODS_WITHIN, and those of FUNCTIONS, also where they are imported."""
     for function in reversed(functions_of(tokens)):
-        names = METHODS if function.takes_self else CONSTRUCTORS
-        if function.scope and function.name in names:
-            tokens[function.at].text = names[function.name]
+        name = new_name(tokens, function)
+        if name != function.name:
+            tokens[function.at].text = name
             counts["renamed function"] += 1
-        if function.is_public and is_hidden(tokens, function, tokens[function.at].text):
+        if function.is_public and is_hidden(tokens, function, name):
             hide(tokens, function)
     for at, token in enumerate(tokens):
         before, after = preceding(tokens, at - 1), following_call(tokens, at)
+        if token.kind == "name" and token.text in FUNCTIONS and not is_mark(tokens, before, "."):
+            token.text = FUNCTIONS[token.text]
+            counts["renamed call"] += is_mark(tokens, after, "(")
         if token.kind != "name" or not is_mark(tokens, after, "("):
             continue
         if is_mark(tokens, before, ".") and token.text in METHODS:
             token.text = METHODS[token.text]
             counts["renamed call"] += 1
+        elif is_mark(tokens, before, ".") and token.text in METHODS_WITHIN and takes_allocator(tokens, after):
+            token.text = METHODS_WITHIN[token.text]
+            counts["renamed call"] += 1
         elif is_mark(tokens, before, ":") and token.text in CONSTRUCTORS and is_type(tokens, before - 2):
             token.text = CONSTRUCTORS[token.text]
             counts["renamed call"] += 1
+
+
+def takes_allocator(tokens, opened):
+    """Whether the first argument of the call whose bracket opens at `opened` is the allocator."""
+    return bool(re.fullmatch(r"alloc|\w+\.alloc\(\)", text_of(tokens, opened + 1, until(tokens, opened + 1, ",", ")"))))
 
 
 def is_hidden(tokens, function, name):
@@ -511,6 +548,19 @@ def erase_modules(tokens, names, counts):
             del tokens[at:line_end(tokens, end + 1)]
         else:
             at += 1
+
+
+def laws_in(tokens):
+    """The laws of a source: the public functions without parameters whose body is empty."""
+    found = [function for function in functions_of(tokens) if function.is_public and not function.scope]
+    return [f for f in found if is_mark(tokens, following(tokens, following(tokens, f.at + 1) + 1), ")") and following(tokens, f.opened + 1) == f.closed]
+
+
+def erase_laws(tokens, counts):
+    """Removes the laws of a source, with their documentation."""
+    for function in reversed(laws_in(tokens)):
+        counts["law"] += 1
+        del tokens[first_of_item(tokens, preceding(tokens, function.at - 1)):line_end(tokens, function.closed + 1)]
 
 
 def rewrite_links(tokens, unlinked, root):

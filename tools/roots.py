@@ -1,7 +1,8 @@
 #!/usr/bin/env python3
 """A second computation of roots, audit paths and proofs of chunks. It was written from docs/FORMATS.md alone, with Python's hashlib.
 
-    tools/roots.py      compares itself with the page's worked root and with the constants of the tests, and checks random proofs
+    tools/roots.py      compares itself with the page's worked root and with the constants of the tests, also of the Rust crate, and checks random
+                        proofs
 
 The check of a path goes from the leaf up, as the algorithm of RFC 9162, section 2.1.3.2. The library's goes from the root down.
 """
@@ -14,6 +15,7 @@ from replay import TOP, report
 
 PAGE = TOP / "docs/FORMATS.md"
 CONSTANTS = TOP / "crates/conformance_authenticated/src/known.rt"
+RUST_TESTS = TOP / "native/tests/roots.rs"
 CONSTANT = re.compile(r"pub const (\w+): \[u8; 32\] = \[([\d,\s]*)\];")
 LEAVES = ["", "00", "10", "2021", "3031", "40414243", "5051525354555657", "606162636465666768696a6b6c6d6e6f"]
 ROUNDS = 300
@@ -143,6 +145,27 @@ def constant_cases():
         wanted = values.pop(name, None)
         yield name, None if found == wanted else "has another value"
     yield "constants", f"there is no {' '.join(values)}" if values else None
+    wanted = digest_of_many()
+    yield "native/tests/roots.rs", None if f'const OF_MANY: &str = "{wanted}";' in RUST_TESTS.read_text() else f"OF_MANY is not {wanted}"
+
+
+def digest_of_many():
+    """The digest of the roots and the encodings of proofs with which native/tests/roots.rs compares those of the Rust crate.
+
+    For each length from 0 to 120 there is a bitmap with chunks of three bytes, in which bit k is set if k * k % 7 < 3. Each has its root, its root
+    with half of the complete chunks pruned, and then the proofs of its chunks against this one.
+    """
+    hashed = sha256()
+    for length in range(121):
+        number = sum(1 << k for k in range(length) if k * k % 7 < 3)
+        count, pruned = -(-length // 24), length // 48
+        data = number.to_bytes(3 * count, "little")
+        chunks = [data[at : at + 3] for at in range(0, len(data), 3)]
+        digests = [leaf(chunk) for chunk in chunks]
+        hashed.update(root(3, length, 0, tree(digests)) + root(3, length, pruned, tree(digests)))
+        for index, chunk in enumerate(chunks):
+            hashed.update(encoding(3, length, pruned, index, chunk, audit_path(index, digests)))
+    return hashed.hexdigest()
 
 
 def worked_cases():

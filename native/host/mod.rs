@@ -1,7 +1,7 @@
 //! What the repository's tests and its program `replay` use of Rattle's standard library, over Rust's. Not a part of the crate.
 //!
 //! `tools/erase.py --tests` makes a crate of the tests and of `replay`. This is its module `support`: that of the crate `mortarpink`,
-//! with the handle of the runtime, strings, files and streams in addition.
+//! with the handle of the runtime, strings, files, streams and SHA-256 in addition.
 
 pub use mortarpink::support::*;
 
@@ -101,6 +101,17 @@ pub mod io {
 
 pub mod mem {
     pub use std::mem::{replace, swap, take};
+}
+
+#[path = "../examples/sha256/mod.rs"]
+mod sha256;
+
+pub mod sha2 {
+    //! SHA-256, by the names of the toolchain's crate `sha2`.
+    pub use super::sha256::Hasher as Sha256;
+
+    /// The trait of hashers. What the tests call of it, `Sha256` has itself.
+    pub trait Digest {}
 }
 
 pub mod process {

@@ -1,5 +1,8 @@
 //! Each allocation of each scenario fails once: the call returns an error, and leaves the value as it was.
 
+#[path = "../examples/sha256/mod.rs"]
+mod sha256;
+
 use mortarpink::bitmap::codec::{CodecError, RangeCfg};
 use mortarpink::bitmap::historical::{ApplyError, CleanBitMap, DirtyBitMap, Error, RewindError};
 use mortarpink::bitmap::{BitMap, Prunable, Readable};
@@ -7,12 +10,16 @@ use mortarpink::log::{
     DeltaError, HistoryError, Log, RecoverError, apply_delta, clear_logged, commit_logged, delta, drop_before_logged, read_history,
     recover, rewind_logged, write_history,
 };
+use mortarpink::roots::{
+    Proof, chunk_digests, leaf_digests, prove, prove_from_stored, try_chunk_digests, try_leaf_digests, try_prove, try_prove_from_stored,
+};
 use mortarpink::support::alloc::Global;
 use mortarpink::support::collections::{BTreeMap, DequeWithin, VecDeque};
 use mortarpink::support::iter::CollectWithin;
 use mortarpink::support::ops::{BitAnd, BitOr, BitXor, Sub};
 use mortarpink::support::vec::VecWithin;
 use mortarpink::{AllocError, TryClone};
+use sha256::Sha256;
 use std::alloc::{GlobalAlloc, Layout, System};
 use std::cell::Cell;
 use std::fmt::Debug;
@@ -173,6 +180,19 @@ fn of_values_that_are_made() {
     assert_eq!(made(&|| BitOr::bitor(&dense, &dense).is_err()), 1);
     assert_eq!(made(&|| BitXor::bitxor(&dense, &dense).is_err()), 1);
     assert_eq!(made(&|| Sub::sub(&dense, &dense).is_err()), 1);
+}
+
+#[test]
+fn of_roots() {
+    let made = |make: &dyn Fn() -> bool| each(|| (), |()| (), |()| ((), make()));
+    let (dense, digests) = (dense(), [[1; 32]; 64]);
+    let proof = Proof { len: 8, pruned: 0, index: 0, chunk: &[1], path: &digests };
+    assert_eq!(made(&|| try_chunk_digests(&Sha256, &dense, &[]).is_err()), 1);
+    // The lists grow: from none to four, and then to twice as many.
+    assert_eq!(made(&|| try_leaf_digests(&Sha256, &[[1]; 9]).is_err()), 3);
+    assert_eq!(made(&|| try_prove(&Sha256, &digests, 5).is_err()), 2);
+    assert_eq!(made(&|| try_prove_from_stored(&Sha256, &digests[..63], 32, 5).is_err()), 2);
+    assert!(made(&|| proof.try_write().is_err()) > 1);
 }
 
 /// The calls over Rust's collections, of which each has no capacity left.
@@ -454,6 +474,12 @@ fn of_calls_that_return_no_error() {
         CleanBitMap::<4>::new().into_dirty().push(true);
     }));
     assert!(panics(&|| drop(CleanBitMap::<4>::new().into_dirty().commit(1))));
+    let digests = [[1; 32]; 3];
+    assert!(panics(&|| drop(chunk_digests(&Sha256, &dense, &[]))));
+    assert!(panics(&|| drop(leaf_digests(&Sha256, &[[1]]))));
+    assert!(panics(&|| drop(prove(&Sha256, &digests, 1))));
+    assert!(panics(&|| drop(prove_from_stored(&Sha256, &digests, 2, 1))));
+    assert!(panics(&|| drop(Proof { len: 8, pruned: 0, index: 0, chunk: &[1], path: &digests }.write())));
 }
 
 /// A store whose changes fail for an allocation has none of the change, or has it when it is opened again.

@@ -5,7 +5,7 @@ use mortarpink::bitmap::historical::{
     ApplyError, AtCommit, ChangedChunks, CleanBitMap, Commits, DirtyBitMap, Edit, Error, PendingChanges, RewindError,
 };
 use mortarpink::bitmap::{BitMap, DEFAULT_CHUNK_SIZE, Iterator as Bits, OnesIter, Prunable, Readable, prunable};
-use mortarpink::{AllocError, log};
+use mortarpink::{AllocError, TryClone, log, roots};
 use std::collections::hash_map::DefaultHasher;
 use std::fmt::Debug;
 use std::hash::{Hash, Hasher};
@@ -41,6 +41,22 @@ fn all_types_have_the_usual_traits() {
     is_usual::<(log::frames::Stop, log::frames::HeaderError)>();
     is_usual::<(log::Log<8>, log::Recovered<8>)>();
     is_usual::<(log::Damage, log::RecoverError, log::HistoryError, log::DeltaError)>();
+    is_usual::<(roots::Proof<'_, 8>, roots::DecodeError)>();
+}
+
+/// A proof has all its fields in its text, and differs from one with another field.
+#[test]
+fn proofs_are_compared_copied_and_printed() {
+    let proof = roots::Proof { len: 3, pruned: 0, index: 0, chunk: &[5], path: &[] };
+    let others = [
+        roots::Proof { len: 4, ..proof },
+        roots::Proof { pruned: 1, ..proof },
+        roots::Proof { index: 1, ..proof },
+        roots::Proof { chunk: &[7], ..proof },
+        roots::Proof { path: &[[0; 32]], ..proof },
+    ];
+    assert!(others.iter().all(|other| *other != proof) && proof.try_clone() == Ok(proof));
+    assert_eq!(format!("{proof:?}"), "Proof { len: 3, pruned: 0, index: 0, chunk: [5], path: [] }");
 }
 
 /// A guard of edits borrows its batch mutably, so it is not unwind safe.
@@ -241,6 +257,7 @@ fn all_errors_have_the_usual_traits() {
     is_usual_error::<log::HistoryError>();
     is_usual_error::<log::frames::HeaderError>();
     is_usual_error::<log::frames::Stop>();
+    is_usual_error::<roots::DecodeError>();
     assert_eq!(BitMap::<2>::decode(&mut &[0][..], &RangeCfg::any()), Err(CodecError::EndOfBuffer));
 }
 

@@ -1,9 +1,17 @@
 //! Each condition of a public call: the call panics, with the message of the original crate if that has one, and changes nothing.
 
+#[path = "../examples/sha256/mod.rs"]
+mod sha256;
+
 use mortarpink::bitmap::historical::{CleanBitMap, DirtyBitMap};
 use mortarpink::bitmap::{BitMap, Prunable, Readable};
 use mortarpink::log::frames::{Place, next_frame, push_frame};
 use mortarpink::log::{Past, from_base};
+use mortarpink::roots::{
+    bitmap_root, chunk_digests, node_count, node_position, prove, prove_from_stored, tree_from_stored, try_chunk_digests, try_prove,
+    try_prove_from_stored,
+};
+use sha256::Sha256;
 use std::panic::{AssertUnwindSafe, catch_unwind};
 
 /// The message with which a call panics.
@@ -195,4 +203,32 @@ fn of_logs() {
     for past in [Past::Dropped(u64::MAX), Past::KeptUnder { number: u64::MAX, count: 0 }] {
         assert_eq!(panic_of(|| from_base(Prunable::<1>::new(), past)), "the number u64::MAX is reserved");
     }
+}
+
+#[test]
+fn of_roots() {
+    let digests = [[0; 32]; 3];
+    assert_eq!(panic_of(|| prove(&Sha256, &digests, 3)), "index 3 out of bounds (len: 3)");
+    assert_eq!(panic_of(|| try_prove(&Sha256, &[], 0)), "index 0 out of bounds (len: 0)");
+    let pruned = pruned();
+    assert_eq!(panic_of(|| chunk_digests(&Sha256, &pruned, &digests)), "there are 3 digests of pruned chunks (pruned_chunks: 2)");
+    assert_eq!(panic_of(|| try_chunk_digests(&Sha256, &pruned, &[])), "there are 0 digests of pruned chunks (pruned_chunks: 2)");
+    assert_eq!(panic_of(|| bitmap_root(&Sha256, &pruned, &digests)), "there are 3 digests (chunks: 4)");
+}
+
+#[test]
+fn of_stored_digests() {
+    let stored = [[0; 32]; 3];
+    assert_eq!(panic_of(|| node_count(1 << 63)), "n 9223372036854775808 is not below 2^63");
+    assert_eq!(panic_of(|| node_position(62, 0)), "level 62 is not below 62");
+    assert_eq!(panic_of(|| node_position(u32::MAX, u64::MAX)), "level 4294967295 is not below 62");
+    assert_eq!(panic_of(|| node_position(61, 1)), "subtree 1 of level 61 does not end below 2^62");
+    assert_eq!(panic_of(|| node_position(0, (1 << 62) - 1)), "subtree 4611686018427387903 of level 0 does not end below 2^62");
+    assert_eq!(panic_of(|| node_position(1, u64::MAX)), "subtree 18446744073709551615 of level 1 does not end below 2^62");
+    assert_eq!(panic_of(|| tree_from_stored(&Sha256, &stored, (1 << 61) + 1)), "n 2305843009213693953 is above 2^61");
+    assert_eq!(panic_of(|| tree_from_stored(&Sha256, &stored, 1 << 61)), "3 digests are stored for 2305843009213693952 leaves");
+    assert_eq!(panic_of(|| tree_from_stored(&Sha256, &stored, 3)), "3 digests are stored for 3 leaves");
+    assert_eq!(panic_of(|| prove_from_stored(&Sha256, &stored, 2, 2)), "index 2 out of bounds (len: 2)");
+    assert_eq!(panic_of(|| prove_from_stored(&Sha256, &stored, 1, 0)), "3 digests are stored for 1 leaves");
+    assert_eq!(panic_of(|| try_prove_from_stored(&Sha256, &stored, u64::MAX, 0)), "n 18446744073709551615 is above 2^61");
 }

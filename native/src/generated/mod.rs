@@ -2,6 +2,7 @@
 // Some items are for proofs alone. The sources have the layout and the idioms of Rattle.
 #![allow(dead_code, unused_imports, unused_variables, clippy::style, clippy::complexity, clippy::perf)]
 
+pub mod authenticated_bitmap;
 pub mod bitmap_bytes;
 pub mod bitmap_core;
 pub mod chunk_map;

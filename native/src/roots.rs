@@ -1,0 +1,266 @@
+//! Roots of bitmaps, and proofs of single chunks and bits that are checked against them.
+//!
+//! A *root* is 32 bytes that stand for one state of a bitmap. Someone who has the root can check one chunk or one bit of that state, and needs no
+//! other chunk: a *proof* has the chunk, and at most 64 digests of 32 bytes. The hash is a type that implements [`Digest`]. SHA-256 is the usual
+//! one, and this crate has none.
+//!
+//! | Calls | What they do |
+//! |---|---|
+//! | [`chunk_digests`], [`bitmap_root`] | return the digests of the chunks of any bitmap, and its root |
+//! | [`prove`] | returns the audit path of a chunk |
+//! | [`Proof::write`], [`Proof::read`], [`Proof::verify`] | write, read and check a proof |
+//! | [`verify_bit`], [`verify_chunk`] | check a bit or a chunk |
+//! | [`leaf_digests`], [`leaf_digest`], [`node_digest`], [`tree_digest`], [`root_digest`] | are the parts of a root, for chunks that are in no bitmap |
+//! | [`node_count`], [`node_position`], [`tree_from_stored`], [`prove_from_stored`] | compute a tree and audit paths from digests that are stored, of which they read few |
+//!
+//! ```
+//! use mortarpink::bitmap::{BitMap, Readable};
+//! use mortarpink::roots::{Digest, Proof, bitmap_root, chunk_digests, prove, verify_bit};
+//! # mod sha256 { include!(concat!(env!("CARGO_MANIFEST_DIR"), "/examples/sha256/mod.rs")); }
+//! # use sha256::Sha256;
+//!
+//! // The server has a bitmap, and publishes its root. `Sha256` implements `Digest`.
+//! let mut bitmap = BitMap::<8>::zeroes(1000);
+//! bitmap.set(70, true);
+//! let digests = chunk_digests(&Sha256, &bitmap, &[]);
+//! let root = bitmap_root(&Sha256, &bitmap, &digests);
+//!
+//! // Bit 70 is in chunk 1.
+//! let path = prove(&Sha256, &digests, 1);
+//! let bytes = Proof { len: 1000, pruned: 0, index: 1, chunk: &bitmap.get_chunk(1), path: &path }.write();
+//!
+//! // Someone with the root alone checks that the bit is set.
+//! let proof = Proof::<8>::read(&bytes)?;
+//! let is_shown = |bit| verify_bit(&Sha256, &root, proof.len, proof.pruned, 70, bit, proof.chunk, proof.path);
+//! assert!(is_shown(true) && !is_shown(false));
+//! # Ok::<(), mortarpink::roots::DecodeError>(())
+//! ```
+//!
+//! # What a check is worth
+//!
+//! If [`verify_bit`] returns `true`, then each bitmap with that root has that bit, unless two different inputs with one digest were hashed: one for
+//! the check, and one for the bitmap. No one knows two such inputs for SHA-256. The client has to get the root from someone whom it trusts, and
+//! has to know which state it stands for. A hash for which such inputs can be found makes a root worthless.
+//!
+//! # Pruned chunks
+//!
+//! The tree has all chunks by their absolute index. A pruned chunk stays in it by its digest, which whoever prunes has to keep: [`chunk_digests`]
+//! takes these digests. So pruning changes the root by the number of pruned chunks alone, and an audit path from before stays good.
+//!
+//! `docs/FORMATS.md` of the repository describes the tree, the root and the encoding of a proof.
+
+use crate::bitmap::Readable;
+use crate::support::alloc::{AllocError, Global, expect_memory};
+use crate::support::vec::VecWithin;
+use alloc::vec::Vec;
+use core::{error, fmt};
+
+pub use crate::generated::authenticated_bitmap::encoding::{DecodeError, Proof};
+pub use crate::generated::authenticated_bitmap::hash::Digest;
+pub use crate::generated::authenticated_bitmap::root::{root_digest, verify_bit, verify_chunk};
+pub use crate::generated::authenticated_bitmap::store::{node_count, node_position, tree_from_stored, try_prove_from_stored};
+pub use crate::generated::authenticated_bitmap::tree::{leaf_digest, node_digest, tree_digest, try_leaf_digests, try_prove};
+
+/// The number of chunks of a bitmap, with the pruned ones.
+fn chunk_count<const N: usize>(bitmap: &impl Readable<N>) -> u64 {
+    bitmap.len().div_ceil(8 * N as u64)
+}
+
+/// Returns the digests of all chunks of a bitmap, by their index: those of `pruned`, and then those of the retained chunks.
+///
+/// `pruned` has the digests of the pruned chunks, which were kept when these were pruned. It is empty if no chunk is pruned. The bitmap may be a
+/// past version, or a batch. One hash per retained chunk.
+///
+/// # Panics
+///
+/// Panics if memory runs out, or if `pruned` has not one digest per pruned chunk.
+///
+/// ```
+/// use mortarpink::bitmap::{Prunable, Readable};
+/// use mortarpink::roots::chunk_digests;
+/// # mod sha256 { include!(concat!(env!("CARGO_MANIFEST_DIR"), "/examples/sha256/mod.rs")); }
+/// # use sha256::Sha256;
+///
+/// let mut bitmap = Prunable::<1>::new();
+/// bitmap.extend_to(20);
+/// let digests = chunk_digests(&Sha256, &bitmap, &[]);
+///
+/// // The digest of a pruned chunk is kept.
+/// bitmap.prune_to_bit(8);
+/// assert_eq!(chunk_digests(&Sha256, &bitmap, &digests[..1]), digests);
+/// ```
+#[must_use]
+pub fn chunk_digests<D: Digest, const N: usize>(hash: &D, bitmap: &impl Readable<N>, pruned: &[[u8; 32]]) -> Vec<[u8; 32]> {
+    expect_memory(try_chunk_digests(hash, bitmap, pruned))
+}
+
+/// Returns the digests of all chunks of a bitmap, as `chunk_digests` does.
+///
+/// # Errors
+///
+/// Returns `AllocError` if the allocation fails.
+///
+/// # Panics
+///
+/// Panics if `pruned` has not one digest per pruned chunk.
+///
+/// ```
+/// use mortarpink::bitmap::BitMap;
+/// use mortarpink::roots::try_chunk_digests;
+/// # mod sha256 { include!(concat!(env!("CARGO_MANIFEST_DIR"), "/examples/sha256/mod.rs")); }
+/// # use sha256::Sha256;
+///
+/// assert_eq!(try_chunk_digests(&Sha256, &BitMap::<1>::zeroes(20), &[])?.len(), 3);
+/// # Ok::<(), mortarpink::AllocError>(())
+/// ```
+pub fn try_chunk_digests<D: Digest, const N: usize>(
+    hash: &D,
+    bitmap: &impl Readable<N>,
+    pruned: &[[u8; 32]],
+) -> Result<Vec<[u8; 32]>, AllocError> {
+    let pruned_chunks = bitmap.pruned_chunks();
+    assert!(pruned.len() == pruned_chunks, "there are {} digests of pruned chunks (pruned_chunks: {pruned_chunks})", pruned.len());
+    let count = chunk_count(bitmap) as usize;
+    let mut digests = Vec::with_capacity_within(Global, count)?;
+    digests.extend_from_slice(pruned);
+    digests.extend((pruned.len()..count).map(|index| leaf_digest(hash, &bitmap.get_chunk(index))));
+    Ok(digests)
+}
+
+/// Returns the root of a bitmap, from the digests of all its chunks, which [`chunk_digests`] returns. Does not allocate.
+///
+/// It is [`root_digest`] of the width, the length and the pruned chunks of the bitmap, and of [`tree_digest`]. One hash per chunk.
+///
+/// # Panics
+///
+/// Panics if there is not one digest per chunk.
+///
+/// ```
+/// use mortarpink::bitmap::BitMap;
+/// use mortarpink::roots::{bitmap_root, chunk_digests, root_digest, tree_digest};
+/// # mod sha256 { include!(concat!(env!("CARGO_MANIFEST_DIR"), "/examples/sha256/mod.rs")); }
+/// # use sha256::Sha256;
+///
+/// let bitmap = BitMap::<4>::ones(100);
+/// let digests = chunk_digests(&Sha256, &bitmap, &[]);
+/// let root = root_digest::<_, 4>(&Sha256, 100, 0, &tree_digest(&Sha256, &digests));
+/// assert_eq!(bitmap_root(&Sha256, &bitmap, &digests), root);
+/// ```
+#[must_use]
+pub fn bitmap_root<D: Digest, const N: usize>(hash: &D, bitmap: &impl Readable<N>, digests: &[[u8; 32]]) -> [u8; 32] {
+    let count = chunk_count(bitmap);
+    assert!(digests.len() as u64 == count, "there are {} digests (chunks: {count})", digests.len());
+    root_digest::<D, N>(hash, bitmap.len(), bitmap.pruned_chunks() as u64, &tree_digest(hash, digests))
+}
+
+/// Returns the digest of each leaf, in the order of the leaves. Leaves have `N` bytes. One hash per leaf.
+///
+/// # Panics
+///
+/// Panics if memory runs out.
+///
+/// ```
+/// use mortarpink::roots::{leaf_digest, leaf_digests};
+/// # mod sha256 { include!(concat!(env!("CARGO_MANIFEST_DIR"), "/examples/sha256/mod.rs")); }
+/// # use sha256::Sha256;
+///
+/// let digests = leaf_digests(&Sha256, &[[1, 2], [3, 4]]);
+/// assert_eq!(digests, [leaf_digest(&Sha256, &[1, 2]), leaf_digest(&Sha256, &[3, 4])]);
+/// ```
+#[must_use]
+pub fn leaf_digests<D: Digest, const N: usize>(hash: &D, leaves: &[[u8; N]]) -> Vec<[u8; 32]> {
+    expect_memory(try_leaf_digests(hash, leaves))
+}
+
+/// Returns the audit path of leaf `i`, from the digests of all leaves: the digests beside the way from the leaf to the root, the leaf's sibling
+/// first. One hash per leaf, less one.
+///
+/// # Panics
+///
+/// Panics if memory runs out, or if `i` is not below the number of `digests`.
+///
+/// ```
+/// use mortarpink::roots::{leaf_digests, prove};
+/// # mod sha256 { include!(concat!(env!("CARGO_MANIFEST_DIR"), "/examples/sha256/mod.rs")); }
+/// # use sha256::Sha256;
+///
+/// let digests = leaf_digests(&Sha256, &[[1], [2]]);
+/// assert_eq!(prove(&Sha256, &digests, 0), [digests[1]]);
+/// ```
+#[must_use]
+pub fn prove<D: Digest>(hash: &D, digests: &[[u8; 32]], i: usize) -> Vec<[u8; 32]> {
+    expect_memory(try_prove(hash, digests, i))
+}
+
+/// Returns the audit path of leaf `i` of the tree of `n` leaves, from the stored digests. There are [`node_count(n)`](node_count) of them.
+///
+/// # Panics
+///
+/// Panics if memory runs out; or if `n` is above 2^61; or if `i` is not below `n`; or if the number of `stored` is not `node_count(n)`.
+///
+/// ```
+/// use mortarpink::roots::{leaf_digests, node_digest, prove, prove_from_stored};
+/// # mod sha256 { include!(concat!(env!("CARGO_MANIFEST_DIR"), "/examples/sha256/mod.rs")); }
+/// # use sha256::Sha256;
+///
+/// let leaves = leaf_digests(&Sha256, &[[1], [2], [3]]);
+/// let stored = [leaves[0], leaves[1], node_digest(&Sha256, &leaves[0], &leaves[1]), leaves[2]];
+/// assert_eq!(prove_from_stored(&Sha256, &stored, 3, 2), prove(&Sha256, &leaves, 2));
+/// ```
+#[must_use]
+pub fn prove_from_stored<D: Digest>(hash: &D, stored: &[[u8; 32]], n: u64, i: u64) -> Vec<[u8; 32]> {
+    expect_memory(try_prove_from_stored(hash, stored, n, i))
+}
+
+/// Bytes. `8N` has to fit `u64`: otherwise they do not compile.
+impl<const N: usize> Proof<'_, N> {
+    /// Returns the encoding of the proof: 40 bytes for its numbers, `N` for the chunk, and 32 per digest.
+    ///
+    /// A path of more than 64 digests, which no tree has, is written, and is not read again.
+    ///
+    /// # Panics
+    ///
+    /// Panics if memory runs out.
+    ///
+    /// ```
+    /// use mortarpink::roots::Proof;
+    ///
+    /// let proof = Proof { len: 3, pruned: 0, index: 0, chunk: &[0b101], path: &[] };
+    /// let bytes = proof.write();
+    /// assert_eq!((bytes.len(), Proof::read(&bytes)), (41, Ok(proof)));
+    /// ```
+    #[must_use]
+    pub fn write(&self) -> Vec<u8> {
+        expect_memory(self.try_write())
+    }
+
+    /// Returns the encoding of the proof, as `write` does.
+    ///
+    /// # Errors
+    ///
+    /// Returns `AllocError` if an allocation fails.
+    ///
+    /// ```
+    /// use mortarpink::roots::Proof;
+    ///
+    /// let proof = Proof { len: 3, pruned: 0, index: 0, chunk: &[0b101], path: &[[7; 32]] };
+    /// assert_eq!(proof.try_write()?.len(), 40 + 1 + 32);
+    /// # Ok::<(), mortarpink::AllocError>(())
+    /// ```
+    pub fn try_write(&self) -> Result<Vec<u8>, AllocError> {
+        self.write_within(Global)
+    }
+}
+
+impl fmt::Display for DecodeError {
+    fn fmt(&self, f: &mut fmt::Formatter<'_>) -> fmt::Result {
+        match self {
+            DecodeError::Short => write!(f, "the bytes end within the numbers of the proof"),
+            DecodeError::Width(width) => write!(f, "the proof has a chunk of {width} bytes, which is not the width of the reader"),
+            DecodeError::TooManyDigests(count) => write!(f, "the proof has {count} digests, and a tree has at most 64 on a path"),
+            DecodeError::Length => write!(f, "the number of bytes is not that of the chunk and the digests of the proof"),
+        }
+    }
+}
+
+impl error::Error for DecodeError {}
