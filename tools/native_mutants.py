@@ -41,6 +41,8 @@ HAND_WRITTEN = [
     Mutant("the error of a closure has no source", "native/src/bitmap/versions.rs", "ApplyError::Batch(error) => error.source(),", "ApplyError::Batch(_) => None,"),
     Mutant("the numbers of commits end with the first ones", "native/src/bitmap/versions.rs", "self.commits.next_back()", "self.commits.next()"),
     Mutant("a range of lengths has the end that it leaves out", "native/src/bitmap/ranges.rs", "above.checked_sub(1)", "above.checked_sub(0)"),
+    Mutant("a root has the digests of the retained chunks alone", "native/src/roots.rs", "    digests.extend_from_slice(pruned);\n", ""),
+    Mutant("a root counts no pruned chunk", "native/src/roots.rs", "bitmap.len(), bitmap.pruned_chunks() as u64, &", "bitmap.len(), 0, &"),
     Mutant("a store acknowledges before the sync", f"{STORE}/stored_log.rs",
            "        self.files.sync(Name::Log)?;\n        self.write_receipt(Kind::Kept, place)?;\n", "        self.write_receipt(Kind::Kept, place)?;\n"),
     Mutant("a store writes no receipt", f"{STORE}/stored_log.rs",
@@ -114,5 +116,9 @@ ERASER = [
     Mutant("the eraser leaves the entry of a commit that fails", *rewriting(r"log\.cut_back\(len, place\);", "")),
     Mutant("the eraser takes each log for whole", *rewriting(r"torn: !rest\.is_empty\(\)", "torn: false")),
     Mutant("the eraser exchanges two digests", *rewriting(r"digest_of_replaced\(older, chunks\)", "digest_of(chunks)")),
+    Mutant("the eraser exchanges the digests of a node", *rewriting(r"node_digest\(hash, beside, &right\)", "node_digest(hash, &right, beside)")),
+    Mutant("the eraser takes too many digests of a proof", *rewriting(r"if count > 64 \{", "if count > 65 {")),
+    Mutant("the eraser writes no assertion of the index of a leaf", "tools/conditions.py",
+           """[("$1 < $2", '"index {} out of bounds (len: {})", $1, $2')]""", "[]"),
     Mutant("the eraser writes another default width", "tools/erase.py", '("bitmap_core", "BitMap"): "DEFAULT_CHUNK_SIZE"', '("bitmap_core", "BitMap"): "4"'),
 ]
