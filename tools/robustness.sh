@@ -33,7 +33,8 @@ runs 23000 tools/check_runs.py allocation_failures 28
 runs 550 tools/check_errors.py
 tools/allocation_failures.sh --built | tee "$output"
 scenarios conformance 40
+scenarios conformance_authenticated 6
 scenarios conformance_history 30
 scenarios conformance_log 11
-scenarios conformance_session 1
+scenarios conformance_session 11
 tools/check_frees.py

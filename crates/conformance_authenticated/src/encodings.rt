@@ -7,8 +7,8 @@ use crate::known::{WORKED_0, WORKED_2, WORKED_ROOT};
 use crate::sha::Sha;
 use authenticated_bitmap::encoding::{DecodeError, Proof};
 
-// The proof of chunk 1 of the worked root: width 1, 20 bits, 1 pruned chunk, index 1, 2 digests.
-fn worked() -> [u8; 105] {
+/// Returns the proof of chunk 1 of the worked root: width 1, 20 bits, 1 pruned chunk, index 1, 2 digests.
+pub fn worked() -> [u8; 105] {
     let mut bytes = [0; 105];
     bytes[7] = 1;
     bytes[15] = 20;

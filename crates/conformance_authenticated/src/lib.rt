@@ -2,6 +2,8 @@
 #![tactic(auto)]
 
 #[cfg(test)]
+mod allocation_failures;
+#[cfg(test)]
 mod bitmaps;
 #[cfg(test)]
 mod checks;

@@ -9,8 +9,8 @@ use crate::sha::Sha;
 use authenticated_bitmap::store::{node_count, node_position, prove_from_stored, tree_from_stored};
 use authenticated_bitmap::tree::node_digest;
 
-// The stored digests of the eight leaves: each complete subtree after its two halves.
-fn eight_stored() -> [[u8; 32]; 15] {
+/// Returns the stored digests of the eight leaves: each complete subtree after its two halves.
+pub fn eight_stored() -> [[u8; 32]; 15] {
     let [a, b, c, d, e, f, g, h] = eight_digests();
     let ab = node_digest(&Sha, &a, &b);
     let cd = node_digest(&Sha, &c, &d);

@@ -1,0 +1,59 @@
+//! Scenarios for runs in which allocations fail.
+//!
+//! A tool runs each test many times, and makes another allocation fail in each run. As a plain test, no allocation fails.
+
+mod no_allocation;
+
+use crate::checks::{equal, equal_digests};
+use crate::encodings::worked;
+use crate::known::{FIVE_CHUNKS, PATH_5_OF_8_0, PATH_5_OF_8_1, PATH_5_OF_8_2, eight_digests};
+use crate::sha::Sha;
+use crate::stored::eight_stored;
+use authenticated_bitmap::encoding::Proof;
+use authenticated_bitmap::store::{node_count, prove_from_stored};
+use authenticated_bitmap::tree::{leaf_digests, prove, tree_digest};
+
+const PATH: [[u8; 32]; 3] = [PATH_5_OF_8_0, PATH_5_OF_8_1, PATH_5_OF_8_2];
+
+#[test]
+fn digests_of_chunks(rt: HostRuntime) {
+    let chunks = [
+        [0, 0, 0, 0],
+        [1, 1, 1, 1],
+        [2, 2, 2, 2],
+        [3, 3, 3, 3],
+        [4, 4, 4, 4],
+    ];
+    if let Ok(digests) = leaf_digests(rt.alloc(), &Sha, &chunks) {
+        equal(&rt, tree_digest(&Sha, &digests), FIVE_CHUNKS);
+    }
+}
+
+#[test]
+fn path_from_all_digests(rt: HostRuntime) {
+    if let Ok(path) = prove(rt.alloc(), &Sha, &eight_digests(), 5) {
+        equal_digests(&rt, &path, &PATH);
+    }
+}
+
+#[test]
+fn path_from_stored_digests(rt: HostRuntime) {
+    let stored = eight_stored();
+    if stored.len() as u64 != node_count(8) {
+        return;
+    }
+    if let Ok(path) = prove_from_stored(rt.alloc(), &Sha, &stored, 8, 5) {
+        equal_digests(&rt, &path, &PATH);
+    }
+}
+
+#[test]
+fn proof_written(rt: HostRuntime) {
+    let bytes = worked();
+    let Ok(proof) = Proof::<1>::read(&bytes) else {
+        return;
+    };
+    if let Ok(written) = proof.write(rt.alloc()) {
+        equal(&rt, written.as_slice() == bytes.as_slice(), true);
+    }
+}

@@ -1,0 +1,40 @@
+//! Calls that do not allocate: no allocation is made in these tests.
+
+use crate::checks::equal;
+use crate::encodings::worked;
+use crate::known::{TREE_8, WORKED_ROOT, eight_digests};
+use crate::sha::Sha;
+use crate::stored::eight_stored;
+use authenticated_bitmap::encoding::Proof;
+use authenticated_bitmap::root::verify_bit;
+use authenticated_bitmap::store::{node_count, tree_from_stored};
+use authenticated_bitmap::tree::tree_digest;
+
+#[test]
+fn proof_read_and_verified(rt: HostRuntime) {
+    let bytes = worked();
+    let Ok(proof) = Proof::<1>::read(&bytes) else {
+        return;
+    };
+    equal(&rt, proof.verify(&Sha, &WORKED_ROOT), true);
+    let verified = verify_bit(
+        &Sha,
+        &WORKED_ROOT,
+        proof.len,
+        proof.pruned,
+        15,
+        true,
+        proof.chunk,
+        proof.path,
+    );
+    equal(&rt, verified, true);
+}
+
+#[test]
+fn tree_digests_made(rt: HostRuntime) {
+    equal(&rt, tree_digest(&Sha, &eight_digests()), TREE_8);
+    let stored = eight_stored();
+    if stored.len() as u64 == node_count(8) {
+        equal(&rt, tree_from_stored(&Sha, &stored, 8), TREE_8);
+    }
+}
