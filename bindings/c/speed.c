@@ -106,11 +106,11 @@ static void make(mortarpink_bitmap *bitmap, uint32_t width, uint64_t count) {
     commit_sets(bitmap, count);
 }
 
-/* Reads single bits at commit 0. */
+/* Reads single bits at commit 0, in another order than that in which the commits have set bits. */
 static uint64_t oldest_bits(mortarpink_bitmap *bitmap) {
     uint8_t bit = 0;
     for (uint64_t k = 0; k < READS; k++) {
-        check(mortarpink_get_at(bitmap, 0, scattered(k), &bit));
+        check(mortarpink_get_at(bitmap, 0, k * 104729 % BITS, &bit));
         total += bit;
     }
     return READS;
