@@ -112,3 +112,8 @@ pub record IsScan (n : ℕ) (m : Meaning) (next end : ℕ) (run : List (List ℕ
 pub record IsIterating (n : ℕ) (m : Meaning) (base word next end : ℕ) (run : List (List ℕ)) (chunk : List ℕ) (loads first : ℕ) : Type 0 where
   pub scan : IsScan n m next end run chunk loads first
   pub cut : IsCut base word end
+
+-- a position of a list of bits, and the byte that contains it, unless a byte begins there
+pub record IsPlace (bits : List Bool) (position : ℕ) (byte : List ℕ) : Type 0 where
+  pub within : position ≤ length bits
+  pub held : (k : ℕ) → ¬ (position % 8 ≡ 0) → k / 8 ≡ position / 8 → chunk_bit 1 byte k ≡ slice_index_or bits k false

@@ -260,6 +260,22 @@ impl<const N: usize> BitMap<N> {
         requires { bit < length self.now }
         ensures { result ≡ slice_index_or self.now bit false }
     {
+        self.read_bit(bit)
+    }
+
+    // Returns the byte that contains a bit, as a chunk. Its bits past the length are zero.
+    pub(crate) fn read_byte(&self, bit: u64) -> [u8; 1]
+        requires { bit < length self.now }
+        ensures { (k : ℕ) → k / 8 ≡ bit / 8 → chunk_bit 1 result k ≡ slice_index_or self.now k false }
+    {
+        deque::get_byte(&self.chunks, bit)
+    }
+
+    // As `get`, which tests the position if it is called from Rust. A bitmap with a pruned prefix has tested it already.
+    pub(crate) fn read_bit(&self, bit: u64) -> bool
+        requires { bit < length self.now }
+        ensures { result ≡ slice_index_or self.now bit false }
+    {
         deque::get_bit(&self.chunks, bit)
     }
 
@@ -427,6 +443,17 @@ impl<const N: usize> BitMap<N> {
         ensures err { OnErr result (self.new ≡ self.old) }
         ensures partial { ¬ (length self.old % (8 * N) ≡ 0) → IsOk result }
     {
+        self.append_bit(bit)
+    }
+
+    // As `push`, which tests the length if it is called from Rust. A bitmap with a pruned prefix has tested it already.
+    #[inline]
+    pub(crate) fn append_bit(&mut self, bit: bool) -> Result<(), AllocError>
+        requires { length self.old + 1 < 2 ^ 64 }
+        ensures ok { OnOk result (self.new ≡ self.old ++ bit ∷ []) }
+        ensures err { OnErr result (self.new ≡ self.old) }
+        ensures partial { ¬ (length self.old % (8 * N) ≡ 0) → IsOk result }
+    {
         let len = self.len;
         deque::make_space(&mut self.chunks, len)?;
         if bit {
@@ -553,6 +580,14 @@ impl<const N: usize> BitMap<N> {
     ///
     /// Does not allocate; constant time.
     pub fn set(&mut self, bit: u64, value: bool)
+        requires { bit < length self.old }
+        ensures { self.new ≡ slice_set self.old bit value }
+    {
+        self.write_bit(bit, value);
+    }
+
+    // As `set`, for the same reason as `read_bit`.
+    pub(crate) fn write_bit(&mut self, bit: u64, value: bool)
         requires { bit < length self.old }
         ensures { self.new ≡ slice_set self.old bit value }
     {

@@ -70,6 +70,30 @@ joined_high w low high s t b h u v =
     ∙ ap (λ i. bit_at high i) e in
     o ∙ ap (λ x. max (bit_at (low / 2 ^ s) t) x) z ∙ ap (λ x. max x (bit_at high (t + s - w))) l ∙ omega arith
 
+-- a byte of the number that two bytes are joined to
+pub joined_pair_low : (low high s t : ℕ) → s < 8 → t + s < 8 → bit_at (bit_or low (high * 2 ^ 8 % 2 ^ 16) / 2 ^ s % 2 ^ 8) t ≡ bit_at low (t + s)
+joined_pair_low low high s t h u =
+    let p : ℕ = bit_or low (high * 2 ^ 8 % 2 ^ 16) in
+    let z = bit_at_shl_low 16 high 8 (t + s) (omega arith) u in
+    bit_at_mod 8 (p / 2 ^ s) t (omega arith)
+    ∙ bit_at_shr p s t
+    ∙ bit_at_or low (high * 2 ^ 8 % 2 ^ 16) (t + s)
+    ∙ ap (λ x. max (bit_at low (t + s)) x) z
+    ∙ omega arith
+
+pub joined_pair_high : (low high s t : ℕ) → low < 2 ^ 8 → s < 8 → t < 8 → 8 ≤ t + s
+    → bit_at (bit_or low (high * 2 ^ 8 % 2 ^ 16) / 2 ^ s % 2 ^ 8) t ≡ bit_at high (t + s - 8)
+joined_pair_high low high s t b h u v =
+    let p : ℕ = bit_or low (high * 2 ^ 8 % 2 ^ 16) in
+    let l = bit_at_above low 8 (t + s) b v in
+    let z = bit_at_shl_high 16 high 8 (t + s) (omega arith) v in
+    bit_at_mod 8 (p / 2 ^ s) t u
+    ∙ bit_at_shr p s t
+    ∙ bit_at_or low (high * 2 ^ 8 % 2 ^ 16) (t + s)
+    ∙ ap (λ x. max (bit_at low (t + s)) x) z
+    ∙ ap (λ x. max x (bit_at high (t + s - 8))) l
+    ∙ omega arith
+
 -- a byte whose low bits are kept and whose other bits are those of the next byte
 pub opened_low : (kept next s t : ℕ) → s < 8 → t < s → bit_at (bit_or (bit_and kept (1 * 2 ^ s % 256 - 1)) (next * 2 ^ s % 256)) t ≡ bit_at kept t
 opened_low kept next s t h w =

@@ -9,13 +9,14 @@ ghost use Rattle.bitmap_bytes.specs.Chunk.{chunk_bit, bytes_bit, IsByteJoined, I
 
 use crate::chunk::byte_index;
 
-// The eight bits that begin `skip` bits into `low` and continue in `high`.
+// The eight bits that begin `skip` bits into `low` and continue in `high`. Both bytes are shifted as one number of 16 bits, which takes one shift.
 fn joined_byte(low: u8, high: u8, skip: u64) -> u8
     requires { skip < 8 }
     ensures low { (t : ℕ) → t + skip < 8 → bit_at result t ≡ bit_at low (t + skip) }
     ensures high { (t : ℕ) → t < 8 → 8 ≤ t + skip → bit_at result t ≡ bit_at high (t + skip - 8) }
 {
-    (low >> skip) | ((high << (7 - skip)) << 1)
+    let both = (low as u16) | ((high as u16) << 8);
+    ((both >> skip) % 256) as u8
 }
 
 // The low `shift` bits of `kept`, and above them the low bits of `next`.
@@ -103,13 +104,18 @@ fn fill_words<const N: usize>(chunk: &mut [u8; N], bytes: &[u8], skip: u64)
     }
 }
 
-// The chunk of the bits from bit `skip` on of `bytes`, which has more bytes than the chunk.
+// The chunk of the bits from bit `skip` on of `bytes`, which has more bytes than the chunk. From the start of a byte it is a copy.
+// This and `chunk_from` are inlined: their callers fill one chunk after another, and for a narrow one a call takes longer than the bytes.
+#[inline(always)]
 fn chunk_within<const N: usize>(bytes: &[u8], skip: u64) -> [u8; N]
     requires positive { 0 < N }
     requires place { skip < 8 }
     requires more { N < length bytes.now }
     ensures { (i : ℕ) → chunk_bit N result i ≡ bytes_bit bytes.now (skip + i % (8 * N)) }
 {
+    if skip == 0 {
+        return bytes[..N].try_into().unwrap();
+    }
     let mut chunk = [0; N];
     fill_words(&mut chunk, bytes, skip);
     for j in 8 * (N / 8)..N {
@@ -129,6 +135,7 @@ fn chunk_within<const N: usize>(bytes: &[u8], skip: u64) -> [u8; N]
 /// # Complexity
 ///
 /// Linear in `N`. Whole words of 64 bits are written at once if `front` or `back` alone has the `N + 1` bytes from bit `bit` on.
+#[inline(always)]
 pub fn chunk_from<const N: usize>(front: &[u8], back: &[u8], bit: u64) -> [u8; N]
     requires width { IsWidth N }
     ensures { (i : ℕ) → chunk_bit N result i ≡ bytes_bit (front.now ++ back.now) (bit + i % (8 * N)) }

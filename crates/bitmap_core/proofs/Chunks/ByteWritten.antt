@@ -15,7 +15,7 @@ use Rattle.bitmap_bytes.proofs.Chunks.Places.{same_place}
 same_byte : (n i j : ℕ) → i / (8 * n) ≡ j / (8 * n) → i / 8 % n ≡ j / 8 % n → i / 8 ≡ j / 8
 same_byte n i j q r = same_place n (i / 8) (j / 8) (div-div-eq-div-mul i 8 n ∙ q ∙ sym (div-div-eq-div-mul j 8 n)) r
 
-same_chunk : (n i j : ℕ) → i / 8 ≡ j / 8 → i / (8 * n) ≡ j / (8 * n)
+pub same_chunk : (n i j : ℕ) → i / 8 ≡ j / 8 → i / (8 * n) ≡ j / (8 * n)
 same_chunk n i j e = sym (div-div-eq-div-mul i 8 n) ∙ ap (λ x. x / n) e ∙ div-div-eq-div-mul j 8 n
 
 pub IsBytePut-chunk : (n : ℕ) (xs : List (List ℕ)) (i byte : ℕ) (old new : List ℕ) → i / (8 * n) < length xs

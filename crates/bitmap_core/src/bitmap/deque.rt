@@ -16,7 +16,7 @@ mod runs;
 mod whole_chunks;
 
 pub use crate::bitmap::deque::append::append_run;
-pub use crate::bitmap::deque::bits::{clear_tail, flip_bit, get_bit, set_bit, set_byte};
+pub use crate::bitmap::deque::bits::{clear_tail, flip_bit, get_bit, get_byte, set_bit, set_byte};
 pub use crate::bitmap::deque::bools::{append_bools, from_bools};
 pub use crate::bitmap::deque::counts::{count_ones, is_unset};
 pub use crate::bitmap::deque::every::{are_equal, combine, feed, fill, flip};

@@ -6,6 +6,7 @@ ghost use Rattle.std.specs.Iterator.SizeHint.{IsWithinCount};
 ghost use Rattle.bitmap_bytes.specs.Chunk.{IsWidth};
 
 use crate::bitmap::BitMap;
+use crate::chunk;
 use std::iter;
 use std::marker::Model;
 
@@ -32,16 +33,19 @@ use std::marker::Model;
 pub struct Iterator<'a, const N: usize> {
     bitmap: &'a BitMap<N>,
     position: u64,
+    // The byte that contains the position, as a chunk, unless a byte begins there.
+    byte: [u8; 1],
 }
 
 impl<'a, const N: usize> Model for Iterator<'a, N> {
-    ghost use Rattle.std.specs.Prelude.{◌≤◌, List, length, drop, Bool};
+    ghost use Rattle.std.specs.Prelude.{List, drop, Bool};
+    ghost use Rattle.bitmap_core.specs.Meaning.{IsPlace};
 
     ghost Value = { List Bool };
 
     ghost view = { λ it. drop it.position it.bitmap.now };
 
-    ghost invariant = { λ it. it.position ≤ length it.bitmap.now };
+    ghost invariant = { λ it. IsPlace it.bitmap.now it.position it.byte };
 }
 
 impl<const N: usize> BitMap<N> {
@@ -57,6 +61,7 @@ impl<const N: usize> BitMap<N> {
         Iterator {
             bitmap: self,
             position: 0,
+            byte: [0],
         }
     }
 }
@@ -73,8 +78,11 @@ impl<const N: usize> iter::Iterator for Iterator<'_, N> {
         if position == self.bitmap.len() {
             return None;
         }
+        if position % 8 == 0 {
+            self.byte = self.bitmap.read_byte(position);
+        }
         self.position = position + 1;
-        Some(self.bitmap.get(position))
+        Some(chunk::get_bit(&self.byte, position))
     }
 
     /// Returns the number of bits that are left, as both bounds. It always fits `usize`.

@@ -203,7 +203,7 @@ impl<const N: usize> Prunable<N> {
         requires { IsRetained N self.now bit }
         ensures { result ≡ bit_at N self.now bit }
     {
-        self.bitmap.get(bit - self.pruned_bits())
+        self.bitmap.read_bit(bit - self.pruned_bits())
     }
 
     /// Returns the number of retained bits that are true. Pruned bits do not count.
@@ -311,7 +311,7 @@ impl<const N: usize> Prunable<N> {
         ensures { self.new ≡ set_at N self.old bit value }
     {
         let pruned = self.pruned_bits();
-        self.bitmap.set(bit - pruned, value);
+        self.bitmap.write_bit(bit - pruned, value);
     }
 
     /// Sets the bit at each position in `range` to `value`.
@@ -434,7 +434,7 @@ impl<const N: usize> Prunable<N> {
         ensures err { OnErr result (self.new ≡ self.old) }
         ensures partial { ¬ (bit_len N self.old % (8 * N) ≡ 0) → IsOk result }
     {
-        self.bitmap.push(bit)
+        self.bitmap.append_bit(bit)
     }
 
     /// Appends the eight bits of a byte, the lowest first. The length is a multiple of 8, and the new length fits `u64`.

@@ -1,11 +1,11 @@
 //! Single bits and bytes of a deque of chunks.
 
 ghost use Rattle.std.specs.Prelude.{◌≡◌, ℕ, ◌+◌, ◌*◌, ◌/◌, ◌%◌, ◌^◌, ◌<◌, length, not};
-ghost use Rattle.bitmap_bytes.specs.Chunk.{IsWidth};
+ghost use Rattle.bitmap_bytes.specs.Chunk.{chunk_bit, IsWidth};
 ghost use Rattle.bitmap_bytes.specs.Bits.{chunks_bit, IsBitPut, IsBytePut, IsChunkCount, IsZeroFrom};
 
 use crate::chunk;
-use crate::chunk::{chunk_index, chunk_width};
+use crate::chunk::{byte_index, chunk_index, chunk_width};
 use std::collections::VecDeque;
 
 // Returns bit `bit` of the chunks.
@@ -15,6 +15,15 @@ pub fn get_bit<const N: usize>(chunks: &VecDeque<[u8; N]>, bit: u64) -> bool
     ensures { result ≡ chunks_bit N chunks.now.items bit }
 {
     chunk::get_bit(&chunks[chunk_index::<N>(bit)], bit)
+}
+
+// Returns the byte that contains bit `bit`, as a chunk.
+pub fn get_byte<const N: usize>(chunks: &VecDeque<[u8; N]>, bit: u64) -> [u8; 1]
+    requires width { IsWidth N }
+    requires within { bit / (8 * N) < length chunks.now.items }
+    ensures { (k : ℕ) → k / 8 ≡ bit / 8 → chunk_bit 1 result k ≡ chunks_bit N chunks.now.items k }
+{
+    [chunks[chunk_index::<N>(bit)][byte_index::<N>(bit)]]
 }
 
 // Sets bit `bit` of the chunks to `value`.

@@ -1,16 +1,34 @@
-use Rattle.std.proofs.Common.{◌≡◌, ℕ, List, ◌-◌, ◌*◌, ◌/◌, ◌∙◌, length, take, drop, refl, rules, arith}
+use Rattle.std.proofs.Common.{◌≡◌, ℕ, List, [], ◌+◌, ◌-◌, ◌*◌, ◌/◌, ◌<◌, ◌≤◌, ◌∙◌, ap, get_or, length, take, drop, refl, subst, rules, arith}
+use Rattle.bitmap_bytes.specs.Chunk.{chunk_bit}
 use Rattle.bitmap_core.proofs.Chunks.Combined.{combined_run, run_of, run_length}
+use Rattle.bitmap_core.proofs.Chunks.Groups.{group_above, group_count, group_done}
 use Rattle.bitmap_core.proofs.bitmap.deque.every.combine_slices.Goals as goal
 
 pub loop-i-preserved : goal.loop-i-preserved
 loop-i-preserved g c =
-    let theirs : c.unwrap-theirs.result ≡ take 16 (drop (16 * c.loop-i.i) c.args.others.now) = search rules in
-    let size : length c.unwrap-theirs.result ≡ 16 = run_length c.args.others.now c.unwrap-theirs.result (16 * c.loop-i.i) 16 theirs (omega arith) in
+    let f = g.B.Bitwise.gives in
+    let first = c.args.chunks.now in
+    let others = c.args.others.now in
+    let old = c.loop-i.chunks in
+    let from : ℕ = 16 * c.loop-i.i in
+    let ours : c.unwrap-ours.result ≡ take 16 (drop from old) = search rules in
+    let theirs : c.unwrap-theirs.result ≡ take 16 (drop from others) = search rules in
+    let within : from + 16 ≤ length old = omega (arith, c.loop-i.invariant.count) in
+    let our_size : length c.unwrap-ours.result ≡ 16 = run_length old c.unwrap-ours.result from 16 ours within in
+    let their_size : length c.unwrap-theirs.result ≡ 16 = run_length others c.unwrap-theirs.result from 16 theirs (omega arith) in
+    let group = c.copy_from_slice.new.self in
+    let size : length group ≡ from + 16 - from = omega (arith, c.copy_from_slice.ensures.len) in
+    let own : (j : ℕ) → j < 16 → (t : ℕ) → chunk_bit g.row.N (get_or group j []) t ≡ f (chunk_bit g.row.N (get_or first (from + j) []) t) (chunk_bit g.row.N (get_or others (from + j) []) t) = λ j h t.
+    let here : 0 + j ≡ j = omega arith in
+    ap (λ l. chunk_bit g.row.N (get_or l j []) t) c.copy_from_slice.ensures.after
+    ∙ subst (λ x. chunk_bit g.row.N (get_or c.combine_some-in-loop-i.new.chunks x []) t ≡ f (chunk_bit g.row.N (get_or c.unwrap-ours.result x []) t) (chunk_bit g.row.N (get_or c.unwrap-theirs.result j []) t)) here
+    (c.combine_some-in-loop-i.ensures.bits j (omega arith) t)
+    ∙ ap (λ b. f (chunk_bit g.row.N b t) (chunk_bit g.row.N (get_or c.unwrap-theirs.result j []) t)) (run_of old c.unwrap-ours.result from 16 ours j (omega arith) ∙ c.loop-i.invariant.rest (from + j) (omega arith))
+    ∙ ap (λ b. f (chunk_bit g.row.N (get_or first (from + j) []) t) (chunk_bit g.row.N b t)) (run_of others c.unwrap-theirs.result from 16 theirs j (omega arith)) in
     record {
-      count = omega (arith, c.combine_some-in-loop-i.ensures.count, c.loop-i.invariant.count);
-      done = λ k h. combined_run g.row.N g.B.Bitwise.gives c.args.chunks.now c.loop-i.chunks c.args.others.now c.unwrap-theirs.result c.combine_some-in-loop-i.new.chunks (16 * c.loop-i.i) c.loop-i.invariant.done c.loop-i.invariant.rest
-          (run_of c.args.others.now c.unwrap-theirs.result (16 * c.loop-i.i) 16 theirs) c.combine_some-in-loop-i.ensures.bits c.combine_some-in-loop-i.ensures.below k (omega arith);
-      rest = λ k h. c.combine_some-in-loop-i.ensures.above k (omega arith) ∙ c.loop-i.invariant.rest k (omega arith);
+      count = group_count from (from + 16 - from) old group (omega arith) size ∙ c.loop-i.invariant.count;
+      done = λ k h. group_done from (from + 16 - from) old group (omega arith) size (λ x b. (t : ℕ) → chunk_bit g.row.N b t ≡ f (chunk_bit g.row.N (get_or first x []) t) (chunk_bit g.row.N (get_or others x []) t)) c.loop-i.invariant.done (λ j s. own j (omega arith)) k (omega arith);
+      rest = λ k h. group_above from (from + 16 - from) old group (omega arith) size k (omega arith) ∙ c.loop-i.invariant.rest k (omega arith);
     }
 
 pub returns : goal.returns

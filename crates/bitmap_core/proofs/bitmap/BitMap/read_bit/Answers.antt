@@ -1,6 +1,6 @@
 use Rattle.std.proofs.Common.{◌∙◌, sym, ap, get_or, false, arith}
 use Rattle.bitmap_bytes.proofs.Lists.Bits.{at_within, len_is, get_or-bits}
-use Rattle.bitmap_core.proofs.bitmap.BitMap.get.Goals as goal
+use Rattle.bitmap_core.proofs.bitmap.BitMap.read_bit.Goals as goal
 
 pub get_bit-requires : goal.get_bit-requires
 get_bit-requires g c = (

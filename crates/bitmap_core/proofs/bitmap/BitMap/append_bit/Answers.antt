@@ -3,8 +3,8 @@ use Rattle.std.proofs.lemmas.Bool.{false≢true}
 use Rattle.bitmap_bytes.proofs.Lists.Bits.{len_is, bits-same}
 use Rattle.bitmap_core.proofs.Lists.Edits.{bits-push}
 use Rattle.bitmap_bytes.proofs.Chunks.Lists.{IsBitPut_same}
-use Rattle.bitmap_core.proofs.bitmap.BitMap.push.Goals as goal
-use Rattle.bitmap_core.proofs.bitmap.BitMap.push.Goals.{then-bit, else-bit}
+use Rattle.bitmap_core.proofs.bitmap.BitMap.append_bit.Goals as goal
+use Rattle.bitmap_core.proofs.bitmap.BitMap.append_bit.Goals.{then-bit, else-bit}
 
 pub returns-in_err-make_space-clause-partial : goal.returns-in_err-make_space-clause-partial
 returns-in_err-make_space-clause-partial g c =

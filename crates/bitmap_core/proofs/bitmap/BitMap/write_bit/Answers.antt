@@ -2,7 +2,7 @@ use Rattle.std.proofs.Common.{arith}
 use Rattle.bitmap_bytes.proofs.Lists.Bits.{at_within, len_is}
 use Rattle.bitmap_core.proofs.Lists.Edits.{bits-put}
 use Rattle.bitmap_bytes.proofs.Chunks.Lists.{IsZeroFrom-put}
-use Rattle.bitmap_core.proofs.bitmap.BitMap.set.Goals as goal
+use Rattle.bitmap_core.proofs.bitmap.BitMap.write_bit.Goals as goal
 
 pub set_bit-requires : goal.set_bit-requires
 set_bit-requires g c = (
