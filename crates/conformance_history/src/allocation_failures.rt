@@ -56,8 +56,8 @@ fn same_at<const N: usize>(map: &CleanBitMap<N>, other: &CleanBitMap<N>, number:
     }
 }
 
-// Whether two bitmaps are the same, and their histories too.
-fn same_history<const N: usize>(map: &CleanBitMap<N>, other: &CleanBitMap<N>) -> bool {
+/// Whether two bitmaps are the same, and their histories too.
+pub fn same_history<const N: usize>(map: &CleanBitMap<N>, other: &CleanBitMap<N>) -> bool {
     for number in other.commits() {
         if !same_at(map, other, number) {
             return false;
@@ -400,6 +400,28 @@ fn batch_committed(rt: HostRuntime) {
             expect(&rt, has_pending_bits(&rt, &map, 0, b"001"));
             match map.commit(2) {
                 Ok(map) => check_committed(&rt, &map),
+                Err((map, why)) => {
+                    expect(&rt, why == Error::Memory(AllocError));
+                    check_aborted(&rt, map);
+                }
+            }
+        }
+    }
+}
+
+// A batch that could not be prepared can be prepared again, or aborted.
+#[test]
+fn batch_prepared(rt: HostRuntime) {
+    let Some(map) = cleared_and_appended(&rt, rt.alloc()) else {
+        return;
+    };
+    match map.prepare(2) {
+        Ok(prepared) => check_committed(&rt, &prepared.commit()),
+        Err((map, why)) => {
+            expect(&rt, why == Error::Memory(AllocError));
+            expect(&rt, has_pending_bits(&rt, &map, 0, b"001"));
+            match map.prepare(2) {
+                Ok(prepared) => check_aborted(&rt, prepared.into_dirty()),
                 Err((map, why)) => {
                     expect(&rt, why == Error::Memory(AllocError));
                     check_aborted(&rt, map);

@@ -15,8 +15,8 @@ use std::process::Abort;
 // More chunks than any state below has.
 const CHUNKS: usize = 8;
 
-// The number of the last batch of `edit`.
-const LAST: u64 = 11;
+/// The number of the last batch of `edit`.
+pub const LAST: u64 = 11;
 
 // Removes bits down to length `to`.
 fn shrink<const N: usize>(rt: &impl Abort, map: &mut DirtyBitMap<N>, to: u64) {
@@ -26,9 +26,9 @@ fn shrink<const N: usize>(rt: &impl Abort, map: &mut DirtyBitMap<N>, to: u64) {
     equal(rt, map.len(), to);
 }
 
-// The batch of a number. Batch 3 undoes batch 2. Chunks 2 to 3 are removed by batch 4, and are there again after batch 5.
-// Batch 6 removes chunks a second time. Batch 8 appends zeros within a chunk. Batch 11 has no edits.
-fn edit<const N: usize>(rt: &impl Abort, map: &mut DirtyBitMap<N>, width: u64, number: u64) {
+/// The batch of a number. Batch 3 undoes batch 2. Chunks 2 to 3 are removed by batch 4, and are there again after batch 5.
+/// Batch 6 removes chunks a second time. Batch 8 appends zeros within a chunk. Batch 11 has no edits.
+pub fn edit<const N: usize>(rt: &impl Abort, map: &mut DirtyBitMap<N>, width: u64, number: u64) {
     expect(rt, 8 <= width && width <= 512);
     match number {
         1 => grow(rt, map, 3 * width + 5),

@@ -28,6 +28,8 @@ mod long_batches;
 #[cfg(test)]
 mod pending_reads;
 #[cfg(test)]
+mod prepared;
+#[cfg(test)]
 mod pushes;
 #[cfg(test)]
 mod ranges;

@@ -3,9 +3,11 @@
 -- Next: the next chunk that differs, searched for among the chunks with entries.
 -- Pending: a chunk that is not marked is the same in the current and the pending bitmap.
 -- PastEnd: a chunk past the end has no bytes.
+-- Prepared: the changes of a prepared commit.
 -- Patched: the laws of the chunks that differ.
 pub mod Unnamed
 pub mod Next
 pub mod Pending
 pub mod PastEnd
+pub mod Prepared
 pub mod Patched

@@ -17,6 +17,7 @@
 -- BatchEdits: the edits of a batch, from those of its pending edits.
 -- EditedAfter: which chunks are edited after each edit.
 -- Truncates: many bits removed at once.
+-- Prepared: a commit in two steps.
 -- Lengthened: chunks opened up to a greater length.
 pub mod Touched
 pub mod Edits
@@ -36,4 +37,5 @@ pub mod Writes
 pub mod BatchEdits
 pub mod EditedAfter
 pub mod Truncates
+pub mod Prepared
 pub mod Lengthened

@@ -1,5 +1,5 @@
 -- What a batch gives: the result of its commit, or the aborted batch. A chunk has n bytes.
-use Rattle.std.specs.Prelude.{◌≡◌, ℕ, ◌≤◌, [], ◌∷◌, ◌++◌, None, Some, Result, Ok, Err, IfOk, IfErr, OnOk, unwrap_or, alloc_error, ⊤}
+use Rattle.std.specs.Prelude.{◌≡◌, ℕ, [], ◌∷◌, ◌++◌, None, Some, Result, Ok, Err, IfOk, IfErr, OnOk, unwrap_or, alloc_error, ⊤}
 use Rattle.std.specs.Borrow.{MutBor}
 use Rattle.historical_bitmap.specs.declared.bitmap.historical.error.ApplyError.{ApplyError}
 use Rattle.historical_bitmap.specs.declared.bitmap.historical.error.ApplyError.TheVariants.{Batch, Commit}

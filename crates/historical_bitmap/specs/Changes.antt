@@ -1,5 +1,5 @@
 -- The chunks in which two states of a bitmap differ. A chunk has n bytes.
-use Rattle.std.specs.Prelude.{ℕ, ◌*◌, ◌/◌, max, not, ◌&&◌, Bool, List, Option, Some, None, if◌then◌else◌, nat_eq, nat_le, nat_lt}
+use Rattle.std.specs.Prelude.{ℕ, ◌*◌, ◌/◌, max, not, ◌&&◌, Bool, List, [], ◌∷◌, Option, Some, None, if◌then◌else◌, nat_eq, nat_le, nat_lt}
 use Rattle.std.specs.Cmp.Lexicographic.{pointwise}
 use Rattle.std.specs.Int.{div_ceil}
 use Rattle.std.specs.List.{filter}
@@ -29,6 +29,16 @@ changed_from n old new first end = filter (differs n old new) (from_to first end
 -- the indices of the chunks that differ, ascending
 abbrev pub changed : ℕ → PrunedBits → PrunedBits → List ℕ
 changed n old new = changed_from n old new 0 (max (chunk_total n old) (chunk_total n new))
+
+-- an index with its bytes, if there are any, before others
+abbrev pub with_bytes : ℕ → Option (List ℕ) → List (ℕ × List ℕ) → List (ℕ × List ℕ)
+with_bytes i None others = others
+with_bytes i (Some bytes) others = (i, bytes) ∷ others
+
+-- those of the given chunks that a bitmap retains, with their bytes
+abbrev pub listed : ℕ → PrunedBits → List ℕ → List (ℕ × List ℕ)
+listed n new [] = []
+listed n new (i ∷ is) = with_bytes i (retained_bytes n new i) (listed n new is)
 
 -- the indices of the chunks that differ, if there are both states
 abbrev pub changed_if : ℕ → Option PrunedBits → Option PrunedBits → Option (List ℕ)

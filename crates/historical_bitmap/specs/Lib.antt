@@ -11,6 +11,7 @@
 -- Pending: pending edits, each edit of them, and the record that a commit makes.
 -- Compared, Run, Tail: conditions inside the code that compares states and stores edited chunks.
 -- View: a whole historical bitmap, as the contracts of its calls describe it.
+-- Prepared: a commit in two steps.
 -- Lengths: edits that make a batch longer by many bits at once.
 -- Batch: the result of a batch.
 pub mod Edits
@@ -28,6 +29,7 @@ pub mod Compared
 pub mod Run
 pub mod Tail
 pub mod View
+pub mod Prepared
 pub mod Lengths
 pub mod Batch
 pub mod Lends

@@ -11,6 +11,8 @@ mod appended_version;
 #[cfg(test)]
 mod bit_then;
 #[cfg(test)]
+mod both_commits;
+#[cfg(test)]
 mod byte_forms;
 #[cfg(test)]
 mod changed_chunks;

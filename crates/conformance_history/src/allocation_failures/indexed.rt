@@ -138,6 +138,21 @@ fn commit_added_past_a_node_of_an_index(rt: HostRuntime) {
     }
 }
 
+// The same if the commit is prepared first. A prepared commit that is undone leaves the index of the commits before it.
+#[test]
+fn commit_prepared_past_a_node_of_an_index(rt: HostRuntime) {
+    let Some((batch, plain, more)) = batch_past_a_node(&rt, rt.alloc()) else {
+        return;
+    };
+    match batch.prepare(3) {
+        Ok(prepared) => expect(&rt, same_in_place(&prepared.commit(), &more)),
+        Err((batch, why)) => {
+            expect(&rt, why == Error::Memory(AllocError));
+            expect(&rt, same_in_place(&batch.abort(), &plain));
+        }
+    }
+}
+
 // After a failed rewind the index is that of all commits, and else that of the commits that are left.
 #[test]
 fn indexed_bitmap_rewound(rt: HostRuntime) {

@@ -25,7 +25,7 @@ use Rattle.historical_bitmap.proofs.Lists.Between.{none_up_to}
 use Rattle.historical_bitmap.proofs.Lists.Members.{in_either, in_left, in_right}
 
 -- ---- the first of some ascending numbers that is at least a given one
-not_first : (j x : ℕ) (xs : List ℕ) → j ≢ x → is_member nat_eq xs j ≡ false → is_member nat_eq (x ∷ xs) j ≡ false
+pub not_first : (j x : ℕ) (xs : List ℕ) → j ≢ x → is_member nat_eq xs j ≡ false → is_member nat_eq (x ∷ xs) j ≡ false
 not_first j x xs ne h = rw (ne_eqb j x ne) h
 
 -- the number at an index is the first if all numbers before that index are less

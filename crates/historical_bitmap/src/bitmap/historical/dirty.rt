@@ -15,9 +15,10 @@ ghost use Rattle.historical_bitmap.specs.Edits.{pushes, sets};
 ghost use Rattle.historical_bitmap.specs.History.{before_latest};
 ghost use Rattle.historical_bitmap.specs.View.{AddsCost, history_of, KeepsEdited, IsEditedAt, IsEditOf, IsRunOf, LeavesEdited, marked_of, pending_of, StaysEditedAt, commit_error};
 
-use crate::bitmap::historical::apply::{grow, overwrite, shrink_back};
+use crate::bitmap::historical::apply::overwrite;
 use crate::bitmap::historical::commit_list::CommitList;
 use crate::bitmap::historical::edit::{Edit, Lent};
+use crate::bitmap::historical::prepared::add_commit;
 use crate::bitmap::historical::record::CommitDiff;
 use crate::bitmap::historical::{BitMap, Clean, CleanBitMap, Dirty, DirtyBitMap, Error, State};
 use bitmap_core::bitmap::Prunable;
@@ -440,17 +441,10 @@ impl<const N: usize> BitMap<N, Dirty<N>> {
         ensures costs { IfOk result (AddsCost N self.entry number) }
     {
         let alloc = self.state.allocator();
-        let Ok(record) = self.state.record(&self.current, alloc) else {
-            return Err((self, Error::Memory(AllocError)));
-        };
-        let len = self.state.len();
-        let Ok(before) = grow(&mut self.current, len) else {
-            return Err((self, Error::Memory(AllocError)));
-        };
-        if self.commits.append(number, record).is_err() {
-            shrink_back(&mut self.current, before);
+        if add_commit(&mut self.current, &mut self.commits, &self.state, number).is_err() {
             return Err((self, Error::Memory(AllocError)));
         }
+        let len = self.state.len();
         let pruned = self.state.pruned_chunks();
         let edited = self.state.into_edited();
         overwrite(&mut self.current, len, edited, pruned);
