@@ -7,14 +7,14 @@ use Rattle.std.proofs.lemmas.Bool.{cases_Bool, eqb-true}
 use Rattle.std.proofs.lemmas.Option.{none-some, same_Some}
 use Rattle.bitmap_core.specs.PrunedBits.{PrunedBits, bit_at, bit_len, chunk, IsRetained}
 use Rattle.bitmap_core.proofs.Pruned.Positions.{same_from_bits, bit_from_bits}
-use Rattle.historical_bitmap.specs.Changes.{changed, retained_bytes, sent_bytes}
+use Rattle.historical_bitmap.specs.Changes.{changed, listed, retained_bytes, sent_bytes, with_bytes}
 use Rattle.historical_bitmap.specs.Record.{bit_or_else}
 use Rattle.historical_bitmap.proofs.Changes.Patched.{patched_changed}
 use Rattle.historical_bitmap.proofs.Changes.Unnamed.{bytes_there}
 use Rattle.historical_bitmap.proofs.Records.Restores.{has_chunk}
 use Rattle.historical_bitmap.specs.View.{View, history_of}
 use Rattle.commit_log.specs.Entries.Entry.{Commit}
-use Rattle.commit_log.specs.Kept.{kept_of, after, with_bytes, listed, change_to, applied}
+use Rattle.commit_log.specs.Kept.{kept_of, after, change_to, applied}
 
 -- one more chunk in front
 step : (n : ℕ) (new : PrunedBits) (x i : ℕ) (found : Option (List ℕ)) (others : List (ℕ × List ℕ)) (member : Bool) → retained_bytes n new x ≡ found

@@ -12,14 +12,14 @@ use Rattle.std.proofs.lemmas.List.{get_or_past}
 use Rattle.bitmap_bytes.specs.Chunk.{bit_value, chunk_bit, byte_of, IsChunk}
 use Rattle.bitmap_core.specs.PrunedBits.{PrunedBits, bit_at, bit_len, chunk}
 use Rattle.bitmap_core.proofs.Pruned.Positions.{bit_from_bits, bit_past, len_from_bits}
-use Rattle.historical_bitmap.specs.Changes.{changed, chunk_total, differs, retained_bytes}
+use Rattle.historical_bitmap.specs.Changes.{changed, chunk_total, differs, listed, retained_bytes, with_bytes}
 use Rattle.historical_bitmap.specs.Record.{bit_or_else}
 use Rattle.historical_bitmap.proofs.Changes.Patched.{same_option, past_total}
 use Rattle.historical_bitmap.proofs.Changes.Unnamed.{bytes_none, bytes_there, chunk_from_bits, is_there, not_different, not_pruned}
 use Rattle.historical_bitmap.proofs.Pending.Chunks.{chunk_with_bits}
 use Rattle.historical_bitmap.proofs.Records.Restores.{bit_in_chunk}
 use Rattle.commit_log.specs.Entries.{Change}
-use Rattle.commit_log.specs.Kept.{with_bytes, listed, applied}
+use Rattle.commit_log.specs.Kept.{applied}
 use Rattle.commit_log.specs.ListOfChanges.{IsZeroFrom, IsListed, IsLeftOut, ListsFrom, IsListOfChanges}
 use Rattle.commit_log.specs.Accepted.{Follows, HasExtent, IsCanonical}
 use Rattle.commit_log.specs.Making.{AscendFrom}

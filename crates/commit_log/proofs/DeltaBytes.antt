@@ -110,6 +110,18 @@ delta-again n d h small =
     ∙ ap done (same_delta d (number_at 24 (encode_delta n d)) (number_at 32 (encode_delta n d)) (number_at 40 (encode_delta n d)) (number_at 48 (encode_delta n d))
     (number-again n d h small rest) (len-again n d h small rest) (pruned-again n d h small rest) (replaced-again n d h small rest))
 
+-- the encoding of a delta is long enough for its fields
+pub length-delta : (n : ℕ) (d : Delta) → 88 ≤ length (encode_delta n d)
+unfolding encode_delta
+length-delta n d = omega (arith, length-fields n d, length-append (delta_fields n d) (be64 (digest (delta_fields n d))))
+
+-- the bytes of the change of a delta, in its encoding
+pub change-in : (n : ℕ) (d : Delta) → drop 56 (before_digest (encode_delta n d)) ≡ encode_change d.change
+unfolding encode_delta delta_fields older_fields
+change-in n d =
+    ap (drop 56) (digest-after (delta_fields n d))
+    ∙ drop_at (older_fields n d.number d.len d.pruned ++ be64 d.replaced_digest) (encode_change d.change) 56 refl
+
 -- ---- read, and written again
 
 -- a test that did not end the read

@@ -4,18 +4,16 @@ use Rattle.std.specs.Prelude.{alloc_error}
 use Rattle.std.proofs.lemmas.Bool.{lt-leb, lt-ltb, ne_eqb}
 use Rattle.bitmap_bytes.specs.Chunk.{IsWidth}
 use Rattle.bitmap_core.specs.PrunedBits.{PrunedBits}
-use Rattle.historical_bitmap.specs.Changes.{changed}
+use Rattle.historical_bitmap.specs.Changes.{changed, listed}
 use Rattle.historical_bitmap.specs.History.{kept_under}
 use Rattle.historical_bitmap.specs.View.{commit_error}
 use Rattle.log_frames.proofs.DigestRange.{digest-lt}
-use Rattle.commit_log.specs.Accepted.{Accepts, IsApplyError, IsChangeError}
-use Rattle.commit_log.specs.Delta.{Brings, Delta, FitsDelta, IsDeltaError, IsStep, StartsAt, as_delta_error, committed, decode_delta, delta_between, delta_of, encode_delta, replaced}
+use Rattle.commit_log.specs.Accepted.{Accepts, IsChangeError}
+use Rattle.commit_log.specs.Delta.{Brings, Delta, FitsDelta, IsDeltaError, IsStep, StartsAt, committed, decode_delta, delta_between, delta_of, encode_delta, replaced}
 use Rattle.commit_log.specs.Entries.Entry.{Commit}
-use Rattle.commit_log.specs.Kept.{Kept, after, applied, change_to, listed}
+use Rattle.commit_log.specs.Kept.{Kept, after, applied, change_to}
 use Rattle.commit_log.specs.declared.deltas.DeltaError.{DeltaError}
 use Rattle.commit_log.specs.declared.deltas.DeltaError.TheVariants as errors
-use Rattle.commit_log.specs.declared.error.ApplyError.{ApplyError}
-use Rattle.commit_log.specs.declared.error.ApplyError.TheVariants as failures
 use Rattle.commit_log.specs.declared.error.EntryError.{EntryError}
 use Rattle.commit_log.specs.declared.error.EntryError.TheVariants as reasons
 use Rattle.commit_log.proofs.Applied.{applied_change}
@@ -99,9 +97,9 @@ read_error n s bytes errors.NotAtBase h = absurd (bytes_err n bytes errors.NotAt
 read_error n s bytes (errors.Change e) h = absurd (bytes_err n bytes (errors.Change e) h)
 read_error n s bytes (errors.Memory e) h = absurd (bytes_err n bytes (errors.Memory e) h)
 
-pub change_error : (n : ℕ) (s : Kept) (bytes : List ℕ) (d : Delta) (e : ApplyError) → Takes n bytes d → StartsAt n s d → IsApplyError n s d.change e → IsDeltaError n s bytes (as_delta_error e)
-change_error n s bytes d (failures.Entry e) t starts h = record { delta = d; fits = t.fits; encoded = t.encoded; holds = (starts, h) }
-change_error n s bytes d (failures.Memory e) t starts h = record { delta = d; fits = t.fits; encoded = t.encoded; holds = (starts, h) }
+-- a delta that starts at a state which does not accept its change
+pub change_error : (n : ℕ) (s : Kept) (bytes : List ℕ) (d : Delta) (e : EntryError) → Takes n bytes d → StartsAt n s d → IsChangeError n s.current s.last d.change e → IsDeltaError n s bytes (errors.Change e)
+change_error n s bytes d e t starts h = record { delta = d; fits = t.fits; encoded = t.encoded; holds = (starts, h) }
 
 module _ (n : ℕ) (s : Kept) (bytes : List ℕ) (width : IsWidth n) where
   brings_newer : (from to : ℕ) (new : PrunedBits) → IsStep n from s.current to new → s.last ≡ Some from → bytes ≡ encode_delta n (delta_between n from s.current to new) → Brings n bytes s (committed s to new)

@@ -5,10 +5,10 @@ use Rattle.std.proofs.lemmas.List.FromFn.{length-map-range_with_len}
 use Rattle.std.proofs.lemmas.Option.{none-some, same_Some}
 use Rattle.std.proofs.Math.Nat.{le-mul_of_pos_right}
 use Rattle.bitmap_core.specs.PrunedBits.{PrunedBits, bit_len, chunk}
-use Rattle.historical_bitmap.specs.Changes.{changed, retained_bytes}
+use Rattle.historical_bitmap.specs.Changes.{changed, listed, retained_bytes, with_bytes}
 use Rattle.historical_bitmap.proofs.Changes.Unnamed.{bytes_none, bytes_there, is_there}
 use Rattle.commit_log.specs.Entries.{FitsChunk, FitsChange}
-use Rattle.commit_log.specs.Kept.{with_bytes, listed, change_to}
+use Rattle.commit_log.specs.Kept.{change_to}
 
 with_fits : (n i : ℕ) (found : Option (List ℕ)) (others : List (ℕ × List ℕ)) → ((bytes : List ℕ) → found ≡ Some bytes → FitsChunk n (i, bytes)) → AllByRecursion (FitsChunk n) others → AllByRecursion (FitsChunk n) (with_bytes i found others)
 with_fits n i None others h rest = rest

@@ -11,6 +11,7 @@ pub mod Fits
 pub mod Following
 pub mod Histories
 pub mod LogBytes
+pub mod LoggedDelta
 pub mod Making
 pub mod Pushing
 pub mod ReadHistories

@@ -2,12 +2,12 @@
 use Rattle.std.proofs.Common.{◌≡◌, ℕ, List, [], ◌∷◌, ◌++◌, sym, ap, ◌∙◌, append_assoc, Some}
 use Rattle.std.proofs.lemmas.Option.{same_Some}
 use Rattle.bitmap_core.specs.PrunedBits.{PrunedBits, bit_len}
-use Rattle.historical_bitmap.specs.Changes.{changed, changed_between}
+use Rattle.historical_bitmap.specs.Changes.{changed, changed_between, listed}
 use Rattle.historical_bitmap.specs.History.{kept_under}
 use Rattle.historical_bitmap.proofs.Changes.Patched.{changed_is}
 use Rattle.commit_log.specs.Entries.{encode_change, encode_entry}
 use Rattle.commit_log.specs.Entries.Entry.{Commit}
-use Rattle.commit_log.specs.Kept.{change_to, listed}
+use Rattle.commit_log.specs.Kept.{change_to}
 
 -- the tag of a commit, and the change between two kept states
 pub commit_pushed : (n : ℕ) (history : List (ℕ × PrunedBits)) (from to : ℕ) (old new newer : PrunedBits) (changes start tagged end : List ℕ) → Some newer ≡ kept_under history to → Some changes ≡ changed_between n history from to

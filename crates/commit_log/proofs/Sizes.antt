@@ -10,7 +10,7 @@ use Rattle.std.specs.List.{flat_map}
 use Rattle.std.specs.Map.{keys_of}
 use Rattle.std.proofs.lemmas.List.{append-nil, length-append, map-append}
 use Rattle.std.proofs.lemmas.Option.{same_Some}
-use Rattle.historical_bitmap.specs.Changes.{changed, changed_between, retained_bytes}
+use Rattle.historical_bitmap.specs.Changes.{changed, changed_between, listed, retained_bytes, with_bytes}
 use Rattle.historical_bitmap.specs.History.{kept_under}
 use Rattle.historical_bitmap.proofs.Changes.Patched.{changed_is}
 use Rattle.log_frames.specs.Frames.{frame, frames, next, place_after}
@@ -22,7 +22,7 @@ use Rattle.commit_log.specs.Base.{Base, encode_base, past_count, past_number}
 use Rattle.commit_log.specs.Entries.{Entry, encode_change, encode_chunk, encode_entry}
 use Rattle.commit_log.specs.Entries.Entry.{Commit}
 use Rattle.commit_log.specs.History.{IsSizeOf, base_of, commits_from, history_base, history_bytes, later_commits}
-use Rattle.commit_log.specs.Kept.{Kept, change_to, listed, with_bytes}
+use Rattle.commit_log.specs.Kept.{Kept, change_to}
 use Rattle.commit_log.proofs.Entries.{length-chunks}
 use Rattle.commit_log.proofs.Fits.{listed_fits}
 use Rattle.commit_log.proofs.Histories.{AreNeighbours, WritesOn, found_first, none_written, one_written}

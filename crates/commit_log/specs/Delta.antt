@@ -11,8 +11,6 @@ use Rattle.commit_log.specs.declared.deltas.DeltaFields.{DeltaFields}
 use Rattle.commit_log.specs.declared.deltas.DeltaError.{DeltaError}
 use Rattle.commit_log.specs.declared.deltas.DeltaError.TheVariants as errors
 use Rattle.commit_log.specs.declared.entry.DecodeError.{DecodeError}
-use Rattle.commit_log.specs.declared.error.ApplyError.{ApplyError}
-use Rattle.commit_log.specs.declared.error.ApplyError.TheVariants as failures
 use Rattle.commit_log.specs.Accepted.{Accepts, IsChangeError}
 use Rattle.commit_log.specs.Entries.{Change, FitsChange, decode_change, encode_change, view_change}
 use Rattle.commit_log.specs.Entries.Entry.{Commit}
@@ -140,11 +138,6 @@ IsDeltaError n s bytes (errors.Change e) =
 IsDeltaError n s bytes (errors.Memory e) =
     Encodes n bytes (λ d. StartsAt n s d × Accepts n s (Commit d.change))
 IsDeltaError n s bytes error = decode_delta n bytes ≡ Err error
-
--- the error of a delta whose change was not applied
-abbrev pub as_delta_error : ApplyError → DeltaError
-as_delta_error (failures.Entry e) = errors.Change e
-as_delta_error (failures.Memory e) = errors.Memory e
 
 -- a step from a bitmap under a number to one under another, which a delta can make: the number rises, the pruned count does not fall, and the number and the lengths fit
 pub record IsStep (n from : ℕ) (old : PrunedBits) (to : ℕ) (new : PrunedBits) : Type 0 where

@@ -1,25 +1,15 @@
 -- What the entries of a log do to a bitmap and its kept states. A chunk has n bytes.
-use Rattle.std.specs.Prelude.{ℕ, ◌*◌, ◌/◌, List, [], ◌∷◌, ◌++◌, Option, Some, None, nat_eq}
+use Rattle.std.specs.Prelude.{ℕ, ◌*◌, ◌/◌, List, [], ◌∷◌, ◌++◌, Option, Some, nat_eq}
 use Rattle.std.specs.Map.{lookup}
 use Rattle.std.specs.Option.{unwrap_or}
 use Rattle.bitmap_core.specs.PrunedBits.{PrunedBits, bit_len, from_bits}
-use Rattle.historical_bitmap.specs.Changes.{changed, retained_bytes}
+use Rattle.historical_bitmap.specs.Changes.{changed, listed}
 use Rattle.historical_bitmap.specs.History.{kept_under, from_number, up_to_number}
 use Rattle.historical_bitmap.specs.Record.{bit_or_else}
 use Rattle.historical_bitmap.specs.Pending.{PendingEdits}
 use Rattle.historical_bitmap.specs.View.{View, history_of, pending_of}
 use Rattle.commit_log.specs.Entries.{Change, Entry}
 use Rattle.commit_log.specs.Entries.Entry.{Commit, Rewind, DropBefore, Clear}
-
--- an index with its bytes, if there are any, before others
-abbrev pub with_bytes : ℕ → Option (List ℕ) → List (ℕ × List ℕ) → List (ℕ × List ℕ)
-with_bytes i None others = others
-with_bytes i (Some bytes) others = (i, bytes) ∷ others
-
--- those of the given chunks that a bitmap retains, with their bytes
-abbrev pub listed : ℕ → PrunedBits → List ℕ → List (ℕ × List ℕ)
-listed n new [] = []
-listed n new (i ∷ is) = with_bytes i (retained_bytes n new i) (listed n new is)
 
 -- the change that leads from a bitmap to another, under a number: it lists the chunks that differ
 abbrev pub change_to : ℕ → ℕ → PrunedBits → PrunedBits → Change
@@ -54,6 +44,10 @@ after n s Clear = record { current = s.current; history = []; last = s.last }
 -- the entry of a commit of a batch under a number
 abbrev pub entry_of_commit : ℕ → View PendingEdits → ℕ → Entry
 entry_of_commit n batch number = Commit (change_to n number batch.current (pending_of n batch))
+
+-- the entry of the commit that makes a state of another: that of the change from the bitmap of the first to that of the second, under the last number of the second
+abbrev pub entry_to : ℕ → Kept → Kept → Entry
+entry_to n s t = Commit (change_to n (unwrap_or t.last 0) s.current t.current)
 
 -- what entries make of it, the first of them first
 abbrev pub after_all : ℕ → Kept → List Entry → Kept

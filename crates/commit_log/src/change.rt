@@ -7,7 +7,8 @@ ghost use Rattle.historical_bitmap.specs.History.{kept_under};
 ghost use Rattle.historical_bitmap.specs.View.{history_of};
 ghost use Rattle.commit_log.specs.Entries.{encode_change, encode_chunk, encode_entry};
 ghost use Rattle.commit_log.specs.Entries.Entry.{Commit};
-ghost use Rattle.commit_log.specs.Kept.{change_to, listed};
+ghost use Rattle.commit_log.specs.Kept.{change_to};
+ghost use Rattle.historical_bitmap.specs.Changes.{listed};
 
 use crate::entry::{COMMIT, push_chunk};
 use crate::retained::RetainedChunks;

@@ -11,17 +11,20 @@ ghost use Rattle.bitmap_core.specs.PrunedBits.{PrunedBits, bit_len};
 ghost use Rattle.historical_bitmap.specs.Changes.{changed};
 ghost use Rattle.historical_bitmap.specs.History.{kept_under};
 ghost use Rattle.historical_bitmap.specs.View.{history_of};
-ghost use Rattle.commit_log.specs.Delta.{Brings, IsDeltaError, IsStep, StartsAt, as_delta_error, committed, decode_delta, delta_between, delta_of};
+ghost use Rattle.commit_log.specs.Delta.{Brings, FitsDelta, IsDeltaError, IsStep, StartsAt, committed, decode_delta, delta_between, delta_of};
 ghost use Rattle.commit_log.specs.Delta.{encode_delta, older_fields, view_delta};
+ghost use Rattle.commit_log.specs.Accepted.{Accepts};
 ghost use Rattle.commit_log.specs.Entries.{Gives};
+ghost use Rattle.commit_log.specs.Entries.Entry.{Commit};
 ghost use Rattle.commit_log.specs.Kept.{Kept, kept_of};
 ghost use Rattle.commit_log.specs.declared.deltas.DeltaError.TheVariants.{Memory};
 
-use crate::apply::apply_change;
+use crate::apply::apply_accepted;
 use crate::change::push_change;
+use crate::check::check_change;
 use crate::digest::{digest_of, digest_of_replaced};
 use crate::entry::{Change, read_change};
-use crate::error::{ApplyError, EntryError};
+use crate::error::EntryError;
 use bitmap_core::bitmap::Readable;
 use historical_bitmap::bitmap::historical::{AtCommit, ChangedChunks, CleanBitMap};
 use std::alloc::{AllocError, Global};
@@ -71,7 +74,7 @@ pub enum DeltaError {
 
 // The fields of a delta, as they are in its bytes.
 #[derive(Drop)]
-struct DeltaFields<'a> {
+pub(crate) struct DeltaFields<'a> {
     // The number of the older state.
     number: u64,
 
@@ -85,7 +88,7 @@ struct DeltaFields<'a> {
     replaced_digest: u64,
 
     // The change to the newer state.
-    change: Change<'a>,
+    pub(crate) change: Change<'a>,
 }
 
 // Appends what a delta from an older state begins with. After an error, a part of it may be appended.
@@ -250,13 +253,29 @@ fn starts_at<const N: usize>(bitmap: &CleanBitMap<N>, delta: &DeltaFields<'_>) -
     digest_of_replaced(current, delta.change.chunks) == delta.replaced_digest
 }
 
-// Returns why a delta was not applied, if its change was not.
-fn delta_error(error: ApplyError) -> DeltaError
-    ensures { result ≡ as_delta_error error }
+// Reads a delta, which is all of the bytes. It starts at the current state of the bitmap, which accepts its change.
+pub(crate) fn read_accepted<'a, const N: usize>(
+    bitmap: &CleanBitMap<N>,
+    bytes: &'a [u8],
+) -> Result<DeltaFields<'a>, DeltaError>
+    ensures fits { IfOk result (λ d. FitsDelta N (view_delta N d)) }
+    ensures encoded { IfOk result (λ d. bytes.now ≡ encode_delta N (view_delta N d)) }
+    ensures starts { IfOk result (λ d. StartsAt N (kept_of N bitmap.now) (view_delta N d)) }
+    ensures accepted { IfOk result (λ d. Accepts N (kept_of N bitmap.now)
+        (Commit (view_delta N d).change)) }
+    ensures error { IfErr result (λ e. IsDeltaError N (kept_of N bitmap.now) bytes.now e) }
 {
-    match error {
-        ApplyError::Entry(error) => DeltaError::Change(error),
-        ApplyError::Memory(error) => DeltaError::Memory(error),
+    let _ = bitmap.len();
+    let delta = match read_delta::<N>(bytes) {
+        Ok(delta) => delta,
+        Err(error) => return Err(error),
+    };
+    if !starts_at(bitmap, &delta) {
+        return Err(DeltaError::NotAtBase);
+    }
+    match check_change(bitmap, &delta.change) {
+        Ok(()) => Ok(delta),
+        Err(error) => Err(DeltaError::Change(error)),
     }
 }
 
@@ -304,15 +323,12 @@ pub fn apply_delta<const N: usize>(
         (λ e. e.1 ≡ Memory alloc_error) }
 {
     let _ = bitmap.len();
-    let delta = match read_delta::<N>(bytes) {
+    let delta = match read_accepted(&bitmap, bytes) {
         Ok(delta) => delta,
         Err(error) => return Err((bitmap, error)),
     };
-    if !starts_at(&bitmap, &delta) {
-        return Err((bitmap, DeltaError::NotAtBase));
-    }
-    match apply_change(bitmap, &delta.change) {
+    match apply_accepted(bitmap, &delta.change) {
         Ok(bitmap) => Ok(bitmap),
-        Err((bitmap, error)) => Err((bitmap, delta_error(error))),
+        Err((bitmap, error)) => Err((bitmap, DeltaError::Memory(error))),
     }
 }

@@ -8,20 +8,21 @@
 ghost use Rattle.std.specs.Prelude.{◌≡◌, ◌^◌, ◌<◌, ◌++◌, ◌∷◌, [], length, take, is_some, unwrap_or, IfOk, IfErr, OnOk, OnErr, alloc_error, if◌then◌else◌};
 ghost use Rattle.std.specs.Int.{w64, to_be_bytes};
 ghost use Rattle.std.specs.List.{flat_map};
-ghost use Rattle.historical_bitmap.specs.Changes.{changed};
+ghost use Rattle.historical_bitmap.specs.Changes.{changed, listed};
 ghost use Rattle.historical_bitmap.specs.History.{kept_under, up_to_number};
 ghost use Rattle.historical_bitmap.specs.View.{AddsCost, commit_error, costs_of, history_of, pending_of};
 ghost use Rattle.historical_bitmap.specs.declared.bitmap.historical.error.Error.TheVariants as commit_errors;
 ghost use Rattle.historical_bitmap.specs.declared.bitmap.historical.error.RewindError.TheVariants.{Memory, NoSuchCommit};
 ghost use Rattle.commit_log.specs.Entries.{encode_chunk, encode_entry};
 ghost use Rattle.commit_log.specs.Entries.Entry.{Clear, DropBefore, Rewind};
-ghost use Rattle.commit_log.specs.Kept.{after, entry_of_commit, kept_of, listed};
+ghost use Rattle.commit_log.specs.Kept.{after, entry_of_commit, kept_of};
 ghost use Rattle.commit_log.specs.Logs.{MayFollow, appended, framed};
 
-use crate::calls::{clear_is_an_entry, commit_is_an_entry, drop_is_an_entry, rewind_is_an_entry};
-use crate::check::accepts_number;
+use crate::calls::{clear_is_an_entry, drop_is_an_entry, rewind_is_an_entry};
 use crate::entry::{CLEAR, COMMIT, DROP_BEFORE, REWIND, push_chunk};
-use historical_bitmap::bitmap::historical::{CleanBitMap, DirtyBitMap, Error, RewindError};
+use historical_bitmap::bitmap::historical::{
+    CleanBitMap, DirtyBitMap, Error, PreparedBitMap, RewindError,
+};
 use log_frames::{Place, push_frame};
 use std::alloc::{AllocError, Global};
 use std::marker::Model;
@@ -29,8 +30,8 @@ use std::mem;
 
 /// The end of the log of a historical bitmap: the bytes that were appended to it and not taken yet, and the place after them.
 ///
-/// [`commit_logged`], [`rewind_logged`], [`drop_before_logged`] and [`clear_logged`] append to it. A program writes [`bytes`](Log::bytes) to its
-/// file, and then calls [`forget`](Log::forget). `N` is the number of bytes of a chunk of the bitmap.
+/// [`commit_logged`], [`rewind_logged`], [`drop_before_logged`], [`clear_logged`] and [`apply_delta_logged`](crate::apply_delta_logged) append to
+/// it. A program writes [`bytes`](Log::bytes) to its file, and then calls [`forget`](Log::forget). `N` is the number of bytes of a chunk of the bitmap.
 #[derive(Debug, Drop)]
 pub struct Log<const N: usize> {
     // The bytes that were appended and not taken yet.
@@ -109,15 +110,28 @@ impl<const N: usize> Log<N> {
         mem::replace(&mut self.bytes, none)
     }
 
-    // Appends the entry of a commit of a batch.
-    fn push_commit(&mut self, batch: &DirtyBitMap<N>, number: u64) -> Result<(), AllocError>
+    // Appends the entry of a prepared commit.
+    fn push_commit(&mut self, prepared: &PreparedBitMap<N>) -> Result<(), AllocError>
         ensures ok { OnOk result (self.new
-            ≡ appended self.old (entry_of_commit N batch.now number)) }
+            ≡ appended self.old (entry_of_commit N prepared.now.batch prepared.now.number)) }
         ensures small { OnOk result (length
-            (encode_entry (entry_of_commit N batch.now number)) < 2 ^ 64) }
+            (encode_entry (entry_of_commit N prepared.now.batch prepared.now.number)) < 2 ^ 64) }
         ensures err { OnErr result (self.new ≡ self.old) }
     {
-        encode_commit(&mut self.scratch, batch, number)?;
+        encode_commit(&mut self.scratch, prepared)?;
+        self.place = push_frame(&mut self.bytes, self.place, &self.scratch)?;
+        Ok(())
+    }
+
+    // Appends the entry of a commit, of whose change these bytes are the encoding.
+    pub(crate) fn push_encoded_change(&mut self, change: &[u8]) -> Result<(), AllocError>
+        ensures ok { OnOk result (self.new ≡ framed self.old (1 ∷ change.now)) }
+        ensures small { OnOk result (length (1 ∷ change.now) < 2 ^ 64) }
+        ensures err { OnErr result (self.new ≡ self.old) }
+    {
+        self.scratch.clear();
+        self.scratch.push(COMMIT)?;
+        self.scratch.extend_from_slice(change)?;
         self.place = push_frame(&mut self.bytes, self.place, &self.scratch)?;
         Ok(())
     }
@@ -143,8 +157,15 @@ impl<const N: usize> Log<N> {
         Ok(())
     }
 
+    // Returns the place after the bytes.
+    pub(crate) fn place(&self) -> Place
+        ensures { result ≡ self.now.place }
+    {
+        self.place
+    }
+
     // Removes the bytes after the first `len`, at whose end the log has this place.
-    fn cut_back(&mut self, len: usize, place: Place)
+    pub(crate) fn cut_back(&mut self, len: usize, place: Place)
         ensures { self.new ≡ record { bytes = take len self.old.bytes; place = place } }
     {
         self.bytes.truncate(len);
@@ -152,36 +173,37 @@ impl<const N: usize> Log<N> {
     }
 }
 
-// Appends the chunks that the batch changes and that the pending bitmap retains, each with its index.
-fn push_changed<const N: usize>(out: &mut Vec<u8>, batch: &DirtyBitMap<N>) -> Result<(), AllocError>
-    ensures { OnOk result (let new = pending_of N batch.now in out.new.items
-        ≡ out.old.items ++ flat_map encode_chunk (listed N new (changed N batch.now.current new))) }
+// Appends the chunks that a prepared commit changes and that the pending bitmap retains, each with its index.
+fn push_changed<const N: usize>(
+    out: &mut Vec<u8>,
+    prepared: &PreparedBitMap<N>,
+) -> Result<(), AllocError>
+    ensures { OnOk result (let new = pending_of N prepared.now.batch in out.new.items
+        ≡ out.old.items ++ flat_map encode_chunk
+        (listed N new (changed N prepared.now.batch.current new))) }
 {
-    let _ = batch.len();
-    let mut changes = batch.changed_chunks();
-    while let Some(chunk) = changes.next() {
-        if let Some(bytes) = batch.retained_bytes(chunk) {
-            push_chunk(out, chunk as u64, &bytes)?;
-        }
+    let mut changes = prepared.changed_chunks();
+    while let Some(change) = changes.next() {
+        push_chunk(out, change.0 as u64, &change.1)?;
     }
     Ok(())
 }
 
-// Replaces the bytes of `out` by the encoding of the entry of a commit of a batch.
+// Replaces the bytes of `out` by the encoding of the entry of a prepared commit.
 #[tactic(auto, unfolding(crate::specs::Entries::encode_entry, crate::specs::Entries::encode_change))]
 fn encode_commit<const N: usize>(
     out: &mut Vec<u8>,
-    batch: &DirtyBitMap<N>,
-    number: u64,
+    prepared: &PreparedBitMap<N>,
 ) -> Result<(), AllocError>
-    ensures { OnOk result (out.new.items ≡ encode_entry (entry_of_commit N batch.now number)) }
+    ensures { OnOk result (out.new.items
+        ≡ encode_entry (entry_of_commit N prepared.now.batch prepared.now.number)) }
 {
     out.clear();
     out.push(COMMIT)?;
-    out.extend_from_slice(&number.to_be_bytes())?;
-    out.extend_from_slice(&batch.len().to_be_bytes())?;
-    out.extend_from_slice(&(batch.pruned_chunks() as u64).to_be_bytes())?;
-    push_changed(out, batch)
+    out.extend_from_slice(&prepared.number().to_be_bytes())?;
+    out.extend_from_slice(&prepared.pending_len().to_be_bytes())?;
+    out.extend_from_slice(&(prepared.pending_pruned_chunks() as u64).to_be_bytes())?;
+    push_changed(out, prepared)
 }
 
 /// Commits a batch, as `commit` does, and appends the entry of the commit to the log.
@@ -195,7 +217,8 @@ fn encode_commit<const N: usize>(
 /// so allocates only for an entry that is longer than those before it.
 ///
 /// # Complexity
-/// As `commit`, and linear in the bytes of the marked chunks, with a few searches among the edited chunks for each one. Amortized, if it allocates.
+/// As `commit`, and linear in the bytes of the marked chunks, with at most one search among the edited chunks for each one. Amortized, if it
+/// allocates.
 pub fn commit_logged<const N: usize>(
     batch: DirtyBitMap<N>,
     number: u64,
@@ -221,22 +244,12 @@ pub fn commit_logged<const N: usize>(
     ensures unchanged { IfErr result (λ e. e.0 ≡ batch.entry) }
 {
     let _ = batch.len();
-    if !accepts_number(batch.last_number(), number) {
-        // The commit fails, and returns the error of the number.
-        return commit_is_an_entry(batch, number);
-    }
-    let len = log.bytes().len();
-    let place = log.place;
-    let Ok(()) = log.push_commit(&batch, number) else {
-        return Err((batch, Error::Memory(AllocError)));
+    let _ = batch.newly_pruned_chunks();
+    let prepared = batch.prepare(number)?;
+    let Ok(()) = log.push_commit(&prepared) else {
+        return Err((prepared.into_dirty(), Error::Memory(AllocError)));
     };
-    match commit_is_an_entry(batch, number) {
-        Ok(bitmap) => Ok(bitmap),
-        Err(refused) => {
-            log.cut_back(len, place);
-            Err(refused)
-        }
-    }
+    Ok(prepared.commit())
 }
 
 /// Rewinds a bitmap to a kept commit, as `rewind_to` does, and appends the entry of the rewind to the log.

@@ -8,7 +8,8 @@ ghost use Rattle.commit_log.specs.Base.{encode_base};
 ghost use Rattle.commit_log.specs.Entries.{encode_entry};
 ghost use Rattle.commit_log.specs.Entries.Entry.{Commit};
 ghost use Rattle.commit_log.specs.History.{IsSizeOf, history_base, history_bytes};
-ghost use Rattle.commit_log.specs.Kept.{change_to, kept_of, listed};
+ghost use Rattle.commit_log.specs.Kept.{change_to, kept_of};
+ghost use Rattle.historical_bitmap.specs.Changes.{listed};
 
 use crate::retained::RetainedChunks;
 use bitmap_core::bitmap::Readable;

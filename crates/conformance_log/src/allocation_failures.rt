@@ -6,14 +6,15 @@
 use crate::checked_calls::is_log;
 use crate::checks::{equal, expect};
 use crate::states::{
-    batch_begun, both, is_after_five, is_after_one, is_both, is_newer, is_older, logged_twice,
-    older,
+    batch_begun, both, is_after_five, is_after_one, is_both, is_newer, is_newer_log, is_older,
+    is_older_log, logged_twice, older, older_logged,
 };
 use crate::worked_bytes::{DELTA, HISTORY, LOG};
 use bitmap_core::bitmap::codec::RangeCfg;
 use commit_log::{
-    DeltaError, HistoryError, Log, RecoverError, Recovered, apply_delta, clear_logged,
-    commit_logged, delta, drop_before_logged, read_history, recover, rewind_logged, write_history,
+    DeltaError, HistoryError, Log, RecoverError, Recovered, apply_delta, apply_delta_logged,
+    clear_logged, commit_logged, delta, drop_before_logged, read_history, recover, rewind_logged,
+    write_history,
 };
 use historical_bitmap::bitmap::historical::{CleanBitMap, DirtyBitMap, Error, RewindError};
 use std::alloc::{AllocError, Global};
@@ -289,6 +290,38 @@ fn delta_applied(rt: HostRuntime) {
                 Err((map, why)) => {
                     expect(&rt, why == DeltaError::Memory(AllocError));
                     expect(&rt, is_older(&map));
+                }
+            }
+        }
+    }
+}
+
+// The replica is at the older state, and its log has no entry of the delta.
+fn check_older(rt: &impl Abort, map: &CleanBitMap<3>, log: &Log<3>) {
+    expect(rt, is_older(map) && is_older_log(log));
+}
+
+// The replica is at the newer state, and its log has the entry of the delta.
+fn check_newer(rt: &impl Abort, map: &CleanBitMap<3>, log: &Log<3>) {
+    expect(rt, is_both(map) && is_newer_log(log));
+}
+
+// After a failed delta the replica and its log are as they were, and the delta can be applied again.
+#[test]
+fn delta_appended(rt: HostRuntime) {
+    let Some((map, mut log)) = older_logged(&rt, rt.alloc()) else {
+        return;
+    };
+    match apply_delta_logged(map, DELTA, &mut log) {
+        Ok(map) => check_newer(&rt, &map, &log),
+        Err((map, why)) => {
+            expect(&rt, why == DeltaError::Memory(AllocError));
+            check_older(&rt, &map, &log);
+            match apply_delta_logged(map, DELTA, &mut log) {
+                Ok(map) => check_newer(&rt, &map, &log),
+                Err((map, why)) => {
+                    expect(&rt, why == DeltaError::Memory(AllocError));
+                    check_older(&rt, &map, &log);
                 }
             }
         }

@@ -4,6 +4,7 @@ use crate::checked_calls::{
     had_bits, keeps, try_commit, try_commit_logged, try_prune_to_bit, try_push_digits,
     try_set_chunk,
 };
+use crate::worked_bytes::HISTORY;
 use commit_log::Log;
 use historical_bitmap::bitmap::historical::{CleanBitMap, DirtyBitMap};
 use std::alloc::Global;
@@ -64,6 +65,13 @@ pub fn older(rt: &impl Abort, alloc: Global) -> Option<CleanBitMap<3>> {
     try_commit(rt, batch, 2).ok()
 }
 
+/// Returns the bitmap of the worked history after commit 2, and a log that begins with it.
+pub fn older_logged(rt: &impl Abort, alloc: Global) -> Option<(CleanBitMap<3>, Log<3>)> {
+    let map = older(rt, alloc)?;
+    let log = Log::begin(alloc, &map).ok()?;
+    Some((map, log))
+}
+
 /// Returns the bitmap of the worked history.
 pub fn both(rt: &impl Abort, alloc: Global) -> Option<CleanBitMap<3>> {
     let mut batch = older(rt, alloc)?.into_dirty();
@@ -90,4 +98,17 @@ pub fn is_newer(map: &CleanBitMap<3>, numbers: &[u64]) -> bool {
 /// Returns whether a bitmap is that of the worked history.
 pub fn is_both(map: &CleanBitMap<3>) -> bool {
     is_newer(map, &[2, 9]) && had_bits(map, 2, 0, OLDER) && had_bits(map, 9, 1, NEWER)
+}
+
+/// Returns whether a log begins with the worked history after commit 2, and has no entry. The digest is worked out by hand.
+pub fn is_older_log(log: &Log<3>) -> bool {
+    log.bytes().len() == 99 && log.position() == 99 && log.digest() == 0x5d5bb04d7efaea63
+}
+
+/// Returns whether a log has one entry after that, which is the entry of commit 9 in the worked history. The digest is worked out by hand.
+pub fn is_newer_log(log: &Log<3>) -> bool {
+    log.bytes().get(99..162) == HISTORY.as_slice().get(99..162)
+        && log.bytes().len() == 170
+        && log.position() == 170
+        && log.digest() == 0x9994a89b2c0a452d
 }

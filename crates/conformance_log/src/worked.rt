@@ -3,19 +3,20 @@
 use crate::checked_calls::{had_bits, is_log, keeps};
 use crate::checks::{equal, expect, ok};
 use crate::states::{
-    both, is_after_five, is_after_one, is_both, is_newer, is_older, logged_once, logged_twice,
-    older,
+    both, is_after_five, is_after_one, is_both, is_newer, is_newer_log, is_older, is_older_log,
+    logged_once, logged_twice, older, older_logged,
 };
 use crate::worked_bytes::{DELTA, HISTORY, LOG};
 use bitmap_core::bitmap::codec::RangeCfg;
 use commit_log::{
-    Change, DeltaError, HistoryError, Log, RecoverError, Recovered, apply_change, apply_delta,
-    clear_logged, delta, drop_before_logged, history_size, read_history, recover, rewind_logged,
-    write_history,
+    Change, DeltaError, EntryError, HistoryError, Log, RecoverError, Recovered, apply_change,
+    apply_delta, apply_delta_logged, clear_logged, delta, drop_before_logged, history_size,
+    read_history, recover, rewind_logged, write_history,
 };
 use historical_bitmap::bitmap::historical::CleanBitMap;
 use log_frames::{HeaderError, Place, push_frame};
 use std::alloc::Global;
+use std::hash::{DefaultHasher, Hasher};
 use std::process::Abort;
 use test_support::compare::has_bits;
 
@@ -147,6 +148,63 @@ fn delta_applied(rt: HostRuntime) {
     map.clear_history();
     let map = ok(&rt, apply_delta(map, DELTA));
     expect(&rt, is_newer(&map, &[9]));
+}
+
+// A replica whose log begins with the older state appends the entry of the commit, as the worked history has it.
+#[test]
+fn delta_logged(rt: HostRuntime) {
+    let Some((map, mut log)) = older_logged(&rt, rt.alloc()) else {
+        panic!(rt; "out of memory");
+    };
+    expect(&rt, is_older_log(&log));
+    let map = ok(&rt, apply_delta_logged(map, DELTA, &mut log));
+    expect(&rt, is_both(&map) && is_newer_log(&log));
+    let found = ok(&rt, recover::<3>(rt.alloc(), log.bytes()));
+    expect(&rt, is_both(&found.bitmap) && ends_at(&found, 170, false));
+}
+
+// Bytes that are no delta from the older state leave it and its log as they are.
+fn check_not_logged(rt: &impl Abort, alloc: Global, bytes: &[u8], error: DeltaError) {
+    let Some((map, mut log)) = older_logged(rt, alloc) else {
+        panic!(rt; "out of memory");
+    };
+    let Err((map, why)) = apply_delta_logged(map, bytes, &mut log) else {
+        panic!(rt; "the bytes are applied");
+    };
+    expect(rt, why == error);
+    expect(rt, is_older(&map) && is_older_log(&log));
+}
+
+// The worked delta with another byte at one place, and the digest of its bytes.
+fn delta_with(rt: &impl Abort, alloc: Global, place: usize, byte: u8) -> Vec<u8> {
+    let mut bytes = Vec::new(alloc);
+    ok(rt, bytes.extend_from_slice(&DELTA[..102]));
+    if let Some(old) = bytes.get_mut(place) {
+        *old = byte;
+    }
+    let mut hasher = DefaultHasher::new();
+    hasher.write(&bytes);
+    ok(rt, bytes.extend_from_slice(&hasher.finish().to_be_bytes()));
+    bytes
+}
+
+// Each error of a delta: of the bytes, of the older state, and of the change.
+#[test]
+fn delta_not_logged(rt: HostRuntime) {
+    check_not_logged(&rt, rt.alloc(), &DELTA[..87], DeltaError::Short);
+    check_not_logged(&rt, rt.alloc(), &DELTA[..109], DeltaError::BadDigest);
+    for (place, byte, error) in [
+        (7, b'B', DeltaError::NotADelta),
+        (15, 2, DeltaError::Version(2)),
+        (23, 4, DeltaError::Width(4)),
+        (31, 1, DeltaError::NotAtBase),
+        (63, 2, DeltaError::Change(EntryError::Number)),
+        (71, 16, DeltaError::Change(EntryError::Length)),
+        (98, 9, DeltaError::Change(EntryError::Chunks)),
+    ] {
+        let bytes = delta_with(&rt, rt.alloc(), place, byte);
+        check_not_logged(&rt, rt.alloc(), &bytes, error);
+    }
 }
 
 // The error of reading a log of width 1.

@@ -3,11 +3,11 @@
 ghost use Rattle.std.specs.Prelude.{◌≡◌, ◌++◌, ◌∷◌, [], IfOk, OnOk};
 ghost use Rattle.std.specs.Int.{w64, to_be_bytes};
 ghost use Rattle.std.specs.List.{flat_map};
-ghost use Rattle.historical_bitmap.specs.Changes.{changed};
+ghost use Rattle.historical_bitmap.specs.Changes.{changed, listed};
 ghost use Rattle.historical_bitmap.specs.View.{pending_of};
 ghost use Rattle.commit_log.specs.Entries.{encode_chunk, encode_entry};
 ghost use Rattle.commit_log.specs.Entries.Entry.{Clear, DropBefore, Rewind};
-ghost use Rattle.commit_log.specs.Kept.{entry_of_commit, listed};
+ghost use Rattle.commit_log.specs.Kept.{entry_of_commit};
 
 use commit_log::push_chunk;
 use historical_bitmap::bitmap::historical::DirtyBitMap;

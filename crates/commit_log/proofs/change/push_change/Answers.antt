@@ -3,7 +3,7 @@ use Rattle.std.specs.Int.{w64, to_be_bytes}
 use Rattle.std.specs.List.{flat_map}
 use Rattle.log_frames.proofs.Frames.{four}
 use Rattle.commit_log.specs.Entries.{encode_change, encode_chunk}
-use Rattle.commit_log.specs.Kept.{listed}
+use Rattle.historical_bitmap.specs.Changes.{listed}
 use Rattle.commit_log.proofs.change.push_change.Goals as goal
 
 pub returns : goal.returns

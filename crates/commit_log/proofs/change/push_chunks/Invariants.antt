@@ -1,7 +1,7 @@
 use Rattle.std.proofs.Common.{◌≡◌, ◌++◌, length}
 use Rattle.std.specs.List.{flat_map}
 use Rattle.commit_log.specs.Entries.{encode_chunk}
-use Rattle.commit_log.specs.Kept.{listed}
+use Rattle.historical_bitmap.specs.Changes.{listed}
 use Rattle.commit_log.proofs.change.push_chunks.Given as goal
 
 -- what is appended, and the chunks that are left, are all chunks

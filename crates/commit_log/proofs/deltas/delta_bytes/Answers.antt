@@ -5,7 +5,7 @@ use Rattle.log_frames.specs.Digest.{digest}
 use Rattle.log_frames.specs.Frames.{be64}
 use Rattle.commit_log.specs.Delta.{encode_delta, replaced}
 use Rattle.commit_log.specs.Entries.{Change}
-use Rattle.commit_log.specs.Kept.{listed}
+use Rattle.historical_bitmap.specs.Changes.{listed}
 use Rattle.commit_log.proofs.DeltaBytes.{begun, finished, length-out, replaced_is}
 use Rattle.commit_log.proofs.Fits.{listed_fits}
 use Rattle.commit_log.proofs.deltas.delta_bytes.Goals as goal

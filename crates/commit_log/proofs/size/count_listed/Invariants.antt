@@ -1,5 +1,5 @@
 use Rattle.std.proofs.Common.{◌≡◌, ◌+◌, ◌^◌, ◌<◌, length}
-use Rattle.commit_log.specs.Kept.{listed}
+use Rattle.historical_bitmap.specs.Changes.{listed}
 use Rattle.commit_log.proofs.size.count_listed.Given as goal
 
 -- the chunks that are counted, and those that are left, are all chunks

@@ -1,9 +1,8 @@
 use Rattle.std.proofs.Common.{◌≡◌, ◌++◌, length}
 use Rattle.std.specs.List.{flat_map}
-use Rattle.historical_bitmap.specs.Changes.{changed}
+use Rattle.historical_bitmap.specs.Changes.{changed, listed}
 use Rattle.historical_bitmap.specs.View.{pending_of}
 use Rattle.commit_log.specs.Entries.{encode_chunk}
-use Rattle.commit_log.specs.Kept.{listed}
 use Rattle.log_store.proofs.encoding.push_changed.Given as goal
 
 -- what is written, and the chunks that are left, are all chunks

@@ -6,4 +6,4 @@ use Rattle.commit_log.proofs.log.Log.push_commit.Goals as goal
 pub push_frame-requires : goal.push_frame-requires
 push_frame-requires g c =
     let same = ap length (c.deref.ensures.value ∙ c.in_ok-encode_commit.ensures) in
-    omega (arith, same, entry_some (entry_of_commit g.row.N c.args.batch.now c.args.number))
+    omega (arith, same, entry_some (entry_of_commit g.row.N c.args.prepared.now.batch c.args.prepared.now.number))
