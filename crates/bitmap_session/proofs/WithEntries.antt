@@ -1,6 +1,6 @@
 -- A command that is run with its entry is a step of the machine, and the entry makes of what is kept what the step does.
 use Rattle.std.proofs.Common.{◌≡◌, ℕ, List, [], ◌∷◌, ◌++◌, Bool, true, false, Option, Some, None, Result, Ok, Err, refl, sym, ap, subst, ◌∙◌, append_assoc, append-nil, inl, inr}
-use Rattle.std.specs.Prelude.{⊤, IfOk, IsTrue, OnErr, MatchOption, ◌⊎◌, alloc_error, if◌then◌else◌, is_some, unwrap_or}
+use Rattle.std.specs.Prelude.{⊤, IfErr, IfOk, IsTrue, OnErr, OnOk, MatchOption, take, ◌⊎◌, alloc_error, if◌then◌else◌, is_some, unwrap_or}
 use Rattle.std.proofs.lemmas.Bool.{false≢true}
 use Rattle.historical_bitmap.specs.History.{kept_under, up_to_number}
 use Rattle.historical_bitmap.specs.Pending.{PendingEdits}
@@ -12,19 +12,25 @@ use Rattle.log_frames.specs.declared.frame.Place.{Place}
 use Rattle.commit_log.specs.Base.{Base}
 use Rattle.commit_log.specs.Entries.{Entry, encode_entry}
 use Rattle.commit_log.specs.History.{history_base, history_bytes, history_entries, history_place}
-use Rattle.commit_log.specs.Kept.{Kept, after, after_all, entry_of_commit, kept_of}
+use Rattle.commit_log.specs.Kept.{Kept, after, after_all, entry_of_commit, entry_to, kept_of}
 use Rattle.commit_log.specs.Logs.{GoesOn, IsLog, LogView, MayFollow, appended, log_bytes, place_of, state_of}
 use Rattle.commit_log.proofs.Appended.{IsLog-push, log_bytes-push, place_of-push, state_of-push}
 use Rattle.bitmap_session.specs.declared.command.Command.{Command}
 use Rattle.bitmap_session.specs.declared.command.Command.TheVariants.{Start, Begin, Push, PushByte, PushChunk, Pop, Set, Prune, Commit, Abort, Rewind, Len, PrunedChunks, Get, Chunk, Ones, Encode, At, OnesAt, EncodeAt, Decode, Commits, Exists, Latest, Earliest, DropBefore, Clear, Entries}
+use Rattle.bitmap_session.specs.declared.reply.Refusal.{Refusal as SetRefusal}
 use Rattle.bitmap_session.specs.declared.reply.Reply.{Reply}
+use Rattle.bitmap_session.specs.declared.session.saved.ApplyDeltaError.{ApplyDeltaError}
+use Rattle.bitmap_session.specs.declared.session.saved.ApplyDeltaError.TheVariants.{InBatch}
 use Rattle.bitmap_session.specs.Replies.{ReplyValue, Refusal}
 use Rattle.bitmap_session.specs.Replies.ReplyValue.{Done, Refused}
 use Rattle.bitmap_session.specs.Replies.Refusal.{NoMemory}
-use Rattle.bitmap_session.specs.Abstraction.{clean, dirty, reason_of, reason_of_rewind, value_of}
-use Rattle.bitmap_session.specs.Logged.{IsLogged, LoggedView, Serves, accepted_entries, appended_all, entries_of, is_refused}
-use Rattle.bitmap_session.specs.Machine.{Machine, State, Accepts, Agrees, Refuses, StepTo, allocates, is_dirty, refusal_of, state_after}
+use Rattle.bitmap_session.specs.Abstraction.{clean, dirty, reason, reason_of, reason_of_rewind, value_of}
+use Rattle.bitmap_session.specs.Logged.{IsLogged, LoggedView, LogsDelta, Serves, accepted_entries, appended_all, entries_of, is_refused}
+use Rattle.bitmap_session.specs.Edits.{EditCall, EditsTo, Makes, set_steps, stopped_steps}
+use Rattle.bitmap_session.specs.Laws.{StepsOn}
+use Rattle.bitmap_session.specs.Machine.{Machine, State, Accepts, Agrees, Refuses, StepTo, allocates, first, is_dirty, refusal_of, state_after, wants_batch}
 use Rattle.bitmap_session.specs.Saved.{kept_part}
+use Rattle.bitmap_session.proofs.Saved.{none_applied}
 use Rattle.bitmap_session.proofs.Steps.{not_committed, not_rewound, rewound_as, was_committed}
 
 -- ---- commands without an entry
@@ -357,3 +363,80 @@ pub result_logged : {E : Type 0} (n : ℕ) (taken : List ℕ) (old new : LoggedV
 result_logged n taken old new command (Ok reply) served machine log h = serves_logged n taken old new command (value_of reply) served h
 result_logged n taken old new command (Err e) served machine log h =
     is_logged n taken new old.log (kept_part old.machine.state) (logs_kept n taken old h) log (ap (λ (m : Machine). kept_part m.state) machine)
+
+-- ---- deltas
+
+-- in a batch no delta is applied, and the log is left
+pub none_logged_delta : {T : Type 0} (n : ℕ) (bytes : List ℕ) (v : View PendingEdits) (log : LogView) (m : Machine) → dirty n v ≡ m
+    → LogsDelta {T = T} n bytes (record { machine = m; log = log }) (Err InBatch) (record { machine = dirty n v; log = log })
+none_logged_delta {T = T} n bytes v log m e =
+    record { applied = none_applied {T = T} n bytes v m e; log = tt; follows = tt; kept = tt; unlogged = refl }
+
+-- what is logged before a delta is applied is logged after it
+pub delta_logged : {T : Type 0} (n : ℕ) (taken bytes : List ℕ) (old new : LoggedView) (r : Result T ApplyDeltaError)
+    → LogsDelta n bytes old r new
+    → IsLogged n taken old
+    → IsLogged n taken new
+delta_logged n taken bytes old new (Ok x) d h =
+    let s = kept_part old.machine.state in
+    let e = entry_to n s (kept_part new.machine.state) in
+    is_logged n taken new (appended old.log e) (after n s e) (logs_one n taken old.log s e (logs_kept n taken old h) d.follows) d.log d.kept
+delta_logged n taken bytes old new (Err e) d h =
+    is_logged n taken new old.log (kept_part old.machine.state) (logs_kept n taken old h) d.unlogged (ap (λ (m : Machine). kept_part m.state) d.applied.unchanged)
+
+-- ---- edits
+
+edited_by : (n : ℕ) (old new : Machine) (call : State → EditCall) (why refused : Option Refusal)
+    → MatchOption refused
+    (((why ≡ None) × Makes n old (call old.state).edits new) ⊎ (IsTrue (call old.state).allocates × (why ≡ Some NoMemory) × (new ≡ old)))
+    (λ refusal. (why ≡ Some refusal) × (new ≡ old))
+    → kept_part new.state ≡ kept_part old.state
+edited_by n old new call why (Some refusal) h = ap (λ (m : Machine). kept_part m.state) h.1
+edited_by n old new call why None (inl h) = ap (λ (s : State). kept_part s) h.1.agrees.same
+edited_by n old new call why None (inr h) = ap (λ (m : Machine). kept_part m.state) h.2
+
+-- what is logged before an edit is logged after it
+pub edits_logged : (n : ℕ) (taken : List ℕ) (old new : LoggedView) (call : State → EditCall) (why : Option Refusal)
+    → EditsTo n old.machine call why new.machine
+    → new.log ≡ old.log
+    → IsLogged n taken old
+    → IsLogged n taken new
+edits_logged n taken old new call why edits log h =
+    let s = old.machine.state in
+    is_logged n taken new old.log (kept_part s) (logs_kept n taken old h) log (edited_by n old.machine new.machine call why (first (wants_batch s ∷ (call s).refusals)) edits)
+
+set_kept : (n position : ℕ) (value : Bool) (reply : ReplyValue) (old new : Machine)
+    → StepTo n Agrees old (Set position value) reply new
+    → kept_part new.state ≡ kept_part old.state
+set_kept n position value reply old new step =
+    kept_by n old (Set position value) reply new (refusal_of n old.state (Set position value)) (λ cost. refl) step
+
+sets_kept : (n : ℕ) (positions : List ℕ) (value : Bool) (old new : Machine)
+    → StepsOn n old (set_steps n positions value) new
+    → kept_part new.state ≡ kept_part old.state
+sets_kept n [] value old new h = ap (λ (m : Machine). kept_part m.state) h
+sets_kept n (p ∷ ps) value old new h = sets_kept n ps value h.0 new h.2 ∙ set_kept n p value Done old h.0 h.1
+
+stopped_kept : (n : ℕ) (positions : List ℕ) (value : Bool) (last : ℕ) (reply : ReplyValue) (old new : Machine)
+    → StepsOn n old (set_steps n positions value ++ (Set last value, reply) ∷ []) new
+    → kept_part new.state ≡ kept_part old.state
+stopped_kept n [] value last reply old new h =
+    ap (λ (m : Machine). kept_part m.state) h.2 ∙ set_kept n last value reply old h.0 h.1
+stopped_kept n (p ∷ ps) value last reply old new h = stopped_kept n ps value last reply h.0 new h.2 ∙ set_kept n p value Done old h.0 h.1
+
+many_kept : (n : ℕ) (positions : List ℕ) (value : Bool) (old new : Machine) (r : Result (Unit {0}) (ℕ × SetRefusal))
+    → OnOk r (StepsOn n old (set_steps n positions value) new)
+    → IfErr r (λ e. StepsOn n old (stopped_steps n positions value e.0 (reason e.1)) new)
+    → kept_part new.state ≡ kept_part old.state
+many_kept n positions value old new (Ok x) all stopped = sets_kept n positions value old new all
+many_kept n positions value old new (Err e) all stopped = stopped_kept n (take e.0 positions) value _ _ old new stopped
+
+-- what is logged before many bits are set is logged after it
+pub sets_logged : (n : ℕ) (taken positions : List ℕ) (value : Bool) (old new : LoggedView) (r : Result (Unit {0}) (ℕ × SetRefusal))
+    → OnOk r (StepsOn n old.machine (set_steps n positions value) new.machine)
+    → IfErr r (λ e. StepsOn n old.machine (stopped_steps n positions value e.0 (reason e.1)) new.machine)
+    → new.log ≡ old.log
+    → IsLogged n taken old
+    → IsLogged n taken new
+sets_logged n taken positions value old new r all stopped log h =
+    is_logged n taken new old.log (kept_part old.machine.state) (logs_kept n taken old h) log (many_kept n positions value old.machine new.machine r all stopped)

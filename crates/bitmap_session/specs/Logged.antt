@@ -1,16 +1,17 @@
 -- A session with its log: the entries of a command, and the log that the bytes of a session are. A chunk has n bytes.
-use Rattle.std.specs.Prelude.{◌≡◌, ◌⊎◌, ℕ, Bool, true, false, if◌then◌else◌, List, [], ◌∷◌, ◌++◌}
+use Rattle.std.specs.Prelude.{◌≡◌, ◌⊎◌, ℕ, Bool, true, false, if◌then◌else◌, List, [], ◌∷◌, ◌++◌, OnErr, OnOk, Result}
 use Rattle.commit_log.specs.Base.{Base}
 use Rattle.commit_log.specs.Entries.{Entry}
-use Rattle.commit_log.specs.Kept.{after_all, change_to}
-use Rattle.commit_log.specs.Logs.{GoesOn, IsLog, LogView, appended, log_bytes, place_of, state_of}
+use Rattle.commit_log.specs.Kept.{after, after_all, change_to, entry_to}
+use Rattle.commit_log.specs.Logs.{GoesOn, IsLog, LogView, MayFollow, appended, log_bytes, place_of, state_of}
 use Rattle.bitmap_session.specs.declared.command.Command.{Command}
 use Rattle.bitmap_session.specs.declared.command.Command.TheVariants.{Start, Begin, Push, PushByte, PushChunk, Pop, Set, Prune, Commit, Abort, Rewind, Len, PrunedChunks, Get, Chunk, Ones, Encode, At, OnesAt, EncodeAt, Decode, Commits, Exists, Latest, Earliest, DropBefore, Clear, Entries}
 use Rattle.bitmap_session.specs.declared.session.entries.LogError.{LogError}
 use Rattle.bitmap_session.specs.declared.session.entries.LogError.TheVariants as errors
 use Rattle.bitmap_session.specs.Machine.{Agrees, Machine, State, StepTo, is_dirty, shown}
 use Rattle.bitmap_session.specs.Replies.{ReplyValue, ReplyValue as replies}
-use Rattle.bitmap_session.specs.Saved.{kept_part}
+use Rattle.bitmap_session.specs.Saved.{AppliesDelta, kept_part}
+use Rattle.bitmap_session.specs.declared.session.saved.ApplyDeltaError.{ApplyDeltaError}
 
 -- a session with its log: the machine of the session, and what was appended to the log and not taken from it yet
 pub record LoggedView : Type 0 where
@@ -92,6 +93,17 @@ IsDrop command = ((number : ℕ) × (command ≡ DropBefore number)) ⊎ (comman
 abbrev pub IsLogError : (n : ℕ) → Machine → Command n → LogError → Type 0
 IsLogError n m command errors.NoEntry = (chunks : ℕ) × (command ≡ Start chunks)
 IsLogError n m command (errors.Memory e) = IsDrop command × (is_dirty m.state ≡ false)
+
+-- what applying bytes as a delta makes of a session with its log: what it makes of the session alone, and the entry of the commit at the end of the log, or neither
+pub record LogsDelta {T : Type 0} (n : ℕ) (bytes : List ℕ) (old : LoggedView) (r : Result T ApplyDeltaError) (new : LoggedView) : Type 0 where
+  pub applied : AppliesDelta n bytes old.machine r new.machine
+  pub log : OnOk r (new.log
+      ≡ appended old.log (entry_to n (kept_part old.machine.state) (kept_part new.machine.state)))
+  pub follows : OnOk r (MayFollow n (kept_part old.machine.state)
+      (entry_to n (kept_part old.machine.state) (kept_part new.machine.state)))
+  pub kept : OnOk r (kept_part new.machine.state
+      ≡ after n (kept_part old.machine.state) (entry_to n (kept_part old.machine.state) (kept_part new.machine.state)))
+  pub unlogged : OnErr r (new.log ≡ old.log)
 
 -- ---- what is logged
 

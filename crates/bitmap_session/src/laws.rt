@@ -17,9 +17,9 @@ ghost use Rattle.bitmap_session.specs.Laws.{HasRisingNumbers, LatestIsGreatest, 
 use crate::command::Command;
 use crate::logged::{LoggedSession, RecoveredSession};
 use crate::reply::Reply;
-use crate::session::{LogError, SaveError, Session};
+use crate::session::{ApplyDeltaError, LogError, SaveError, Session};
 use bitmap_core::bitmap::codec::RangeCfg;
-use commit_log::{HistoryError, RecoverError};
+use commit_log::{HistoryError, Log, RecoverError};
 use std::alloc::Global;
 
 /// States that consecutive runs are one run.
@@ -130,6 +130,44 @@ pub fn a_logged_session_goes_on<const N: usize>(
     ensures { (taken : List ℕ) → IsLogged N taken session.old → IsLogged N taken session.new }
 {
     session.serve(command)
+}
+
+/// Serves a command on a session whose log is apart from it.
+///
+/// Let the bytes that were taken from the log and those that were not be a log that makes what the session keeps, as after
+/// `Session::begin_log`. Then they are such a log afterwards too.
+///
+/// # Errors
+///
+/// Those of `Session::serve_with_entry`.
+pub fn a_log_apart_goes_on<const N: usize>(
+    session: &mut Session<N>,
+    command: &Command<N>,
+    log: &mut Log<N>,
+) -> Result<Reply<N>, LogError>
+    ensures { (taken : List ℕ) → IsLogged N taken (record { machine = session.old; log = log.old })
+        → IsLogged N taken (record { machine = session.new; log = log.new }) }
+{
+    session.serve_with_entry(command, log)
+}
+
+/// Applies a delta to a session whose log is apart from it.
+///
+/// Let the bytes that were taken from the log and those that were not be a log that makes what the session keeps, as after
+/// `Session::begin_log`. Then they are such a log afterwards too.
+///
+/// # Errors
+///
+/// Those of `Session::apply_delta_with_entry`.
+pub fn a_log_apart_goes_on_with_a_delta<const N: usize>(
+    session: &mut Session<N>,
+    bytes: &[u8],
+    log: &mut Log<N>,
+) -> Result<(), ApplyDeltaError>
+    ensures { (taken : List ℕ) → IsLogged N taken (record { machine = session.old; log = log.old })
+        → IsLogged N taken (record { machine = session.new; log = log.new }) }
+{
+    session.apply_delta_with_entry(bytes, log)
 }
 
 /// Recovers a session from the bytes of its log: those that were taken from it, and those that were not.

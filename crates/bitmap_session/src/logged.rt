@@ -1,9 +1,11 @@
 //! Sessions with a log: a session that is recovered after a crash from the bytes that its commands appended.
 //!
 //! A `LoggedSession` runs commands as a [`Session`] does. In addition, each accepted `Commit`, `Rewind`, `DropBefore` and `Clear` appends its
-//! entry to a log. The program writes [`bytes`](LoggedSession::bytes) to its file, and then calls [`forget`](LoggedSession::forget).
+//! entry to a log, and so does an applied delta. The program writes [`bytes`](LoggedSession::bytes) to its file, and then calls [`forget`](LoggedSession::forget).
 //! [`recover`](LoggedSession::recover) makes the session again from the file: outside a batch, with the same current bitmap, the same kept
 //! bitmaps under the same numbers, and the same last number. The edits of a batch that was not committed are lost.
+
+mod edits;
 
 ghost use Rattle.std.specs.Prelude.{◌≡◌, ℕ, ◌++◌, ◌≤◌, ◌<◌, [], List, Bool, false, length, take, if◌then◌else◌, IfErr, IfOk, IsErrOf, OnErr, OnOk, alloc_error};
 ghost use Rattle.std.specs.Bool.{Decides};
@@ -11,8 +13,8 @@ ghost use Rattle.bitmap_bytes.specs.Chunk.{IsWidth};
 ghost use Rattle.commit_log.specs.Base.{Base};
 ghost use Rattle.commit_log.specs.Entries.{Entry};
 ghost use Rattle.commit_log.specs.History.{history_bytes, history_place};
-ghost use Rattle.commit_log.specs.Kept.{Kept, after_all};
-ghost use Rattle.commit_log.specs.Logs.{GoesOn, IsLog, log_bytes, place_of, state_of};
+ghost use Rattle.commit_log.specs.Kept.{Kept, after, after_all, entry_to};
+ghost use Rattle.commit_log.specs.Logs.{GoesOn, IsLog, MayFollow, appended, log_bytes, place_of, state_of};
 ghost use Rattle.commit_log.specs.Recovered.{IsMadeIn, IsPrefixOf, IsRecoverError, Recovers};
 ghost use Rattle.commit_log.specs.declared.recovery.RecoverError.TheVariants.{Header, Memory, NoBase};
 ghost use Rattle.log_frames.specs.declared.frame.Place.{Place as LogPlace};
@@ -20,7 +22,7 @@ ghost use Rattle.log_frames.specs.declared.header.HeaderError.TheVariants.{Short
 ghost use Rattle.bitmap_session.specs.Abstraction.{value_of};
 ghost use Rattle.bitmap_session.specs.Logged.{IsLogError, IsLogged, appended_all, entries_of};
 ghost use Rattle.bitmap_session.specs.Machine.{Agrees, StepTo, is_dirty};
-ghost use Rattle.bitmap_session.specs.Saved.{IsOutside, kept_part};
+ghost use Rattle.bitmap_session.specs.Saved.{AppliesDelta, IsOutside, kept_part};
 ghost use Rattle.bitmap_session.specs.declared.command.Command.TheVariants.{Start};
 ghost use Rattle.bitmap_session.specs.declared.session.entries.LogError.TheVariants.{NoEntry};
 ghost use Rattle.bitmap_session.specs.declared.session.saved.SaveError.TheVariants.{InBatch};
@@ -28,7 +30,7 @@ ghost use Rattle.bitmap_session.specs.declared.session.saved.SaveError.TheVarian
 
 use crate::command::Command;
 use crate::reply::Reply;
-use crate::session::{LogError, SaveError, Session};
+use crate::session::{ApplyDeltaError, LogError, SaveError, Session};
 use commit_log::{Log, RecoverError};
 use std::alloc::Global;
 use std::marker::Model;
@@ -136,6 +138,40 @@ impl<const N: usize> LoggedSession<N> {
         self.session.serve_with_entry(command, &mut self.log)
     }
 
+    /// Applies a delta, which is all of the bytes, as [`Session::apply_delta`] does, and appends the entry of its commit to the log.
+    ///
+    /// The entry is the one that a `Commit` appends if it makes the same bitmap under the same number. What the session keeps afterwards is
+    /// what the entry makes of what it kept before.
+    ///
+    /// # Errors
+    ///
+    /// Those of [`Session::apply_delta`]. The error is also `Memory`, as `Delta`, if the session accepts the delta and the log would have 2^64
+    /// bytes or more. The session and its log are unchanged then.
+    ///
+    /// # Memory
+    ///
+    /// Allocates as `commit_log::apply_delta_logged`.
+    ///
+    /// # Complexity
+    ///
+    /// As `commit_log::apply_delta_logged`. In a batch, constant.
+    pub fn apply_delta(&mut self, bytes: &[u8]) -> Result<(), ApplyDeltaError>
+        ensures applied { AppliesDelta N bytes.now self.old.machine result self.new.machine }
+        ensures log { OnOk result (self.new.log ≡ appended self.old.log (entry_to N
+            (kept_part self.old.machine.state) (kept_part self.new.machine.state))) }
+        ensures follows { OnOk result (MayFollow N (kept_part self.old.machine.state) (entry_to N
+            (kept_part self.old.machine.state) (kept_part self.new.machine.state))) }
+        ensures kept { OnOk result (kept_part self.new.machine.state
+            ≡ after N (kept_part self.old.machine.state) (entry_to N
+            (kept_part self.old.machine.state) (kept_part self.new.machine.state))) }
+
+        // What is logged before is logged afterwards.
+        ensures logged { (taken : List ℕ) → IsLogged N taken self.old → IsLogged N taken self.new }
+        ensures unchanged { OnErr result (self.new ≡ self.old) }
+    {
+        self.session.apply_delta_with_entry(bytes, &mut self.log)
+    }
+
     /// Returns the session, to be read.
     ///
     /// Does not allocate; constant time.
@@ -152,6 +188,17 @@ impl<const N: usize> LoggedSession<N> {
         ensures { result ≡ self.entry.machine }
     {
         self.session
+    }
+
+    /// Returns the session and its log.
+    ///
+    /// The program can go on with both by [`Session::serve_with_entry`] and [`Session::apply_delta_with_entry`]. Does not allocate; constant
+    /// time.
+    pub fn into_parts(self) -> (Session<N>, Log<N>)
+        ensures session { result.0 ≡ self.entry.machine }
+        ensures log { result.1 ≡ self.entry.log }
+    {
+        (self.session, self.log)
     }
 
     /// Returns the bytes that were appended to the log and not taken yet.

@@ -4,7 +4,8 @@ use crate::checks::{equal, expect};
 use bitmap_session::command::Command;
 use bitmap_session::logged::{LoggedSession, RecoveredSession};
 use bitmap_session::reply::{Refusal, Reply};
-use bitmap_session::session::{LogError, SaveError, Session};
+use bitmap_session::session::{ApplyDeltaError, LogError, SaveError, Session};
+use commit_log::DeltaError;
 use std::alloc::Global;
 use std::process::Abort;
 
@@ -280,4 +281,164 @@ fn recovered_session_goes_on(rt: HostRuntime) {
         matches!(serve(&rt, &mut again, &Command::Commit(5)), Reply::Done),
     );
     expect(&rt, ends_at(&again, 215, 0xee3250713d159206));
+}
+
+// A session of the commits 1 and 5 of the worked log, which has no log of its own.
+fn worked_session(rt: &impl Abort, alloc: Global) -> Session<1> {
+    let mut session = begun(rt, alloc);
+    push_bits(rt, &mut session, &THREE_BITS);
+    expect(
+        rt,
+        matches!(serve(rt, &mut session, &Command::Commit(1)), Reply::Done),
+    );
+    push_bits(rt, &mut session, &EIGHT_BITS);
+    expect(
+        rt,
+        matches!(serve(rt, &mut session, &Command::Commit(5)), Reply::Done),
+    );
+    session.into_session()
+}
+
+// The delta between the commits of the worked log.
+fn worked_delta(rt: &impl Abort, alloc: Global) -> Vec<u8> {
+    let Ok(Some(bytes)) = worked_session(rt, alloc).delta(1, 5) else {
+        panic!(rt; "there is no delta");
+    };
+    bytes
+}
+
+// A session with the log of commit 1 of the worked log.
+fn worked_replica(rt: &impl Abort, alloc: Global) -> LoggedSession<1> {
+    let mut session = begun(rt, alloc);
+    push_bits(rt, &mut session, &THREE_BITS);
+    expect(
+        rt,
+        matches!(serve(rt, &mut session, &Command::Commit(1)), Reply::Done),
+    );
+    expect(rt, ends_at(&session, 148, 0x047d3edd96aca7ad));
+    session
+}
+
+// A replica that applies a delta has the log of the session that made the commit, and recovers to it.
+#[test]
+fn delta_applied(rt: HostRuntime) {
+    let delta = worked_delta(&rt, rt.alloc());
+    let mut replica = worked_replica(&rt, rt.alloc());
+    expect(&rt, replica.apply_delta(&delta).is_ok());
+    expect(&rt, ends_at(&replica, 215, 0xee3250713d159206));
+    let Ok(found) = LoggedSession::<1>::recover(rt.alloc(), replica.bytes()) else {
+        panic!(rt; "the log is not recovered");
+    };
+    expect(&rt, !found.torn);
+    let kept = saved(&rt, rt.alloc(), &worked_session(&rt, rt.alloc()));
+    let recovered = saved(&rt, rt.alloc(), found.session.session());
+    expect(&rt, recovered.as_slice() == kept.as_slice());
+}
+
+// A delta that is refused leaves the session and its log, also in a batch.
+#[test]
+fn delta_refused(rt: HostRuntime) {
+    let delta = worked_delta(&rt, rt.alloc());
+    let mut replica = worked_replica(&rt, rt.alloc());
+    let damaged = delta.as_slice().get(1..).unwrap_or(&[]);
+    expect(
+        &rt,
+        matches!(
+            replica.apply_delta(damaged),
+            Err(ApplyDeltaError::Delta(DeltaError::NotADelta))
+        ),
+    );
+    expect(
+        &rt,
+        matches!(serve(&rt, &mut replica, &Command::Begin), Reply::Done),
+    );
+    expect(
+        &rt,
+        matches!(replica.apply_delta(&delta), Err(ApplyDeltaError::InBatch)),
+    );
+    expect(
+        &rt,
+        matches!(serve(&rt, &mut replica, &Command::Abort), Reply::Done),
+    );
+    expect(&rt, ends_at(&replica, 148, 0x047d3edd96aca7ad));
+    expect(&rt, matches!(replica.session().len(), Reply::Number(3)));
+    expect(&rt, replica.apply_delta(&delta).is_ok());
+    let again = replica.apply_delta(&delta);
+    expect(
+        &rt,
+        matches!(again, Err(ApplyDeltaError::Delta(DeltaError::NotAtBase))),
+    );
+    expect(&rt, ends_at(&replica, 215, 0xee3250713d159206));
+}
+
+// A session and its log that are kept apart append what a session with a log does.
+#[test]
+fn parts_go_on(rt: HostRuntime) {
+    let (mut session, mut log) = worked_replica(&rt, rt.alloc()).into_parts();
+    equal(&rt, log.bytes().len(), 148);
+    log.forget();
+    let delta = worked_delta(&rt, rt.alloc());
+    expect(
+        &rt,
+        session.apply_delta_with_entry(&delta, &mut log).is_ok(),
+    );
+    equal(
+        &rt,
+        (log.position(), log.digest(), log.bytes().len()),
+        (215, 0xee3250713d159206, 67),
+    );
+    let rewound = session.serve_with_entry(&Command::Rewind(1), &mut log);
+    expect(&rt, matches!(rewound, Ok(Reply::Done)));
+    equal(
+        &rt,
+        (log.position(), log.digest()),
+        (248, 0x68ce0b476a18468b),
+    );
+    let start = session.serve_with_entry(&Command::Start(0), &mut log);
+    expect(&rt, matches!(start, Err(LogError::NoEntry)));
+    equal(&rt, log.position(), 248);
+}
+
+// The log of a session that has no log yet is its history. In a batch none begins.
+#[test]
+fn log_begun_of_a_session(rt: HostRuntime) {
+    let mut session = worked_session(&rt, rt.alloc());
+    let Ok(log) = session.begin_log(rt.alloc()) else {
+        panic!(rt; "the log is not begun");
+    };
+    let history = saved(&rt, rt.alloc(), &session);
+    expect(&rt, log.bytes() == history.as_slice());
+    expect(&rt, matches!(session.serve(&Command::Begin), Reply::Done));
+    expect(
+        &rt,
+        matches!(session.begin_log(rt.alloc()), Err(SaveError::InBatch)),
+    );
+}
+
+// Edits of many bits append nothing. The commit that follows has the entry of the same bits, set one by one.
+#[test]
+fn many_bits_edited(rt: HostRuntime) {
+    let mut session = worked_replica(&rt, rt.alloc());
+    expect(
+        &rt,
+        matches!(serve(&rt, &mut session, &Command::Begin), Reply::Done),
+    );
+    // After the three bits of commit 1 the eight further ones of commit 5 are appended in other ways.
+    expect(&rt, session.push_bits(&[true, true, true, true]).is_ok());
+    expect(&rt, session.extend_to(13).is_ok());
+    expect(&rt, session.truncate(11).is_ok());
+    expect(&rt, session.set_chunk(0, &[0x00]).is_ok());
+    expect(&rt, session.set_range(3, 7, true).is_ok());
+    expect(&rt, session.set_many(&[0, 2, 9, 10], true).is_ok());
+    expect(&rt, session.set_many(&[5], false).is_ok());
+    let outside = session.set_many(&[9, 11], true);
+    expect(&rt, matches!(outside, Err((1, Refusal::OutOfBounds))));
+    expect(&rt, ends_at(&session, 148, 0x047d3edd96aca7ad));
+    expect(
+        &rt,
+        matches!(serve(&rt, &mut session, &Command::Commit(5)), Reply::Done),
+    );
+    expect(&rt, ends_at(&session, 215, 0xee3250713d159206));
+    let outside = session.set_chunk(0, &[0x00]);
+    expect(&rt, matches!(outside, Err(Refusal::WrongMode)));
 }
