@@ -111,7 +111,9 @@ enum {
     MORTARPINK_DAMAGED = 21,               /* a digest is not that of the bytes before it */
     MORTARPINK_NOT_ACCEPTED = 22,          /* a part of the bytes is no bitmap, or no commit that can follow */
     MORTARPINK_OUT_OF_RANGE = 23,          /* a number of retained bits or of commits is out of range */
-    MORTARPINK_NOT_AT_BASE = 24            /* the delta does not start at the current bitmap */
+    MORTARPINK_NOT_AT_BASE = 24,           /* the delta does not start at the current bitmap */
+    MORTARPINK_HAS_LOG = 25,               /* the bitmap keeps a log */
+    MORTARPINK_NO_LOG = 26                 /* the bitmap keeps no log */
 };
 
 /* Returns the MORTARPINK_VERSION of the library. */
@@ -151,14 +153,14 @@ mortarpink_status mortarpink_read(mortarpink_bitmap *bitmap, uint32_t width, uin
  * Cost: linear in what is freed. */
 mortarpink_status mortarpink_free(mortarpink_bitmap *bitmap);
 
-/* Copies the bitmap, its commits and its batch into the empty handle `copy`.
+/* Copies the bitmap, its commits and its batch into the empty handle `copy`. The copy keeps no log.
  * Errors: returns the first that applies, and leaves `copy` unchanged: MORTARPINK_EMPTY_HANDLE if `bitmap` is empty,
  *   MORTARPINK_FULL_HANDLE if `copy` is not, and MORTARPINK_NO_MEMORY if an allocation fails.
  * Cost: linear in what is copied. Allocates what it copies. */
 mortarpink_status mortarpink_clone(const mortarpink_bitmap *bitmap, mortarpink_bitmap *copy);
 
-/* Makes a bitmap of its own of the bitmap at commit `number`, in the empty handle `copy`: with no commits and no
- * last number.
+/* Makes a bitmap of its own of the bitmap at commit `number`, in the empty handle `copy`: with no commits, no last
+ * number and no log.
  * Errors: returns the first status that applies. `copy` is then unchanged.
  * - MORTARPINK_EMPTY_HANDLE if `bitmap` is empty
  * - MORTARPINK_FULL_HANDLE if `copy` is not empty
@@ -170,8 +172,9 @@ mortarpink_status mortarpink_clone(const mortarpink_bitmap *bitmap, mortarpink_b
 mortarpink_status mortarpink_checkout(const mortarpink_bitmap *bitmap, uint64_t number, mortarpink_bitmap *copy);
 
 /* Replaces the bitmap by one with `pruned_chunks` pruned chunks, no bits, no commits and no last commit number.
- * Errors: returns MORTARPINK_WRONG_MODE in a batch, and MORTARPINK_PRUNED_CHUNKS_OVERFLOW if the number of pruned
- *   bits would pass 2^64 - 1.
+ * Errors: returns MORTARPINK_HAS_LOG if the bitmap keeps a log, since a log goes on from its first state. Otherwise
+ *   returns MORTARPINK_WRONG_MODE in a batch, and MORTARPINK_PRUNED_CHUNKS_OVERFLOW if the number of pruned bits
+ *   would pass 2^64 - 1.
  * Cost: linear in what is freed. */
 mortarpink_status mortarpink_start(mortarpink_bitmap *bitmap, size_t pruned_chunks);
 
@@ -276,15 +279,18 @@ mortarpink_status mortarpink_prune(mortarpink_bitmap *bitmap, uint64_t position)
 
 /* Ends the batch: the pending bitmap becomes the current one, and is kept under the number. The number has to be
  * above the last one that was committed or rewound to, even if that commit was dropped since. So after a commit
- * under 2^64 - 2, the greatest number, there is none unless the bitmap is rewound to an earlier commit.
+ * under 2^64 - 2, the greatest number, there is none unless the bitmap is rewound to an earlier commit. If the
+ * bitmap keeps a log, the entry of the commit is appended to it. With another status than MORTARPINK_DONE the log is
+ * unchanged.
  * Errors: returns the first status that applies. The batch then goes on.
  * - MORTARPINK_WRONG_MODE if there is no batch
  * - MORTARPINK_RESERVED_COMMIT_NUMBER if the number is 2^64 - 1
  * - MORTARPINK_NON_MONOTONIC_COMMIT if the number is not above the last one
- * - MORTARPINK_NO_MEMORY if an allocation fails
+ * - MORTARPINK_NO_MEMORY if an allocation fails, or the log would have 2^64 bytes or more
  * With MORTARPINK_NON_MONOTONIC_COMMIT, *previous becomes the last number. Otherwise it is unchanged.
- * Cost: amortized linear in the chunks that the batch edited, pruned or removed. Allocates the reverse record of the
- *   commit, and space by which the bitmap and the list of commits grow. */
+ * Cost: amortized linear in the chunks that the batch edited, pruned or removed. The entry of a log is linear in its
+ *   bytes. Allocates the reverse record of the commit, and space by which the bitmap, the list of commits and the
+ *   log grow. */
 mortarpink_status mortarpink_commit(mortarpink_bitmap *bitmap, uint64_t number, uint64_t *previous);
 
 /* Ends the batch and drops its edits.
@@ -465,12 +471,13 @@ mortarpink_status mortarpink_encode_at(const mortarpink_bitmap *bitmap, uint64_t
 
 /* ---- Commits; not in a batch ---- */
 
-/* Makes the bitmap committed under the number current again, and drops the commits after it.
+/* Makes the bitmap committed under the number current again, and drops the commits after it. If the bitmap keeps a
+ * log, the entry of the rewind is appended to it. With another status than MORTARPINK_DONE the log is unchanged.
  * Errors: returns MORTARPINK_WRONG_MODE in a batch, MORTARPINK_NO_SUCH_COMMIT if no commit is kept under the number,
- *   and MORTARPINK_NO_MEMORY if an allocation fails.
+ *   and MORTARPINK_NO_MEMORY if an allocation fails, or the log would have 2^64 bytes or more.
  * Cost: per chunk that the dropped commits changed, logarithmic in their number. If the bitmap grows, it may also
  *   move in memory. Allocates the old bytes of the chunks that change, temporarily, and space by which the bitmap
- *   grows. */
+ *   and the log grow. */
 mortarpink_status mortarpink_rewind(mortarpink_bitmap *bitmap, uint64_t number);
 
 /* Writes a page of the kept commit numbers from `from` on, ascending. *count becomes how many are written. Pages are
@@ -507,14 +514,18 @@ mortarpink_status mortarpink_earliest(const mortarpink_bitmap *bitmap, uint64_t 
 mortarpink_status mortarpink_changed_chunks(const mortarpink_bitmap *bitmap, uint64_t from, uint64_t to, uint64_t first,
                                             uint64_t *out, size_t len, size_t *count);
 
-/* Drops the commits below the number, and writes how many to *dropped.
- * Errors: returns MORTARPINK_WRONG_MODE in a batch. *dropped is then unchanged.
- * Cost: linear in what is dropped. */
+/* Drops the commits below the number, and writes how many to *dropped. If the bitmap keeps a log, the entry of the
+ * drop is appended to it. With another status than MORTARPINK_DONE the log is unchanged.
+ * Errors: returns MORTARPINK_WRONG_MODE in a batch. Returns MORTARPINK_NO_MEMORY if the bitmap keeps a log and an
+ *   allocation fails, or the log would have 2^64 bytes or more. *dropped is then unchanged.
+ * Cost: linear in what is dropped. Allocates the entry if the bitmap keeps a log, and otherwise nothing. */
 mortarpink_status mortarpink_drop_before(mortarpink_bitmap *bitmap, uint64_t number, uint64_t *dropped);
 
-/* Drops all commits.
- * Errors: returns MORTARPINK_WRONG_MODE in a batch.
- * Cost: linear in what is dropped. */
+/* Drops all commits. If the bitmap keeps a log, the entry of the clear is appended to it. With another status than
+ * MORTARPINK_DONE the log is unchanged.
+ * Errors: returns MORTARPINK_WRONG_MODE in a batch. Returns MORTARPINK_NO_MEMORY if the bitmap keeps a log and an
+ *   allocation fails, or the log would have 2^64 bytes or more.
+ * Cost: linear in what is dropped. Allocates the entry if the bitmap keeps a log, and otherwise nothing. */
 mortarpink_status mortarpink_clear(mortarpink_bitmap *bitmap);
 
 /* Adds an index of the kept commits if `on` is not 0, and drops it if `on` is 0. With the index, a read of a chunk
@@ -550,11 +561,11 @@ mortarpink_status mortarpink_entries(const mortarpink_bitmap *bitmap, uint64_t *
  *   freed before the return. */
 mortarpink_status mortarpink_save(const mortarpink_bitmap *bitmap, uint8_t *out, size_t len, size_t *size);
 
-/* Makes a bitmap from the history that `bytes` begin with, in an empty handle: with chunks of `width` bytes. Its
- * current bitmap, its kept commits and its last number are those that mortarpink_save wrote. A commit may have fewer
- * entries than before, so mortarpink_entries may write a smaller number. *used becomes the size of the history in
- * bytes; bytes after it are not read. The number of retained bits, of the current bitmap and of each kept one, is
- * from `least_bits` to `most_bits`, both included. The number of commits after the first kept one is from
+/* Makes a bitmap from the history that `bytes` begin with, in an empty handle: with chunks of `width` bytes, and no
+ * log. Its current bitmap, its kept commits and its last number are those that mortarpink_save wrote. A commit may
+ * have fewer entries than before, so mortarpink_entries may write a smaller number. *used becomes the size of the
+ * history in bytes; bytes after it are not read. The number of retained bits, of the current bitmap and of each kept
+ * one, is from `least_bits` to `most_bits`, both included. The number of commits after the first kept one is from
  * `least_commits` to `most_commits`, both included. A range of all numbers is from 0 to 2^64 - 1.
  * Errors: MORTARPINK_FULL_HANDLE and MORTARPINK_NO_SUCH_WIDTH come first, and then the first error of the bytes,
  *   from the first byte on. The handle and *used are then unchanged.
@@ -588,7 +599,8 @@ mortarpink_status mortarpink_delta(const mortarpink_bitmap *bitmap, uint64_t fro
 /* Applies a delta, which is all of the bytes, as the next commit: its newer bitmap becomes current, and is kept
  * under its number. The delta starts at the current bitmap if the last number, the length, the number of pruned
  * chunks, and a digest of the bytes in the chunks that the delta has are those of the older bitmap. The older bitmap
- * need not be kept. Other chunks are not compared.
+ * need not be kept. Other chunks are not compared. If the bitmap keeps a log, the entry of the commit is appended to
+ * it. With another status than MORTARPINK_DONE the log is unchanged.
  * Errors: returns the first status that applies. Nothing has changed then.
  * - MORTARPINK_WRONG_MODE if there is a batch
  * - MORTARPINK_CUT_OFF if there are fewer bytes than 88, which the shortest delta has
@@ -598,10 +610,57 @@ mortarpink_status mortarpink_delta(const mortarpink_bitmap *bitmap, uint64_t fro
  * - MORTARPINK_CUT_OFF if the bytes of the chunks are not whole
  * - MORTARPINK_NOT_AT_BASE if the delta does not start at the current bitmap
  * - MORTARPINK_NOT_ACCEPTED if the digest is right, but the delta has no commit that can follow
- * - MORTARPINK_NO_MEMORY if an allocation fails
+ * - MORTARPINK_NO_MEMORY if an allocation fails, or the log would have 2^64 bytes or more
  * Cost: linear in the bytes, plus the chunks that the commit prunes or removes. Allocates the reverse record of the
- *   commit, and space by which the bitmap and the list of commits grow. */
+ *   commit, and space by which the bitmap, the list of commits and the log grow. */
 mortarpink_status mortarpink_apply_delta(mortarpink_bitmap *bitmap, const uint8_t *bytes, size_t len);
+
+
+/* ---- The log: the same, as entries that are appended to a file ----
+ *
+ * From mortarpink_log_begin on, each call that changes what is kept appends its entry to the log of the bitmap. The
+ * program writes the bytes to its file when it wants to, and then forgets them. */
+
+/* Begins a log of what the bitmap keeps. The log begins with the history of the bitmap. From then on
+ * mortarpink_commit, mortarpink_rewind, mortarpink_drop_before, mortarpink_clear and mortarpink_apply_delta append
+ * their entry to the log, and mortarpink_start returns MORTARPINK_HAS_LOG. The program writes the bytes of
+ * mortarpink_log_bytes at the end of a file, and then calls mortarpink_log_forget. mortarpink_clone and
+ * mortarpink_checkout make bitmaps that keep no log.
+ * Errors: returns the first status that applies. Nothing has changed then.
+ * - MORTARPINK_HAS_LOG if the bitmap keeps a log
+ * - MORTARPINK_WRONG_MODE if there is a batch
+ * - MORTARPINK_NO_MEMORY if an allocation fails
+ * Cost: as mortarpink_save. Allocates the history as bytes, which the log has until mortarpink_log_forget. Also
+ *   allocates the bitmap at the first kept commit, which is freed before the return. */
+mortarpink_status mortarpink_log_begin(mortarpink_bitmap *bitmap);
+
+/* Ends the log: the bitmap keeps none afterwards. Bytes that were not written are freed.
+ * Errors: returns MORTARPINK_NO_LOG if the bitmap keeps no log. */
+mortarpink_status mortarpink_log_end(mortarpink_bitmap *bitmap);
+
+/* Fills `out` with the bytes of the log that were not forgotten yet, and writes their number to *size. The bytes
+ * stay in the log until mortarpink_log_forget. A caller that does not know the number calls with an empty `out`
+ * first, whose pointer is not NULL either.
+ * Errors: returns MORTARPINK_NO_LOG if the bitmap keeps no log, and MORTARPINK_WRONG_SIZE if the length of `out` is
+ *   not the number of bytes. `out` is then unchanged. *size is written with MORTARPINK_WRONG_SIZE too, and otherwise
+ *   unchanged.
+ * Cost: linear in the bytes. */
+mortarpink_status mortarpink_log_bytes(const mortarpink_bitmap *bitmap, uint8_t *out, size_t len, size_t *size);
+
+/* Removes the bytes that mortarpink_log_bytes returns, once the program has written them to its file. The log keeps
+ * its position, its digest, and the capacity for its bytes.
+ * Errors: returns MORTARPINK_NO_LOG if the bitmap keeps no log. */
+mortarpink_status mortarpink_log_forget(mortarpink_bitmap *bitmap);
+
+/* Writes the number of bytes of the whole log to *position. Bytes that were forgotten count.
+ * Errors: returns MORTARPINK_NO_LOG if the bitmap keeps no log. *position is then unchanged. */
+mortarpink_status mortarpink_log_position(const mortarpink_bitmap *bitmap, uint64_t *position);
+
+/* Writes the digest of the whole log to *digest: that of its last frame, which depends on all frames before it. If
+ * two logs of one width have the same position and the same digest, they have the same bytes, unless two inputs of
+ * the digest collide.
+ * Errors: returns MORTARPINK_NO_LOG if the bitmap keeps no log. *digest is then unchanged. */
+mortarpink_status mortarpink_log_digest(const mortarpink_bitmap *bitmap, uint64_t *digest);
 
 #ifdef __cplusplus
 }

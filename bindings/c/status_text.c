@@ -27,6 +27,8 @@ static const char *const texts[] = {
     "a part of the bytes is no bitmap, or no commit that can follow",
     "a number of retained bits or of commits is out of range",
     "the delta does not start at the current bitmap",
+    "the bitmap keeps a log",
+    "the bitmap keeps no log",
 };
 
 const char *mortarpink_status_text(mortarpink_status status) {

@@ -110,10 +110,22 @@ static void add_bitmap(struct description *description, mortarpink_bitmap *bitma
     check_done(mortarpink_free(&copy));
 }
 
+/* Adds the position and the digest of the log, or that there is none. */
+static void add_log(struct description *description, const mortarpink_bitmap *bitmap) {
+    uint64_t position = 0, digest = 0;
+    mortarpink_status status = mortarpink_log_position(bitmap, &position);
+    check_status(mortarpink_log_digest(bitmap, &digest), status);
+    add(description, &status, sizeof status);
+    add(description, &position, sizeof position);
+    add(description, &digest, sizeof digest);
+}
+
 static struct description description_of(struct subject *subject) {
     struct description description = {0, {0}};
     add_bitmap(&description, &subject->bitmap);
     add_bitmap(&description, &subject->copy);
+    add_log(&description, &subject->bitmap);
+    add_log(&description, &subject->copy);
     add(&description, &subject->number, sizeof subject->number);
     add(&description, &subject->size, sizeof subject->size);
     add(&description, subject->bytes, sizeof subject->bytes);
@@ -175,8 +187,28 @@ static mortarpink_status commit_3(struct subject *subject) {
     return mortarpink_commit(&subject->bitmap, 3, &subject->number);
 }
 
+static mortarpink_status commit_4(struct subject *subject) {
+    return mortarpink_commit(&subject->bitmap, 4, &subject->number);
+}
+
 static mortarpink_status rewind_to_1(struct subject *subject) {
     return mortarpink_rewind(&subject->bitmap, 1);
+}
+
+static mortarpink_status drop_1(struct subject *subject) {
+    return mortarpink_drop_before(&subject->bitmap, 2, &subject->number);
+}
+
+static mortarpink_status clear(struct subject *subject) {
+    return mortarpink_clear(&subject->bitmap);
+}
+
+static mortarpink_status log_begin(struct subject *subject) {
+    return mortarpink_log_begin(&subject->bitmap);
+}
+
+static mortarpink_status log_begin_of_copy(struct subject *subject) {
+    return mortarpink_log_begin(&subject->copy);
 }
 
 static mortarpink_status clone(struct subject *subject) {
@@ -273,8 +305,9 @@ static step *const steps[] = {
     free_copy, clone,      encode,   begin,     set_third,  commit_3,   encode_1,   free_copy,
     read_copy, rewind_to_1, free_copy, clone,     free_copy,  checkout_1, add_index,  begin,
     set_first, commit_2,   free_copy, clone,     save,       free_copy,  load_copy, rewind_copy_to_1,
-    delta,     apply_delta, begin,    set_chunk, set_range,  push_bits,  extend,    truncate_to_first,
-    commit_3,
+    delta,     log_begin_of_copy, apply_delta, begin, set_chunk, set_range, push_bits, extend,
+    truncate_to_first, commit_3, log_begin, begin, push, commit_4, rewind_to_1, drop_1,
+    clear,
 };
 
 enum { STEPS = sizeof steps / sizeof *steps, STEPS_TO_BATCH = 9, STEPS_TO_COMMIT_3 = 22, POSITIONS = 6 };

@@ -136,11 +136,11 @@ static void test_texts(void) {
     check(strcmp(mortarpink_status_text(MORTARPINK_NO_MEMORY), "out of memory") == 0);
     check(strcmp(mortarpink_status_text(MORTARPINK_WRONG_SIZE), "the buffer has the wrong size") == 0);
     check(strcmp(mortarpink_status_text(MORTARPINK_NOT_AT_BASE), "the delta does not start at the current bitmap") == 0);
-    check(strcmp(mortarpink_status_text(25), "the number is not a status") == 0);
+    check(strcmp(mortarpink_status_text(27), "the number is not a status") == 0);
     check(strcmp(mortarpink_status_text(UINT32_MAX), "the number is not a status") == 0);
-    for (uint32_t pair = 0; pair < 26 * 26; pair++) {
-        const char *one = mortarpink_status_text(pair / 26), *other = mortarpink_status_text(pair % 26);
-        check((strcmp(one, other) == 0) == (pair / 26 == pair % 26));
+    for (uint32_t pair = 0; pair < 28 * 28; pair++) {
+        const char *one = mortarpink_status_text(pair / 28), *other = mortarpink_status_text(pair % 28);
+        check((strcmp(one, other) == 0) == (pair / 28 == pair % 28));
     }
 }
 
@@ -215,6 +215,15 @@ static void check_commit_calls(mortarpink_bitmap *bitmap, mortarpink_status stat
     check_unwritten(mortarpink_apply_delta(bitmap, (const uint8_t *)"MPBDELTA", 8), status);
 }
 
+/* The calls on a log, but mortarpink_log_begin. */
+static void check_log_calls(mortarpink_bitmap *bitmap, mortarpink_status status) {
+    check_unwritten(mortarpink_log_bytes(bitmap, out.bytes, sizeof out.bytes, &out.size), status);
+    check_unwritten(mortarpink_log_position(bitmap, &out.number), status);
+    check_unwritten(mortarpink_log_digest(bitmap, &out.number), status);
+    check_unwritten(mortarpink_log_forget(bitmap), status);
+    check_unwritten(mortarpink_log_end(bitmap), status);
+}
+
 static void test_empty_handle(void) {
     mortarpink_bitmap none = MORTARPINK_EMPTY, copy = MORTARPINK_EMPTY;
     const mortarpink_status status = MORTARPINK_EMPTY_HANDLE;
@@ -230,6 +239,8 @@ static void test_empty_handle(void) {
     check_unwritten(mortarpink_pruned_chunks(&none, &out.number), status);
     check_unwritten(mortarpink_get(&none, 0, &out.bit), status);
     check_unwritten(mortarpink_chunk(&none, 0, out.bytes, 8), status);
+    check_unwritten(mortarpink_log_begin(&none), status);
+    check_log_calls(&none, status);
     check_unwritten(mortarpink_clone(&none, &copy), status);
     check_unwritten(mortarpink_free(&copy), status);
     check_unwritten(mortarpink_free(&none), status);
@@ -1367,6 +1378,136 @@ static void test_replica(uint32_t width) {
 }
 
 
+/* ---- The log of the commits ---- */
+
+/* Reads the bytes of a log that were not forgotten to `out`, and returns their number. */
+static size_t log_size(mortarpink_bitmap *bitmap) {
+    size_t size = 0;
+    fill_outputs();
+    check_status(mortarpink_log_bytes(bitmap, out.bytes, 0, &size), MORTARPINK_WRONG_SIZE);
+    check(outputs_are_filled());
+    check_done(mortarpink_log_bytes(bitmap, out.bytes, size, &out.size));
+    check_equal(out.size, size);
+    return size;
+}
+
+/* A log begins with the history, and ends once. */
+static void test_log(void) {
+    uint8_t bytes[TEXT_BYTES];
+    mortarpink_bitmap bitmap = MORTARPINK_EMPTY, copy = MORTARPINK_EMPTY;
+    put_hex(bytes, history_text);
+    make_both(&bitmap);
+    check_log_calls(&bitmap, MORTARPINK_NO_LOG);
+    check_done(mortarpink_begin(&bitmap));
+    check_unwritten(mortarpink_log_begin(&bitmap), MORTARPINK_WRONG_MODE);
+    check_log_calls(&bitmap, MORTARPINK_NO_LOG);
+    check_done(mortarpink_abort(&bitmap));
+    check_unwritten(mortarpink_log_begin(&bitmap), MORTARPINK_DONE);
+    check_unwritten(mortarpink_log_begin(&bitmap), MORTARPINK_HAS_LOG);
+    check_equal(log_size(&bitmap), HISTORY);
+    check(memcmp(out.bytes, bytes, HISTORY) == 0);
+    check_number(mortarpink_log_position(&bitmap, &out.number), HISTORY);
+    check_unwritten(mortarpink_start(&bitmap, 1), MORTARPINK_HAS_LOG);
+    check(is_worked(&bitmap, 1));
+    check_done(mortarpink_clone(&bitmap, &copy));
+    check_log_calls(&copy, MORTARPINK_NO_LOG);
+    check_done(mortarpink_free(&copy));
+    check_done(mortarpink_checkout(&bitmap, 2, &copy));
+    check_log_calls(&copy, MORTARPINK_NO_LOG);
+    check_done(mortarpink_free(&copy));
+    check_unwritten(mortarpink_log_forget(&bitmap), MORTARPINK_DONE);
+    check_value(mortarpink_log_bytes(&bitmap, out.bytes, 0, &out.size), out.size, 0);
+    check_number(mortarpink_log_position(&bitmap, &out.number), HISTORY);
+    check_unwritten(mortarpink_log_end(&bitmap), MORTARPINK_DONE);
+    check_log_calls(&bitmap, MORTARPINK_NO_LOG);
+    check(is_worked(&bitmap, 1));
+    check_done(mortarpink_start(&bitmap, 1));
+    check_done(mortarpink_free(&bitmap));
+}
+
+/* Checks that a call has appended an entry of this size, and that the position is that of the whole log. Forgets it. */
+static void check_entry(mortarpink_bitmap *bitmap, size_t size, uint64_t *position) {
+    check_value(mortarpink_log_bytes(bitmap, out.bytes, size, &out.size), out.size, size);
+    *position += size;
+    check_number(mortarpink_log_position(bitmap, &out.number), *position);
+    check_unwritten(mortarpink_log_forget(bitmap), MORTARPINK_DONE);
+}
+
+static uint64_t log_digest(mortarpink_bitmap *bitmap) {
+    uint64_t digest = 0;
+    check_done(mortarpink_log_digest(bitmap, &digest));
+    return digest;
+}
+
+/* Makes a bitmap with a log, of which nothing is to be written, and commits three bits. */
+static void make_logged(mortarpink_bitmap *bitmap, uint32_t width) {
+    check_done(mortarpink_new(bitmap, width));
+    check_done(mortarpink_log_begin(bitmap));
+    check_done(mortarpink_log_forget(bitmap));
+    check_done(mortarpink_begin(bitmap));
+    push_text(bitmap, "101");
+    commit(bitmap, 1);
+}
+
+/* Each accepted call that changes what is kept appends its entry to the log, and a refused one does not. An entry has a
+ * frame of 24 bytes. A commit of one chunk has 25 + 8 + width bytes, a rewind or a drop 9, and a clear 1. */
+static void test_log_entries(uint32_t width) {
+    const size_t of_commit = 24 + 33 + width, of_number = 24 + 9, of_clear = 24 + 1, of_delta = 88 + 8 + width;
+    mortarpink_bitmap bitmap = MORTARPINK_EMPTY;
+    uint8_t bytes[TEXT_BYTES];
+    uint64_t position = 0;
+    make_logged(&bitmap, width);
+    check_done(mortarpink_log_position(&bitmap, &position));
+    position -= of_commit;
+    check_entry(&bitmap, of_commit, &position);
+
+    check_unwritten(mortarpink_commit(&bitmap, 2, &out.number), MORTARPINK_WRONG_MODE);
+    check_done(mortarpink_begin(&bitmap));
+    push_text(&bitmap, "1");
+    check_unwritten(mortarpink_commit(&bitmap, UINT64_MAX, &out.number), MORTARPINK_RESERVED_COMMIT_NUMBER);
+    check_unwritten(mortarpink_rewind(&bitmap, 1), MORTARPINK_WRONG_MODE);
+    check_unwritten(mortarpink_drop_before(&bitmap, 1, &out.number), MORTARPINK_WRONG_MODE);
+    check_unwritten(mortarpink_clear(&bitmap), MORTARPINK_WRONG_MODE);
+    check_entry(&bitmap, 0, &position);
+    commit(&bitmap, 2);
+    check_entry(&bitmap, of_commit, &position);
+    check_done(mortarpink_delta(&bitmap, 1, 2, bytes, of_delta, &out.size));
+
+    check_unwritten(mortarpink_rewind(&bitmap, 3), MORTARPINK_NO_SUCH_COMMIT);
+    check_entry(&bitmap, 0, &position);
+    check_unwritten(mortarpink_rewind(&bitmap, 1), MORTARPINK_DONE);
+    check_entry(&bitmap, of_number, &position);
+    check_unwritten(mortarpink_apply_delta(&bitmap, bytes, of_delta), MORTARPINK_DONE);
+    check_entry(&bitmap, of_commit, &position);
+    check_unwritten(mortarpink_apply_delta(&bitmap, bytes, of_delta), MORTARPINK_NOT_AT_BASE);
+    check_entry(&bitmap, 0, &position);
+    check_number(mortarpink_drop_before(&bitmap, 2, &out.number), 1);
+    check_entry(&bitmap, of_number, &position);
+    check_unwritten(mortarpink_clear(&bitmap), MORTARPINK_DONE);
+    check_entry(&bitmap, of_clear, &position);
+    check_done(mortarpink_free(&bitmap));
+}
+
+/* A delta and the commit that it has append the same entry, and so the logs have the same digest. */
+static void test_log_digest(uint32_t width) {
+    const size_t of_delta = 88 + 8 + width;
+    mortarpink_bitmap bitmap = MORTARPINK_EMPTY, replica = MORTARPINK_EMPTY;
+    uint8_t bytes[TEXT_BYTES];
+    make_logged(&bitmap, width);
+    make_logged(&replica, width);
+    check(log_digest(&bitmap) == log_digest(&replica));
+    check_done(mortarpink_begin(&bitmap));
+    push_text(&bitmap, "1");
+    commit(&bitmap, 2);
+    check(log_digest(&bitmap) != log_digest(&replica));
+    check_done(mortarpink_delta(&bitmap, 1, 2, bytes, of_delta, &out.size));
+    check_done(mortarpink_apply_delta(&replica, bytes, of_delta));
+    check(log_digest(&bitmap) == log_digest(&replica));
+    check_done(mortarpink_free(&bitmap));
+    check_done(mortarpink_free(&replica));
+}
+
+
 /* ---- The ends of the positions ---- */
 
 /* Makes a bitmap of 2^64 - 1 bits, in a batch. Its last seven bits are set, and its other retained bits are not. */
@@ -1492,6 +1633,8 @@ static void test_width(uint32_t width) {
     test_reads(width);
     test_save_without_commits(width);
     test_replica(width);
+    test_log_entries(width);
+    test_log_digest(width);
     test_longest_edits(width);
     test_longest_reads(width);
 }
@@ -1521,5 +1664,6 @@ int main(void) {
     test_apply_delta();
     test_delta_errors();
     test_delta_not_accepted();
+    test_log();
     return finish("checks", checks, failures);
 }

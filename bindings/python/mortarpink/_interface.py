@@ -35,6 +35,8 @@ DAMAGED = 21
 NOT_ACCEPTED = 22
 OUT_OF_RANGE = 23
 NOT_AT_BASE = 24
+HAS_LOG = 25
+NO_LOG = 26
 
 
 class Handle(ctypes.Structure):
@@ -116,13 +118,20 @@ FUNCTIONS: dict[str, tuple[Any, ...]] = {
     "load": (HANDLE, U32, U64, U64, U64, U64, BYTES, SIZE, OUT_SIZE),
     "delta": (HANDLE, U64, U64, OUT_U8, SIZE, OUT_SIZE),
     "apply_delta": (HANDLE, BYTES, SIZE),
+    "log_begin": (HANDLE,),
+    "log_end": (HANDLE,),
+    "log_bytes": (HANDLE, OUT_U8, SIZE, OUT_SIZE),
+    "log_forget": (HANDLE,),
+    "log_position": (HANDLE, OUT_U64),
+    "log_digest": (HANDLE, OUT_U64),
 }
 
 # The functions of these whose handle is `const` in C: they write neither the handle nor the bitmap.
 READS = frozenset(
     """clone checkout len pruned_chunks get chunk ones next_one next_zero prev_one prev_zero count_ones select_one
     encode len_at pruned_chunks_at get_at chunk_at ones_at next_one_at next_zero_at prev_one_at prev_zero_at
-    count_ones_at select_one_at encode_at commits exists latest earliest changed_chunks entries save delta""".split()
+    count_ones_at select_one_at encode_at commits exists latest earliest changed_chunks entries save delta
+    log_bytes log_position log_digest""".split()
 )
 
 # The types of the arguments of each other function, and that of its result.

@@ -6,16 +6,16 @@ use Rattle.bitmap_session.specs.Machine.{Machine, State}
 use Rattle.bitmap_session.specs.Replies.{Refusal}
 use Rattle.bitmap_c.specs.declared.any.AnySession.{AnySession}
 use Rattle.bitmap_c.specs.Statuses.{refusal_status}
-use Rattle.bitmap_c.specs.Widths.{machine, width}
+use Rattle.bitmap_c.specs.Widths.{KeepsLog, machine, width}
 
 -- the status of a call that edits: DONE, or that of its refusal
 abbrev pub edit_status : Option Refusal → ℕ
 edit_status None = 0
 edit_status (Some refusal) = refusal_status refusal
 
--- a session of any width makes the edits of a call, or is refused for a reason; its width is the same afterwards
+-- a session of any width makes the edits of a call, or is refused for a reason; its width and its log are the same afterwards
 abbrev pub EditsAny : AnySession → ((N : ℕ) → State → EditCall) → Option Refusal → AnySession → Type 0
-EditsAny old call why new = (width new ≡ width old) × EditsTo (width old) (machine old) (call (width old)) why (machine new)
+EditsAny old call why new = KeepsLog old new × EditsTo (width old) (machine old) (call (width old)) why (machine new)
 
 -- an empty handle stays empty, with EMPTY_HANDLE; the session of a full one makes the edits of a call, with DONE, or has the status of the refusal
 abbrev pub CallsEdit : Option AnySession → ((N : ℕ) → State → EditCall) → ℕ → Option AnySession → Type 0
@@ -29,10 +29,10 @@ EditsChunk N size old call status new = MatchBool (nat_eq size N)
     ((why : Option Refusal) × (status ≡ edit_status why) × EditsTo N old call why new)
     ((new ≡ old) × (status ≡ 18))
 
--- the same of a session of any width, which is the same afterwards
+-- the same of a session of any width, which is the same afterwards, and so is the log
 abbrev pub EditsAnyChunk : ℕ → AnySession → ((N : ℕ) → State → EditCall) → ℕ → AnySession → Type 0
 EditsAnyChunk size old call status new =
-    (width new ≡ width old) × EditsChunk (width old) size (machine old) (call (width old)) status (machine new)
+    KeepsLog old new × EditsChunk (width old) size (machine old) (call (width old)) status (machine new)
 
 -- an empty handle stays empty, with EMPTY_HANDLE; for the session of a full one the size of the buffer is checked first
 abbrev pub CallsEditChunk : ℕ → Option AnySession → ((N : ℕ) → State → EditCall) → ℕ → Option AnySession → Type 0
@@ -47,10 +47,10 @@ SetsMany N old positions value count status new =
     ⊎ ((count < length positions) × ((refusal : Refusal) × (status ≡ refusal_status refusal)
     × StepsOn N old (stopped_steps N positions value count refusal) new))
 
--- the same of a session of any width, which is the same afterwards
+-- the same of a session of any width, which is the same afterwards, and so is the log
 abbrev pub SetsAnyMany : AnySession → List ℕ → Bool → ℕ → ℕ → AnySession → Type 0
 SetsAnyMany old positions value count status new =
-    (width new ≡ width old) × SetsMany (width old) (machine old) positions value count status (machine new)
+    KeepsLog old new × SetsMany (width old) (machine old) positions value count status (machine new)
 
 -- an empty handle stays empty, with EMPTY_HANDLE and the old count; the session of a full one sets the bits at positions
 abbrev pub CallsSetMany : Option AnySession → List ℕ → Bool → ℕ → ℕ → ℕ → Option AnySession → Type 0

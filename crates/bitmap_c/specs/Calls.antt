@@ -6,16 +6,16 @@ use Rattle.bitmap_session.specs.Replies.{ReplyValue}
 use Rattle.bitmap_session.specs.Machine.{Machine, Agrees, StepTo}
 use Rattle.bitmap_c.specs.declared.any.AnySession.{AnySession}
 use Rattle.bitmap_c.specs.Reports.{Reports}
-use Rattle.bitmap_c.specs.Widths.{width, machine}
+use Rattle.bitmap_c.specs.Widths.{KeepsLog, width, machine}
 
 -- a session makes one step of the machine of its width, and the reply has the property
 unfoldable pub Serves : (N : ℕ) → Machine → Command N → (ReplyValue → Type 0) → Machine → Type 0
 Serves N old command Says new = (reply : ReplyValue) × StepTo N Agrees old command reply new × Says reply
 
--- a session of any width makes one step, the reply has the property, and the width is the same
+-- a session of any width makes one step, the reply has the property, and the width and the log are the same
 unfoldable pub ServesAny : AnySession → ((N : ℕ) → Command N) → (ReplyValue → Type 0) → AnySession → Type 0
 ServesAny old command Says new =
-    (width new ≡ width old) × Serves (width old) (machine old) (command (width old)) Says (machine new)
+    KeepsLog old new × Serves (width old) (machine old) (command (width old)) Says (machine new)
 
 -- an empty handle stays empty, and Empty holds; the session of a full one makes one step, and the reply has the property
 abbrev pub Calls : Option AnySession → ((N : ℕ) → Command N) → (ReplyValue → Type 0) → Type 0 → Option AnySession → Type 0
@@ -27,10 +27,10 @@ unfoldable pub ServesChunk : (N : ℕ) → ℕ → Machine → Command N → (Re
 ServesChunk N size old command Says Wrong new =
     MatchBool (nat_eq size N) (Serves N old command Says new) ((new ≡ old) × Wrong)
 
--- the same of a session of any width, which is the same afterwards
+-- the same of a session of any width, which is the same afterwards, and so is the log
 unfoldable pub ServesAnyChunk : ℕ → AnySession → ((N : ℕ) → Command N) → (ReplyValue → Type 0) → Type 0 → AnySession → Type 0
 ServesAnyChunk size old command Says Wrong new =
-    (width new ≡ width old) × ServesChunk (width old) size (machine old) (command (width old)) Says Wrong (machine new)
+    KeepsLog old new × ServesChunk (width old) size (machine old) (command (width old)) Says Wrong (machine new)
 
 -- an empty handle stays empty, and Empty holds; for the session of a full one the size of the buffer is checked first
 abbrev pub CallsChunk : ℕ → Option AnySession → ((N : ℕ) → Command N) → (ReplyValue → Type 0) → (Empty Wrong : Type 0) → Option AnySession → Type 0
@@ -50,10 +50,10 @@ PushesBytes N old bytes count status new =
     × (((status ≡ 0) × (count ≡ length bytes) × (new ≡ mid))
     ⊎ ((0 < status) × (count < length bytes) × Serves N mid (PushByte (slice_index_or bytes count 0)) (Reports status) new))
 
--- the same of a session of any width, which is the same afterwards
+-- the same of a session of any width, which is the same afterwards, and so is the log
 abbrev pub PushesAnyBytes : AnySession → List ℕ → ℕ → ℕ → AnySession → Type 0
 PushesAnyBytes old bytes count status new =
-    (width new ≡ width old) × PushesBytes (width old) (machine old) bytes count status (machine new)
+    KeepsLog old new × PushesBytes (width old) (machine old) bytes count status (machine new)
 
 -- an empty handle stays empty, with EMPTY_HANDLE and the old count; the session of a full one pushes bytes
 abbrev pub CallsPushBytes : Option AnySession → List ℕ → ℕ → ℕ → ℕ → Option AnySession → Type 0

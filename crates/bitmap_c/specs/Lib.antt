@@ -2,6 +2,7 @@ pub mod Bulk
 pub mod Calls
 pub mod Handles
 pub mod Lends
+pub mod Logged
 pub mod Making
 pub mod Pages
 pub mod Reads

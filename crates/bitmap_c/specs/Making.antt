@@ -8,16 +8,16 @@ use Rattle.historical_bitmap.specs.History.{kept_under}
 use Rattle.bitmap_session.specs.Machine.{Machine, checkout_refusal, first_machine, machine_with, wants_no_batch}
 use Rattle.bitmap_c.specs.declared.any.AnySession.{AnySession}
 use Rattle.bitmap_c.specs.Statuses.{decode_status, refusal_status}
-use Rattle.bitmap_c.specs.Widths.{is_width, machine, width}
+use Rattle.bitmap_c.specs.Widths.{is_width, log_of, machine, width, without_log}
 
 -- an empty handle gets a session with the property, with DONE, or stays empty, with NO_MEMORY
 abbrev pub Fills : (AnySession → Type 0) → ℕ → Option AnySession → Type 0
 Fills Is status new =
     ((status ≡ 13) × (new ≡ None)) ⊎ ((status ≡ 0) × ((made : AnySession) × (new ≡ Some made) × Is made))
 
--- a session is the first machine of a width
+-- a session without a log is the first machine of a width
 abbrev pub IsFirst : ℕ → AnySession → Type 0
-IsFirst n made = (width made ≡ n) × (machine made ≡ first_machine)
+IsFirst n made = (width made ≡ n) × (machine made ≡ first_machine) × (log_of made ≡ None)
 
 -- a full handle is unchanged, with FULL_HANDLE; an empty one gets the first machine of a width, or NO_SUCH_WIDTH
 abbrev pub Makes : Option AnySession → ℕ → ℕ → Option AnySession → Type 0
@@ -25,19 +25,24 @@ Makes (Some old) n status new = (status ≡ 16) × (new ≡ Some old)
 Makes None n status new = MatchBool (is_width n) (Fills (IsFirst n) status new) ((status ≡ 17) × (new ≡ None))
 
 -- a session is equal to another one
-abbrev pub IsCopy : AnySession → AnySession → Type 0
-IsCopy old made = made ≡ old
+abbrev pub IsEqual : AnySession → AnySession → Type 0
+IsEqual old made = made ≡ old
 
--- an empty handle has no copy, with EMPTY_HANDLE; a copy that is full is unchanged, with FULL_HANDLE; an empty one gets an equal session
+-- a session is equal to another one, but has no log
+abbrev pub IsCopy : AnySession → AnySession → Type 0
+IsCopy old made = made ≡ without_log old
+
+-- an empty handle has no copy, with EMPTY_HANDLE; a copy that is full is unchanged, with FULL_HANDLE; an empty one gets an equal session without a log
 abbrev pub Copies : Option AnySession → Option AnySession → ℕ → Option AnySession → Type 0
 Copies None copy status new = (status ≡ 15) × (new ≡ copy)
 Copies (Some old) (Some copy) status new = (status ≡ 16) × (new ≡ Some copy)
 Copies (Some old) None status new = Fills (IsCopy old) status new
 
--- a session has the width of another one, and the bitmap that the other one keeps under a number, without a batch, commits and a last number
+-- a session has the width of another one, and the bitmap that the other one keeps under a number, without a batch, commits, a last number and a log
 abbrev pub IsVersion : AnySession → ℕ → AnySession → Type 0
 IsVersion old number made =
     (width made ≡ width old) × (Some (machine made) ≡ option_map machine_with (kept_under (machine old).state.history number))
+    × (log_of made ≡ None)
 
 -- as Copies, with the bitmap that the session keeps under a number, or the status of why there is none
 abbrev pub ChecksOut : Option AnySession → ℕ → Option AnySession → ℕ → Option AnySession → Type 0
@@ -71,9 +76,9 @@ abbrev pub length_or : Option DecodeError → ℕ → ℕ
 length_or (Some (InvalidLength bits)) old = bits
 length_or _ old = old
 
--- a session of a width has the bitmap that the bytes encode
+-- a session of a width has the bitmap that the bytes encode, and no log
 abbrev pub IsRead : ℕ → List ℕ → AnySession → Type 0
-IsRead n bytes made = (width made ≡ n) × (machine made ≡ read_machine bytes)
+IsRead n bytes made = (width made ≡ n) × (machine made ≡ read_machine bytes) × (log_of made ≡ None)
 
 -- as Makes, with the bitmap that the bytes encode, or the status of their decode error
 abbrev pub Reads : Option AnySession → ℕ → (ℕ → Bool) → List ℕ → ℕ → Option AnySession → Type 0

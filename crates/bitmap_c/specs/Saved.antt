@@ -18,7 +18,7 @@ use Rattle.bitmap_session.specs.declared.session.saved.SaveError.TheVariants as 
 use Rattle.bitmap_c.specs.declared.any.AnySession.{AnySession}
 use Rattle.bitmap_c.specs.Making.{between}
 use Rattle.bitmap_c.specs.Statuses.{apply_status, history_status}
-use Rattle.bitmap_c.specs.Widths.{is_width, machine, width}
+use Rattle.bitmap_c.specs.Widths.{is_width, log_of, machine, width}
 
 -- ---- bytes that are written
 
@@ -80,10 +80,10 @@ as_machine (Err e) = Err e
 
 -- ---- a history that is loaded
 
--- an empty handle gets a session with the history, with DONE and its size; or it stays empty and the size is unchanged, with NO_MEMORY or the status of an error of the bytes
+-- an empty handle gets a session with the history and no log, with DONE and its size; or it stays empty and the size is unchanged, with NO_MEMORY or the status of an error of the bytes
 abbrev pub IsLoadedOrNot : ℕ → Ranges → List ℕ → (status old_used used : ℕ) → Option AnySession → Type 0
 IsLoadedOrNot n r bytes status old_used used new =
-    ((status ≡ 0) × ((made : AnySession) × (new ≡ Some made) × (width made ≡ n) × IsLoaded n r bytes (machine made) used))
+    ((status ≡ 0) × ((made : AnySession) × (new ≡ Some made) × (width made ≡ n) × (log_of made ≡ None) × IsLoaded n r bytes (machine made) used))
     ⊎ ((new ≡ None) × (used ≡ old_used)
     × ((status ≡ 13) ⊎ ((e : HistoryError) × (status ≡ history_status e) × IsHistoryError n r bytes e)))
 
@@ -119,12 +119,3 @@ pub record Applies (n : ℕ) (bytes : List ℕ) (old : Machine) (status : ℕ) (
   pub newer : (from to : ℕ) (bitmap : PrunedBits) → IsOutside old → IsStep n from old.state.current to bitmap → old.state.last ≡ Some from
       → bytes ≡ encode_delta n (delta_between n from old.state.current to bitmap)
       → (status ≡ 0) × (kept_part new.state ≡ committed (kept_part old.state) to bitmap) ⊎ (status ≡ 13)
-
--- the same of a session of any width, which is the same afterwards
-abbrev pub AppliesAny : AnySession → List ℕ → ℕ → AnySession → Type 0
-AppliesAny old bytes status new = (width new ≡ width old) × Applies (width old) bytes (machine old) status (machine new)
-
--- an empty handle stays empty, with EMPTY_HANDLE; the session of a full one applies bytes as a delta
-abbrev pub CallsApply : Option AnySession → List ℕ → ℕ → Option AnySession → Type 0
-CallsApply None bytes status new = (new ≡ None) × (status ≡ 15)
-CallsApply (Some old) bytes status new = (now : AnySession) × (new ≡ Some now) × AppliesAny old bytes status now

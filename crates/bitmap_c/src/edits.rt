@@ -2,6 +2,7 @@
 
 ghost use Rattle.std.specs.Prelude.{◌≡◌, ◌==◌, length, not};
 ghost use Rattle.bitmap_c.specs.Calls.{Calls, CallsChunk, ServesAny, ServesAnyChunk};
+ghost use Rattle.bitmap_c.specs.Logged.{CallsLogged, ServesAnyLogged};
 ghost use Rattle.bitmap_c.specs.Reports.{Reports, ReportsBit, ReportsPrevious};
 
 use crate::any::AnySession;
@@ -211,18 +212,20 @@ pub extern "C" fn mortarpink_prune(bitmap: &mut Handle, position: u64) -> u32
     in_handle!(bitmap, any => prune(any, position))
 }
 
-#[tactic(auto, unfolding(crate::specs::Calls::ServesAny))]
+#[tactic(auto, unfolding(crate::specs::Logged::ServesAnyLogged))]
 fn commit(any: &mut AnySession, number: u64, previous: &mut u64) -> u32
-    ensures { ServesAny any.old (λ N. Command.Commit number)
+    ensures { ServesAnyLogged any.old (λ N. Command.Commit number)
         (ReportsPrevious result previous.old previous.new) any.new }
 {
-    at_width!(any, session => run_commit(session, number, previous))
+    with_log!(any, session, log => run_commit(session, log, number, previous))
 }
 
 /// Ends the batch: the pending bitmap becomes the current one, and is kept under the number.
 ///
 /// The number has to be above the last one that was committed or rewound to, even if that commit was dropped since. So after a commit under
 /// 2^64 - 2, the greatest number, there is none unless the bitmap is rewound to an earlier commit.
+///
+/// If the bitmap keeps a log, the entry of the commit is appended to it. With another status than `DONE` the log is unchanged.
 ///
 /// # Errors
 ///
@@ -233,20 +236,20 @@ fn commit(any: &mut AnySession, number: u64, previous: &mut u64) -> u32
 /// | `WRONG_MODE` | there is no batch |
 /// | `RESERVED_COMMIT_NUMBER` | the number is 2^64 - 1 |
 /// | `NON_MONOTONIC_COMMIT` | the number is not above the last one |
-/// | `NO_MEMORY` | an allocation fails |
+/// | `NO_MEMORY` | an allocation fails, or the log would have 2^64 bytes or more |
 ///
 /// With `NON_MONOTONIC_COMMIT`, `previous` becomes the last number. Otherwise it is unchanged.
 ///
 /// # Memory
 ///
-/// Allocates the reverse record of the commit, and space by which the bitmap and the list of commits grow.
+/// Allocates the reverse record of the commit, and space by which the bitmap, the list of commits and the log grow.
 ///
 /// # Complexity
 ///
-/// Amortized linear in the chunks that the batch edited, pruned or removed.
+/// Amortized linear in the chunks that the batch edited, pruned or removed. The entry of a log is linear in its bytes.
 #[unsafe(no_mangle)]
 pub extern "C" fn mortarpink_commit(bitmap: &mut Handle, number: u64, previous: &mut u64) -> u32
-    ensures step { Calls bitmap.old.value (λ N. Command.Commit number)
+    ensures step { CallsLogged bitmap.old.value (λ N. Command.Commit number)
         (ReportsPrevious result previous.old previous.new)
         ((result ≡ EMPTY_HANDLE) × (previous.new ≡ previous.old)) bitmap.new.value }
 {

@@ -2,37 +2,43 @@
 
 ghost use Rattle.std.specs.Prelude.{◌≡◌};
 ghost use Rattle.bitmap_c.specs.Calls.{Calls, ServesAny};
+ghost use Rattle.bitmap_c.specs.Logged.{CallsLogged, ServesAnyLogged};
 ghost use Rattle.bitmap_c.specs.Reports.{Reports, ReportsBit, ReportsEntries, ReportsNumber};
 
 use crate::any::AnySession;
 use crate::handle::Handle;
-use crate::run::{run, run_earliest, run_entries, run_exists, run_latest, run_number};
+use crate::run::{
+    run_earliest, run_entries, run_exists, run_latest, run_logged, run_number_logged,
+};
 use crate::status::EMPTY_HANDLE;
 use bitmap_session::command::Command;
 
-#[tactic(auto, unfolding(crate::specs::Calls::ServesAny))]
+#[tactic(auto, unfolding(crate::specs::Logged::ServesAnyLogged))]
 fn rewind(any: &mut AnySession, number: u64) -> u32
-    ensures { ServesAny any.old (λ N. Command.Rewind number) (Reports result) any.new }
+    ensures { ServesAnyLogged any.old (λ N. Command.Rewind number) (Reports result) any.new }
 {
-    at_width!(any, session => run(session, Command::Rewind(number)))
+    with_log!(any, session, log => run_logged(session, log, Command::Rewind(number)))
 }
 
 /// Makes the bitmap committed under the number current again, and drops the commits after it.
 ///
+/// If the bitmap keeps a log, the entry of the rewind is appended to it. With another status than `DONE` the log is unchanged.
+///
 /// # Errors
 ///
-/// Returns `WRONG_MODE` in a batch, `NO_SUCH_COMMIT` if no commit is kept under the number, and `NO_MEMORY` if an allocation fails.
+/// Returns `WRONG_MODE` in a batch, `NO_SUCH_COMMIT` if no commit is kept under the number, and `NO_MEMORY` if an allocation fails,
+/// or the log would have 2^64 bytes or more.
 ///
 /// # Memory
 ///
-/// Allocates the old bytes of the chunks that change, temporarily, and space by which the bitmap grows.
+/// Allocates the old bytes of the chunks that change, temporarily, and space by which the bitmap and the log grow.
 ///
 /// # Complexity
 ///
 /// Per chunk that the dropped commits changed, logarithmic in their number. If the bitmap grows, it may also move in memory.
 #[unsafe(no_mangle)]
 pub extern "C" fn mortarpink_rewind(bitmap: &mut Handle, number: u64) -> u32
-    ensures step { Calls bitmap.old.value (λ N. Command.Rewind number) (Reports result)
+    ensures step { CallsLogged bitmap.old.value (λ N. Command.Rewind number) (Reports result)
         (result ≡ EMPTY_HANDLE) bitmap.new.value }
 {
     in_handle!(bitmap, any => rewind(any, number))
@@ -128,59 +134,66 @@ pub extern "C" fn mortarpink_earliest(bitmap: &mut Handle, number: &mut u64) -> 
     in_handle!(bitmap, any => earliest(any, number))
 }
 
-#[tactic(auto, unfolding(crate::specs::Calls::ServesAny))]
+#[tactic(auto, unfolding(crate::specs::Logged::ServesAnyLogged))]
 fn drop_before(any: &mut AnySession, number: u64, dropped: &mut u64) -> u32
-    ensures { ServesAny any.old (λ N. Command.DropBefore number)
+    ensures { ServesAnyLogged any.old (λ N. Command.DropBefore number)
         (ReportsNumber result dropped.old dropped.new) any.new }
 {
-    at_width!(any, session => run_number(session, Command::DropBefore(number), dropped))
+    with_log!(any, session, log =>
+        run_number_logged(session, log, Command::DropBefore(number), dropped))
 }
 
 /// Drops the commits below the number, and writes how many to `dropped`.
 ///
+/// If the bitmap keeps a log, the entry of the drop is appended to it. With another status than `DONE` the log is unchanged.
+///
 /// # Errors
 ///
-/// Returns `WRONG_MODE` in a batch. `dropped` is then unchanged.
+/// Returns `WRONG_MODE` in a batch. Returns `NO_MEMORY` if the bitmap keeps a log and an allocation fails, or the log would have 2^64 bytes
+/// or more. `dropped` is then unchanged.
 ///
 /// # Memory
 ///
-/// Does not allocate.
+/// Allocates the entry if the bitmap keeps a log, and otherwise nothing.
 ///
 /// # Complexity
 ///
 /// Linear in what is dropped.
 #[unsafe(no_mangle)]
 pub extern "C" fn mortarpink_drop_before(bitmap: &mut Handle, number: u64, dropped: &mut u64) -> u32
-    ensures step { Calls bitmap.old.value (λ N. Command.DropBefore number)
+    ensures step { CallsLogged bitmap.old.value (λ N. Command.DropBefore number)
         (ReportsNumber result dropped.old dropped.new)
         ((result ≡ EMPTY_HANDLE) × (dropped.new ≡ dropped.old)) bitmap.new.value }
 {
     in_handle!(bitmap, any => drop_before(any, number, dropped))
 }
 
-#[tactic(auto, unfolding(crate::specs::Calls::ServesAny))]
+#[tactic(auto, unfolding(crate::specs::Logged::ServesAnyLogged))]
 fn clear(any: &mut AnySession) -> u32
-    ensures { ServesAny any.old (λ N. Command.Clear) (Reports result) any.new }
+    ensures { ServesAnyLogged any.old (λ N. Command.Clear) (Reports result) any.new }
 {
-    at_width!(any, session => run(session, Command::Clear))
+    with_log!(any, session, log => run_logged(session, log, Command::Clear))
 }
 
 /// Drops all commits.
 ///
+/// If the bitmap keeps a log, the entry of the clear is appended to it. With another status than `DONE` the log is unchanged.
+///
 /// # Errors
 ///
-/// Returns `WRONG_MODE` in a batch.
+/// Returns `WRONG_MODE` in a batch. Returns `NO_MEMORY` if the bitmap keeps a log and an allocation fails, or the log would have 2^64 bytes
+/// or more.
 ///
 /// # Memory
 ///
-/// Does not allocate.
+/// Allocates the entry if the bitmap keeps a log, and otherwise nothing.
 ///
 /// # Complexity
 ///
 /// Linear in what is dropped.
 #[unsafe(no_mangle)]
 pub extern "C" fn mortarpink_clear(bitmap: &mut Handle) -> u32
-    ensures step { Calls bitmap.old.value (λ N. Command.Clear) (Reports result)
+    ensures step { CallsLogged bitmap.old.value (λ N. Command.Clear) (Reports result)
         (result ≡ EMPTY_HANDLE) bitmap.new.value }
 {
     in_handle!(bitmap, any => clear(any))

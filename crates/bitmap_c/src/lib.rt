@@ -8,14 +8,26 @@
 //! the header `bindings/c/mortarpink.h` of the documentation. So it names only what C has too: functions, statuses and parameters.
 #![tactic(auto)]
 
-// Evaluates an expression with the session of any width.
+// Evaluates an expression with the session of any width, whose log it leaves as it is.
 macro_rules! at_width {
     ($any:expr, $session:ident => $body:expr) => {
         match $any {
-            AnySession::Width1($session) => $body,
-            AnySession::Width8($session) => $body,
-            AnySession::Width32($session) => $body,
-            AnySession::Width64($session) => $body,
+            AnySession::Width1($session, _) => $body,
+            AnySession::Width8($session, _) => $body,
+            AnySession::Width32($session, _) => $body,
+            AnySession::Width64($session, _) => $body,
+        }
+    };
+}
+
+// Evaluates an expression with the session of any width and its log.
+macro_rules! with_log {
+    ($any:expr, $session:ident, $log:ident => $body:expr) => {
+        match $any {
+            AnySession::Width1($session, $log) => $body,
+            AnySession::Width8($session, $log) => $body,
+            AnySession::Width32($session, $log) => $body,
+            AnySession::Width64($session, $log) => $body,
         }
     };
 }
@@ -36,6 +48,7 @@ mod commits;
 mod edits;
 mod handle;
 mod history;
+mod logs;
 mod making;
 mod many;
 mod pages;

@@ -3,20 +3,22 @@
 ghost use Rattle.std.specs.Prelude.{◌≡◌, ◌==◌, Option, None, Some, IfErr, IfOk, IfSome, OnOk, is_some, if◌then◌else◌, true};
 ghost use Rattle.bitmap_bytes.specs.Chunk.{IsWidth};
 ghost use Rattle.bitmap_core.specs.Decoding.{decode_error, pruned_error};
-ghost use Rattle.bitmap_c.specs.Calls.{Calls, ServesAny};
-ghost use Rattle.bitmap_c.specs.Making.{Copies, Fills, IsCopy, IsRead, Makes, Reads, between, encoding_size, length_or, read_machine, read_status};
+ghost use Rattle.bitmap_c.specs.Logged.{CallsUnlogged, ServesAnyUnlogged, ServesUnlogged};
+ghost use Rattle.bitmap_c.specs.Making.{Copies, Fills, IsEqual, IsRead, Makes, Reads, between, encoding_size, length_or, read_machine, read_status};
 ghost use Rattle.bitmap_c.specs.Reports.{Reports};
-ghost use Rattle.bitmap_c.specs.Widths.{is_width};
+ghost use Rattle.bitmap_c.specs.Widths.{is_width, without_log};
 
 use crate::any::{AnySession, new_session};
 use crate::handle::{Handle, put, take};
 use crate::run::run;
 use crate::status::{
-    DONE, EMPTY_HANDLE, FULL_HANDLE, INVALID_LENGTH, NO_MEMORY, NO_SUCH_WIDTH, codec_status,
+    DONE, EMPTY_HANDLE, FULL_HANDLE, HAS_LOG, INVALID_LENGTH, NO_MEMORY, NO_SUCH_WIDTH,
+    codec_status,
 };
 use bitmap_core::bitmap::codec::{CodecError, RangeCfg};
 use bitmap_session::command::Command;
 use bitmap_session::session::Session;
+use commit_log::Log;
 use std::alloc::{AllocError, Global};
 
 /// The version of this interface, which `mortarpink_version` returns.
@@ -54,7 +56,7 @@ pub fn is_full(bitmap: &mut Handle) -> bool
 /// Returns `NO_MEMORY` if the allocation fails. The handle then stays empty.
 pub fn fill(alloc: Global, bitmap: &mut Handle, any: AnySession) -> u32
     requires empty { bitmap.old.value ≡ None }
-    ensures { Fills (IsCopy any) result bitmap.new.value }
+    ensures { Fills (IsEqual any) result bitmap.new.value }
 {
     match Box::new(alloc, any) {
         Ok(any) => {
@@ -131,19 +133,19 @@ fn read_any(
     match width {
         1 => {
             let (session, used) = read_session(alloc, least, most, bytes)?;
-            Ok(Some((AnySession::Width1(session), used)))
+            Ok(Some((AnySession::Width1(session, None), used)))
         }
         8 => {
             let (session, used) = read_session(alloc, least, most, bytes)?;
-            Ok(Some((AnySession::Width8(session), used)))
+            Ok(Some((AnySession::Width8(session, None), used)))
         }
         32 => {
             let (session, used) = read_session(alloc, least, most, bytes)?;
-            Ok(Some((AnySession::Width32(session), used)))
+            Ok(Some((AnySession::Width32(session, None), used)))
         }
         64 => {
             let (session, used) = read_session(alloc, least, most, bytes)?;
-            Ok(Some((AnySession::Width64(session), used)))
+            Ok(Some((AnySession::Width64(session, None), used)))
         }
         _ => Ok(None),
     }
@@ -247,19 +249,19 @@ pub extern "C" fn mortarpink_free(alloc: Global, bitmap: &mut Handle) -> u32
     DONE
 }
 
-// Returns a session that is equal to another one.
+// Returns a session that is equal to another one, but has no log.
 fn copied(any: &AnySession) -> Result<AnySession, AllocError>
-    ensures { IfOk result (λ copy. copy ≡ any.now) }
+    ensures { IfOk result (λ copy. copy ≡ without_log any.now) }
 {
     match any {
-        AnySession::Width1(session) => Ok(AnySession::Width1(session.clone()?)),
-        AnySession::Width8(session) => Ok(AnySession::Width8(session.clone()?)),
-        AnySession::Width32(session) => Ok(AnySession::Width32(session.clone()?)),
-        AnySession::Width64(session) => Ok(AnySession::Width64(session.clone()?)),
+        AnySession::Width1(session, _) => Ok(AnySession::Width1(session.clone()?, None)),
+        AnySession::Width8(session, _) => Ok(AnySession::Width8(session.clone()?, None)),
+        AnySession::Width32(session, _) => Ok(AnySession::Width32(session.clone()?, None)),
+        AnySession::Width64(session, _) => Ok(AnySession::Width64(session.clone()?, None)),
     }
 }
 
-// Puts a copy of a session into an empty handle.
+// Puts a copy of a session, without its log, into an empty handle.
 fn copy_into(alloc: Global, any: &AnySession, copy: &mut Handle) -> u32
     ensures { Copies (Some any.now) copy.old.value result copy.new.value }
 {
@@ -272,7 +274,7 @@ fn copy_into(alloc: Global, any: &AnySession, copy: &mut Handle) -> u32
     }
 }
 
-/// Copies the bitmap, its commits and its batch into the empty handle `copy`.
+/// Copies the bitmap, its commits and its batch into the empty handle `copy`. The copy keeps no log.
 ///
 /// # Errors
 ///
@@ -294,18 +296,37 @@ pub extern "C" fn mortarpink_clone(alloc: Global, bitmap: &mut Handle, copy: &mu
     in_handle!(bitmap, any => copy_into(alloc, any, copy))
 }
 
-#[tactic(auto, unfolding(crate::specs::Calls::ServesAny))]
-fn start(any: &mut AnySession, pruned_chunks: usize) -> u32
-    ensures { ServesAny any.old (λ N. Command.Start pruned_chunks) (Reports result) any.new }
+// Starts anew, unless there is a log, which has no entry for this.
+#[tactic(auto, unfolding(crate::specs::Logged::ServesUnlogged))]
+fn start_of<const N: usize>(
+    session: &mut Session<N>,
+    log: &Option<Log<N>>,
+    pruned_chunks: usize,
+) -> u32
+    requires width { IsWidth N }
+    ensures { ServesUnlogged N session.old log.now (Command.Start pruned_chunks)
+        (Reports result) (result ≡ HAS_LOG) session.new }
 {
-    at_width!(any, session => run(session, Command::Start(pruned_chunks)))
+    match log {
+        Some(_) => HAS_LOG,
+        None => run(session, Command::Start(pruned_chunks)),
+    }
+}
+
+#[tactic(auto, unfolding(crate::specs::Logged::ServesAnyUnlogged))]
+fn start(any: &mut AnySession, pruned_chunks: usize) -> u32
+    ensures { ServesAnyUnlogged any.old (λ N. Command.Start pruned_chunks) (Reports result)
+        (result ≡ HAS_LOG) any.new }
+{
+    with_log!(any, session, log => start_of(session, log, pruned_chunks))
 }
 
 /// Replaces the bitmap by one with `pruned_chunks` pruned chunks, no bits, no commits and no last commit number.
 ///
 /// # Errors
 ///
-/// Returns `WRONG_MODE` in a batch, and `PRUNED_CHUNKS_OVERFLOW` if the number of pruned bits would pass 2^64 - 1.
+/// Returns `HAS_LOG` if the bitmap keeps a log, since a log goes on from its first state. Otherwise returns `WRONG_MODE` in a batch, and
+/// `PRUNED_CHUNKS_OVERFLOW` if the number of pruned bits would pass 2^64 - 1.
 ///
 /// # Memory
 ///
@@ -316,8 +337,8 @@ fn start(any: &mut AnySession, pruned_chunks: usize) -> u32
 /// Linear in what is freed.
 #[unsafe(no_mangle)]
 pub extern "C" fn mortarpink_start(bitmap: &mut Handle, pruned_chunks: usize) -> u32
-    ensures step { Calls bitmap.old.value (λ N. Command.Start pruned_chunks) (Reports result)
-        (result ≡ EMPTY_HANDLE) bitmap.new.value }
+    ensures step { CallsUnlogged bitmap.old.value (λ N. Command.Start pruned_chunks)
+        (Reports result) (result ≡ EMPTY_HANDLE) (result ≡ HAS_LOG) bitmap.new.value }
 {
     in_handle!(bitmap, any => start(any, pruned_chunks))
 }

@@ -1,15 +1,18 @@
 //! Commands that a session runs, with the status and the outputs of their replies.
 
-ghost use Rattle.std.specs.Prelude.{◌≡◌, length};
+ghost use Rattle.std.specs.Prelude.{◌≡◌, Some, length};
 ghost use Rattle.bitmap_bytes.specs.Chunk.{IsWidth};
 ghost use Rattle.bitmap_session.specs.Abstraction.{value_of};
+ghost use Rattle.bitmap_session.specs.Replies.ReplyValue.{Bytes};
 ghost use Rattle.bitmap_c.specs.Calls.{Serves, ServesChunk};
+ghost use Rattle.bitmap_c.specs.Logged.{ServesLogged, StepsLogged};
 ghost use Rattle.bitmap_c.specs.Reports.{Reports, ReportsBit, ReportsBytes, ReportsChunk, ReportsEntries, ReportsNumber, ReportsPrevious, bit_or, chunk_or, entries_or, number_or, previous_or, reply_status};
 
 use crate::status::{DONE, NONE, WRONG_SIZE, refusal_status};
 use bitmap_session::command::Command;
 use bitmap_session::reply::{Refusal, Reply};
 use bitmap_session::session::Session;
+use commit_log::Log;
 
 // Returns the status of a reply.
 fn reply_status<const N: usize>(reply: &Reply<N>) -> u32
@@ -89,20 +92,26 @@ fn report_chunk<const N: usize>(reply: &Reply<N>, out: &mut [u8]) -> u32
     reply_status(reply)
 }
 
+/// Writes the size of bytes, and the bytes if the buffer has this size. Returns whether it has.
+#[tactic(auto, unfolding(crate::specs::Reports::ReportsBytes))]
+pub fn copy_bytes(bytes: &[u8], out: &mut [u8], size: &mut usize) -> u32
+    ensures { ReportsBytes result size.old size.new out.old out.new (Bytes (Some bytes.now)) }
+{
+    *size = bytes.len();
+    if bytes.len() != out.len() {
+        return WRONG_SIZE;
+    }
+    out.copy_from_slice(bytes);
+    DONE
+}
+
 /// Returns the status of a reply, and writes the size of its bytes, and the bytes if the buffer has this size.
 #[tactic(auto, unfolding(crate::specs::Reports::ReportsBytes))]
 pub fn report_bytes<const N: usize>(reply: &Reply<N>, out: &mut [u8], size: &mut usize) -> u32
     ensures { ReportsBytes result size.old size.new out.old out.new (value_of reply.now) }
 {
     match reply {
-        Reply::Bytes(Some(bytes)) => {
-            *size = bytes.len();
-            if bytes.len() != out.len() {
-                return WRONG_SIZE;
-            }
-            out.copy_from_slice(bytes.as_slice());
-            DONE
-        }
+        Reply::Bytes(Some(bytes)) => copy_bytes(bytes.as_slice(), out, size),
         _ => reply_status(reply),
     }
 }
@@ -116,28 +125,72 @@ pub fn run<const N: usize>(session: &mut Session<N>, command: Command<N>) -> u32
     reply_status(&session.serve(&command))
 }
 
-/// Runs a command, returns the status of its reply, and writes its number.
-#[tactic(auto, unfolding(crate::specs::Calls::Serves, crate::specs::Reports::ReportsNumber))]
-pub fn run_number<const N: usize>(
+// Runs a command, and appends its entry if there is a log. Returns the reply, which is that an allocation failed if the entry was not
+// appended.
+#[tactic(auto, unfolding(crate::specs::Logged::StepsLogged))]
+fn serve_logged<const N: usize>(
     session: &mut Session<N>,
+    log: &mut Option<Log<N>>,
+    command: &Command<N>,
+) -> Reply<N>
+    requires width { IsWidth N }
+    ensures { StepsLogged N session.old log.old command.now (value_of result)
+        session.new log.new }
+{
+    match log {
+        Some(log) => match session.serve_with_entry(command, log) {
+            Ok(reply) => reply,
+            Err(_) => Reply::Refused(Refusal::NoMemory),
+        },
+        None => session.serve(command),
+    }
+}
+
+/// Runs `Commit` with its entry if there is a log, returns the status of its reply, and writes the last number if the reply has one.
+#[tactic(auto, unfolding(crate::specs::Logged::ServesLogged, crate::specs::Reports::ReportsPrevious))]
+pub fn run_commit<const N: usize>(
+    session: &mut Session<N>,
+    log: &mut Option<Log<N>>,
+    number: u64,
+    previous: &mut u64,
+) -> u32
+    requires width { IsWidth N }
+    ensures { ServesLogged N session.old log.old (Command.Commit number)
+        (ReportsPrevious result previous.old previous.new) session.new log.new }
+{
+    report_previous(
+        &serve_logged(session, log, &Command::Commit(number)),
+        previous,
+    )
+}
+
+/// Runs a command with its entry if there is a log, and returns the status of its reply.
+#[tactic(auto, unfolding(crate::specs::Logged::ServesLogged, crate::specs::Reports::Reports))]
+pub fn run_logged<const N: usize>(
+    session: &mut Session<N>,
+    log: &mut Option<Log<N>>,
+    command: Command<N>,
+) -> u32
+    requires width { IsWidth N }
+    ensures { ServesLogged N session.old log.old command.entry (Reports result)
+        session.new log.new }
+{
+    reply_status(&serve_logged(session, log, &command))
+}
+
+/// Runs a command with its entry if there is a log, returns the status of its reply, and writes its number.
+#[tactic(auto, unfolding(crate::specs::Logged::ServesLogged, crate::specs::Reports::ReportsNumber))]
+pub fn run_number_logged<const N: usize>(
+    session: &mut Session<N>,
+    log: &mut Option<Log<N>>,
     command: Command<N>,
     number: &mut u64,
 ) -> u32
     requires width { IsWidth N }
-    ensures { Serves N session.old command.entry (ReportsNumber result number.old number.new)
-        session.new }
+    ensures { ServesLogged N session.old log.old command.entry
+        (ReportsNumber result number.old number.new) session.new log.new }
 {
-    report_number(&session.serve(&command), number)
-}
-
-/// Runs `Commit`, returns the status of its reply, and writes the last number if the reply has one.
-#[tactic(auto, unfolding(crate::specs::Calls::Serves, crate::specs::Reports::ReportsPrevious))]
-pub fn run_commit<const N: usize>(session: &mut Session<N>, number: u64, previous: &mut u64) -> u32
-    requires width { IsWidth N }
-    ensures { Serves N session.old (Command.Commit number)
-        (ReportsPrevious result previous.old previous.new) session.new }
-{
-    report_previous(&session.serve(&Command::Commit(number)), previous)
+    report_number(&serve_logged(session, log, &command), number)
 }
 
 /// Runs `Entries` in place, returns the status of its reply, and writes the number of entries.

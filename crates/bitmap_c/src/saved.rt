@@ -1,15 +1,16 @@
 //! Calls by which a bitmap and its commits outlive their process: the history as bytes, and deltas.
 
-ghost use Rattle.std.specs.Prelude.{◌≡◌, Some, IfOk, IfSome, is_some};
+ghost use Rattle.std.specs.Prelude.{◌≡◌, None, Some, IfOk, IfSome, is_some};
 ghost use Rattle.bitmap_bytes.specs.Chunk.{IsWidth};
 ghost use Rattle.commit_log.specs.Delta.{delta_of};
 ghost use Rattle.commit_log.specs.History.{history_bytes};
 ghost use Rattle.commit_log.specs.Reading.{ranges};
 ghost use Rattle.bitmap_session.specs.Abstraction.{reason};
 ghost use Rattle.bitmap_session.specs.Saved.{kept_part};
+ghost use Rattle.bitmap_c.specs.Logged.{AppliesAnyLogged, CallsApplyLogged, LogsApplied};
 ghost use Rattle.bitmap_c.specs.Reports.{ReportsBytes};
-ghost use Rattle.bitmap_c.specs.Saved.{Applies, AppliesAny, CallsApply, Found, FoundIn, Loads, ReadsHistory, as_machine, ranges_between, save_refusal};
-ghost use Rattle.bitmap_c.specs.Widths.{is_width, machine, width};
+ghost use Rattle.bitmap_c.specs.Saved.{Applies, Found, FoundIn, Loads, ReadsHistory, as_machine, ranges_between, save_refusal};
+ghost use Rattle.bitmap_c.specs.Widths.{is_width, log_of, machine, width};
 
 use crate::any::AnySession;
 use crate::handle::Handle;
@@ -21,14 +22,14 @@ use crate::status::{
 use bitmap_core::bitmap::codec::RangeCfg;
 use bitmap_session::reply::{Refusal, Reply};
 use bitmap_session::session::{SaveError, Session};
-use commit_log::HistoryError;
+use commit_log::{HistoryError, Log};
 use std::alloc::Global;
 
-// Makes the session of a width, with its size, a session of any width.
+// Makes the session of a width, with its size, a session of any width without a log.
 macro_rules! as_any {
     ($width:ident, $read:expr) => {
         match $read {
-            Ok((session, size)) => Ok((AnySession::$width(session), size)),
+            Ok((session, size)) => Ok((AnySession::$width(session, None), size)),
             Err(error) => Err(error),
         }
     };
@@ -125,6 +126,7 @@ fn load_any(
 ) -> Option<Result<(AnySession, usize), HistoryError>>
     ensures offered { is_some result ≡ is_width size }
     ensures width { IfSome result (λ read. IfOk read (λ found. width found.0 ≡ size)) }
+    ensures unlogged { IfSome result (λ read. IfOk read (λ found. log_of found.0 ≡ None)) }
     ensures read { IfSome result (λ read.
         ReadsHistory size (ranges bits.now commits.now) bytes.now (as_machine read)) }
 {
@@ -166,21 +168,28 @@ fn load_into(
     }
 }
 
-// Applies a delta to a session.
-fn apply_to<const N: usize>(session: &mut Session<N>, bytes: &[u8]) -> u32
-    ensures { Applies N bytes.now session.old result session.new }
+// Applies a delta to a session, with its entry if there is a log.
+fn apply_to<const N: usize>(session: &mut Session<N>, log: &mut Option<Log<N>>, bytes: &[u8]) -> u32
+    ensures applied { Applies N bytes.now session.old result session.new }
+    ensures logged { LogsApplied N session.old log.old result session.new log.new }
 {
-    match session.apply_delta(bytes) {
-        Ok(()) => DONE,
-        Err(error) => apply_status(&error),
+    match log {
+        Some(log) => match session.apply_delta_with_entry(bytes, log) {
+            Ok(()) => DONE,
+            Err(error) => apply_status(&error),
+        },
+        None => match session.apply_delta(bytes) {
+            Ok(()) => DONE,
+            Err(error) => apply_status(&error),
+        },
     }
 }
 
 // Does the same for a session of any width.
 fn apply_delta(any: &mut AnySession, bytes: &[u8]) -> u32
-    ensures { AppliesAny any.old bytes.now result any.new }
+    ensures { AppliesAnyLogged any.old bytes.now result any.new }
 {
-    at_width!(any, session => apply_to(session, bytes))
+    with_log!(any, session, log => apply_to(session, log, bytes))
 }
 
 /// Fills `out` with the history of the bitmap, and writes the size of the history in bytes to `size`.
@@ -216,7 +225,7 @@ pub extern "C" fn mortarpink_save(
     in_handle!(bitmap, any => save(alloc, any, out, size))
 }
 
-/// Makes a bitmap from the history that `bytes` begin with, in an empty handle: with chunks of `width` bytes.
+/// Makes a bitmap from the history that `bytes` begin with, in an empty handle: with chunks of `width` bytes, and no log.
 ///
 /// Its current bitmap, its kept commits and its last number are those that `mortarpink_save` wrote. A commit may have fewer entries
 /// than before, so `mortarpink_entries` may write a smaller number. `used` becomes the size of the
@@ -307,6 +316,8 @@ pub extern "C" fn mortarpink_delta(
 /// The delta starts at the current bitmap if the last number, the length, the number of pruned chunks, and a digest of the bytes in the
 /// chunks that the delta has are those of the older bitmap. The older bitmap need not be kept. Other chunks are not compared.
 ///
+/// If the bitmap keeps a log, the entry of the commit is appended to it. With another status than `DONE` the log is unchanged.
+///
 /// # Errors
 ///
 /// Returns the first status that applies. Nothing has changed then.
@@ -321,18 +332,18 @@ pub extern "C" fn mortarpink_delta(
 /// | `CUT_OFF` | the bytes of the chunks are not whole |
 /// | `NOT_AT_BASE` | the delta does not start at the current bitmap |
 /// | `NOT_ACCEPTED` | the digest is right, but the delta has no commit that can follow |
-/// | `NO_MEMORY` | an allocation fails |
+/// | `NO_MEMORY` | an allocation fails, or the log would have 2^64 bytes or more |
 ///
 /// # Memory
 ///
-/// Allocates the reverse record of the commit, and space by which the bitmap and the list of commits grow.
+/// Allocates the reverse record of the commit, and space by which the bitmap, the list of commits and the log grow.
 ///
 /// # Complexity
 ///
 /// Linear in the bytes, plus the chunks that the commit prunes or removes.
 #[unsafe(no_mangle)]
 pub extern "C" fn mortarpink_apply_delta(bitmap: &mut Handle, bytes: &[u8]) -> u32
-    ensures applied { CallsApply bitmap.old.value bytes.now result bitmap.new.value }
+    ensures applied { CallsApplyLogged bitmap.old.value bytes.now result bitmap.new.value }
 {
     in_handle!(bitmap, any => apply_delta(any, bytes))
 }

@@ -1,6 +1,6 @@
 //! The statuses that the functions return. The declarations in C, Rust and Python have their numbers from here.
 
-ghost use Rattle.std.specs.Prelude.{◌≡◌};
+ghost use Rattle.std.specs.Prelude.{◌≡◌, ◌<◌};
 ghost use Rattle.bitmap_session.specs.Abstraction.{reason};
 ghost use Rattle.bitmap_c.specs.Statuses.{apply_status, base_status, delta_status, header_status, history_status, refusal_status};
 
@@ -85,6 +85,12 @@ pub const OUT_OF_RANGE: u32 = 23;
 /// The delta does not start at the current bitmap.
 pub const NOT_AT_BASE: u32 = 24;
 
+/// The bitmap keeps a log.
+pub const HAS_LOG: u32 = 25;
+
+/// The bitmap keeps no log.
+pub const NO_LOG: u32 = 26;
+
 /// Returns the status of a decode error.
 pub fn codec_status(error: &CodecError) -> u32
     ensures { result ≡ refusal_status (reason (Refusal.Codec error.now)) }
@@ -153,7 +159,8 @@ pub fn history_status(error: &HistoryError) -> u32
 
 // Returns the status of an error of a delta.
 fn delta_status(error: &DeltaError) -> u32
-    ensures { result ≡ delta_status error.now }
+    ensures status { result ≡ delta_status error.now }
+    ensures error { 0 < result }
 {
     match error {
         DeltaError::Short => CUT_OFF,
@@ -167,7 +174,8 @@ fn delta_status(error: &DeltaError) -> u32
 
 /// Returns the status of an error of a session that does not apply a delta.
 pub fn apply_status(error: &ApplyDeltaError) -> u32
-    ensures { result ≡ apply_status error.now }
+    ensures status { result ≡ apply_status error.now }
+    ensures error { 0 < result }
 {
     match error {
         ApplyDeltaError::InBatch => WRONG_MODE,

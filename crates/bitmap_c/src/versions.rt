@@ -14,7 +14,7 @@ use crate::status::{DONE, EMPTY_HANDLE, FULL_HANDLE, refusal_status};
 use bitmap_session::reply::Refusal;
 use std::alloc::Global;
 
-// Returns a session of the bitmap that another one keeps under a number.
+// Returns a session of the bitmap that another one keeps under a number. It has no log.
 fn version(any: &AnySession, number: u64) -> Result<AnySession, Refusal>
     ensures value { IfOk result (λ made. IsVersion any.now number made) }
     ensures accepted { OnOk result (checkout_refusal (machine any.now).state number ≡ None) }
@@ -22,10 +22,10 @@ fn version(any: &AnySession, number: u64) -> Result<AnySession, Refusal>
         ≡ unwrap_or (checkout_refusal (machine any.now).state number) replies.Refusal.NoMemory) }
 {
     match any {
-        AnySession::Width1(session) => Ok(AnySession::Width1(session.checkout(number)?)),
-        AnySession::Width8(session) => Ok(AnySession::Width8(session.checkout(number)?)),
-        AnySession::Width32(session) => Ok(AnySession::Width32(session.checkout(number)?)),
-        AnySession::Width64(session) => Ok(AnySession::Width64(session.checkout(number)?)),
+        AnySession::Width1(session, _) => Ok(AnySession::Width1(session.checkout(number)?, None)),
+        AnySession::Width8(session, _) => Ok(AnySession::Width8(session.checkout(number)?, None)),
+        AnySession::Width32(session, _) => Ok(AnySession::Width32(session.checkout(number)?, None)),
+        AnySession::Width64(session, _) => Ok(AnySession::Width64(session.checkout(number)?, None)),
     }
 }
 
@@ -42,7 +42,7 @@ fn check_out(alloc: Global, any: &AnySession, number: u64, copy: &mut Handle) ->
     }
 }
 
-/// Makes a bitmap of its own of the bitmap at commit `number`, in the empty handle `copy`: with no commits and no last number.
+/// Makes a bitmap of its own of the bitmap at commit `number`, in the empty handle `copy`: with no commits, no last number and no log.
 ///
 /// # Errors
 ///

@@ -41,6 +41,8 @@ pub const DAMAGED: Status = 21;
 pub const NOT_ACCEPTED: Status = 22;
 pub const OUT_OF_RANGE: Status = 23;
 pub const NOT_AT_BASE: Status = 24;
+pub const HAS_LOG: Status = 25;
+pub const NO_LOG: Status = 26;
 
 #[rustfmt::skip]
 unsafe extern "C" {
@@ -106,4 +108,10 @@ unsafe extern "C" {
     pub fn mortarpink_load(bitmap: *mut Handle, width: u32, least_bits: u64, most_bits: u64, least_commits: u64, most_commits: u64, bytes: *const u8, len: usize, used: *mut usize) -> Status;
     pub fn mortarpink_delta(bitmap: *const Handle, from: u64, to: u64, out: *mut u8, len: usize, size: *mut usize) -> Status;
     pub fn mortarpink_apply_delta(bitmap: *mut Handle, bytes: *const u8, len: usize) -> Status;
+    pub fn mortarpink_log_begin(bitmap: *mut Handle) -> Status;
+    pub fn mortarpink_log_end(bitmap: *mut Handle) -> Status;
+    pub fn mortarpink_log_bytes(bitmap: *const Handle, out: *mut u8, len: usize, size: *mut usize) -> Status;
+    pub fn mortarpink_log_forget(bitmap: *mut Handle) -> Status;
+    pub fn mortarpink_log_position(bitmap: *const Handle, position: *mut u64) -> Status;
+    pub fn mortarpink_log_digest(bitmap: *const Handle, digest: *mut u64) -> Status;
 }

@@ -103,5 +103,5 @@ empty_handle = refl
 commit_of_an_empty_handle : read_commit None 4 (queried Len) ≡ Err 15
 commit_of_an_empty_handle = refl
 
-full_handle : read_shown (Some (Width1 first_machine)) (queried Len) ≡ Ok 0
+full_handle : read_shown (Some (Width1 first_machine None)) (queried Len) ≡ Ok 0
 full_handle = refl

@@ -14,7 +14,6 @@ use Rattle.bitmap_session.specs.Replies.Refusal.{OutOfBounds, WrongMode}
 use Rattle.bitmap_session.specs.declared.session.saved.ApplyDeltaError.TheVariants as apply_errors
 use Rattle.bitmap_c.specs.declared.any.AnySession.TheVariants.{Width8}
 use Rattle.bitmap_c.specs.Bulk.{CallsEdit, CallsEditChunk, CallsSetMany, edit_status}
-use Rattle.bitmap_c.specs.Saved.{CallsApply}
 use Rattle.bitmap_c.specs.Statuses.{apply_status, delta_status, history_status}
 
 -- ---- histories
@@ -80,8 +79,8 @@ abbrev in_batch : Machine
 in_batch = record { state = record { current = no_bits; pending = Some no_bits; history = []; costs = []; last = None }; touched = [] }
 
 -- outside a batch the length cannot be changed, and in one no bit can be removed if there is none
-not_extended : CallsEdit (Some (Width8 first_machine)) (λ N. lengthens N 9) 1 (Some (Width8 first_machine))
-not_extended = (Width8 first_machine, refl, (Some WrongMode, refl, (refl, (refl, refl))))
+not_extended : CallsEdit (Some (Width8 first_machine None)) (λ N. lengthens N 9) 1 (Some (Width8 first_machine None))
+not_extended = (Width8 first_machine None, refl, (Some WrongMode, refl, ((refl, refl), (refl, refl))))
 
 edit_of_an_empty_handle : CallsEdit None (λ N. shortens N 9) 15 None
 edit_of_an_empty_handle = (refl, refl)
@@ -92,6 +91,3 @@ chunk_of_another_size = (refl, refl)
 
 positions_of_an_empty_handle : CallsSetMany None (3 ∷ []) true 7 7 15 None
 positions_of_an_empty_handle = (refl, refl, refl)
-
-delta_to_an_empty_handle : CallsApply None (1 ∷ []) 15 None
-delta_to_an_empty_handle = (refl, refl)
