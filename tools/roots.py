@@ -1,12 +1,15 @@
 #!/usr/bin/env python3
-"""A second computation of roots, audit paths and proofs of chunks. It was written from docs/FORMATS.md alone, with Python's hashlib.
+"""A second computation of roots, audit paths and proofs of chunks and of ranges. It was written from docs/FORMATS.md alone, with Python's hashlib.
 
     tools/roots.py      compares itself with the page's worked root and with the constants of the tests, also of the Rust crate, and checks random
                         proofs
 
-The check of a path goes from the leaf up, as the algorithm of RFC 9162, section 2.1.3.2. The library's goes from the root down.
+The check of a path goes from the leaf up, as the algorithm of RFC 9162, section 2.1.3.2. The library's goes from the root down. The siblings of a
+range are found level by level, from the leaves up, and the check of a range puts the leaves and the siblings in a row and joins neighbours. The
+library's are recursions from the root down.
 """
 
+import itertools
 import random
 import re
 from hashlib import sha256
@@ -107,6 +110,91 @@ def read(width, data):
     return width, length, pruned, index, data[40 : 40 + width], path
 
 
+def levels(digests):
+    """The nodes of each level, from the leaves up: the first leaf of each, the leaf after its last, and its digest. A last node without a neighbour
+    is in the next level too, as it is."""
+    row = [(at, at + 1, one) for at, one in enumerate(digests)]
+    found = [row]
+    while len(row) > 1:
+        pairs = [(left[0], right[1], node(left[2], right[2])) for left, right in zip(row[::2], row[1::2])]
+        row = pairs + row[len(pairs) * 2 :]
+        found.append(row)
+    return found
+
+
+def range_siblings(first, count, digests):
+    """The digests of the nodes without a leaf of the range whose parent has one, from left to right."""
+    beside = {}
+    for below, above in itertools.pairwise(levels(digests)):
+        for start, end, one in below:
+            parent = next((a, b) for a, b, _ in above if a <= start and end <= b)
+            touches = [a < first + count and first < b for a, b in ((start, end), parent)]
+            if touches == [False, True]:
+                beside[start, end] = one
+    return [one for _, one in sorted(beside.items())]
+
+
+def blocks(start, end, n):
+    """The nodes that cover the leaves from start to end, beside a range: the first leaf of each, and the leaf after its last. The tree has n leaves."""
+    while start < end:
+        size = start & -start if start else 1 << n.bit_length()
+        while start + size > end and not (end == n and start + size >= n):
+            size >>= 1
+        yield start, min(start + size, n)
+        start += size
+
+
+def range_tree(first, n, chunks, siblings):
+    """The digest of the tree of n leaves, from the chunks of a range and its siblings. None if these are too many or too few."""
+    end = first + len(chunks)
+    places = [*blocks(0, first, n)], [*blocks(end, n, n)]
+    if len(siblings) != len(places[0]) + len(places[1]):
+        return None
+    left, right = siblings[: len(places[0])], siblings[len(places[0]) :]
+    row = [(*place, one) for place, one in zip(places[0], left)]
+    row += [(first + at, first + at + 1, leaf(chunk)) for at, chunk in enumerate(chunks)]
+    row += [(*place, one) for place, one in zip(places[1], right)]
+    while len(row) > 1:
+        # The first node that is the left half of its parent and whose neighbour is the right half.
+        at = next(k for k in range(len(row) - 1) if is_pair(row[k], row[k + 1], n))
+        (start, _, one), (_, after, two) = row[at : at + 2]
+        row[at : at + 2] = [(start, after, node(one, two))]
+    return row[0][2]
+
+
+def is_pair(left, right, n):
+    size = left[1] - left[0]
+    return size & (size - 1) == 0 and left[0] % (2 * size) == 0 and (right[1] - right[0] == size or right[1] == n and right[1] - right[0] <= size)
+
+
+def range_verifies(wanted, width, length, pruned, first, chunks, siblings):
+    n = -(-length // (8 * width))
+    if not chunks or first + len(chunks) > n:
+        return False
+    top = range_tree(first, n, chunks, siblings)
+    return top is not None and root(width, length, pruned, top) == wanted
+
+
+def range_encoding(width, length, pruned, first, chunks, siblings):
+    return b"".join(map(be64, (width, length, pruned, first, len(chunks), len(siblings)))) + b"".join(chunks) + b"".join(siblings)
+
+
+def read_range(width, data):
+    """The proof of a range that bytes are the encoding of, or the name of the first error."""
+    if len(data) < 48:
+        return "Short"
+    found, length, pruned, first, count, digests = (int.from_bytes(data[at : at + 8], "big") for at in range(0, 48, 8))
+    if found != width:
+        return "Width"
+    if digests > 128:
+        return "TooManyDigests"
+    if len(data) != 48 + width * count + 32 * digests:
+        return "Length"
+    middle = 48 + width * count
+    chunks = [data[at : at + width] for at in range(48, middle, width)]
+    return width, length, pruned, first, chunks, [data[at : at + 32] for at in range(middle, len(data), 32)]
+
+
 def nodes(n):
     return 2 * n - n.bit_count()
 
@@ -132,6 +220,7 @@ def constants():
     values = {"NOTHING": tree([]), "LAST_FOUR": tree(eight[4:]), "FIVE_CHUNKS": tree(five)}
     values |= {f"TREE_{n}": tree(eight[:n]) for n in range(1, 9)}
     values |= {f"PATH_{index}_OF_{n}_{k}": one for index, n in ((5, 8), (6, 7)) for k, one in enumerate(audit_path(index, eight[:n]))}
+    values |= {f"RANGE_2_TO_7_OF_8_{k}": one for k, one in enumerate(range_siblings(2, 5, eight))}
     values |= {f"PATH_CHUNK_2_{k}": one for k, one in enumerate(audit_path(2, five))}
     values |= {f"ROOT_PRUNED_{pruned}": root(4, 150, pruned, tree(five)) for pruned in (0, 2, 4)}
     values |= {"WORKED_0": worked[0], "WORKED_2": worked[2], "WORKED_ROOT": root(1, 20, 1, tree(worked))}
@@ -145,8 +234,8 @@ def constant_cases():
         wanted = values.pop(name, None)
         yield name, None if found == wanted else "has another value"
     yield "constants", f"there is no {' '.join(values)}" if values else None
-    wanted = digest_of_many()
-    yield "native/tests/roots.rs", None if f'const OF_MANY: &str = "{wanted}";' in RUST_TESTS.read_text() else f"OF_MANY is not {wanted}"
+    for name, wanted in (("OF_MANY", digest_of_many()), ("RANGES_OF_MANY", digest_of_ranges())):
+        yield f"{name} of native/tests/roots.rs", None if f'const {name}: &str = "{wanted}";' in RUST_TESTS.read_text() else f"it is not {wanted}"
 
 
 def digest_of_many():
@@ -168,6 +257,24 @@ def digest_of_many():
     return hashed.hexdigest()
 
 
+def digest_of_ranges():
+    """The digest of the encodings of proofs of ranges with which native/tests/roots.rs compares those of the Rust crate.
+
+    The bitmaps are those of `digest_of_many`, with half of the complete chunks pruned. Each has the proofs of all its ranges, by their first chunk
+    and then by their end.
+    """
+    hashed = sha256()
+    for length in range(121):
+        number = sum(1 << k for k in range(length) if k * k % 7 < 3)
+        data = number.to_bytes(3 * -(-length // 24), "little")
+        chunks = [data[at : at + 3] for at in range(0, len(data), 3)]
+        digests = [leaf(chunk) for chunk in chunks]
+        for first, end in itertools.combinations(range(len(chunks) + 1), 2):
+            siblings = range_siblings(first, end - first, digests)
+            hashed.update(range_encoding(3, length, length // 48, first, chunks[first:end], siblings))
+    return hashed.hexdigest()
+
+
 def worked_cases():
     """Compares the table of the worked root: each digest is that of the bytes and digests beside it."""
     rows = re.findall(r"^\| (\w+) \| (`[^|]*) \| `([0-9a-f]{64})` \|$", PAGE.read_text(), re.MULTILINE)
@@ -177,6 +284,17 @@ def worked_cases():
         data = b"".join(bytes.fromhex(part.strip("`")) if part.startswith("`") else known[part] for part in parts.split(", "))
         known[name] = bytes.fromhex(found)
         yield f"worked {name}", None if digest(data) == known[name] else digest(data).hex()
+
+
+def worked_range_cases():
+    """Compares the worked bytes of a proof of a range with the proof, which verifies against the worked root."""
+    _, _, text = PAGE.read_text().partition("### A worked range\n")
+    found = b"".join(bytes.fromhex(part) for part in re.findall(r"^\| \d+ \| `([0-9a-f]+)` \|", text.split("\n## ")[0], re.MULTILINE))
+    chunks = [bytes.fromhex(one) for one in ("01", "80", "0f")]
+    digests = [leaf(chunk) for chunk in chunks]
+    proof = (1, 20, 1, 1, chunks[1:], range_siblings(1, 2, digests))
+    yield "the worked range", None if found == range_encoding(*proof) else f"its bytes are {range_encoding(*proof).hex()}"
+    yield "the worked range verifies", None if range_verifies(root(1, 20, 1, tree(digests)), *proof) else "it does not"
 
 
 def random_cases(rounds, seed="0"):
@@ -194,6 +312,7 @@ def random_cases(rounds, seed="0"):
             (width, bits + 1, *proof[2:]), (width, bits, pruned + 1, *proof[3:]), (width, bits, pruned, index, other, path),
             (width, bits, pruned, index, chunks[index], [*path, wanted]), (width, bits, pruned, index, chunks[index], path[:-1] if path else [wanted]),
         ]
+        yield from random_ranges(source, number, chunks, wanted, (width, bits, pruned))
         data, places = encoding(*proof), stored(digests)
         subtree = source.randrange(len(digests).bit_length())
         start = source.randrange(len(digests) >> subtree) << subtree
@@ -206,5 +325,30 @@ def random_cases(rounds, seed="0"):
         yield f"place {number}", None if places[at] == tree(digests[start : start + (1 << subtree)]) else f"another digest is at {at}"
 
 
+def random_ranges(source, number, chunks, wanted, shape):
+    """A true proof of a range verifies, and false ones do not. A range of one chunk has the digests of its path."""
+    digests = [leaf(chunk) for chunk in chunks]
+    first = source.randrange(len(chunks))
+    count = source.randint(1, len(chunks) - first)
+    part, siblings = chunks[first : first + count], range_siblings(first, count, digests)
+    proof, data = (*shape, first, part, siblings), range_encoding(*shape, first, part, siblings)
+    other = bytes([part[-1][0] ^ 1]) + part[-1][1:]
+    false = [
+        (shape[0], shape[1] + 1, *proof[2:]), (*shape[:2], shape[2] + 1, *proof[3:]), (*shape, first + 1, part, siblings),
+        (*shape, first, [*part[:-1], other], siblings), (*shape, first, part[1:], siblings), (*shape, first, part[:-1], siblings),
+        (*shape, first, part, [*siblings, wanted]), (*shape, first, part, siblings[:-1] or [wanted]),
+    ]
+    if len(siblings) > 1 and siblings[0] != siblings[1]:
+        false.append((*shape, first, part, [siblings[1], siblings[0], *siblings[2:]]))
+    yield f"range {number}", None if range_verifies(wanted, *proof) else "does not verify"
+    yield f"false ranges {number}", None if not any(range_verifies(wanted, *one) for one in false) else "one verifies"
+    yield f"encoding of range {number}", None if read_range(shape[0], data) == proof else "is read as another"
+    errors = read_range(shape[0], data[:47]), read_range(shape[0] + 1, data), read_range(shape[0], data + b"\0")
+    yield f"errors of range {number}", None if errors == ("Short", "Width", "Length") else "others"
+    same = sorted(range_siblings(first, 1, digests)) == sorted(audit_path(first, digests))
+    yield f"range of one chunk {number}", None if same else "has other digests"
+    yield f"siblings {number}", None if len(siblings) <= 128 else f"{len(siblings)} siblings"
+
+
 if __name__ == "__main__":
-    raise SystemExit(report("roots", [*constant_cases(), *worked_cases(), *random_cases(ROUNDS)], "values"))
+    raise SystemExit(report("roots", [*constant_cases(), *worked_cases(), *worked_range_cases(), *random_cases(ROUNDS)], "values"))

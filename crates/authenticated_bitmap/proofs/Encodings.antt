@@ -75,7 +75,7 @@ read_as n bytes l p i chunk path long width few len el ep ei ec es =
     ∙ ap (λ x. Ok (made n l p i chunk x)) (sym es)
 
 -- each item is a byte
-IsBytes : List ℕ → Type 0
+unfoldable pub IsBytes : List ℕ → Type 0
 IsBytes bytes = (i : ℕ) → get_or bytes i 0 < 256
 
 bytes_drop : (n : ℕ) (bytes : List ℕ) → IsBytes bytes → IsBytes (drop n bytes)
@@ -91,7 +91,7 @@ bytes_take n bytes h i =
     ]
 
 -- the bytes of a number that is read are there
-number_takes : (start : ℕ) (bytes : List ℕ) → IsBytes bytes → start + 8 ≤ length bytes → drop start bytes ≡ to_be_bytes w64 (number_at start bytes) ++ drop (start + 8) bytes
+pub number_takes : (start : ℕ) (bytes : List ℕ) → IsBytes bytes → start + 8 ≤ length bytes → drop start bytes ≡ to_be_bytes w64 (number_at start bytes) ++ drop (start + 8) bytes
 unfolding IsBytes
 number_takes start bytes fits long =
     let from : List ℕ = drop start bytes in

@@ -47,7 +47,7 @@ module _ (H : List ℕ → List ℕ) (digests : List (List ℕ)) (k index : ℕ)
       let fits : length (leaves_under (suc k) index digests) ≤ 2 ^ k = omega (arith, part_length, few, ap (λ x. index * x) (twice k)) in
       ap (subtree_hash H k) (left_part ∙ take_all (2 ^ k) (leaves_under (suc k) index digests) fits) ∙ sym (hash_low H k (leaves_under (suc k) index digests) fits)
 
-  two_parts : (2 * index + 1) * 2 ^ k < length digests → node_hash H (subtree_hash H k (leaves_under k (2 * index) digests)) (subtree_hash H k (leaves_under k (2 * index + 1) digests)) ≡ subtree_hash H (suc k) (leaves_under (suc k) index digests)
+  pub two_parts : (2 * index + 1) * 2 ^ k < length digests → node_hash H (subtree_hash H k (leaves_under k (2 * index) digests)) (subtree_hash H k (leaves_under k (2 * index + 1) digests)) ≡ subtree_hash H (suc k) (leaves_under (suc k) index digests)
   two_parts many =
       let more : 2 ^ k < length (leaves_under (suc k) index digests) =
       omega (arith, length-take (2 ^ suc k) (drop (index * 2 ^ suc k) digests), length-drop (index * 2 ^ suc k) digests, many, ap (λ x. index * x) (twice k), twice k, pow_pos k) in

@@ -12,3 +12,12 @@ pub mod StoredPaths
 pub mod Apart
 pub mod Pigeonhole
 pub mod Encodings
+pub mod RangeSteps
+pub mod RangeCode
+pub mod Ranges
+pub mod RangeRoots
+pub mod RangeLengths
+pub mod RangeEncodings
+pub mod StoredRanges
+pub mod StoredChunks
+pub mod Appended

@@ -63,12 +63,12 @@ be_bytes (suc k) n = All-cons (λ x. x < 256) (byte_at k n) (bytes_high_first k 
 header_bytes : (s : Shape) → AreBytes (header s)
 header_bytes s = joined_bytes (to_be_bytes w64 s.width ++ to_be_bytes w64 s.len) (to_be_bytes w64 s.pruned) (joined_bytes (to_be_bytes w64 s.width) (to_be_bytes w64 s.len) (be_bytes 8 s.width) (be_bytes 8 s.len)) (be_bytes 8 s.pruned)
 
-root_bytes : (s : Shape) (tree : List ℕ) → AreBytes tree → AreBytes (root_input s tree)
+pub root_bytes : (s : Shape) (tree : List ℕ) → AreBytes tree → AreBytes (root_input s tree)
 unfolding root_input
 root_bytes s tree h = marked_bytes 2 (header s ++ tree) (omega arith) (joined_bytes (header s) tree (header_bytes s) h)
 
 -- equal inputs of two roots
-same_root_input : (s t : Shape) (x y : List ℕ) → Fits s → Fits t → root_input s x ≡ root_input t y → (s ≡ t) × (x ≡ y)
+pub same_root_input : (s t : Shape) (x y : List ℕ) → Fits s → Fits t → root_input s x ≡ root_input t y → (s ≡ t) × (x ≡ y)
 unfolding root_input
 same_root_input s t x y fs ft e = numbers s t x y fs ft (tails 2 2 (header s ++ x) (header t ++ y) e)
 

@@ -14,20 +14,22 @@ use crate::hash::Digest;
 use crate::root::{header_bytes, verify_chunk};
 use std::alloc::{AllocError, Global};
 
-/// Why bytes are not the encoding of a proof. [`Proof::read`] reports the first of these that
+/// Why bytes are not the encoding of a proof. [`Proof::read`] and
+/// [`RangeProof::read`](crate::range_encoding::RangeProof::read) report the first of these that
 /// applies.
 #[derive(Clone, Copy, Debug, PartialEq, Eq)]
 pub enum DecodeError {
-    /// There are fewer than 40 bytes.
+    /// There are fewer bytes than the numbers of a proof have: 40 for a chunk, and 48 for a range.
     Short,
 
     /// The proof is of a bitmap with chunks of this many bytes.
     Width(u64),
 
-    /// The path has this many digests, which is more than 64.
+    /// The proof has this many digests, which is more than 64 for a chunk, or 128 for a range.
     TooManyDigests(u64),
 
-    /// The number of bytes is not 40, and `N`, and 32 for each digest.
+    /// The number of bytes is not that of the numbers, and `N` for each chunk, and 32 for each
+    /// digest.
     Length,
 }
 
@@ -62,7 +64,7 @@ pub fn encodings_are_read_again()
 {}
 
 // The number in the eight bytes from `start` on, most significant byte first.
-fn number_at(bytes: &[u8], start: usize) -> u64
+pub(crate) fn number_at(bytes: &[u8], start: usize) -> u64
     requires { start + 8 ≤ length bytes.now }
     ensures { result ≡ number_in start bytes.now }
 {

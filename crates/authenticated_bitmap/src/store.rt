@@ -4,12 +4,16 @@
 //! comes after those of its two halves. So the place of a digest does not depend on the number of
 //! leaves, and a leaf that is appended appends digests and moves none.
 
-ghost use Rattle.std.specs.Prelude.{◌++◌, ◌-◌, reverse, IfOk, OnOk, ◌≡◌, ◌+◌, ◌*◌, ◌^◌, ◌<◌, ◌≤◌, ℕ, List, length};
+ghost use Rattle.std.specs.Prelude.{◌++◌, ◌-◌, reverse, IfOk, OnErr, OnOk, ◌≡◌, ◌+◌, ◌*◌, ◌^◌, ◌<◌, ◌≤◌, ℕ, List, [], ◌∷◌, length, take};
+ghost use Rattle.authenticated_bitmap.specs.StoredBitmap.{full_chunks};
 ghost use Rattle.authenticated_bitmap.specs.Stored.{KeepsApart, StoresSubtrees, leaves_under, nodes, position, stored as stored_of};
+ghost use Rattle.authenticated_bitmap.specs.Range.{range_siblings, siblings_below};
 ghost use Rattle.authenticated_bitmap.specs.Tree.{audit_path, siblings, subtree_hash, tree_hash};
 
 use crate::hash::Digest;
+use crate::node_source::{InBitmap, InSlice, Nodes};
 use crate::tree::node_digest;
+use bitmap_core::bitmap::Readable;
 use std::alloc::{AllocError, Global};
 
 /// What is stored for a tree: how many digests, each complete subtree's at its place, and that
@@ -57,9 +61,9 @@ fn size_of(level: u32) -> u64
 
 // The digest of a part of a tree of `n` leaves, from the stored ones: of the `index`-th `2 ^ level`
 // leaves, or what there is of them.
-fn stored_digest<D: Digest>(
+fn stored_digest<D: Digest, S: Nodes>(
     hash: &D,
-    stored: &[[u8; 32]],
+    stored: &S,
     n: u64,
     level: u32,
     index: u64,
@@ -67,13 +71,13 @@ fn stored_digest<D: Digest>(
     requires low { level ≤ 61 }
     requires few { n ≤ 2 ^ 61 }
     requires some { index * 2 ^ level < n }
-    requires count { length stored.now ≡ nodes n }
+    requires count { length (S.held stored.now) ≡ nodes n }
     ensures { (digests : List (List ℕ)) → length digests ≡ n
-        → stored.now ≡ stored_of (D.digest_of hash.now) digests
+        → S.held stored.now ≡ stored_of (D.digest_of hash.now) digests
         → result ≡ subtree_hash (D.digest_of hash.now) level (leaves_under level index digests) }
 {
     if index * size_of(level) + size_of(level) <= n {
-        return stored[node_position(level, index) as usize];
+        return stored.node(node_position(level, index));
     }
     let left = stored_digest(hash, stored, n, level - 1, 2 * index);
     if (2 * index + 1) * size_of(level - 1) >= n {
@@ -102,14 +106,128 @@ pub fn tree_from_stored<D: Digest>(hash: &D, stored: &[[u8; 32]], n: u64) -> [u8
     if n == 0 {
         return hash.digest_of_nothing();
     }
-    stored_digest(hash, stored, n, 61, 0)
+    stored_digest(hash, &InSlice(stored), n, 61, 0)
+}
+
+/// Returns the digest of the tree of `n` leaves, from a bitmap that has the stored digests as chunks.
+///
+/// It does what [`tree_from_stored`] does. The digests are the [`node_count(n)`](node_count)
+/// chunks of a bitmap of width 32 in which nothing is pruned, and the last chunk is full. If the
+/// bitmap is a past version that is read in place, so is the tree. `n` is at most 2 to the power
+/// 61.
+///
+/// # Memory
+/// Does not allocate, if `get_chunk` of the bitmap does not.
+///
+/// # Complexity
+/// Logarithmic in `n`: calls `get_chunk` once per set bit of `n`, and hashes one time less.
+pub fn tree_from_bitmap<D: Digest, B: Readable<32>>(hash: &D, stored: &B, n: u64) -> [u8; 32]
+    requires few { n ≤ 2 ^ 61 }
+    requires pruned { (B.meaning stored.now).pruned ≡ 0 }
+    requires count { (B.meaning stored.now).len ≡ 256 * nodes n }
+    ensures { (digests : List (List ℕ)) → length digests ≡ n
+        → full_chunks (B.meaning stored.now) ≡ stored_of (D.digest_of hash.now) digests
+        → result ≡ tree_hash (D.digest_of hash.now) digests }
+{
+    if n == 0 {
+        return hash.digest_of_nothing();
+    }
+    stored_digest(hash, &InBitmap::new(stored), n, 61, 0)
+}
+
+// Appends the digest of each subtree that is completed by the `index`-th subtree of `2 ^ level`
+// leaves. That is the last so far, its digest is `above`, and it is the last of `stored`.
+fn push_completed<D: Digest>(
+    hash: &D,
+    stored: &mut Vec<[u8; 32]>,
+    level: u32,
+    index: u64,
+    above: &[u8; 32],
+) -> Result<(), AllocError>
+    requires low { level ≤ 61 }
+    requires fits { (index + 1) * 2 ^ level ≤ 2 ^ 61 }
+    requires count { length stored.old.items ≡ position level index + 1 }
+    ensures value { (all : List (List ℕ)) → length all ≡ (index + 1) * 2 ^ level
+        → stored.old.items ≡ take (position level index + 1) (stored_of (D.digest_of hash.now) all)
+        → above.now ≡ subtree_hash (D.digest_of hash.now) level (leaves_under level index all)
+        → OnOk result (stored.new.items ≡ stored_of (D.digest_of hash.now) all) }
+    ensures count { OnOk result (length stored.new.items ≡ nodes ((index + 1) * 2 ^ level)) }
+    ensures begins { take (length stored.old.items) stored.new.items ≡ stored.old.items }
+{
+    if index % 2 == 0 {
+        return Ok(());
+    }
+    let left = stored[node_position(level, index - 1) as usize];
+    let whole = node_digest(hash, &left, above);
+    stored.push(whole)?;
+    push_completed(hash, stored, level + 1, index / 2, &whole)
+}
+
+// Appends the digests that leaf `n` adds. After an error, `stored` may have some of them.
+fn push_leaf<D: Digest>(
+    hash: &D,
+    stored: &mut Vec<[u8; 32]>,
+    n: u64,
+    digest: &[u8; 32],
+) -> Result<(), AllocError>
+    requires few { n < 2 ^ 61 }
+    requires count { length stored.old.items ≡ nodes n }
+    ensures value { (digests : List (List ℕ)) → length digests ≡ n
+        → stored.old.items ≡ stored_of (D.digest_of hash.now) digests
+        → OnOk result (stored.new.items
+        ≡ stored_of (D.digest_of hash.now) (digests ++ digest.now ∷ [])) }
+    ensures count { OnOk result (length stored.new.items ≡ nodes (n + 1)) }
+    ensures begins { take (length stored.old.items) stored.new.items ≡ stored.old.items }
+{
+    stored.push(*digest)?;
+    push_completed(hash, stored, 0, n, digest)
+}
+
+/// Appends a leaf to a tree of `n` leaves, by its digest: appends the stored digests that it adds.
+///
+/// They are the digest of the leaf, and one per subtree that it completes. `stored` has
+/// [`node_count(n)`](node_count) digests before, and `node_count(n + 1)` after. `n` is below 2 to
+/// the power 61.
+///
+/// # Errors
+/// `AllocError` if an allocation fails. `stored` is then unchanged.
+///
+/// # Memory
+/// Allocates 32 bytes per digest that is appended, of which there are at most 62.
+///
+/// # Complexity
+/// Reads one stored digest and hashes once per subtree that the leaf completes. These are as many
+/// as `n` has set bits below its lowest unset bit: fewer than one per leaf over many leaves.
+pub fn append_leaf<D: Digest>(
+    hash: &D,
+    stored: &mut Vec<[u8; 32]>,
+    n: u64,
+    digest: &[u8; 32],
+) -> Result<(), AllocError>
+    requires few { n < 2 ^ 61 }
+    requires count { length stored.old.items ≡ nodes n }
+    ensures value { (digests : List (List ℕ)) → length digests ≡ n
+        → stored.old.items ≡ stored_of (D.digest_of hash.now) digests
+        → OnOk result (stored.new.items
+        ≡ stored_of (D.digest_of hash.now) (digests ++ digest.now ∷ [])) }
+    ensures count { OnOk result (length stored.new.items ≡ nodes (n + 1)) }
+    ensures unchanged { OnErr result (stored.new.items ≡ stored.old.items) }
+{
+    let count = stored.len();
+    match push_leaf(hash, stored, n, digest) {
+        Ok(()) => Ok(()),
+        Err(error) => {
+            stored.truncate(count);
+            Err(error)
+        }
+    }
 }
 
 // Appends the digests beside the way to leaf `i` in a part of the tree, the part's last, from the
 // stored digests.
-fn push_stored_siblings<D: Digest>(
+fn push_stored_siblings<D: Digest, S: Nodes>(
     hash: &D,
-    stored: &[[u8; 32]],
+    stored: &S,
     n: u64,
     level: u32,
     index: u64,
@@ -120,9 +238,9 @@ fn push_stored_siblings<D: Digest>(
     requires few { n ≤ 2 ^ 61 }
     requires some { i < n }
     requires from { index * 2 ^ level ≤ i }
-    requires count { length stored.now ≡ nodes n }
+    requires count { length (S.held stored.now) ≡ nodes n }
     ensures { (digests : List (List ℕ)) → length digests ≡ n
-        → stored.now ≡ stored_of (D.digest_of hash.now) digests
+        → S.held stored.now ≡ stored_of (D.digest_of hash.now) digests
         → OnOk result (path.new.items ≡ path.old.items
         ++ reverse (siblings (D.digest_of hash.now) level (i - index * 2 ^ level)
         (leaves_under level index digests))) }
@@ -172,6 +290,198 @@ pub fn prove_from_stored<D: Digest>(
         → IfOk result (λ path. path.items ≡ audit_path (D.digest_of hash.now) i digests) }
 {
     let mut path = Vec::new(alloc);
-    push_stored_siblings(hash, stored, n, 61, 0, i, &mut path)?;
+    push_stored_siblings(hash, &InSlice(stored), n, 61, 0, i, &mut path)?;
     Ok(path)
+}
+
+/// Returns the audit path of leaf `i` of the tree of `n` leaves, from a bitmap that has the stored
+/// digests as chunks.
+///
+/// It does what `prove_from_stored` does. The digests are the
+/// [`node_count(n)`](node_count) chunks of a bitmap of width 32 in which nothing is pruned, and
+/// the last chunk is full. `i` is below `n`, and `n` is at most 2 to the power 61.
+///
+/// # Errors
+/// `AllocError` if an allocation fails.
+///
+/// # Memory
+/// Allocates 32 bytes per digest of the path, of which there are at most 61.
+///
+/// # Complexity
+/// Quadratic in the logarithm of `n`, and most digests of the path are read by `get_chunk` and not
+/// computed.
+pub fn prove_from_bitmap<D: Digest, B: Readable<32>>(
+    alloc: Global,
+    hash: &D,
+    stored: &B,
+    n: u64,
+    i: u64,
+) -> Result<Vec<[u8; 32]>, AllocError>
+    requires few { n ≤ 2 ^ 61 }
+    requires some { i < n }
+    requires pruned { (B.meaning stored.now).pruned ≡ 0 }
+    requires count { (B.meaning stored.now).len ≡ 256 * nodes n }
+    ensures { (digests : List (List ℕ)) → length digests ≡ n
+        → full_chunks (B.meaning stored.now) ≡ stored_of (D.digest_of hash.now) digests
+        → IfOk result (λ path. path.items ≡ audit_path (D.digest_of hash.now) i digests) }
+{
+    let mut path = Vec::new(alloc);
+    let nodes = InBitmap::new(stored);
+    push_stored_siblings(hash, &nodes, n, 61, 0, i, &mut path)?;
+    Ok(path)
+}
+
+// Appends the siblings of a range in a part of the tree, from the stored digests. `first` counts
+// from the part's first leaf.
+fn push_stored_range<D: Digest, S: Nodes>(
+    hash: &D,
+    stored: &S,
+    n: u64,
+    level: u32,
+    index: u64,
+    first: u64,
+    count: u64,
+    siblings: &mut Vec<[u8; 32]>,
+) -> Result<(), AllocError>
+    requires low { level ≤ 61 }
+    requires few { n ≤ 2 ^ 61 }
+    requires some { index * 2 ^ level < n }
+    requires count { length (S.held stored.now) ≡ nodes n }
+    ensures { (digests : List (List ℕ)) → length digests ≡ n
+        → S.held stored.now ≡ stored_of (D.digest_of hash.now) digests
+        → OnOk result (siblings.new.items ≡ siblings.old.items
+        ++ siblings_below (D.digest_of hash.now) level first count
+        (leaves_under level index digests)) }
+{
+    if count == 0 {
+        siblings.push(stored_digest(hash, stored, n, level, index))?;
+        return Ok(());
+    }
+    if level == 0 {
+        return Ok(());
+    }
+    let half = size_of(level - 1);
+    if (2 * index + 1) * half >= n {
+        return push_stored_range(
+            hash,
+            stored,
+            n,
+            level - 1,
+            2 * index,
+            first,
+            count,
+            siblings,
+        );
+    }
+    let before_half = half.saturating_sub(first);
+    let in_left = before_half.min(count);
+    let in_right = count.saturating_sub(before_half);
+    let right = 2 * index + 1;
+    push_stored_range(
+        hash,
+        stored,
+        n,
+        level - 1,
+        2 * index,
+        first,
+        in_left,
+        siblings,
+    )?;
+    push_stored_range(
+        hash,
+        stored,
+        n,
+        level - 1,
+        right,
+        first.saturating_sub(half),
+        in_right,
+        siblings,
+    )
+}
+
+/// Returns the siblings of the `count` leaves from `first` on in the tree of `n` leaves, from the
+/// stored digests, as [`prove_range`](crate::range::prove_range) does from those of all leaves.
+///
+/// There are [`node_count(n)`](node_count) of them, `count` is at least 1, `first + count` is at
+/// most `n`, and `n` is at most 2 to the power 61.
+///
+/// # Errors
+/// `AllocError` if an allocation fails.
+///
+/// # Memory
+/// Allocates 32 bytes per sibling, of which there are at most 122.
+///
+/// # Complexity
+/// Linear in `count`, and quadratic in the logarithm of `n`. Most siblings are read and not
+/// computed.
+pub fn prove_range_from_stored<D: Digest>(
+    alloc: Global,
+    hash: &D,
+    stored: &[[u8; 32]],
+    n: u64,
+    first: u64,
+    count: u64,
+) -> Result<Vec<[u8; 32]>, AllocError>
+    requires few { n ≤ 2 ^ 61 }
+    requires some { 0 < count }
+    requires within { first + count ≤ n }
+    requires count { length stored.now ≡ nodes n }
+    ensures { (digests : List (List ℕ)) → length digests ≡ n
+        → stored.now ≡ stored_of (D.digest_of hash.now) digests
+        → IfOk result (λ siblings.
+        siblings.items ≡ range_siblings (D.digest_of hash.now) first count digests) }
+{
+    let mut siblings = Vec::new(alloc);
+    push_stored_range(
+        hash,
+        &InSlice(stored),
+        n,
+        61,
+        0,
+        first,
+        count,
+        &mut siblings,
+    )?;
+    Ok(siblings)
+}
+
+/// Returns the siblings of the `count` leaves from `first` on in the tree of `n` leaves, from a
+/// bitmap that has the stored digests as chunks.
+///
+/// It does what `prove_range_from_stored` does. The
+/// digests are the [`node_count(n)`](node_count) chunks of a bitmap of width 32 in which nothing is
+/// pruned, and the last chunk is full. `count` is at least 1, `first + count` is at most `n`, and
+/// `n` is at most 2 to the power 61.
+///
+/// # Errors
+/// `AllocError` if an allocation fails.
+///
+/// # Memory
+/// Allocates 32 bytes per sibling, of which there are at most 122.
+///
+/// # Complexity
+/// Linear in `count`, and quadratic in the logarithm of `n`. Most siblings are read and not
+/// computed.
+pub fn prove_range_from_bitmap<D: Digest, B: Readable<32>>(
+    alloc: Global,
+    hash: &D,
+    stored: &B,
+    n: u64,
+    first: u64,
+    count: u64,
+) -> Result<Vec<[u8; 32]>, AllocError>
+    requires few { n ≤ 2 ^ 61 }
+    requires some { 0 < count }
+    requires within { first + count ≤ n }
+    requires pruned { (B.meaning stored.now).pruned ≡ 0 }
+    requires count { (B.meaning stored.now).len ≡ 256 * nodes n }
+    ensures { (digests : List (List ℕ)) → length digests ≡ n
+        → full_chunks (B.meaning stored.now) ≡ stored_of (D.digest_of hash.now) digests
+        → IfOk result (λ siblings.
+        siblings.items ≡ range_siblings (D.digest_of hash.now) first count digests) }
+{
+    let mut siblings = Vec::new(alloc);
+    let nodes = InBitmap::new(stored);
+    push_stored_range(hash, &nodes, n, 61, 0, first, count, &mut siblings)?;
+    Ok(siblings)
 }

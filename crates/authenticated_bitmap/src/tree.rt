@@ -65,7 +65,7 @@ pub fn leaf_digests<D: Digest, const N: usize>(
 }
 
 // Half of the leaves that fit a height.
-fn half_of(height: u32) -> usize
+pub(crate) fn half_of(height: u32) -> usize
     requires low { 0 < height }
     requires high { height ≤ 64 }
     ensures { result ≡ 2 ^ (height - 1) }
@@ -74,7 +74,7 @@ fn half_of(height: u32) -> usize
 }
 
 // The digest of the tree of at most `2 ^ height` leaves.
-fn subtree_digest<D: Digest>(hash: &D, height: u32, digests: &[[u8; 32]]) -> [u8; 32]
+pub(crate) fn subtree_digest<D: Digest>(hash: &D, height: u32, digests: &[[u8; 32]]) -> [u8; 32]
     requires { height ≤ 64 }
     ensures { result ≡ subtree_hash (D.digest_of hash.now) height digests.now }
 {

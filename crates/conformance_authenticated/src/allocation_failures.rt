@@ -6,11 +6,17 @@ mod no_allocation;
 
 use crate::checks::{equal, equal_digests};
 use crate::encodings::worked;
-use crate::known::{FIVE_CHUNKS, PATH_5_OF_8_0, PATH_5_OF_8_1, PATH_5_OF_8_2, eight_digests};
+use crate::known::{
+    FIVE_CHUNKS, PATH_5_OF_8_0, PATH_5_OF_8_1, PATH_5_OF_8_2, RANGE_2_TO_7_OF_8_0,
+    RANGE_2_TO_7_OF_8_1, eight_digests,
+};
+use crate::range_encodings::worked_range;
 use crate::sha::Sha;
 use crate::stored::eight_stored;
 use authenticated_bitmap::encoding::Proof;
-use authenticated_bitmap::store::{node_count, prove_from_stored};
+use authenticated_bitmap::range::prove_range;
+use authenticated_bitmap::range_encoding::RangeProof;
+use authenticated_bitmap::store::{node_count, prove_from_stored, prove_range_from_stored};
 use authenticated_bitmap::tree::{leaf_digests, prove, tree_digest};
 
 const PATH: [[u8; 32]; 3] = [PATH_5_OF_8_0, PATH_5_OF_8_1, PATH_5_OF_8_2];
@@ -44,6 +50,35 @@ fn path_from_stored_digests(rt: HostRuntime) {
     }
     if let Ok(path) = prove_from_stored(rt.alloc(), &Sha, &stored, 8, 5) {
         equal_digests(&rt, &path, &PATH);
+    }
+}
+
+#[test]
+fn siblings_of_a_range(rt: HostRuntime) {
+    if let Ok(siblings) = prove_range(rt.alloc(), &Sha, &eight_digests(), 2, 5) {
+        equal_digests(&rt, &siblings, &[RANGE_2_TO_7_OF_8_0, RANGE_2_TO_7_OF_8_1]);
+    }
+}
+
+#[test]
+fn siblings_of_a_range_from_stored_digests(rt: HostRuntime) {
+    let stored = eight_stored();
+    if stored.len() as u64 != node_count(8) {
+        return;
+    }
+    if let Ok(siblings) = prove_range_from_stored(rt.alloc(), &Sha, &stored, 8, 2, 5) {
+        equal_digests(&rt, &siblings, &[RANGE_2_TO_7_OF_8_0, RANGE_2_TO_7_OF_8_1]);
+    }
+}
+
+#[test]
+fn range_proof_written(rt: HostRuntime) {
+    let bytes = worked_range();
+    let Ok(proof) = RangeProof::<1>::read(&bytes) else {
+        return;
+    };
+    if let Ok(written) = proof.write(rt.alloc()) {
+        equal(&rt, written.as_slice() == bytes.as_slice(), true);
     }
 }
 

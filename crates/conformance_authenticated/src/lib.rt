@@ -11,6 +11,10 @@ mod checks;
 mod encodings;
 #[cfg(test)]
 mod known;
+#[cfg(test)]
+mod range_encodings;
+#[cfg(test)]
+mod ranges;
 mod sha;
 #[cfg(test)]
 mod stored;

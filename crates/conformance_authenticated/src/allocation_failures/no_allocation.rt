@@ -3,9 +3,11 @@
 use crate::checks::equal;
 use crate::encodings::worked;
 use crate::known::{TREE_8, WORKED_ROOT, eight_digests};
+use crate::range_encodings::worked_range;
 use crate::sha::Sha;
 use crate::stored::eight_stored;
 use authenticated_bitmap::encoding::Proof;
+use authenticated_bitmap::range_encoding::RangeProof;
 use authenticated_bitmap::root::verify_bit;
 use authenticated_bitmap::store::{node_count, tree_from_stored};
 use authenticated_bitmap::tree::tree_digest;
@@ -28,6 +30,15 @@ fn proof_read_and_verified(rt: HostRuntime) {
         proof.path,
     );
     equal(&rt, verified, true);
+}
+
+#[test]
+fn range_proof_read_and_verified(rt: HostRuntime) {
+    let bytes = worked_range();
+    let Ok(proof) = RangeProof::<1>::read(&bytes) else {
+        return;
+    };
+    equal(&rt, proof.verify(&Sha, &WORKED_ROOT), true);
 }
 
 #[test]

@@ -5,8 +5,8 @@ use Rattle.authenticated_bitmap.specs.Tree.{node_hash, subtree_hash}
 use Rattle.authenticated_bitmap.proofs.FromStored.{place_within, whole, code_one_part, code_two_parts, level_down, level_positive}
 use Rattle.authenticated_bitmap.proofs.store.+stored_digest.Goals as goal
 
-pub bounds-stored-node_position : goal.bounds-stored-node_position
-bounds-stored-node_position g t c =
+pub node-requires : goal.node-requires
+node-requires g t c =
     let sizes = ap (λ x. c.args.index * x) c.size_of.ensures in
     let complete : (c.args.index + 1) * 2 ^ c.args.level ≤ c.args.n = omega (arith, sizes, c.size_of-2.ensures, c.if-index-size_of.true) in
     omega (arith, place_within c.args.n c.args.level c.args.index complete, c.node_position.ensures, c.requires.count)
@@ -16,7 +16,7 @@ returns-then-index-size_of g t c digests l s =
     let H = g.D.Digest.digest_of c.args.hash.now in
     let sizes = ap (λ x. c.args.index * x) c.size_of.ensures in
     let complete : (c.args.index + 1) * 2 ^ c.args.level ≤ length digests = omega (arith, sizes, c.size_of-2.ensures, c.if-index-size_of.true, l) in
-    ap (λ xs. get_or xs c.node_position.result []) s ∙ ap (λ p. get_or (stored H digests) p []) c.node_position.ensures ∙ whole H digests c.args.level c.args.index complete
+    c.node.ensures ∙ ap (λ xs. get_or xs c.node_position.result []) s ∙ ap (λ p. get_or (stored H digests) p []) c.node_position.ensures ∙ whole H digests c.args.level c.args.index complete
 
 pub stored_digest-left-requires : goal.stored_digest-left-requires
 stored_digest-left-requires g t c κs within =
