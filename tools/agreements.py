@@ -16,7 +16,8 @@ CALLS_OF_RUST = "bindings/rust/src/ffi.rs"
 ERRORS_OF_PYTHON = "bindings/python/mortarpink/_errors.py"
 
 # The statuses that a binding does not name, since no call of its own returns them or since they are no errors.
-UNUSED = {CALLS_OF_RUST: {"WRONG_MODE", "EMPTY_HANDLE", "FULL_HANDLE", "NO_SUCH_WIDTH"}, ERRORS_OF_PYTHON: {"FULL_HANDLE", "NONE"}}
+UNUSED = {CALLS_OF_RUST: {"WRONG_MODE", "EMPTY_HANDLE", "FULL_HANDLE", "NO_SUCH_WIDTH", "HAS_LOG", "NO_LOG"},
+          ERRORS_OF_PYTHON: {"FULL_HANDLE", "NONE", "HAS_LOG", "NO_LOG"}}
 
 # The version of the package.
 RELEASES = {

@@ -19,6 +19,7 @@ METHODS = {
     "extend_to": "try_extend_to",
     "get_at_commit": "try_get_at_commit",
     "insert": "try_put",
+    "prepare": "try_prepare",
     "prune_to_bit": "try_prune_to_bit",
     "push": "try_push",
     "push_back": "try_push_back",
@@ -54,7 +55,15 @@ CONSTRUCTORS = {
 METHODS_WITHIN = {"write": "write_within"}
 
 # The same for functions of modules, where they are defined, imported and called. Nothing else has these names.
-FUNCTIONS = {"leaf_digests": "try_leaf_digests", "prove": "try_prove", "prove_from_stored": "try_prove_from_stored"}
+FUNCTIONS = {
+    "leaf_digests": "try_leaf_digests",
+    "prove": "try_prove",
+    "prove_from_bitmap": "try_prove_from_bitmap",
+    "prove_from_stored": "try_prove_from_stored",
+    "prove_range": "try_prove_range",
+    "prove_range_from_bitmap": "try_prove_range_from_bitmap",
+    "prove_range_from_stored": "try_prove_range_from_stored",
+}
 
 # Types that are Rust's own or the host's, whose constructors keep their names.
 FOREIGN = ("Cell", "DefaultHasher", "Sha256")
@@ -92,11 +101,14 @@ SENTENCES = {
     "Allocates from the allocator of `out`: the history,": "Allocates the history,",
     "Commits a batch, as `commit` does, and appends": "Commits a batch, as `try_commit` does, and appends",
     "Returns the batch, unchanged, with the error of `commit`: that of the number": "Returns the batch, unchanged, with the error of `try_commit`: that of the number",
+    "Those of `commit`, in the same order. Also returns the batch, unchanged.": "Those of `try_commit`, in the same order. Also returns the batch, unchanged.",
     "Allocates at most once, from the allocator of `out`, and only": "Allocates at most once, and only",
     "[`leaf_digests`](tree::leaf_digests)": "[`try_leaf_digests`](tree::try_leaf_digests)",
     "[`prove`](tree::prove)": "[`try_prove`](tree::try_prove)",
+    "[`prove_range`](range::prove_range)": "[`try_prove_range`](range::try_prove_range)",
+    "[`prove_range`](crate::generated::authenticated_bitmap::range::prove_range)": "`prove_range`",
     ", and no proof depends on it.": ".",
-    "The laws in [`laws`] and [`root`] say what a check is worth. ": "",
+    "The laws in [`laws`], [`root`] and [`range`] say what a check is worth. ": "",
 }
 
 KNOWN_DERIVES = {"Clone", "Copy", "Debug", "Eq", "Hash", "Ord", "PartialEq", "PartialOrd"}
@@ -105,7 +117,7 @@ KNOWN_DERIVES = {"Clone", "Copy", "Debug", "Eq", "Hash", "Ord", "PartialEq", "Pa
 DERIVES_OF_ERRORS = ["Clone", "Copy", "Debug", "PartialEq", "Eq"]
 
 # What some types derive in Rust in addition.
-ADDED_DERIVES = {"Proof": ["Debug", "PartialEq", "Eq"]}
+ADDED_DERIVES = {"Proof": ["Debug", "PartialEq", "Eq"], "RangeProof": ["Debug", "PartialEq", "Eq"]}
 
 # Errors that do not derive thiserror's Error: the hand-written modules have their impls of Display and Error.
 HAND_WRITTEN_ERRORS = {"ApplyError"}

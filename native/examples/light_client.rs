@@ -1,4 +1,5 @@
-//! A server has a bitmap with its versions, and a light client checks single bits of it: the client has the roots of the versions, and no bitmap.
+//! A server has a bitmap with its versions, and a light client checks single bits and whole ranges of it: the client has the roots of the versions,
+//! and no bitmap.
 //!
 //! Run it with `cargo run --example light_client`. Its SHA-256 is for examples: take one from a crate.
 
@@ -6,7 +7,7 @@ mod sha256;
 
 use mortarpink::bitmap::Readable;
 use mortarpink::bitmap::historical::{AtCommit, CleanBitMap, DirtyBitMap, Error};
-use mortarpink::roots::{DecodeError, Proof, bitmap_root, chunk_digests, leaf_digest, prove, verify_bit};
+use mortarpink::roots::{DecodeError, Proof, RangeProof, bitmap_root, chunk_digests, leaf_digest, prove, prove_range, verify_bit};
 use sha256::Sha256;
 
 /// Bit k says whether account k is open. The digests are those of the pruned chunks, which stay in the tree.
@@ -30,6 +31,14 @@ impl Server {
         self.commit(height, |block| {
             block.prune_to_bit(position);
         })
+    }
+
+    /// The bytes that show the chunks from a first one on at a height, all by one proof.
+    fn range(&self, height: u64, first: usize, count: usize) -> Option<Vec<u8>> {
+        let (past, digests) = self.at(height)?;
+        let chunks = (first..first + count).map(|index| past.retained_bytes(index)).collect::<Option<Vec<_>>>()?;
+        let (pruned, siblings) = (past.pruned_chunks() as u64, prove_range(&Sha256, &digests, first, count));
+        Some(RangeProof { len: past.len(), pruned, first: first as u64, chunks: &chunks, siblings: &siblings }.write())
     }
 
     /// The bitmap at a height, with the digests of its chunks.
@@ -59,6 +68,13 @@ impl Server {
 fn is_shown(root: &[u8; 32], bytes: &[u8], position: u64, bit: bool) -> Result<bool, DecodeError> {
     let proof = Proof::<8>::read(bytes)?;
     Ok(verify_bit(&Sha256, root, proof.len, proof.pruned, position, bit, proof.chunk, proof.path))
+}
+
+/// The number of set bits in the chunks from `first` on that a server's bytes show. `None` if they do not verify, or show other chunks.
+fn ones_shown(root: &[u8; 32], bytes: &[u8], first: u64, count: usize) -> Result<Option<u32>, DecodeError> {
+    let proof = RangeProof::<8>::read(bytes)?;
+    let are_shown = proof.first == first && proof.chunks.len() == count && proof.verify(&Sha256, root);
+    Ok(are_shown.then(|| proof.chunks.iter().flatten().map(|byte| byte.count_ones()).sum()))
 }
 
 fn main() -> Result<(), Box<dyn std::error::Error>> {
@@ -92,5 +108,10 @@ fn main() -> Result<(), Box<dyn std::error::Error>> {
     forged[40 + 150 % 64 / 8] ^= 1 << (150 % 8);
     println!("it is 1 at height 3, by a forged proof: {}", is_shown(&roots[2], &forged, 150, true)?);
     println!("a proof that is cut off: {}", is_shown(&roots[2], &bytes[..100], 150, false).unwrap_err());
+
+    let bytes = server.range(1, 1, 3).unwrap();
+    println!("the proof of bits 64 to 255 at height 1 has {} bytes", bytes.len());
+    println!("of these were 1 at height 1: {:?}", ones_shown(&roots[0], &bytes, 1, 3)?);
+    println!("of these were 1 at height 2, by that proof: {:?}", ones_shown(&roots[1], &bytes, 1, 3)?);
     Ok(())
 }

@@ -7,6 +7,7 @@
 //! | [`Readable<N>`](Readable) | a trait: reads, searches and counts on any bitmap |
 //! | [`historical::CleanBitMap<N>`](historical::CleanBitMap) | a `Prunable` that keeps commits, which are versions of it under numbers |
 //! | [`historical::DirtyBitMap<N>`](historical::DirtyBitMap) | the same in a batch of edits, before it is committed |
+//! | [`historical::PreparedBitMap<N>`](historical::PreparedBitMap) | a batch whose commit has all its memory, and cannot fail any more |
 //!
 //! `N` is the width: the number of bytes per chunk. Positions and lengths count bits. Bit 0 of a byte is its lowest.
 //!
@@ -38,6 +39,7 @@ pub mod historical {
     //! Bitmaps with a history of numbered commits.
     //!
     //! [`CleanBitMap::into_dirty`] turns a bitmap into a batch. A batch is edited, and then committed under a number, or aborted.
+    //! [`DirtyBitMap::prepare`] commits it in two steps, of which the second one cannot fail.
     //! The bitmap at a kept commit is read in place by `at`, copied by `get_at_commit`, or made current again by `rewind_to`.
     //!
     //! ```
@@ -63,7 +65,7 @@ pub mod historical {
     //! ```
     pub use crate::generated::historical_bitmap::bitmap::historical::{
         ApplyError, AtCommit, BitMap, ChangedChunks, Clean, CleanBitMap, CommitNumbers, Commits, Dirty, DirtyBitMap, Edit, Error, Lent,
-        PendingChanges, RewindError, State,
+        PendingChanges, PreparedBitMap, PreparedChanges, RewindError, State,
     };
 }
 

@@ -10,6 +10,7 @@
 //! | [`recover`] | reads a log back, whole or cut off by a crash |
 //! | [`write_history`], [`history_size`], [`read_history`] | write and read a bitmap with its kept commits as one value |
 //! | [`delta`], [`apply_delta`] | bring a replica from one kept commit to a later one |
+//! | [`apply_delta_logged`] | does the same for a replica that has a log of its own |
 //!
 //! All of these calls return an error if memory runs out, and leave the bitmap and the log unchanged then.
 //!

@@ -1,4 +1,4 @@
-//! Roots of bitmaps, and proofs of single chunks and bits that are checked against them.
+//! Roots of bitmaps, and proofs of single chunks, of ranges of chunks, and of bits, which are checked against them.
 //!
 //! A *root* is 32 bytes that stand for one state of a bitmap. Someone who has the root can check one chunk or one bit of that state, and needs no
 //! other chunk: a *proof* has the chunk, and at most 64 digests of 32 bytes. The hash is a type that implements [`Digest`]. SHA-256 is the usual
@@ -10,8 +10,11 @@
 //! | [`prove`] | returns the audit path of a chunk |
 //! | [`Proof::write`], [`Proof::read`], [`Proof::verify`] | write, read and check a proof |
 //! | [`verify_bit`], [`verify_chunk`] | check a bit or a chunk |
+//! | [`prove_range`], [`verify_range`] | return what one proof of several chunks that follow one another needs, and check it |
+//! | [`RangeProof::write`], [`RangeProof::read`], [`RangeProof::verify`] | write, read and check such a proof |
 //! | [`leaf_digests`], [`leaf_digest`], [`node_digest`], [`tree_digest`], [`root_digest`] | are the parts of a root, for chunks that are in no bitmap |
-//! | [`node_count`], [`node_position`], [`tree_from_stored`], [`prove_from_stored`] | compute a tree and audit paths from digests that are stored, of which they read few |
+//! | [`node_count`], [`node_position`], [`tree_from_stored`], [`prove_from_stored`], [`prove_range_from_stored`] | compute a tree, audit paths and the digests of a range from digests that are stored, of which they read few |
+//! | [`tree_from_bitmap`], [`prove_from_bitmap`], [`prove_range_from_bitmap`] | do the same with stored digests that are the chunks of a bitmap, such as a past version of one with history |
 //!
 //! ```
 //! use mortarpink::bitmap::{BitMap, Readable};
@@ -57,8 +60,13 @@ use core::{error, fmt};
 
 pub use crate::generated::authenticated_bitmap::encoding::{DecodeError, Proof};
 pub use crate::generated::authenticated_bitmap::hash::Digest;
+pub use crate::generated::authenticated_bitmap::range::{try_prove_range, verify_range};
+pub use crate::generated::authenticated_bitmap::range_encoding::RangeProof;
 pub use crate::generated::authenticated_bitmap::root::{root_digest, verify_bit, verify_chunk};
-pub use crate::generated::authenticated_bitmap::store::{node_count, node_position, tree_from_stored, try_prove_from_stored};
+pub use crate::generated::authenticated_bitmap::store::{
+    node_count, node_position, tree_from_bitmap, tree_from_stored, try_prove_from_bitmap, try_prove_from_stored,
+    try_prove_range_from_bitmap, try_prove_range_from_stored,
+};
 pub use crate::generated::authenticated_bitmap::tree::{leaf_digest, node_digest, tree_digest, try_leaf_digests, try_prove};
 
 /// The number of chunks of a bitmap, with the pruned ones.
@@ -212,6 +220,101 @@ pub fn prove_from_stored<D: Digest>(hash: &D, stored: &[[u8; 32]], n: u64, i: u6
     expect_memory(try_prove_from_stored(hash, stored, n, i))
 }
 
+/// Returns the audit path of leaf `i` of the tree of `n` leaves, from a bitmap that has the [`node_count(n)`](node_count) stored digests as chunks.
+///
+/// # Panics
+///
+/// Panics if memory runs out; or if `n` is above 2^61; or if `i` is not below `n`; or if chunks of `stored` are pruned; or if the number of chunks of
+/// `stored` is not `node_count(n)`, or the last is not full.
+///
+/// ```
+/// use mortarpink::bitmap::BitMap;
+/// use mortarpink::roots::{leaf_digests, node_digest, prove, prove_from_bitmap};
+/// # mod sha256 { include!(concat!(env!("CARGO_MANIFEST_DIR"), "/examples/sha256/mod.rs")); }
+/// # use sha256::Sha256;
+///
+/// let leaves = leaf_digests(&Sha256, &[[1], [2], [3]]);
+/// let mut stored = BitMap::<32>::new();
+/// for digest in [leaves[0], leaves[1], node_digest(&Sha256, &leaves[0], &leaves[1]), leaves[2]] {
+///     stored.push_chunk(&digest);
+/// }
+/// assert_eq!(prove_from_bitmap(&Sha256, &stored, 3, 2), prove(&Sha256, &leaves, 2));
+/// ```
+#[must_use]
+pub fn prove_from_bitmap<D: Digest>(hash: &D, stored: &impl Readable<32>, n: u64, i: u64) -> Vec<[u8; 32]> {
+    expect_memory(try_prove_from_bitmap(hash, stored, n, i))
+}
+
+/// Returns the siblings of the `count` chunks from `first` on, from the digests of all chunks: the digests of the largest parts of the tree that
+/// have none of these chunks, from left to right. At most one hash per chunk that is not in the range.
+///
+/// # Panics
+///
+/// Panics if memory runs out; or if `count` is 0; or if the range ends after the last of `digests`.
+///
+/// ```
+/// use mortarpink::roots::{leaf_digests, node_digest, prove_range};
+/// # mod sha256 { include!(concat!(env!("CARGO_MANIFEST_DIR"), "/examples/sha256/mod.rs")); }
+/// # use sha256::Sha256;
+///
+/// // The chunks 2 and 3 of five are beside the chunks 0 and 1, and beside chunk 4.
+/// let digests = leaf_digests(&Sha256, &[[1], [2], [3], [4], [5]]);
+/// let siblings = prove_range(&Sha256, &digests, 2, 2);
+/// assert_eq!(siblings, [node_digest(&Sha256, &digests[0], &digests[1]), digests[4]]);
+/// ```
+#[must_use]
+pub fn prove_range<D: Digest>(hash: &D, digests: &[[u8; 32]], first: usize, count: usize) -> Vec<[u8; 32]> {
+    expect_memory(try_prove_range(hash, digests, first, count))
+}
+
+/// Returns the siblings of the `count` chunks from `first` on in the tree of `n` chunks, from the stored digests, as [`prove_range`] does from those of
+/// all chunks. There are [`node_count(n)`](node_count) of them.
+///
+/// # Panics
+///
+/// Panics if memory runs out; or if `n` is above 2^61; or if `count` is 0; or if the range ends after chunk `n - 1`; or if the number of `stored` is
+/// not `node_count(n)`.
+///
+/// ```
+/// use mortarpink::roots::{leaf_digests, node_digest, prove_range, prove_range_from_stored};
+/// # mod sha256 { include!(concat!(env!("CARGO_MANIFEST_DIR"), "/examples/sha256/mod.rs")); }
+/// # use sha256::Sha256;
+///
+/// let leaves = leaf_digests(&Sha256, &[[1], [2], [3]]);
+/// let stored = [leaves[0], leaves[1], node_digest(&Sha256, &leaves[0], &leaves[1]), leaves[2]];
+/// assert_eq!(prove_range_from_stored(&Sha256, &stored, 3, 1, 2), prove_range(&Sha256, &leaves, 1, 2));
+/// ```
+#[must_use]
+pub fn prove_range_from_stored<D: Digest>(hash: &D, stored: &[[u8; 32]], n: u64, first: u64, count: u64) -> Vec<[u8; 32]> {
+    expect_memory(try_prove_range_from_stored(hash, stored, n, first, count))
+}
+
+/// Returns the siblings of the `count` chunks from `first` on in the tree of `n` chunks, from a bitmap that has the [`node_count(n)`](node_count)
+/// stored digests as chunks.
+///
+/// # Panics
+///
+/// Panics if memory runs out; or if `n` is above 2^61; or if `count` is 0; or if the range ends after chunk `n - 1`; or if chunks of `stored` are
+/// pruned; or if the number of chunks of `stored` is not `node_count(n)`, or the last is not full.
+///
+/// ```
+/// use mortarpink::bitmap::BitMap;
+/// use mortarpink::roots::{leaf_digests, node_digest, prove_range, prove_range_from_bitmap};
+/// # mod sha256 { include!(concat!(env!("CARGO_MANIFEST_DIR"), "/examples/sha256/mod.rs")); }
+/// # use sha256::Sha256;
+///
+/// let leaves = leaf_digests(&Sha256, &[[1], [2], [3]]);
+/// let mut stored = BitMap::<32>::new();
+/// for digest in [leaves[0], leaves[1], node_digest(&Sha256, &leaves[0], &leaves[1]), leaves[2]] {
+///     stored.push_chunk(&digest);
+/// }
+/// assert_eq!(prove_range_from_bitmap(&Sha256, &stored, 3, 1, 2), prove_range(&Sha256, &leaves, 1, 2));
+/// ```
+#[must_use]
+pub fn prove_range_from_bitmap<D: Digest>(hash: &D, stored: &impl Readable<32>, n: u64, first: u64, count: u64) -> Vec<[u8; 32]> {
+    expect_memory(try_prove_range_from_bitmap(hash, stored, n, first, count))
+}
+
 /// Bytes. `8N` has to fit `u64`: otherwise they do not compile.
 impl<const N: usize> Proof<'_, N> {
     /// Returns the encoding of the proof: 40 bytes for its numbers, `N` for the chunk, and 32 per digest.
@@ -252,13 +355,55 @@ impl<const N: usize> Proof<'_, N> {
     }
 }
 
+/// Bytes. `8N` has to fit `u64`: otherwise they do not compile.
+impl<const N: usize> RangeProof<'_, N> {
+    /// Returns the encoding of the proof: 48 bytes for its numbers, `N` per chunk, and 32 per sibling.
+    ///
+    /// More than 128 siblings, which no range has, are written, and are not read again.
+    ///
+    /// # Panics
+    ///
+    /// Panics if memory runs out.
+    ///
+    /// ```
+    /// use mortarpink::roots::RangeProof;
+    ///
+    /// let proof = RangeProof { len: 11, pruned: 0, first: 0, chunks: &[[0xff], [0b101]], siblings: &[] };
+    /// let bytes = proof.write();
+    /// assert_eq!((bytes.len(), RangeProof::read(&bytes)), (50, Ok(proof)));
+    /// ```
+    #[must_use]
+    pub fn write(&self) -> Vec<u8> {
+        expect_memory(self.try_write())
+    }
+
+    /// Returns the encoding of the proof, as `write` does.
+    ///
+    /// # Errors
+    ///
+    /// Returns `AllocError` if an allocation fails.
+    ///
+    /// ```
+    /// use mortarpink::roots::RangeProof;
+    ///
+    /// let proof = RangeProof { len: 19, pruned: 0, first: 0, chunks: &[[0xff], [0xff]], siblings: &[[7; 32]] };
+    /// assert_eq!(proof.try_write()?.len(), 48 + 2 + 32);
+    /// # Ok::<(), mortarpink::AllocError>(())
+    /// ```
+    pub fn try_write(&self) -> Result<Vec<u8>, AllocError> {
+        self.write_within(Global)
+    }
+}
+
 impl fmt::Display for DecodeError {
     fn fmt(&self, f: &mut fmt::Formatter<'_>) -> fmt::Result {
         match self {
             DecodeError::Short => write!(f, "the bytes end within the numbers of the proof"),
-            DecodeError::Width(width) => write!(f, "the proof has a chunk of {width} bytes, which is not the width of the reader"),
-            DecodeError::TooManyDigests(count) => write!(f, "the proof has {count} digests, and a tree has at most 64 on a path"),
-            DecodeError::Length => write!(f, "the number of bytes is not that of the chunk and the digests of the proof"),
+            DecodeError::Width(width) => write!(f, "the proof is of chunks of {width} bytes, which is not the width of the reader"),
+            DecodeError::TooManyDigests(count) => {
+                write!(f, "the proof has {count} digests, and that of a chunk has at most 64, and that of a range 128")
+            }
+            DecodeError::Length => write!(f, "the number of bytes is not that of the chunks and the digests of the proof"),
         }
     }
 }

@@ -7,11 +7,12 @@ use mortarpink::bitmap::codec::{CodecError, RangeCfg};
 use mortarpink::bitmap::historical::{ApplyError, CleanBitMap, DirtyBitMap, Error, RewindError};
 use mortarpink::bitmap::{BitMap, Prunable, Readable};
 use mortarpink::log::{
-    DeltaError, HistoryError, Log, RecoverError, apply_delta, clear_logged, commit_logged, delta, drop_before_logged, read_history,
-    recover, rewind_logged, write_history,
+    DeltaError, HistoryError, Log, RecoverError, apply_delta, apply_delta_logged, clear_logged, commit_logged, delta, drop_before_logged,
+    read_history, recover, rewind_logged, write_history,
 };
 use mortarpink::roots::{
-    Proof, chunk_digests, leaf_digests, prove, prove_from_stored, try_chunk_digests, try_leaf_digests, try_prove, try_prove_from_stored,
+    Proof, RangeProof, chunk_digests, leaf_digests, prove, prove_from_stored, prove_range, prove_range_from_stored, try_chunk_digests,
+    try_leaf_digests, try_prove, try_prove_from_stored, try_prove_range, try_prove_range_from_stored,
 };
 use mortarpink::support::alloc::Global;
 use mortarpink::support::collections::{BTreeMap, DequeWithin, VecDeque};
@@ -192,7 +193,11 @@ fn of_roots() {
     assert_eq!(made(&|| try_leaf_digests(&Sha256, &[[1]; 9]).is_err()), 3);
     assert_eq!(made(&|| try_prove(&Sha256, &digests, 5).is_err()), 2);
     assert_eq!(made(&|| try_prove_from_stored(&Sha256, &digests[..63], 32, 5).is_err()), 2);
+    assert_eq!(made(&|| try_prove_range(&Sha256, &digests, 5, 3).is_err()), 2);
+    assert_eq!(made(&|| try_prove_range_from_stored(&Sha256, &digests[..63], 32, 5, 1).is_err()), 2);
     assert!(made(&|| proof.try_write().is_err()) > 1);
+    let range = RangeProof { len: 16, pruned: 0, first: 0, chunks: &[[1], [2]], siblings: &digests };
+    assert!(made(&|| range.try_write().is_err()) > 1);
 }
 
 /// The calls over Rust's collections, of which each has no capacity left.
@@ -335,6 +340,46 @@ fn of_commits() {
     assert!(each(versions, clean_image, apply) > 0);
 }
 
+/// The batch stays as it was if the first step of its commit fails, and the second step has no allocation that could fail.
+#[test]
+fn of_prepared_commits() {
+    let pruned = || {
+        let mut batch = batch();
+        batch.prune_to_bit(400).set_range(410..480, true);
+        batch
+    };
+    let with_index = || {
+        let mut batch = indexed().into_dirty();
+        batch.set_range(210..450, true).extend_to(700);
+        batch
+    };
+    let image = |batch: &DirtyBitMap<4>| (batch_image(batch), indexed_image(&batch.clone().abort()));
+    let prepare = |batch: DirtyBitMap<4>| match batch.try_prepare(9) {
+        Ok(prepared) => (prepared.into_dirty(), false),
+        Err((batch, error)) => (batch, error == Error::Memory(AllocError)),
+    };
+    let makes: [&dyn Fn() -> DirtyBitMap<4>; 3] = [&batch, &pruned, &with_index];
+    for make in makes {
+        let allocations = each(make, image, prepare);
+        let commit = |batch: DirtyBitMap<4>| match batch.try_commit(9) {
+            Ok(bitmap) => (bitmap.into_dirty(), false),
+            Err((batch, error)) => (batch, error == Error::Memory(AllocError)),
+        };
+        assert_eq!(each(make, image, commit), allocations, "the first step makes all allocations of the commit");
+        assert!(allocations > 0);
+
+        // The first allocation of each of these calls would fail.
+        let prepared = make().prepare(9).unwrap();
+        let (count, failed) = with_failure(0, || prepared.changed_chunks().count());
+        assert!(count > 0 && !failed);
+        let (bitmap, failed) = with_failure(0, || prepared.commit());
+        assert!(bitmap.latest_commit() == Some(9) && !failed);
+        let prepared = make().prepare(9).unwrap();
+        let (undone, failed) = with_failure(0, || prepared.into_dirty());
+        assert!(image(&undone) == image(&make()) && !failed);
+    }
+}
+
 /// The versions with an index.
 fn indexed() -> CleanBitMap<4> {
     versions().indexed().map_err(|(_, error)| error).unwrap()
@@ -456,6 +501,18 @@ fn of_deltas() {
         Err((bitmap, error)) => (bitmap, error == DeltaError::Memory(AllocError)),
     };
     assert!(each(replica, clean_image, apply) > 0);
+    let replica_logged = || {
+        let bitmap = replica();
+        let mut log = Log::begin(&bitmap).unwrap();
+        log.take();
+        (bitmap, log)
+    };
+    let image = |(bitmap, log): &(CleanBitMap<4>, Log<4>)| (clean_image(bitmap), log_image(log));
+    let apply_logged = |(bitmap, mut log): (CleanBitMap<4>, Log<4>)| match apply_delta_logged(bitmap, &bytes, &mut log) {
+        Ok(bitmap) => ((bitmap, log), false),
+        Err((bitmap, error)) => ((bitmap, log), error == DeltaError::Memory(AllocError)),
+    };
+    assert!(each(replica_logged, image, apply_logged) > 1);
 }
 
 #[test]
@@ -474,11 +531,15 @@ fn of_calls_that_return_no_error() {
         CleanBitMap::<4>::new().into_dirty().push(true);
     }));
     assert!(panics(&|| drop(CleanBitMap::<4>::new().into_dirty().commit(1))));
+    assert!(panics(&|| drop(CleanBitMap::<4>::new().into_dirty().prepare(1))));
     let digests = [[1; 32]; 3];
     assert!(panics(&|| drop(chunk_digests(&Sha256, &dense, &[]))));
     assert!(panics(&|| drop(leaf_digests(&Sha256, &[[1]]))));
     assert!(panics(&|| drop(prove(&Sha256, &digests, 1))));
     assert!(panics(&|| drop(prove_from_stored(&Sha256, &digests, 2, 1))));
+    assert!(panics(&|| drop(prove_range(&Sha256, &digests, 1, 1))));
+    assert!(panics(&|| drop(prove_range_from_stored(&Sha256, &digests, 2, 1, 1))));
+    assert!(panics(&|| drop(RangeProof { len: 8, pruned: 0, first: 0, chunks: &[[1]], siblings: &digests }.write())));
     assert!(panics(&|| drop(Proof { len: 8, pruned: 0, index: 0, chunk: &[1], path: &digests }.write())));
 }
 

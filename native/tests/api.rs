@@ -2,7 +2,8 @@
 
 use mortarpink::bitmap::codec::{CodecError, EncodeSize, RangeCfg};
 use mortarpink::bitmap::historical::{
-    ApplyError, AtCommit, ChangedChunks, CleanBitMap, Commits, DirtyBitMap, Edit, Error, PendingChanges, RewindError,
+    ApplyError, AtCommit, ChangedChunks, CleanBitMap, Commits, DirtyBitMap, Edit, Error, PendingChanges, PreparedBitMap, PreparedChanges,
+    RewindError,
 };
 use mortarpink::bitmap::{BitMap, DEFAULT_CHUNK_SIZE, Iterator as Bits, OnesIter, Prunable, Readable, prunable};
 use mortarpink::{AllocError, TryClone, log, roots};
@@ -34,6 +35,8 @@ fn all_types_have_the_usual_traits() {
     is_usual::<Commits<'_, 8>>();
     is_usual::<ChangedChunks<'_, 8>>();
     is_usual::<PendingChanges<'_, 8>>();
+    is_usual::<PreparedBitMap<8>>();
+    is_usual::<PreparedChanges<'_, 8>>();
     is_usual::<(RangeCfg, CodecError, prunable::Error, Error, RewindError, ApplyError<AllocError>)>();
     is_usual::<AllocError>();
     is_usual::<(log::Past, log::BaseError, log::DecodeError, log::EntryError, log::ApplyError)>();
@@ -371,6 +374,7 @@ fn iterators_stay_at_their_end() {
     let mut batch = CleanBitMap::<1>::new().into_dirty();
     batch.push_byte(5).push_byte(6);
     ends(batch.changed_chunks());
+    ends(batch.clone().prepare(1).unwrap().changed_chunks());
     let bitmap = batch.commit(1).unwrap().apply_batch(2, |batch| {
         batch.set_bit(0, false);
     });

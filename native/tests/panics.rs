@@ -8,8 +8,9 @@ use mortarpink::bitmap::{BitMap, Prunable, Readable};
 use mortarpink::log::frames::{Place, next_frame, push_frame};
 use mortarpink::log::{Past, from_base};
 use mortarpink::roots::{
-    bitmap_root, chunk_digests, node_count, node_position, prove, prove_from_stored, tree_from_stored, try_chunk_digests, try_prove,
-    try_prove_from_stored,
+    bitmap_root, chunk_digests, node_count, node_position, prove, prove_from_bitmap, prove_from_stored, prove_range,
+    prove_range_from_bitmap, prove_range_from_stored, tree_from_bitmap, tree_from_stored, try_chunk_digests, try_prove,
+    try_prove_from_stored, try_prove_range, try_prove_range_from_stored,
 };
 use sha256::Sha256;
 use std::panic::{AssertUnwindSafe, catch_unwind};
@@ -210,6 +211,13 @@ fn of_roots() {
     let digests = [[0; 32]; 3];
     assert_eq!(panic_of(|| prove(&Sha256, &digests, 3)), "index 3 out of bounds (len: 3)");
     assert_eq!(panic_of(|| try_prove(&Sha256, &[], 0)), "index 0 out of bounds (len: 0)");
+    assert_eq!(panic_of(|| prove_range(&Sha256, &digests, 1, 0)), "a range has at least one chunk");
+    assert_eq!(panic_of(|| prove_range(&Sha256, &digests, 1, 3)), "range of 3 from 1 out of bounds (len: 3)");
+    assert_eq!(panic_of(|| try_prove_range(&Sha256, &digests, 4, 1)), "range of 1 from 4 out of bounds (len: 3)");
+    assert_eq!(
+        panic_of(|| try_prove_range(&Sha256, &digests, usize::MAX, 2)),
+        "range of 2 from 18446744073709551615 out of bounds (len: 3)"
+    );
     let pruned = pruned();
     assert_eq!(panic_of(|| chunk_digests(&Sha256, &pruned, &digests)), "there are 3 digests of pruned chunks (pruned_chunks: 2)");
     assert_eq!(panic_of(|| try_chunk_digests(&Sha256, &pruned, &[])), "there are 0 digests of pruned chunks (pruned_chunks: 2)");
@@ -231,4 +239,20 @@ fn of_stored_digests() {
     assert_eq!(panic_of(|| prove_from_stored(&Sha256, &stored, 2, 2)), "index 2 out of bounds (len: 2)");
     assert_eq!(panic_of(|| prove_from_stored(&Sha256, &stored, 1, 0)), "3 digests are stored for 1 leaves");
     assert_eq!(panic_of(|| try_prove_from_stored(&Sha256, &stored, u64::MAX, 0)), "n 18446744073709551615 is above 2^61");
+    assert_eq!(panic_of(|| prove_range_from_stored(&Sha256, &stored, 2, 1, 0)), "a range has at least one chunk");
+    assert_eq!(panic_of(|| prove_range_from_stored(&Sha256, &stored, 2, 1, 2)), "range of 2 from 1 out of bounds (len: 2)");
+    assert_eq!(
+        panic_of(|| prove_range_from_stored(&Sha256, &stored, 2, 3, u64::MAX)),
+        "range of 18446744073709551615 from 3 out of bounds (len: 2)"
+    );
+    assert_eq!(panic_of(|| prove_range_from_stored(&Sha256, &stored, 1, 0, 1)), "3 digests are stored for 1 leaves");
+    assert_eq!(panic_of(|| try_prove_range_from_stored(&Sha256, &stored, u64::MAX, 0, 1)), "n 18446744073709551615 is above 2^61");
+
+    // One digest as the chunk of a bitmap, and then that chunk pruned.
+    let mut chunks = Prunable::<32>::new();
+    chunks.push_chunk(&[0; 32]);
+    assert_eq!(panic_of(|| tree_from_bitmap(&Sha256, &chunks, 2)), "256 bits of digests are stored for 2 leaves");
+    chunks.prune_to_bit(256);
+    assert_eq!(panic_of(|| prove_from_bitmap(&Sha256, &chunks, 1, 0)), "stored has pruned chunks");
+    assert_eq!(panic_of(|| prove_range_from_bitmap(&Sha256, &chunks, 1, 0, 1)), "stored has pruned chunks");
 }

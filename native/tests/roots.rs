@@ -8,8 +8,9 @@ use formats::{bytes_of, rows, section};
 use mortarpink::bitmap::historical::CleanBitMap;
 use mortarpink::bitmap::{BitMap, Prunable, Readable};
 use mortarpink::roots::{
-    DecodeError, Proof, bitmap_root, chunk_digests, leaf_digest, leaf_digests, node_count, node_digest, node_position, prove,
-    prove_from_stored, root_digest, tree_digest, tree_from_stored, verify_bit, verify_chunk,
+    DecodeError, Proof, RangeProof, bitmap_root, chunk_digests, leaf_digest, leaf_digests, node_count, node_digest, node_position, prove,
+    prove_from_stored, prove_range, prove_range_from_stored, root_digest, tree_digest, tree_from_stored, verify_bit, verify_chunk,
+    verify_range,
 };
 use sha256::{Hasher, Sha256};
 use std::collections::HashMap;
@@ -124,6 +125,133 @@ fn roots_and_proofs_are_those_of_a_second_computation() {
     assert_eq!(hasher.finalize().to_vec(), bytes_of(OF_MANY));
 }
 
+/// What `tools/roots.py` computes of the proofs of ranges of the same bitmaps: its function `digest_of_ranges` says what is hashed.
+const RANGES_OF_MANY: &str = "e7829ea94c98204a3848b6e732012666d09e351393997238950f115a0eff6475";
+
+#[test]
+fn proofs_of_ranges_are_those_of_a_second_computation() {
+    let mut hasher = Hasher::new();
+    for len in 0..=120 {
+        let dense: BitMap<3> = (0..len).map(|k| k * k % 7 < 3).collect();
+        let (mut bitmap, pruned) = (Prunable::<3>::new(), len / 48);
+        bitmap.extend_from_bitmap(&dense);
+        bitmap.prune_to_bit(24 * pruned);
+        let digests = chunk_digests(&Sha256, &dense, &[]);
+        let root = bitmap_root(&Sha256, &bitmap, &digests);
+        let chunks: Vec<[u8; 3]> = (0..digests.len()).map(|index| dense.get_chunk(index)).collect();
+        for first in 0..chunks.len() {
+            for end in first + 1..=chunks.len() {
+                let siblings = prove_range(&Sha256, &digests, first, end - first);
+                let proof = RangeProof { len, pruned, first: first as u64, chunks: &chunks[first..end], siblings: &siblings };
+                assert!(proof.verify(&Sha256, &root));
+                let bytes = proof.write();
+                assert_eq!(RangeProof::read(&bytes), Ok(proof));
+                hasher.update(&bytes);
+            }
+        }
+    }
+    assert_eq!(hasher.finalize().to_vec(), bytes_of(RANGES_OF_MANY));
+}
+
+/// Each range of up to nine chunks, with the chunks, the place and the siblings of others.
+#[test]
+fn a_range_shows_no_other_range() {
+    for count in 1..=9u8 {
+        let chunks: Vec<[u8; 1]> = (1..=count).map(|byte| [byte]).collect();
+        let (digests, len) = (leaf_digests(&Sha256, &chunks), 8 * u64::from(count));
+        let root = root_digest::<_, 1>(&Sha256, len, 0, &tree_digest(&Sha256, &digests));
+        let all = || (0..chunks.len()).flat_map(|first| (first + 1..=chunks.len()).map(move |end| (first, end)));
+        for (first, end) in all() {
+            let siblings = prove_range(&Sha256, &digests, first, end - first);
+            assert!(siblings.len() <= 8);
+            let proof = RangeProof { len, pruned: 0, first: first as u64, chunks: &chunks[first..end], siblings: &siblings };
+            for (other_first, other_end) in all() {
+                let other = RangeProof { chunks: &chunks[other_first..other_end], ..proof };
+                assert_eq!(other.verify(&Sha256, &root), (first, end) == (other_first, other_end), "{other:?}");
+                let other = RangeProof { first: other_first as u64, ..proof };
+                assert_eq!(other.verify(&Sha256, &root), first == other_first, "{other:?}");
+            }
+            for index in 0..siblings.len() {
+                let mut changed = siblings.clone();
+                changed[index][0] ^= 1;
+                assert!(!RangeProof { siblings: &changed, ..proof }.verify(&Sha256, &root), "sibling {index} is another");
+                changed = siblings.clone();
+                changed.remove(index);
+                assert!(!RangeProof { siblings: &changed, ..proof }.verify(&Sha256, &root), "sibling {index} is left out");
+            }
+            let longer = [&siblings[..], &[root]].concat();
+            assert!(!RangeProof { siblings: &longer, ..proof }.verify(&Sha256, &root), "a sibling is too many");
+            assert!(!RangeProof { len: len - 1, ..proof }.verify(&Sha256, &root), "the length is another");
+            assert!(!RangeProof { pruned: 1, ..proof }.verify(&Sha256, &root), "the pruned chunks are others");
+            assert!(!RangeProof { first: u64::MAX, ..proof }.verify(&Sha256, &root), "the range is past the last chunk");
+            assert!(!RangeProof { chunks: &[], ..proof }.verify(&Sha256, &root), "the range has no chunk");
+            // The range of one chunk has the digests of the chunk's path.
+            let mut path = prove(&Sha256, &digests, first);
+            let mut siblings = prove_range(&Sha256, &digests, first, 1);
+            path.sort_unstable();
+            siblings.sort_unstable();
+            assert_eq!(path, siblings);
+        }
+    }
+}
+
+/// The encoding of the proof of the chunks 1 and 2 of the worked root.
+fn worked_range() -> Vec<u8> {
+    RangeProof { len: 20, pruned: 1, first: 1, chunks: &[[0x80], [0x0f]], siblings: &[worked()["d0"]] }.write()
+}
+
+#[test]
+fn an_encoding_of_a_range_has_the_fields_of_the_formats() {
+    let (worked, bytes) = (worked(), worked_range());
+    let rows = rows(section("### A worked range")).skip(1);
+    assert_eq!(bytes, rows.map(|cells| bytes_of(cells[2].trim_matches('`'))).collect::<Vec<_>>().concat());
+    let proof = RangeProof::<1>::read(&bytes).unwrap();
+    assert!(proof.verify(&Sha256, &worked["root"]) && !proof.verify(&Sha256, &worked["tree"]));
+    assert!(verify_range(&Sha256, &worked["root"], 20, 1, 1, &[[0x80], [0x0f]], &[worked["d0"]]));
+    let long = RangeProof { siblings: &[[0; 32]; 128], ..proof };
+    assert_eq!(RangeProof::read(&long.write()), Ok(long));
+    let none = RangeProof::<1> { chunks: &[], siblings: &[], ..proof };
+    assert_eq!(RangeProof::read(&none.write()), Ok(none));
+}
+
+#[test]
+fn the_first_error_of_an_encoding_of_a_range_is_reported() {
+    let error_of = |bytes: &[u8]| RangeProof::<1>::read(bytes).err();
+    let bytes = worked_range();
+    for count in 0..bytes.len() {
+        let expected = if count < 48 { DecodeError::Short } else { DecodeError::Length };
+        assert_eq!(error_of(&bytes[..count]), Some(expected), "the first {count} bytes");
+    }
+    assert_eq!(error_of(&[&bytes[..], &[0]].concat()), Some(DecodeError::Length));
+    // Numbers of chunks whose bytes would not fit `u64`, or would be the right ones if they wrapped.
+    for count in [1, 3, 34, u64::MAX, (1 << 63) + 2] {
+        let mut other = bytes.clone();
+        other[32..40].copy_from_slice(&count.to_be_bytes());
+        assert_eq!(error_of(&other), Some(DecodeError::Length), "{count} chunks");
+    }
+    let mut other = [&bytes[..], &[0]].concat();
+    other[47] = 129;
+    assert_eq!(error_of(&other), Some(DecodeError::TooManyDigests(129)));
+    other[7] = 2;
+    assert_eq!(error_of(&other), Some(DecodeError::Width(2)));
+    assert_eq!(error_of(&other[..47]), Some(DecodeError::Short));
+    let two = RangeProof { len: 40, pruned: 0, first: 0, chunks: &[[1, 2], [3, 4]], siblings: &[] }.write();
+    assert_eq!(RangeProof::<2>::read(&two[..51]), Err(DecodeError::Length));
+}
+
+#[test]
+fn a_changed_byte_makes_no_other_proof_of_a_range() {
+    let (root, bytes) = (worked()["root"], worked_range());
+    for at in 0..bytes.len() {
+        for change in 1..=255 {
+            let mut changed = bytes.clone();
+            changed[at] ^= change;
+            let verifies = RangeProof::<1>::read(&changed).is_ok_and(|proof| proof.verify(&Sha256, &root));
+            assert!(!verifies, "byte {at} is {}", changed[at]);
+        }
+    }
+}
+
 /// The digests of all complete subtrees of a tree, each after those of its halves.
 fn stored(leaves: &[[u8; 32]]) -> Digests {
     let (mut stored, mut waiting) = (Vec::new(), Vec::<(u32, [u8; 32])>::new());
@@ -149,6 +277,10 @@ fn trees_are_computed_from_stored_digests() {
         assert_eq!(tree_from_stored(&Sha256, stored, n as u64), tree_digest(&Sha256, leaves), "{n} leaves");
         for i in 0..n {
             assert_eq!(prove_from_stored(&Sha256, stored, n as u64, i as u64), prove(&Sha256, leaves, i), "leaf {i} of {n}");
+            for count in 1..=n - i {
+                let siblings = prove_range_from_stored(&Sha256, stored, n as u64, i as u64, count as u64);
+                assert_eq!(siblings, prove_range(&Sha256, leaves, i, count), "{count} leaves from {i} on of {n}");
+            }
         }
     }
     for (level, index) in [(0, 0), (0, 31), (1, 7), (2, 7), (3, 3), (4, 1), (5, 0)] {
@@ -210,9 +342,9 @@ fn the_first_error_of_an_encoding_is_reported() {
 fn errors_say_what_is_wrong() {
     for (error, expected) in [
         (DecodeError::Short, "the bytes end within the numbers of the proof"),
-        (DecodeError::Width(2), "the proof has a chunk of 2 bytes, which is not the width of the reader"),
-        (DecodeError::TooManyDigests(65), "the proof has 65 digests, and a tree has at most 64 on a path"),
-        (DecodeError::Length, "the number of bytes is not that of the chunk and the digests of the proof"),
+        (DecodeError::Width(2), "the proof is of chunks of 2 bytes, which is not the width of the reader"),
+        (DecodeError::TooManyDigests(65), "the proof has 65 digests, and that of a chunk has at most 64, and that of a range 128"),
+        (DecodeError::Length, "the number of bytes is not that of the chunks and the digests of the proof"),
     ] {
         assert_eq!(error.to_string(), expected);
     }

@@ -2,7 +2,8 @@
 
 use crate::bitmap::Prunable;
 use crate::bitmap::historical::{
-    ApplyError, BitMap, ChangedChunks, Clean, CleanBitMap, CommitNumbers, Dirty, DirtyBitMap, Error, PendingChanges, State,
+    ApplyError, BitMap, ChangedChunks, Clean, CleanBitMap, CommitNumbers, Dirty, DirtyBitMap, Error, PendingChanges, PreparedBitMap,
+    PreparedChanges, State,
 };
 use crate::support::alloc::{Global, expect_memory, out_of_memory};
 use crate::support::clone::TryClone;
@@ -305,6 +306,68 @@ impl<const N: usize> BitMap<N, Dirty<N>> {
             Err((_, error)) => Err(error),
         }
     }
+
+    /// Takes all the memory that a commit under a number needs, as the first of the two steps of `commit`. Then
+    /// [`PreparedBitMap::commit`] finishes the commit and cannot fail, and [`PreparedBitMap::into_dirty`] gives the batch back.
+    ///
+    /// # Errors
+    ///
+    /// Those of `commit`. The batch is dropped then; `try_prepare` returns it.
+    ///
+    /// # Panics
+    ///
+    /// Panics if memory runs out.
+    ///
+    /// Two bitmaps are committed under one number, or neither is. After an error both are dropped here; [`PreparedBitMap`] has an example in
+    /// which they are returned:
+    ///
+    /// ```
+    /// use mortarpink::bitmap::historical::{CleanBitMap, DirtyBitMap, Error};
+    ///
+    /// fn commit_both(
+    ///     one: DirtyBitMap<8>,
+    ///     two: DirtyBitMap<8>,
+    ///     number: u64,
+    /// ) -> Result<(CleanBitMap<8>, CleanBitMap<8>), Error> {
+    ///     let one = one.prepare(number)?;
+    ///     let two = two.prepare(number)?;
+    ///     Ok((one.commit(), two.commit()))
+    /// }
+    ///
+    /// let mut taken = CleanBitMap::new().into_dirty();
+    /// let mut shared = CleanBitMap::new().into_dirty();
+    /// taken.push(true);
+    /// shared.push(false);
+    /// let (taken, shared) = commit_both(taken, shared, 1)?;
+    /// assert_eq!((taken.latest_commit(), shared.latest_commit()), (Some(1), Some(1)));
+    /// # Ok::<(), Error>(())
+    /// ```
+    pub fn prepare(self, commit_number: u64) -> Result<PreparedBitMap<N>, Error> {
+        match self.try_prepare(commit_number) {
+            Ok(prepared) => Ok(prepared),
+            Err((_, Error::Memory(_))) => out_of_memory(),
+            Err((_, error)) => Err(error),
+        }
+    }
+}
+
+/// The second step of a commit, which cannot fail.
+impl<const N: usize> PreparedBitMap<N> {
+    /// Finishes the commit: the result is that of [`DirtyBitMap::commit`] for the batch and the number. Does not allocate.
+    ///
+    /// ```
+    /// use mortarpink::bitmap::historical::CleanBitMap;
+    ///
+    /// let mut batch = CleanBitMap::<8>::new().into_dirty();
+    /// batch.push(true);
+    /// let bitmap = batch.prepare(1)?.commit();
+    /// assert!(bitmap.get_bit(0) && bitmap.latest_commit() == Some(1));
+    /// # Ok::<(), mortarpink::bitmap::historical::Error>(())
+    /// ```
+    #[must_use]
+    pub fn commit(self) -> CleanBitMap<N> {
+        self.try_commit()
+    }
 }
 
 impl<const N: usize, S: State> Clone for BitMap<N, S> {
@@ -342,6 +405,8 @@ impl<V> FusedIterator for CommitNumbers<'_, V> {}
 impl<const N: usize> FusedIterator for ChangedChunks<'_, N> {}
 
 impl<const N: usize> FusedIterator for PendingChanges<'_, N> {}
+
+impl<const N: usize> FusedIterator for PreparedChanges<'_, N> {}
 
 impl<E: fmt::Display> fmt::Display for ApplyError<E> {
     fn fmt(&self, f: &mut fmt::Formatter<'_>) -> fmt::Result {

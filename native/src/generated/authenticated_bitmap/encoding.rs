@@ -13,7 +13,8 @@ use crate::support::alloc::{AllocError, Global};
 #[allow(unused_imports)]
 use crate::support::prelude::*;
 
-/// Why bytes are not the encoding of a proof. [`Proof::read`] reports the first of these that
+/// Why bytes are not the encoding of a proof. [`Proof::read`] and
+/// [`RangeProof::read`](crate::generated::authenticated_bitmap::range_encoding::RangeProof::read) report the first of these that
 /// applies.
 ///
 /// # Examples
@@ -26,16 +27,17 @@ use crate::support::prelude::*;
 /// ```
 #[derive(Clone, Copy, Debug, PartialEq, Eq)]
 pub enum DecodeError {
-    /// There are fewer than 40 bytes.
+    /// There are fewer bytes than the numbers of a proof have: 40 for a chunk, and 48 for a range.
     Short,
 
     /// The proof is of a bitmap with chunks of this many bytes.
     Width(u64),
 
-    /// The path has this many digests, which is more than 64.
+    /// The proof has this many digests, which is more than 64 for a chunk, or 128 for a range.
     TooManyDigests(u64),
 
-    /// The number of bytes is not 40, and `N`, and 32 for each digest.
+    /// The number of bytes is not that of the numbers, and `N` for each chunk, and 32 for each
+    /// digest.
     Length,
 }
 
@@ -83,7 +85,7 @@ pub struct Proof<'a, const N: usize> {
 crate::support::clones_by_copy! { ['a, const N: usize] Proof<'a, N> }
 
 // The number in the eight bytes from `start` on, most significant byte first.
-fn number_at(bytes: &[u8], start: usize) -> u64 {
+pub(crate) fn number_at(bytes: &[u8], start: usize) -> u64 {
     let (number, _) = bytes[start..].split_first_chunk::<8>().unwrap();
     u64::from_be_bytes(*number)
 }

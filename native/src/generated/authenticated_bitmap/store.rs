@@ -6,7 +6,9 @@
 //! leaves, and a leaf that is appended appends digests and moves none.
 
 use crate::generated::authenticated_bitmap::hash::Digest;
+use crate::generated::authenticated_bitmap::node_source::{InBitmap, InSlice, Nodes};
 use crate::generated::authenticated_bitmap::tree::node_digest;
+use crate::generated::bitmap_core::bitmap::Readable;
 use crate::support::alloc::{AllocError, Global};
 #[allow(unused_imports)]
 use crate::support::prelude::*;
@@ -65,9 +67,9 @@ fn size_of(level: u32) -> u64 {
 
 // The digest of a part of a tree of `n` leaves, from the stored ones: of the `index`-th `2 ^ level`
 // leaves, or what there is of them.
-fn stored_digest<D: Digest>(hash: &D, stored: &[[u8; 32]], n: u64, level: u32, index: u64) -> [u8; 32] {
+fn stored_digest<D: Digest, S: Nodes>(hash: &D, stored: &S, n: u64, level: u32, index: u64) -> [u8; 32] {
     if index * size_of(level) + size_of(level) <= n {
-        return stored[node_position(level, index) as usize];
+        return stored.node(node_position(level, index));
     }
     let left = stored_digest(hash, stored, n, level - 1, 2 * index);
     if (2 * index + 1) * size_of(level - 1) >= n {
@@ -114,14 +116,118 @@ pub fn tree_from_stored<D: Digest>(hash: &D, stored: &[[u8; 32]], n: u64) -> [u8
     if n == 0 {
         return hash.digest_of_nothing();
     }
-    stored_digest(hash, stored, n, 61, 0)
+    stored_digest(hash, &InSlice(stored), n, 61, 0)
+}
+
+/// Returns the digest of the tree of `n` leaves, from a bitmap that has the stored digests as chunks.
+///
+/// It does what [`tree_from_stored`] does. The digests are the [`node_count(n)`](node_count)
+/// chunks of a bitmap of width 32 in which nothing is pruned, and the last chunk is full. If the
+/// bitmap is a past version that is read in place, so is the tree. `n` is at most 2 to the power
+/// 61.
+///
+/// # Memory
+/// Does not allocate, if `get_chunk` of the bitmap does not.
+///
+/// # Complexity
+/// Logarithmic in `n`: calls `get_chunk` once per set bit of `n`, and hashes one time less.
+///
+/// # Panics
+///
+/// Panics if `n` is above 2^61; or if chunks of `stored` are pruned; or if the number of chunks of `stored` is not `node_count(n)`, or the last is not full.
+///
+/// # Examples
+///
+/// ```
+/// use mortarpink::bitmap::BitMap;
+/// use mortarpink::roots::{node_digest, tree_digest, tree_from_bitmap};
+/// # mod sha256 { include!(concat!(env!("CARGO_MANIFEST_DIR"), "/examples/sha256/mod.rs")); }
+/// # use sha256::Sha256;
+///
+/// let [a, b, c] = [[1; 32], [2; 32], [3; 32]];
+/// let mut stored = BitMap::<32>::new();
+/// for digest in [a, b, node_digest(&Sha256, &a, &b), c] {
+///     stored.push_chunk(&digest);
+/// }
+/// assert_eq!(tree_from_bitmap(&Sha256, &stored, 3), tree_digest(&Sha256, &[a, b, c]));
+/// ```
+pub fn tree_from_bitmap<D: Digest, B: Readable<32>>(hash: &D, stored: &B, n: u64) -> [u8; 32] {
+    assert!(n <= 1 << 61, "n {} is above 2^61", n);
+    assert!(stored.pruned_chunks() == 0, "stored has pruned chunks");
+    assert!(
+        stored.len() == 256 * crate::generated::authenticated_bitmap::store::node_count(n),
+        "{} bits of digests are stored for {} leaves",
+        stored.len(),
+        n
+    );
+
+    if n == 0 {
+        return hash.digest_of_nothing();
+    }
+    stored_digest(hash, &InBitmap::new_within(stored), n, 61, 0)
+}
+
+// Appends the digest of each subtree that is completed by the `index`-th subtree of `2 ^ level`
+// leaves. That is the last so far, its digest is `above`, and it is the last of `stored`.
+fn push_completed<D: Digest>(hash: &D, stored: &mut Vec<[u8; 32]>, level: u32, index: u64, above: &[u8; 32]) -> Result<(), AllocError> {
+    if index % 2 == 0 {
+        return Ok(());
+    }
+    let left = stored[node_position(level, index - 1) as usize];
+    let whole = node_digest(hash, &left, above);
+    stored.try_push(whole)?;
+    push_completed(hash, stored, level + 1, index / 2, &whole)
+}
+
+// Appends the digests that leaf `n` adds. After an error, `stored` may have some of them.
+fn push_leaf<D: Digest>(hash: &D, stored: &mut Vec<[u8; 32]>, n: u64, digest: &[u8; 32]) -> Result<(), AllocError> {
+    stored.try_push(*digest)?;
+    push_completed(hash, stored, 0, n, digest)
+}
+
+/// Appends a leaf to a tree of `n` leaves, by its digest: appends the stored digests that it adds.
+///
+/// They are the digest of the leaf, and one per subtree that it completes. `stored` has
+/// [`node_count(n)`](node_count) digests before, and `node_count(n + 1)` after. `n` is below 2 to
+/// the power 61.
+///
+/// # Errors
+/// `AllocError` if an allocation fails. `stored` is then unchanged.
+///
+/// # Memory
+/// Allocates 32 bytes per digest that is appended, of which there are at most 62.
+///
+/// # Complexity
+/// Reads one stored digest and hashes once per subtree that the leaf completes. These are as many
+/// as `n` has set bits below its lowest unset bit: fewer than one per leaf over many leaves.
+///
+/// # Panics
+///
+/// Panics if `n` is not below 2^61; or if the number of `stored` is not `node_count(n)`.
+pub fn append_leaf<D: Digest>(hash: &D, stored: &mut Vec<[u8; 32]>, n: u64, digest: &[u8; 32]) -> Result<(), AllocError> {
+    assert!(n < 1 << 61, "n {} is not below 2^61", n);
+    assert!(
+        stored.len() as u64 == crate::generated::authenticated_bitmap::store::node_count(n),
+        "{} digests are stored for {} leaves",
+        stored.len(),
+        n
+    );
+
+    let count = stored.len();
+    match push_leaf(hash, stored, n, digest) {
+        Ok(()) => Ok(()),
+        Err(error) => {
+            stored.truncate(count);
+            Err(error)
+        }
+    }
 }
 
 // Appends the digests beside the way to leaf `i` in a part of the tree, the part's last, from the
 // stored digests.
-fn push_stored_siblings<D: Digest>(
+fn push_stored_siblings<D: Digest, S: Nodes>(
     hash: &D,
-    stored: &[[u8; 32]],
+    stored: &S,
     n: u64,
     level: u32,
     index: u64,
@@ -188,6 +294,215 @@ pub fn try_prove_from_stored<D: Digest>(hash: &D, stored: &[[u8; 32]], n: u64, i
     );
 
     let mut path = Vec::new_within(alloc);
-    push_stored_siblings(hash, stored, n, 61, 0, i, &mut path)?;
+    push_stored_siblings(hash, &InSlice(stored), n, 61, 0, i, &mut path)?;
     Ok(path)
+}
+
+/// Returns the audit path of leaf `i` of the tree of `n` leaves, from a bitmap that has the stored
+/// digests as chunks.
+///
+/// It does what `prove_from_stored` does. The digests are the
+/// [`node_count(n)`](node_count) chunks of a bitmap of width 32 in which nothing is pruned, and
+/// the last chunk is full. `i` is below `n`, and `n` is at most 2 to the power 61.
+///
+/// # Errors
+/// `AllocError` if an allocation fails.
+///
+/// # Memory
+/// Allocates 32 bytes per digest of the path, of which there are at most 61.
+///
+/// # Complexity
+/// Quadratic in the logarithm of `n`, and most digests of the path are read by `get_chunk` and not
+/// computed.
+///
+/// # Panics
+///
+/// Panics if `n` is above 2^61; or if `i` is not below `n`; or if chunks of `stored` are pruned; or if the number of chunks of `stored` is not `node_count(n)`, or the last is not full.
+///
+/// # Examples
+///
+/// ```
+/// use mortarpink::bitmap::BitMap;
+/// use mortarpink::roots::{node_digest, try_prove_from_bitmap};
+/// # mod sha256 { include!(concat!(env!("CARGO_MANIFEST_DIR"), "/examples/sha256/mod.rs")); }
+/// # use sha256::Sha256;
+///
+/// let [a, b] = [[1; 32], [2; 32]];
+/// let mut stored = BitMap::<32>::new();
+/// for digest in [a, b, node_digest(&Sha256, &a, &b)] {
+///     stored.push_chunk(&digest);
+/// }
+/// assert_eq!(try_prove_from_bitmap(&Sha256, &stored, 2, 1)?, [a]);
+/// # Ok::<(), mortarpink::AllocError>(())
+/// ```
+pub fn try_prove_from_bitmap<D: Digest, B: Readable<32>>(hash: &D, stored: &B, n: u64, i: u64) -> Result<Vec<[u8; 32]>, AllocError> {
+    let alloc = Global;
+
+    assert!(n <= 1 << 61, "n {} is above 2^61", n);
+    assert!(i < n, "index {} out of bounds (len: {})", i, n);
+    assert!(stored.pruned_chunks() == 0, "stored has pruned chunks");
+    assert!(
+        stored.len() == 256 * crate::generated::authenticated_bitmap::store::node_count(n),
+        "{} bits of digests are stored for {} leaves",
+        stored.len(),
+        n
+    );
+
+    let mut path = Vec::new_within(alloc);
+    let nodes = InBitmap::new_within(stored);
+    push_stored_siblings(hash, &nodes, n, 61, 0, i, &mut path)?;
+    Ok(path)
+}
+
+// Appends the siblings of a range in a part of the tree, from the stored digests. `first` counts
+// from the part's first leaf.
+fn push_stored_range<D: Digest, S: Nodes>(
+    hash: &D,
+    stored: &S,
+    n: u64,
+    level: u32,
+    index: u64,
+    first: u64,
+    count: u64,
+    siblings: &mut Vec<[u8; 32]>,
+) -> Result<(), AllocError> {
+    if count == 0 {
+        siblings.try_push(stored_digest(hash, stored, n, level, index))?;
+        return Ok(());
+    }
+    if level == 0 {
+        return Ok(());
+    }
+    let half = size_of(level - 1);
+    if (2 * index + 1) * half >= n {
+        return push_stored_range(hash, stored, n, level - 1, 2 * index, first, count, siblings);
+    }
+    let before_half = half.saturating_sub(first);
+    let in_left = before_half.min(count);
+    let in_right = count.saturating_sub(before_half);
+    let right = 2 * index + 1;
+    push_stored_range(hash, stored, n, level - 1, 2 * index, first, in_left, siblings)?;
+    push_stored_range(hash, stored, n, level - 1, right, first.saturating_sub(half), in_right, siblings)
+}
+
+/// Returns the siblings of the `count` leaves from `first` on in the tree of `n` leaves, from the
+/// stored digests, as `prove_range` does from those of all leaves.
+///
+/// There are [`node_count(n)`](node_count) of them, `count` is at least 1, `first + count` is at
+/// most `n`, and `n` is at most 2 to the power 61.
+///
+/// # Errors
+/// `AllocError` if an allocation fails.
+///
+/// # Memory
+/// Allocates 32 bytes per sibling, of which there are at most 122.
+///
+/// # Complexity
+/// Linear in `count`, and quadratic in the logarithm of `n`. Most siblings are read and not
+/// computed.
+///
+/// # Panics
+///
+/// Panics if `n` is above 2^61; or if `count` is 0; or if the range ends after leaf `n - 1`; or if the number of `stored` is not `node_count(n)`.
+///
+/// # Examples
+///
+/// ```
+/// use mortarpink::roots::{node_digest, try_prove_range_from_stored};
+/// # mod sha256 { include!(concat!(env!("CARGO_MANIFEST_DIR"), "/examples/sha256/mod.rs")); }
+/// # use sha256::Sha256;
+///
+/// // The leaves 0 and 1 of three are beside leaf 2.
+/// let [a, b, c] = [[1; 32], [2; 32], [3; 32]];
+/// let stored = [a, b, node_digest(&Sha256, &a, &b), c];
+/// assert_eq!(try_prove_range_from_stored(&Sha256, &stored, 3, 0, 2)?, [c]);
+/// # Ok::<(), mortarpink::AllocError>(())
+/// ```
+pub fn try_prove_range_from_stored<D: Digest>(
+    hash: &D,
+    stored: &[[u8; 32]],
+    n: u64,
+    first: u64,
+    count: u64,
+) -> Result<Vec<[u8; 32]>, AllocError> {
+    let alloc = Global;
+
+    assert!(n <= 1 << 61, "n {} is above 2^61", n);
+    assert!(count > 0, "a range has at least one chunk");
+    assert!(first <= n && count <= n - first, "range of {} from {} out of bounds (len: {})", count, first, n);
+    assert!(
+        stored.len() as u64 == crate::generated::authenticated_bitmap::store::node_count(n),
+        "{} digests are stored for {} leaves",
+        stored.len(),
+        n
+    );
+
+    let mut siblings = Vec::new_within(alloc);
+    push_stored_range(hash, &InSlice(stored), n, 61, 0, first, count, &mut siblings)?;
+    Ok(siblings)
+}
+
+/// Returns the siblings of the `count` leaves from `first` on in the tree of `n` leaves, from a
+/// bitmap that has the stored digests as chunks.
+///
+/// It does what `prove_range_from_stored` does. The
+/// digests are the [`node_count(n)`](node_count) chunks of a bitmap of width 32 in which nothing is
+/// pruned, and the last chunk is full. `count` is at least 1, `first + count` is at most `n`, and
+/// `n` is at most 2 to the power 61.
+///
+/// # Errors
+/// `AllocError` if an allocation fails.
+///
+/// # Memory
+/// Allocates 32 bytes per sibling, of which there are at most 122.
+///
+/// # Complexity
+/// Linear in `count`, and quadratic in the logarithm of `n`. Most siblings are read and not
+/// computed.
+///
+/// # Panics
+///
+/// Panics if `n` is above 2^61; or if `count` is 0; or if the range ends after leaf `n - 1`; or if chunks of `stored` are pruned; or if the number of chunks of `stored` is not `node_count(n)`, or the last is not full.
+///
+/// # Examples
+///
+/// ```
+/// use mortarpink::bitmap::BitMap;
+/// use mortarpink::roots::{node_digest, try_prove_range_from_bitmap};
+/// # mod sha256 { include!(concat!(env!("CARGO_MANIFEST_DIR"), "/examples/sha256/mod.rs")); }
+/// # use sha256::Sha256;
+///
+/// // The leaves 0 and 1 of three are beside leaf 2.
+/// let [a, b, c] = [[1; 32], [2; 32], [3; 32]];
+/// let mut stored = BitMap::<32>::new();
+/// for digest in [a, b, node_digest(&Sha256, &a, &b), c] {
+///     stored.push_chunk(&digest);
+/// }
+/// assert_eq!(try_prove_range_from_bitmap(&Sha256, &stored, 3, 0, 2)?, [c]);
+/// # Ok::<(), mortarpink::AllocError>(())
+/// ```
+pub fn try_prove_range_from_bitmap<D: Digest, B: Readable<32>>(
+    hash: &D,
+    stored: &B,
+    n: u64,
+    first: u64,
+    count: u64,
+) -> Result<Vec<[u8; 32]>, AllocError> {
+    let alloc = Global;
+
+    assert!(n <= 1 << 61, "n {} is above 2^61", n);
+    assert!(count > 0, "a range has at least one chunk");
+    assert!(first <= n && count <= n - first, "range of {} from {} out of bounds (len: {})", count, first, n);
+    assert!(stored.pruned_chunks() == 0, "stored has pruned chunks");
+    assert!(
+        stored.len() == 256 * crate::generated::authenticated_bitmap::store::node_count(n),
+        "{} bits of digests are stored for {} leaves",
+        stored.len(),
+        n
+    );
+
+    let mut siblings = Vec::new_within(alloc);
+    let nodes = InBitmap::new_within(stored);
+    push_stored_range(hash, &nodes, n, 61, 0, first, count, &mut siblings)?;
+    Ok(siblings)
 }

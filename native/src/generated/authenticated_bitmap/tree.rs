@@ -85,12 +85,12 @@ pub fn try_leaf_digests<D: Digest, const N: usize>(hash: &D, leaves: &[[u8; N]])
 }
 
 // Half of the leaves that fit a height.
-fn half_of(height: u32) -> usize {
+pub(crate) fn half_of(height: u32) -> usize {
     1 << (height - 1)
 }
 
 // The digest of the tree of at most `2 ^ height` leaves.
-fn subtree_digest<D: Digest>(hash: &D, height: u32, digests: &[[u8; 32]]) -> [u8; 32] {
+pub(crate) fn subtree_digest<D: Digest>(hash: &D, height: u32, digests: &[[u8; 32]]) -> [u8; 32] {
     if height == 0 {
         return match digests.first() {
             None => hash.digest_of_nothing(),

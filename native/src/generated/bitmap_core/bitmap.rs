@@ -287,6 +287,16 @@ impl<const N: usize> BitMap<N> {
     pub fn get(&self, bit: u64) -> bool {
         assert!(bit < self.len(), "bit {} out of bounds (len: {})", bit, self.len());
 
+        self.read_bit(bit)
+    }
+
+    // Returns the byte that contains a bit, as a chunk. Its bits past the length are zero.
+    pub(crate) fn read_byte(&self, bit: u64) -> [u8; 1] {
+        deque::get_byte(&self.chunks, bit)
+    }
+
+    // As `get`, which tests the position if it is called from Rust. A bitmap with a pruned prefix has tested it already.
+    pub(crate) fn read_bit(&self, bit: u64) -> bool {
         deque::get_bit(&self.chunks, bit)
     }
 
@@ -530,6 +540,12 @@ impl<const N: usize> BitMap<N> {
     pub fn try_push(&mut self, bit: bool) -> Result<(), AllocError> {
         assert!(self.len() <= u64::MAX - 1, "length overflows u64");
 
+        self.append_bit(bit)
+    }
+
+    // As `push`, which tests the length if it is called from Rust. A bitmap with a pruned prefix has tested it already.
+    #[inline]
+    pub(crate) fn append_bit(&mut self, bit: bool) -> Result<(), AllocError> {
         let len = self.len;
         deque::make_space(&mut self.chunks, len)?;
         if bit {
@@ -729,6 +745,11 @@ impl<const N: usize> BitMap<N> {
     pub fn set(&mut self, bit: u64, value: bool) {
         assert!(bit < self.len(), "bit {} out of bounds (len: {})", bit, self.len());
 
+        self.write_bit(bit, value);
+    }
+
+    // As `set`, for the same reason as `read_bit`.
+    pub(crate) fn write_bit(&mut self, bit: u64, value: bool) {
         deque::set_bit(&mut self.chunks, bit, value);
     }
 

@@ -5,11 +5,12 @@
 //! pruned count, and by a digest of the old bytes of the listed chunks.
 
 use crate::generated::bitmap_core::bitmap::Readable;
-use crate::generated::commit_log::apply::apply_change;
+use crate::generated::commit_log::apply::apply_accepted;
 use crate::generated::commit_log::change::push_change;
+use crate::generated::commit_log::check::check_change;
 use crate::generated::commit_log::digest::{digest_of, digest_of_replaced};
 use crate::generated::commit_log::entry::{Change, read_change};
-use crate::generated::commit_log::error::{ApplyError, EntryError};
+use crate::generated::commit_log::error::EntryError;
 use crate::generated::historical_bitmap::bitmap::historical::{AtCommit, ChangedChunks, CleanBitMap};
 use crate::support::alloc::{AllocError, Global};
 #[allow(unused_imports)]
@@ -98,7 +99,7 @@ impl core::error::Error for DeltaError {
 
 // The fields of a delta, as they are in its bytes.
 #[derive(Debug)]
-struct DeltaFields<'a> {
+pub(crate) struct DeltaFields<'a> {
     // The number of the older state.
     number: u64,
 
@@ -112,7 +113,7 @@ struct DeltaFields<'a> {
     replaced_digest: u64,
 
     // The change to the newer state.
-    change: Change<'a>,
+    pub(crate) change: Change<'a>,
 }
 
 // Appends what a delta from an older state begins with. After an error, a part of it may be appended.
@@ -261,11 +262,19 @@ fn starts_at<const N: usize>(bitmap: &CleanBitMap<N>, delta: &DeltaFields<'_>) -
     digest_of_replaced(current, delta.change.chunks) == delta.replaced_digest
 }
 
-// Returns why a delta was not applied, if its change was not.
-fn delta_error(error: ApplyError) -> DeltaError {
-    match error {
-        ApplyError::Entry(error) => DeltaError::Change(error),
-        ApplyError::Memory(error) => DeltaError::Memory(error),
+// Reads a delta, which is all of the bytes. It starts at the current state of the bitmap, which accepts its change.
+pub(crate) fn read_accepted<'a, const N: usize>(bitmap: &CleanBitMap<N>, bytes: &'a [u8]) -> Result<DeltaFields<'a>, DeltaError> {
+    let _ = bitmap.len();
+    let delta = match read_delta::<N>(bytes) {
+        Ok(delta) => delta,
+        Err(error) => return Err(error),
+    };
+    if !starts_at(bitmap, &delta) {
+        return Err(DeltaError::NotAtBase);
+    }
+    match check_change(bitmap, &delta.change) {
+        Ok(()) => Ok(delta),
+        Err(error) => Err(DeltaError::Change(error)),
     }
 }
 
@@ -320,15 +329,12 @@ pub fn apply_delta<const N: usize>(bitmap: CleanBitMap<N>, bytes: &[u8]) -> Resu
 // At the older state, the delta to a newer one commits that one under its number.
 {
     let _ = bitmap.len();
-    let delta = match read_delta::<N>(bytes) {
+    let delta = match read_accepted(&bitmap, bytes) {
         Ok(delta) => delta,
         Err(error) => return Err((bitmap, error)),
     };
-    if !starts_at(&bitmap, &delta) {
-        return Err((bitmap, DeltaError::NotAtBase));
-    }
-    match apply_change(bitmap, &delta.change) {
+    match apply_accepted(bitmap, &delta.change) {
         Ok(bitmap) => Ok(bitmap),
-        Err((bitmap, error)) => Err((bitmap, delta_error(error))),
+        Err((bitmap, error)) => Err((bitmap, DeltaError::Memory(error))),
     }
 }

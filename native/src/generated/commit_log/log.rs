@@ -6,10 +6,9 @@
 //! So if the bytes before a call are those of a log whose entries make the state of the bitmap, the bytes after it are too: the law
 //! `a_log_goes_on` says this for all logs, and so for all sequences of these calls.
 
-use crate::generated::commit_log::calls::{clear_is_an_entry, commit_is_an_entry, drop_is_an_entry, rewind_is_an_entry};
-use crate::generated::commit_log::check::accepts_number;
+use crate::generated::commit_log::calls::{clear_is_an_entry, drop_is_an_entry, rewind_is_an_entry};
 use crate::generated::commit_log::entry::{CLEAR, COMMIT, DROP_BEFORE, REWIND, push_chunk};
-use crate::generated::historical_bitmap::bitmap::historical::{CleanBitMap, DirtyBitMap, Error, RewindError};
+use crate::generated::historical_bitmap::bitmap::historical::{CleanBitMap, DirtyBitMap, Error, PreparedBitMap, RewindError};
 use crate::generated::log_frames::{Place, push_frame};
 use crate::support::alloc::{AllocError, Global};
 use crate::support::mem;
@@ -18,8 +17,8 @@ use crate::support::prelude::*;
 
 /// The end of the log of a historical bitmap: the bytes that were appended to it and not taken yet, and the place after them.
 ///
-/// [`commit_logged`], [`rewind_logged`], [`drop_before_logged`] and [`clear_logged`] append to it. A program writes [`bytes`](Log::bytes) to its
-/// file, and then calls [`forget`](Log::forget). `N` is the number of bytes of a chunk of the bitmap.
+/// [`commit_logged`], [`rewind_logged`], [`drop_before_logged`], [`clear_logged`] and [`apply_delta_logged`](crate::generated::commit_log::apply_delta_logged) append to
+/// it. A program writes [`bytes`](Log::bytes) to its file, and then calls [`forget`](Log::forget). `N` is the number of bytes of a chunk of the bitmap.
 ///
 /// # Examples
 ///
@@ -164,9 +163,18 @@ impl<const N: usize> Log<N> {
         mem::replace(&mut self.bytes, none)
     }
 
-    // Appends the entry of a commit of a batch.
-    fn push_commit(&mut self, batch: &DirtyBitMap<N>, number: u64) -> Result<(), AllocError> {
-        encode_commit(&mut self.scratch, batch, number)?;
+    // Appends the entry of a prepared commit.
+    fn push_commit(&mut self, prepared: &PreparedBitMap<N>) -> Result<(), AllocError> {
+        encode_commit(&mut self.scratch, prepared)?;
+        self.place = push_frame(&mut self.bytes, self.place, &self.scratch)?;
+        Ok(())
+    }
+
+    // Appends the entry of a commit, of whose change these bytes are the encoding.
+    pub(crate) fn push_encoded_change(&mut self, change: &[u8]) -> Result<(), AllocError> {
+        self.scratch.clear();
+        self.scratch.try_push(COMMIT)?;
+        self.scratch.try_extend_from_slice(change)?;
         self.place = push_frame(&mut self.bytes, self.place, &self.scratch)?;
         Ok(())
     }
@@ -186,33 +194,35 @@ impl<const N: usize> Log<N> {
         Ok(())
     }
 
+    // Returns the place after the bytes.
+    pub(crate) fn place(&self) -> Place {
+        self.place
+    }
+
     // Removes the bytes after the first `len`, at whose end the log has this place.
-    fn cut_back(&mut self, len: usize, place: Place) {
+    pub(crate) fn cut_back(&mut self, len: usize, place: Place) {
         self.bytes.truncate(len);
         self.place = place;
     }
 }
 
-// Appends the chunks that the batch changes and that the pending bitmap retains, each with its index.
-fn push_changed<const N: usize>(out: &mut Vec<u8>, batch: &DirtyBitMap<N>) -> Result<(), AllocError> {
-    let _ = batch.len();
-    let mut changes = batch.changed_chunks();
-    while let Some(chunk) = changes.next() {
-        if let Some(bytes) = batch.retained_bytes(chunk) {
-            push_chunk(out, chunk as u64, &bytes)?;
-        }
+// Appends the chunks that a prepared commit changes and that the pending bitmap retains, each with its index.
+fn push_changed<const N: usize>(out: &mut Vec<u8>, prepared: &PreparedBitMap<N>) -> Result<(), AllocError> {
+    let mut changes = prepared.changed_chunks();
+    while let Some(change) = changes.next() {
+        push_chunk(out, change.0 as u64, &change.1)?;
     }
     Ok(())
 }
 
-// Replaces the bytes of `out` by the encoding of the entry of a commit of a batch.
-fn encode_commit<const N: usize>(out: &mut Vec<u8>, batch: &DirtyBitMap<N>, number: u64) -> Result<(), AllocError> {
+// Replaces the bytes of `out` by the encoding of the entry of a prepared commit.
+fn encode_commit<const N: usize>(out: &mut Vec<u8>, prepared: &PreparedBitMap<N>) -> Result<(), AllocError> {
     out.clear();
     out.try_push(COMMIT)?;
-    out.try_extend_from_slice(&number.to_be_bytes())?;
-    out.try_extend_from_slice(&batch.len().to_be_bytes())?;
-    out.try_extend_from_slice(&(batch.pruned_chunks() as u64).to_be_bytes())?;
-    push_changed(out, batch)
+    out.try_extend_from_slice(&prepared.number().to_be_bytes())?;
+    out.try_extend_from_slice(&prepared.pending_len().to_be_bytes())?;
+    out.try_extend_from_slice(&(prepared.pending_pruned_chunks() as u64).to_be_bytes())?;
+    push_changed(out, prepared)
 }
 
 /// Commits a batch, as `try_commit` does, and appends the entry of the commit to the log.
@@ -226,7 +236,8 @@ fn encode_commit<const N: usize>(out: &mut Vec<u8>, batch: &DirtyBitMap<N>, numb
 /// so allocates only for an entry that is longer than those before it.
 ///
 /// # Complexity
-/// As `commit`, and linear in the bytes of the marked chunks, with a few searches among the edited chunks for each one. Amortized, if it allocates.
+/// As `commit`, and linear in the bytes of the marked chunks, with at most one search among the edited chunks for each one. Amortized, if it
+/// allocates.
 ///
 /// # Examples
 ///
@@ -257,22 +268,12 @@ pub fn commit_logged<const N: usize>(
 // The number is tested first.
 {
     let _ = batch.len();
-    if !accepts_number(batch.last_number(), number) {
-        // The commit fails, and returns the error of the number.
-        return commit_is_an_entry(batch, number);
-    }
-    let len = log.bytes().len();
-    let place = log.place;
-    let Ok(()) = log.push_commit(&batch, number) else {
-        return Err((batch, Error::Memory(AllocError)));
+    let _ = batch.newly_pruned_chunks();
+    let prepared = batch.try_prepare(number)?;
+    let Ok(()) = log.push_commit(&prepared) else {
+        return Err((prepared.into_dirty(), Error::Memory(AllocError)));
     };
-    match commit_is_an_entry(batch, number) {
-        Ok(bitmap) => Ok(bitmap),
-        Err(refused) => {
-            log.cut_back(len, place);
-            Err(refused)
-        }
-    }
+    Ok(prepared.try_commit())
 }
 
 /// Rewinds a bitmap to a kept commit, as `rewind_to` does, and appends the entry of the rewind to the log.

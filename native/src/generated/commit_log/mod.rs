@@ -2,9 +2,9 @@
 //! The log of a historical bitmap: each call that changes what is kept as one entry, from which its state is made again.
 //!
 //! A historical bitmap is in memory, and a crash loses it. A program that needs it again keeps a log in a file: bytes that only grow. It changes
-//! the bitmap by [`commit_logged`], [`rewind_logged`], [`drop_before_logged`] and [`clear_logged`]. Each of them makes its change and appends the
-//! entry of the change to a [`Log`], or does neither. The program writes the bytes of the `Log` to its file when it wants to. After a crash, any
-//! prefix of the file reads as the state after the last entry that is whole in it.
+//! the bitmap by [`commit_logged`], [`rewind_logged`], [`drop_before_logged`], [`clear_logged`] and [`apply_delta_logged`]. Each of them makes its
+//! change and appends the entry of the change to a [`Log`], or does neither. The program writes the bytes of the `Log` to its file when it wants
+//! to. After a crash, any prefix of the file reads as the state after the last entry that is whole in it.
 //!
 //! The bytes of a log depend on its base and on the calls alone. So a replica that is sent the bytes has the same bitmap, with all its kept states.
 //! If two logs have the same position and the same digest, they have the same entries, unless two inputs of the digest collide.
@@ -46,6 +46,8 @@
 //! [`apply_delta`] commits the later state of the replica, or changes nothing. It has the fields of a commit. In addition, it has a magic, the
 //! version of the format, the width, the number, the length and the pruned count of the older state, a digest of the bytes that it replaces there,
 //! and a digest of all bytes. The law `a_replica_follows` says that the two calls bring a replica at the older state to the newer one.
+//!
+//! A replica that has a log of its own applies a delta by [`apply_delta_logged`], which also appends the entry of the commit.
 #[allow(unused_imports)]
 use crate::support::prelude::*;
 mod apply;
@@ -59,6 +61,7 @@ mod entry;
 mod error;
 mod history;
 mod log;
+mod logged_delta;
 mod reading;
 mod recovery;
 mod retained;
@@ -73,6 +76,7 @@ pub use entry::{Change, DecodeError, Entry, push_chunk, read_entry};
 pub use error::{ApplyError, EntryError};
 pub use history::write_history;
 pub use log::{Log, clear_logged, commit_logged, drop_before_logged, rewind_logged};
+pub use logged_delta::apply_delta_logged;
 pub use reading::{HistoryError, read_history};
 pub use recovery::{Damage, RecoverError, Recovered, recover};
 pub use size::history_size;

@@ -8,9 +8,10 @@ use crate::generated::bitmap_bytes::chunk::byte_index;
 #[allow(unused_imports)]
 use crate::support::prelude::*;
 
-// The eight bits that begin `skip` bits into `low` and continue in `high`.
+// The eight bits that begin `skip` bits into `low` and continue in `high`. Both bytes are shifted as one number of 16 bits, which takes one shift.
 fn joined_byte(low: u8, high: u8, skip: u64) -> u8 {
-    (low >> skip) | ((high << (7 - skip)) << 1)
+    let both = (low as u16) | ((high as u16) << 8);
+    ((both >> skip) % 256) as u8
 }
 
 // The low `shift` bits of `kept`, and above them the low bits of `next`.
@@ -66,8 +67,13 @@ fn fill_words<const N: usize>(chunk: &mut [u8; N], bytes: &[u8], skip: u64) {
     }
 }
 
-// The chunk of the bits from bit `skip` on of `bytes`, which has more bytes than the chunk.
+// The chunk of the bits from bit `skip` on of `bytes`, which has more bytes than the chunk. From the start of a byte it is a copy.
+// This and `chunk_from` are inlined: their callers fill one chunk after another, and for a narrow one a call takes longer than the bytes.
+#[inline(always)]
 fn chunk_within<const N: usize>(bytes: &[u8], skip: u64) -> [u8; N] {
+    if skip == 0 {
+        return bytes[..N].try_into().unwrap();
+    }
     let mut chunk = [0; N];
     fill_words(&mut chunk, bytes, skip);
     for j in 8 * (N / 8)..N {
@@ -87,6 +93,7 @@ fn chunk_within<const N: usize>(bytes: &[u8], skip: u64) -> [u8; N] {
 /// # Complexity
 ///
 /// Linear in `N`. Whole words of 64 bits are written at once if `front` or `back` alone has the `N + 1` bytes from bit `bit` on.
+#[inline(always)]
 pub fn chunk_from<const N: usize>(front: &[u8], back: &[u8], bit: u64) -> [u8; N] {
     let at = (bit / 8) as usize;
     if at + N < front.len() {

@@ -19,7 +19,7 @@ mod runs;
 mod whole_chunks;
 
 pub use crate::generated::bitmap_core::bitmap::deque::append::append_run;
-pub use crate::generated::bitmap_core::bitmap::deque::bits::{clear_tail, flip_bit, get_bit, set_bit, set_byte};
+pub use crate::generated::bitmap_core::bitmap::deque::bits::{clear_tail, flip_bit, get_bit, get_byte, set_bit, set_byte};
 pub use crate::generated::bitmap_core::bitmap::deque::bools::{append_bools, from_bools};
 pub use crate::generated::bitmap_core::bitmap::deque::counts::{count_ones, is_unset};
 pub use crate::generated::bitmap_core::bitmap::deque::every::{are_equal, combine, feed, fill, flip};

@@ -2,6 +2,7 @@
 //! The iterator over the bits of a dense bitmap.
 
 use crate::generated::bitmap_core::bitmap::BitMap;
+use crate::generated::bitmap_core::chunk;
 use crate::support::iter;
 #[allow(unused_imports)]
 use crate::support::prelude::*;
@@ -23,6 +24,8 @@ use crate::support::prelude::*;
 pub struct Iterator<'a, const N: usize> {
     bitmap: &'a BitMap<N>,
     position: u64,
+    // The byte that contains the position, as a chunk, unless a byte begins there.
+    byte: [u8; 1],
 }
 
 impl<const N: usize> BitMap<N> {
@@ -40,7 +43,7 @@ impl<const N: usize> BitMap<N> {
     /// ```
     pub fn iter(&self) -> Iterator<'_, N> {
         let _ = self.len();
-        Iterator { bitmap: self, position: 0 }
+        Iterator { bitmap: self, position: 0, byte: [0] }
     }
 }
 
@@ -52,8 +55,11 @@ impl<const N: usize> iter::Iterator for Iterator<'_, N> {
         if position == self.bitmap.len() {
             return None;
         }
+        if position % 8 == 0 {
+            self.byte = self.bitmap.read_byte(position);
+        }
         self.position = position + 1;
-        Some(self.bitmap.get(position))
+        Some(chunk::get_bit(&self.byte, position))
     }
 
     /// Returns the number of bits that are left, as both bounds. It always fits `usize`.

@@ -247,7 +247,7 @@ impl<const N: usize> Prunable<N> {
         assert!(self.pruned_chunks() as u64 * (8 * N as u64) <= bit, "bit pruned: {}", bit);
         assert!(bit < self.len(), "bit {} out of bounds (len: {})", bit, self.len());
 
-        self.bitmap.get(bit - self.pruned_bits())
+        self.bitmap.read_bit(bit - self.pruned_bits())
     }
 
     /// Returns the number of retained bits that are true. Pruned bits do not count.
@@ -430,7 +430,7 @@ impl<const N: usize> Prunable<N> {
         assert!(bit < self.len(), "bit {} out of bounds (len: {})", bit, self.len());
 
         let pruned = self.pruned_bits();
-        self.bitmap.set(bit - pruned, value);
+        self.bitmap.write_bit(bit - pruned, value);
     }
 
     /// Sets the bit at each position in `range` to `value`.
@@ -633,7 +633,7 @@ impl<const N: usize> Prunable<N> {
     pub fn try_push(&mut self, bit: bool) -> Result<(), AllocError> {
         assert!(self.len() <= u64::MAX - 1, "length overflows u64");
 
-        self.bitmap.try_push(bit)
+        self.bitmap.append_bit(bit)
     }
 
     /// Appends the eight bits of a byte, the lowest first. The length is a multiple of 8, and the new length fits `u64`.

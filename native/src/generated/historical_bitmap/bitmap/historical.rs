@@ -25,6 +25,8 @@ mod opened;
 mod pending;
 mod pending_changes;
 mod pending_reads;
+mod prepared;
+mod prepared_changes;
 mod ranges;
 mod record;
 mod replaced;
@@ -44,6 +46,8 @@ pub use crate::generated::historical_bitmap::bitmap::historical::edit::{Edit, Le
 pub use crate::generated::historical_bitmap::bitmap::historical::error::{ApplyError, Error, RewindError};
 pub use crate::generated::historical_bitmap::bitmap::historical::pending::Dirty;
 pub use crate::generated::historical_bitmap::bitmap::historical::pending_changes::PendingChanges;
+pub use crate::generated::historical_bitmap::bitmap::historical::prepared::PreparedBitMap;
+pub use crate::generated::historical_bitmap::bitmap::historical::prepared_changes::PreparedChanges;
 pub use crate::generated::historical_bitmap::bitmap::historical::state::{Clean, State};
 use crate::support::alloc::AllocError;
 

@@ -2,7 +2,7 @@
 //! Single bits and bytes of a deque of chunks.
 
 use crate::generated::bitmap_core::chunk;
-use crate::generated::bitmap_core::chunk::{chunk_index, chunk_width};
+use crate::generated::bitmap_core::chunk::{byte_index, chunk_index, chunk_width};
 use crate::support::collections::VecDeque;
 #[allow(unused_imports)]
 use crate::support::prelude::*;
@@ -10,6 +10,11 @@ use crate::support::prelude::*;
 // Returns bit `bit` of the chunks.
 pub fn get_bit<const N: usize>(chunks: &VecDeque<[u8; N]>, bit: u64) -> bool {
     chunk::get_bit(&chunks[chunk_index::<N>(bit)], bit)
+}
+
+// Returns the byte that contains bit `bit`, as a chunk.
+pub fn get_byte<const N: usize>(chunks: &VecDeque<[u8; N]>, bit: u64) -> [u8; 1] {
+    [chunks[chunk_index::<N>(bit)][byte_index::<N>(bit)]]
 }
 
 // Sets bit `bit` of the chunks to `value`.

@@ -10,7 +10,7 @@ use crate::support::hash::Hasher;
 #[allow(unused_imports)]
 use crate::support::prelude::*;
 
-// The least width, in bytes, of chunks that are combined one by one.
+// The least width, in bytes, of chunks that are inverted and combined one by one: sixteen of them are not copied to the stack.
 const WIDE: usize = 32;
 
 // Inverts every bit.
@@ -18,11 +18,19 @@ pub fn flip<const N: usize>(chunks: &mut VecDeque<[u8; N]>) {
     flip_slice(chunks.make_contiguous());
 }
 
-// Sixteen chunks per step: the compiler knows the number, so it inverts the bytes of small chunks together.
+// Sixteen chunks per step, in a copy: the compiler knows the number, and that all indices are within it, so it inverts the bytes of small chunks
+// together.
 fn flip_slice<const N: usize>(chunks: &mut [[u8; N]]) {
+    if N >= WIDE {
+        let count = chunks.len();
+        flip_some(chunks, 0, count);
+        return;
+    }
     let groups = chunks.len() / 16;
     for i in 0..groups {
-        flip_some(chunks, 16 * i, 16);
+        let mut group: [[u8; N]; 16] = chunks[16 * i..16 * i + 16].try_into().unwrap();
+        flip_some(&mut group, 0, 16);
+        chunks[16 * i..16 * i + 16].copy_from_slice(&group);
     }
     flip_some(chunks, 16 * groups, chunks.len() - 16 * groups);
 }
@@ -57,9 +65,11 @@ fn combine_slices<B: Bitwise, const N: usize>(chunks: &mut [[u8; N]], others: &[
     }
     let groups = chunks.len() / 16;
     for i in 0..groups {
-        // A copy, so that the compiler knows that no write changes `others`: it combines all sixteen at once.
+        // Copies, so that the compiler knows that no write changes `others`: it combines all sixteen at once.
         let theirs: [[u8; N]; 16] = others[16 * i..16 * i + 16].try_into().unwrap();
-        combine_some::<B, N>(chunks, &theirs, 16 * i);
+        let mut ours: [[u8; N]; 16] = chunks[16 * i..16 * i + 16].try_into().unwrap();
+        combine_some::<B, N>(&mut ours, &theirs, 0);
+        chunks[16 * i..16 * i + 16].copy_from_slice(&ours);
     }
     combine_some::<B, N>(chunks, &others[16 * groups..], 16 * groups);
 }

@@ -38,7 +38,8 @@ fn search_past<const N: usize>(commits: &VecDeque<(u64, CommitDiff<N>)>, number:
     start
 }
 
-// As `search_past`, but it looks at the last commit first, since that is the one most often asked for.
+// As `search_past`, but it looks at the last commit first, since that is the one most often asked for, and then at the commit that has the number
+// if the numbers up to it are consecutive.
 fn first_past<const N: usize>(commits: &VecDeque<(u64, CommitDiff<N>)>, number: u64) -> usize {
     let count = commits.len();
     if count == 0 {
@@ -47,6 +48,17 @@ fn first_past<const N: usize>(commits: &VecDeque<(u64, CommitDiff<N>)>, number: 
     let last = &commits[count - 1];
     if last.0 <= number {
         return count;
+    }
+    let first = &commits[0];
+    if number < first.0 {
+        return 0;
+    }
+    let near = (number - first.0) as usize;
+    if near < count {
+        let commit = &commits[near];
+        if commit.0 == number {
+            return near + 1;
+        }
     }
     search_past(commits, number)
 }

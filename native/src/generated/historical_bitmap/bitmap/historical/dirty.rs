@@ -6,9 +6,10 @@
 
 use crate::generated::bitmap_core::bitmap::Prunable;
 use crate::generated::bitmap_core::chunk::chunk_index;
-use crate::generated::historical_bitmap::bitmap::historical::apply::{grow, overwrite, shrink_back};
+use crate::generated::historical_bitmap::bitmap::historical::apply::overwrite;
 use crate::generated::historical_bitmap::bitmap::historical::commit_list::CommitList;
 use crate::generated::historical_bitmap::bitmap::historical::edit::{Edit, Lent};
+use crate::generated::historical_bitmap::bitmap::historical::prepared::add_commit;
 use crate::generated::historical_bitmap::bitmap::historical::record::CommitDiff;
 use crate::generated::historical_bitmap::bitmap::historical::{BitMap, Clean, CleanBitMap, Dirty, DirtyBitMap, Error, State};
 use crate::support::alloc::{AllocError, Global};
@@ -497,17 +498,10 @@ impl<const N: usize> BitMap<N, Dirty<N>> {
     #[inline(never)]
     fn commit_edits(mut self, number: u64) -> Result<CleanBitMap<N>, (DirtyBitMap<N>, Error)> {
         let alloc = self.state.its_allocator();
-        let Ok(record) = self.state.record(&self.current, alloc) else {
-            return Err((self, Error::Memory(AllocError)));
-        };
-        let len = self.state.len();
-        let Ok(before) = grow(&mut self.current, len) else {
-            return Err((self, Error::Memory(AllocError)));
-        };
-        if self.commits.append(number, record).is_err() {
-            shrink_back(&mut self.current, before);
+        if add_commit(&mut self.current, &mut self.commits, &self.state, number).is_err() {
             return Err((self, Error::Memory(AllocError)));
         }
+        let len = self.state.len();
         let pruned = self.state.pruned_chunks();
         let edited = self.state.into_edited();
         overwrite(&mut self.current, len, edited, pruned);
