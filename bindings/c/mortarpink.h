@@ -11,10 +11,10 @@
  *     if (mortarpink_push(&bitmap, 1) == MORTARPINK_DONE) mortarpink_commit(&bitmap, 7, &previous);
  *     mortarpink_free(&bitmap);
  *
- * Ownership: a handle owns its bitmap from mortarpink_new, mortarpink_read, mortarpink_load, mortarpink_clone or
- * mortarpink_checkout until mortarpink_free. A handle starts as MORTARPINK_EMPTY, and only these functions write it. Do
- * not copy a handle that is not empty, except to move it: the old place is not used again, unless MORTARPINK_EMPTY is
- * assigned to it. An empty handle is valid in every call, and a freed handle is empty again.
+ * Ownership: a handle owns its bitmap from mortarpink_new, mortarpink_read, mortarpink_load, mortarpink_recover,
+ * mortarpink_clone or mortarpink_checkout until mortarpink_free. A handle starts as MORTARPINK_EMPTY, and only these
+ * functions write it. Do not copy a handle that is not empty, except to move it: the old place is not used again, unless
+ * MORTARPINK_EMPTY is assigned to it. An empty handle is valid in every call, and a freed handle is empty again.
  *
  * Reads: a call that takes a handle as `const` writes neither the handle nor the bitmap that it owns. Every other call
  * edits the bitmap, or may.
@@ -52,8 +52,8 @@
  *
  * Encoding: the number of pruned chunks, then the number of retained bits, then the retained chunks. Both numbers have
  * eight bytes, the most significant first. There are no commits, no width and no checksum in it. Damaged bytes, or
- * bytes read with another width, can be the encoding of another bitmap. The bytes of mortarpink_save and of
- * mortarpink_delta have the width, and digests by which damaged bytes are found.
+ * bytes read with another width, can be the encoding of another bitmap. The bytes of mortarpink_save, of
+ * mortarpink_delta and of a log have the width, and digests by which damaged bytes are found.
  *
  * Cost: a call takes constant time and does not allocate, unless its comment says otherwise. */
 #ifndef MORTARPINK_H
@@ -106,10 +106,10 @@ enum {
     MORTARPINK_FULL_HANDLE = 16,           /* the handle is not empty */
     MORTARPINK_NO_SUCH_WIDTH = 17,         /* the width is not 1, 8, 32 or 64 bytes */
     MORTARPINK_WRONG_SIZE = 18,            /* the buffer has the wrong size */
-    MORTARPINK_WRONG_HEADER = 19,          /* the bytes do not begin as a history or a delta of this width does */
-    MORTARPINK_CUT_OFF = 20,               /* the bytes end before the history or the delta does */
+    MORTARPINK_WRONG_HEADER = 19,          /* the bytes do not begin as a history, a log or a delta of this width does */
+    MORTARPINK_CUT_OFF = 20,               /* the bytes end before the history, the delta or the first bitmap of the log does */
     MORTARPINK_DAMAGED = 21,               /* a digest is not that of the bytes before it */
-    MORTARPINK_NOT_ACCEPTED = 22,          /* a part of the bytes is no bitmap, or no commit that can follow */
+    MORTARPINK_NOT_ACCEPTED = 22,          /* a part of the bytes is no bitmap, or no commit or other entry that can follow */
     MORTARPINK_OUT_OF_RANGE = 23,          /* a number of retained bits or of commits is out of range */
     MORTARPINK_NOT_AT_BASE = 24,           /* the delta does not start at the current bitmap */
     MORTARPINK_HAS_LOG = 25,               /* the bitmap keeps a log */
@@ -619,7 +619,8 @@ mortarpink_status mortarpink_apply_delta(mortarpink_bitmap *bitmap, const uint8_
 /* ---- The log: the same, as entries that are appended to a file ----
  *
  * From mortarpink_log_begin on, each call that changes what is kept appends its entry to the log of the bitmap. The
- * program writes the bytes to its file when it wants to, and then forgets them. */
+ * program writes the bytes to its file when it wants to, and then forgets them. After a crash, mortarpink_recover makes
+ * the bitmap from the bytes of the file, and the program goes on with the same log. */
 
 /* Begins a log of what the bitmap keeps. The log begins with the history of the bitmap. From then on
  * mortarpink_commit, mortarpink_rewind, mortarpink_drop_before, mortarpink_clear and mortarpink_apply_delta append
@@ -661,6 +662,32 @@ mortarpink_status mortarpink_log_position(const mortarpink_bitmap *bitmap, uint6
  * the digest collide.
  * Errors: returns MORTARPINK_NO_LOG if the bitmap keeps no log. *digest is then unchanged. */
 mortarpink_status mortarpink_log_digest(const mortarpink_bitmap *bitmap, uint64_t *digest);
+
+/* Makes a bitmap from the bytes of its log, whole or cut off by a crash, in an empty handle: with chunks of `width`
+ * bytes. The bytes are those that mortarpink_log_bytes wrote since mortarpink_log_begin, or the first ones of them.
+ * The bitmap is the one after the last entry that is whole in the bytes: outside a batch, with its kept commits and
+ * its last number. *good becomes the number of bytes up to the end of this entry. Bytes after them are torn: they
+ * are fewer than 16, or they end within an entry, or all of them are zero. The program cuts them off its file before
+ * it writes to it again. The bitmap keeps the log: its position is *good, and no bytes of it are to be written. So
+ * the next entry belongs at the end of the file.
+ * Errors: MORTARPINK_FULL_HANDLE and MORTARPINK_NO_SUCH_WIDTH come first, and then the first error of the bytes,
+ *   from the first byte on. The handle is then unchanged. With a log, and with the first bytes of one, the status is
+ *   never MORTARPINK_DAMAGED or MORTARPINK_NOT_ACCEPTED.
+ * - MORTARPINK_FULL_HANDLE if the handle is not empty
+ * - MORTARPINK_NO_SUCH_WIDTH if the width is not 1, 8, 32 or 64
+ * - MORTARPINK_CUT_OFF if the bytes end within the header, which has 32 bytes, or within the bitmap that the log
+ *   begins with
+ * - MORTARPINK_WRONG_HEADER if the bytes do not begin with the header of a log of this width
+ * - MORTARPINK_DAMAGED if a digest after the header is not that of the bytes before it, and the bytes are not torn
+ * - MORTARPINK_NOT_ACCEPTED if the digests are right, but a part of the bytes is no bitmap, or no entry that can
+ *   follow
+ * - MORTARPINK_NO_MEMORY if an allocation fails
+ * With MORTARPINK_DAMAGED and MORTARPINK_NOT_ACCEPTED, *good becomes the number of bytes before the damaged part.
+ * With any other error it is unchanged.
+ * Cost: linear in the bytes, and as mortarpink_rewind for each rewind in the log. If a commit makes the bitmap grow,
+ *   it may also move in memory. Allocates the bitmap with its commits. */
+mortarpink_status mortarpink_recover(mortarpink_bitmap *bitmap, uint32_t width, const uint8_t *bytes, size_t len,
+                                     size_t *good);
 
 #ifdef __cplusplus
 }

@@ -124,6 +124,7 @@ FUNCTIONS: dict[str, tuple[Any, ...]] = {
     "log_forget": (HANDLE,),
     "log_position": (HANDLE, OUT_U64),
     "log_digest": (HANDLE, OUT_U64),
+    "recover": (HANDLE, U32, BYTES, SIZE, OUT_SIZE),
 }
 
 # The functions of these whose handle is `const` in C: they write neither the handle nor the bitmap.

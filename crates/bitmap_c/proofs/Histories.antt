@@ -1,7 +1,7 @@
 -- Histories that are loaded.
-use Rattle.std.proofs.Common.{◌≡◌, ℕ, true, false, ◌<◌, ◌≤◌, List, length, take, Option, Some, None, Result, Ok, Err, refl, sym, ap, subst, ◌∙◌, inl, inr, arith}
-use Rattle.std.specs.Prelude.{◌⊎◌, IfSome, alloc_error, is_some}
-use Rattle.std.proofs.lemmas.Bool.{cases_lt, false≢true}
+use Rattle.std.proofs.Common.{◌≡◌, ℕ, ◌<◌, ◌≤◌, List, length, take, Option, None, Result, Ok, Err, refl, sym, ap, subst, ◌∙◌, inl, inr, arith}
+use Rattle.std.specs.Prelude.{◌⊎◌, IfSome, alloc_error}
+use Rattle.std.proofs.lemmas.Bool.{cases_lt}
 use Rattle.std.proofs.lemmas.List.{length-take-le}
 use Rattle.log_frames.specs.declared.header.HeaderError.TheVariants.{Short as HeaderShort}
 use Rattle.commit_log.specs.History.{HasLog, history_bytes}
@@ -11,9 +11,9 @@ use Rattle.commit_log.specs.declared.reading.HistoryError.{HistoryError}
 use Rattle.commit_log.specs.declared.reading.HistoryError.TheVariants.{Header, Memory, Short}
 use Rattle.bitmap_session.specs.Saved.{kept_part}
 use Rattle.bitmap_c.specs.declared.any.AnySession.{AnySession}
-use Rattle.bitmap_c.specs.Saved.{IsPart, Loads, LoadsBytes, ReadsHistory}
+use Rattle.bitmap_c.specs.Saved.{IsPart, LoadsBytes, ReadsHistory}
 use Rattle.bitmap_c.specs.Statuses.{history_status}
-use Rattle.bitmap_c.specs.Widths.{is_width, machine}
+use Rattle.bitmap_c.specs.Widths.{machine}
 
 -- ---- a history of which a part is missing
 
@@ -64,12 +64,3 @@ not_loaded n r bytes e used new read none = record {
   complete = λ kept rest begins within. inr (ap (λ (x : HistoryError). history_status x) (read.complete kept rest begins within));
   cut = λ kept part_size part within. read.cut kept part_size part within;
 }
-
--- an empty handle, at a width
-pub into_empty : (old : Option AnySession) (n : ℕ) (r : Ranges) (bytes : List ℕ) (status old_used used : ℕ) (new : Option AnySession)
-    → is_some old ≡ false
-    → is_width n ≡ true
-    → (old ≡ None → LoadsBytes n r bytes status old_used used new)
-    → Loads old n r bytes status old_used used new
-into_empty None n r bytes status old_used used new empty offered loads = rw offered (loads refl)
-into_empty (Some old) n r bytes status old_used used new full offered loads = absurd (false≢true (sym full))

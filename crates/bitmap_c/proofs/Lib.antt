@@ -1,7 +1,9 @@
+pub mod EmptyHandles
 pub mod Examples
 pub mod Handles
 pub mod Histories
 pub mod Kept
 pub mod Pushes
 pub mod Ranges
+pub mod Recoveries
 pub mod Retained

@@ -6,6 +6,7 @@ pub mod Logged
 pub mod Making
 pub mod Pages
 pub mod Reads
+pub mod Recovered
 pub mod Reports
 pub mod Saved
 pub mod Statuses

@@ -97,12 +97,17 @@ pub record LoadsBytes (n : ℕ) (r : Ranges) (bytes : List ℕ) (status old_used
   pub cut : (kept : Kept) (size : ℕ) → IsPart n kept bytes size → IsWithin r kept
       → (status ≡ 20) ⊎ (status ≡ 13)
 
+-- a full handle and a number that is written are unchanged, with FULL_HANDLE; of an empty handle, Reads holds, or it stays empty and the number is unchanged, with NO_SUCH_WIDTH
+abbrev pub IntoEmpty : Option AnySession → ℕ → (status old_number number : ℕ) → Option AnySession → Type 0 → Type 0
+IntoEmpty (Some old) n status old_number number new Reads = (status ≡ 16) × (new ≡ Some old) × (number ≡ old_number)
+IntoEmpty None n status old_number number new Reads = MatchBool (is_width n)
+    Reads
+    ((status ≡ 17) × (new ≡ None) × (number ≡ old_number))
+
 -- a full handle is unchanged, with FULL_HANDLE; bytes are loaded into an empty one, or it stays empty, with NO_SUCH_WIDTH
 abbrev pub Loads : Option AnySession → ℕ → Ranges → List ℕ → (status old_used used : ℕ) → Option AnySession → Type 0
-Loads (Some old) n r bytes status old_used used new = (status ≡ 16) × (new ≡ Some old) × (used ≡ old_used)
-Loads None n r bytes status old_used used new = MatchBool (is_width n)
-    (LoadsBytes n r bytes status old_used used new)
-    ((status ≡ 17) × (new ≡ None) × (used ≡ old_used))
+Loads old n r bytes status old_used used new =
+    IntoEmpty old n status old_used used new (LoadsBytes n r bytes status old_used used new)
 
 -- ---- a delta that is applied
 

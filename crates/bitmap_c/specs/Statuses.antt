@@ -11,6 +11,10 @@ use Rattle.commit_log.specs.declared.deltas.DeltaError.{DeltaError}
 use Rattle.commit_log.specs.declared.deltas.DeltaError.TheVariants as delta_errors
 use Rattle.commit_log.specs.declared.reading.HistoryError.{HistoryError}
 use Rattle.commit_log.specs.declared.reading.HistoryError.TheVariants as history_errors
+use Rattle.commit_log.specs.declared.recovery.Damage.{Damage}
+use Rattle.commit_log.specs.declared.recovery.Damage.TheVariants as damages
+use Rattle.commit_log.specs.declared.recovery.RecoverError.{RecoverError}
+use Rattle.commit_log.specs.declared.recovery.RecoverError.TheVariants as recover_errors
 use Rattle.bitmap_session.specs.declared.session.saved.ApplyDeltaError.{ApplyDeltaError}
 use Rattle.bitmap_session.specs.declared.session.saved.ApplyDeltaError.TheVariants as apply_errors
 use Rattle.bitmap_session.specs.Replies.{Refusal}
@@ -59,6 +63,20 @@ history_status (history_errors.Count count) = 23
 history_status (history_errors.Entry e) = 22
 history_status (history_errors.Bits len) = 23
 history_status (history_errors.Memory e) = 13
+
+-- the status of the damage of a log: DAMAGED if a frame is not whole, and NOT_ACCEPTED if it is, and its body is no base or no entry that can follow
+abbrev pub damage_status : Damage → ℕ
+damage_status damages.Head = 21
+damage_status damages.Digest = 21
+damage_status (damages.Base e) = 22
+damage_status (damages.Entry e) = 22
+
+-- the status of an error of a log
+abbrev pub recover_status : RecoverError → ℕ
+recover_status (recover_errors.Header e) = header_status e
+recover_status recover_errors.NoBase = 20
+recover_status (recover_errors.Damaged at damage) = damage_status damage
+recover_status (recover_errors.Memory e) = 13
 
 -- the status of an error of a delta
 abbrev pub delta_status : DeltaError → ℕ

@@ -55,6 +55,7 @@ mod pages;
 mod past;
 mod queries;
 mod reads;
+mod recovery;
 mod run;
 mod saved;
 mod searches;

@@ -2,12 +2,12 @@
 
 ghost use Rattle.std.specs.Prelude.{◌≡◌, ◌<◌};
 ghost use Rattle.bitmap_session.specs.Abstraction.{reason};
-ghost use Rattle.bitmap_c.specs.Statuses.{apply_status, base_status, delta_status, header_status, history_status, refusal_status};
+ghost use Rattle.bitmap_c.specs.Statuses.{apply_status, base_status, damage_status, delta_status, header_status, history_status, recover_status, refusal_status};
 
 use bitmap_core::bitmap::codec::CodecError;
 use bitmap_session::reply::Refusal;
 use bitmap_session::session::ApplyDeltaError;
-use commit_log::{BaseError, DeltaError, HistoryError};
+use commit_log::{BaseError, Damage, DeltaError, HistoryError, RecoverError};
 use log_frames::HeaderError;
 
 /// The call succeeded.
@@ -67,16 +67,16 @@ pub const NO_SUCH_WIDTH: u32 = 17;
 /// The buffer has the wrong size.
 pub const WRONG_SIZE: u32 = 18;
 
-/// The bytes do not begin as a history or a delta of this width does.
+/// The bytes do not begin as a history, a log or a delta of this width does.
 pub const WRONG_HEADER: u32 = 19;
 
-/// The bytes end before the history or the delta does.
+/// The bytes end before the history, the delta or the first bitmap of the log does.
 pub const CUT_OFF: u32 = 20;
 
 /// A digest is not that of the bytes before it.
 pub const DAMAGED: u32 = 21;
 
-/// A part of the bytes is no bitmap, or no commit that can follow.
+/// A part of the bytes is no bitmap, or no commit or other entry that can follow.
 pub const NOT_ACCEPTED: u32 = 22;
 
 /// A number of retained bits or of commits is out of range.
@@ -154,6 +154,28 @@ pub fn history_status(error: &HistoryError) -> u32
         HistoryError::Entry(_) => NOT_ACCEPTED,
         HistoryError::Count(_) | HistoryError::Bits(_) => OUT_OF_RANGE,
         HistoryError::Memory(_) => NO_MEMORY,
+    }
+}
+
+// Returns the status of the damage of a log.
+fn damage_status(damage: &Damage) -> u32
+    ensures { result ≡ damage_status damage.now }
+{
+    match damage {
+        Damage::Head | Damage::Digest => DAMAGED,
+        Damage::Base(_) | Damage::Entry(_) => NOT_ACCEPTED,
+    }
+}
+
+/// Returns the status of an error of bytes that are recovered as a log.
+pub fn recover_status(error: &RecoverError) -> u32
+    ensures { result ≡ recover_status error.now }
+{
+    match error {
+        RecoverError::Header(error) => header_status(error),
+        RecoverError::NoBase => CUT_OFF,
+        RecoverError::Damaged { damage, .. } => damage_status(damage),
+        RecoverError::Memory(_) => NO_MEMORY,
     }
 }
 

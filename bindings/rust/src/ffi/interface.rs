@@ -114,4 +114,5 @@ unsafe extern "C" {
     pub fn mortarpink_log_forget(bitmap: *mut Handle) -> Status;
     pub fn mortarpink_log_position(bitmap: *const Handle, position: *mut u64) -> Status;
     pub fn mortarpink_log_digest(bitmap: *const Handle, digest: *mut u64) -> Status;
+    pub fn mortarpink_recover(bitmap: *mut Handle, width: u32, bytes: *const u8, len: usize, good: *mut usize) -> Status;
 }
