@@ -5,11 +5,12 @@ usage: interface_runs.py LIBRARY COUNT   COUNT random scripts on the shared libr
                                          there are, and fails if a function never succeeds or a status is never returned: 2000 scripts suffice
 
 The scripts are those of tools/check_runs.py, with fixed seeds. After each step come reads of the bitmap, of a past one and of the commits, whose
-values are computed from the model's lists, edits of many bits at once, and calls with wrong arguments. Histories and deltas are compared with those of
-tools/formats.py, also if their bytes are changed. At the end of a script the library has freed all its blocks. They are counted by
+values are computed from the model's lists, edits of many bits at once, and calls with wrong arguments. Histories, deltas and logs are compared with those
+of tools/formats.py, also if their bytes are changed. At the end of a script the library has freed all its blocks. They are counted by
 tools/fail_allocations.c, which tools/check_frees.py preloads.
 """
 
+import re
 import sys
 from collections import Counter, deque
 from concurrent.futures import ProcessPoolExecutor
@@ -19,8 +20,9 @@ from functools import lru_cache, partial
 from check_runs import RandomScript
 from counter import blocks_now
 from declarations import HANDLES
-from formats import Formats, Historical, ReadError, be64, digest, first_place, framed, header
-from library import Handle, Library, Overrun, outcome
+from formats import CLEAR, COMMIT, DROP, REWIND, Entry, Formats, Historical, ReadError, be64, digest, first_place, frame, framed, header
+from library import Handle as LibraryHandle
+from library import Library, Overrun, outcome
 from model import LAST, Bitmap, Commit, bits_of, bytes_of
 from replay import report
 
@@ -47,11 +49,14 @@ SEARCHES = {
     "select_one": lambda ones, zeros, at: ones[at] if at < len(ones) else None,
 }
 
-# The status of each error of a history or a delta, by words that its name in docs/FORMATS.md begins with. The first that fits counts.
+# The commands that add an entry to a log, with the tag of the entry.
+ENTRIES = {"commit": COMMIT, "rewind": REWIND, "drop-before": DROP, "clear": CLEAR}
+
+# The status of each error of a history, a delta or a log, by words that its name in docs/FORMATS.md begins with. The first that fits counts.
 STATUSES = (("Header(Short)", "CUT_OFF"), ("Short", "CUT_OFF"), ("Header(", "WRONG_HEADER"), ("NotADelta", "WRONG_HEADER"), ("Version(", "WRONG_HEADER"),
             ("Width(", "WRONG_HEADER"), ("BadHead", "DAMAGED"), ("BadDigest", "DAMAGED"), ("Base(State(InvalidLength", "OUT_OF_RANGE"),
             ("Count(", "OUT_OF_RANGE"), ("Bits(", "OUT_OF_RANGE"), ("NotAtBase", "NOT_AT_BASE"), ("Base(", "NOT_ACCEPTED"), ("Entry(", "NOT_ACCEPTED"),
-            ("Change(", "NOT_ACCEPTED"))
+            ("Change(", "NOT_ACCEPTED"), ("NoBase", "CUT_OFF"), ("Head", "DAMAGED"), ("Digest", "DAMAGED"))
 
 
 class Difference(Exception):
@@ -73,8 +78,28 @@ def outcome_of(reply):
 
 
 def status_of(error):
-    """The status of an error of a history or a delta."""
+    """The status of an error of a history, a delta or a log."""
     return next(status for name, status in STATUSES if str(error).startswith(name))
+
+
+class KeptLog:
+    """A log that begins with a history: its bytes, how many of them are forgotten, and the place of its next entry."""
+
+    def __init__(self, width, bodies):
+        self.data, self.forgotten = header(width), 0
+        self.place = first_place(self.data)
+        for body in bodies:
+            self.append(body)
+
+    def append(self, body):
+        data, self.place = frame(self.place, body)
+        self.data += data
+
+
+class Handle(LibraryHandle):
+    """A handle, with the log that its bitmap keeps, or None."""
+
+    log = None
 
 
 def ends_of(text):
@@ -111,8 +136,13 @@ class InterfaceScript(RandomScript):
 
     def add(self, *lines):
         for line in lines:
+            before, (name, *words) = self.state.current, line.split(" ")
+            if name == "start" and self.handle.log:
+                self.expect("start", "HAS_LOG", *map(int, words))
+                continue
             super().add(line)
-            name, *words = line.split(" ")
+            if name in ENTRIES and not self.replies[-1].startswith("refused"):
+                self.log_entry(ENTRIES[name], words, before)
             if name in DIRECT:
                 numbers = [int(word) for word in words]
                 if name in BITS:
@@ -216,7 +246,9 @@ class InterfaceScript(RandomScript):
     def extra_steps(self):
         return [self.search, self.search, self.search, self.count_ones, self.read_past, self.read_past, self.page_of_commits, self.page_of_changes,
                 self.use_wrong_arguments, self.push_in_one_call, self.set_in_one_call, self.push_bits, self.set_chunk, self.set_range, self.change_length,
-                *[self.clone, self.checkout, self.index, self.save, self.delta, self.apply_delta] * (self.random.random() < 0.1)]
+                *[self.read_log, self.recover_log] * (self.handle.log is not None),
+                *[self.clone, self.checkout, self.index, self.save, self.delta, self.apply_delta, self.begin_log, self.begin_log, self.read_log,
+                  self.recover_log, self.end_log] * (self.random.random() < 0.1)]
 
     def any_number(self):
         return self.kept_number(list(self.state.history))
@@ -310,11 +342,13 @@ class InterfaceScript(RandomScript):
         self.expect("set_chunk", "WRONG_SIZE", self.position() // self.model.chunk_bits, bytes(wrong))
         self.expect("read", "FULL_HANDLE", self.random.choice(WIDTHS + WRONG_WIDTHS), 0, LAST, bytes(16))
         self.expect("load", "FULL_HANDLE", self.random.choice(WIDTHS + WRONG_WIDTHS), 0, LAST, 0, LAST, bytes(16))
+        self.expect("recover", "FULL_HANDLE", self.random.choice(WIDTHS + WRONG_WIDTHS), bytes(16))
         self.expect("push_bytes", "DONE", b"", count=0)
         self.expect("set_many", "DONE", [], self.random.choice(ONES), count=0)
         self.expect_of(handle, "new", "NO_SUCH_WIDTH", self.random.choice(WRONG_WIDTHS))
         self.expect_of(handle, "read", "NO_SUCH_WIDTH", self.random.choice(WRONG_WIDTHS), 0, LAST, bytes(16))
         self.expect_of(handle, "load", "NO_SUCH_WIDTH", self.random.choice(WRONG_WIDTHS), 0, LAST, 0, LAST, bytes(16))
+        self.expect_of(handle, "recover", "NO_SUCH_WIDTH", self.random.choice(WRONG_WIDTHS), bytes(16))
         self.expect_of(handle, "clone", "EMPTY_HANDLE", self.handle)
 
     def push_in_one_call(self):
@@ -486,7 +520,78 @@ class InterfaceScript(RandomScript):
         chunks = {*self.retained_chunks(self.state.current), *self.retained_chunks(new)}
         history = {**self.state.history, bitmap.last: Commit(new, len(chunks) + 1)}
         self.expect("apply_delta", "DONE", data)
+        before = self.state.current
         self.state = self.state._replace(current=new, history=history, last=bitmap.last)
+        self.log_entry(COMMIT, [bitmap.last], before)
+
+    # Logs
+
+    def log_entry(self, tag, words, before):
+        """Appends an entry to the log, if there is one. The bitmap before a commit is given."""
+        if self.handle.log is None:
+            return
+        states = [self.formats.state_of(*reversed(bitmap)) for bitmap in (before, self.state.current)]
+        entry = Entry(tag, *map(int, words), **({"change": self.formats.change(*states)} if tag == COMMIT else {}))
+        self.handle.log.append(self.formats.write_entry(entry))
+
+    def begin_log(self):
+        status = "HAS_LOG" if self.handle.log else "DONE" if self.state.pending is None else "WRONG_MODE"
+        self.expect("log_begin", status)
+        if status == "DONE":
+            self.handle.log = KeptLog(self.model.width, self.formats.history_bodies(self.historical()))
+
+    def end_log(self):
+        self.expect("log_end", "DONE" if self.handle.log else "NO_LOG")
+        self.handle.log = None
+
+    def read_log(self):
+        """Reads the log, and often forgets its bytes."""
+        log = self.handle.log
+        if log is None:
+            for name, given in (("log_bytes", [9]), ("log_position", []), ("log_digest", []), ("log_forget", [])):
+                self.expect(name, "NO_LOG", *given)
+            return
+        left = log.data[log.forgotten :]
+        self.expect("log_bytes", "WRONG_SIZE", len(left) + self.random.randint(1, 9), size=len(left))
+        self.expect("log_bytes", "DONE", len(left), out=left, size=len(left))
+        self.expect("log_position", "DONE", position=len(log.data))
+        self.expect("log_digest", "DONE", digest=log.place.chain)
+        if self.random.random() < 0.7:
+            self.expect("log_forget", "DONE")
+            log.forgotten = len(log.data)
+
+    def recover_log(self):
+        """Recovers other bytes and the log itself into another handle. Goes on with either bitmap, unless it is in a batch."""
+        log = self.handle.log
+        if log is None:
+            return self.recover(self.changed(self.other_history()))
+        self.recover(self.random.choice([self.changed(log.data), log.data[: self.random.randrange(len(log.data))] + bytes(self.random.randint(0, 30))]))
+        handle = self.recover(log.data + self.random.randbytes(self.random.randint(0, 15)))
+        if self.state.pending is not None:
+            return self.expect_of(handle, "free", "DONE")
+        self.check_spare()
+        handle.log = KeptLog(self.model.width, [])
+        handle.log.data, handle.log.forgotten, handle.log.place = log.data, len(log.data), log.place
+        self.handle, other = self.random.sample([self.handle, handle], 2)
+        self.spare = other, self.state
+
+    def recover(self, data):
+        """Recovers bytes into another handle, and compares what it keeps with what they make. Returns the handle, which may be empty."""
+        handle, given = Handle(), (self.model.width, data)
+        try:
+            found = self.formats.recover(data)
+        except ReadError as error:
+            damage = re.fullmatch(r"Damaged { at: (\d+), (.*) }", str(error))
+            status, written = (status_of(damage[2]), {"good": int(damage[1])}) if damage else (status_of(error), {})
+            self.expect_of(handle, "recover", status, *given, **written)
+            self.expect_of(handle, "free", "EMPTY_HANDLE")
+            return handle
+        self.expect_of(handle, "recover", "DONE", *given, good=found.place.at)
+        saved = self.formats.write_history(found.bitmap)
+        self.expect_of(handle, "save", "DONE", len(saved), out=saved, size=len(saved))
+        self.expect_of(handle, "log_position", "DONE", position=found.place.at)
+        self.expect_of(handle, "log_digest", "DONE", digest=found.place.chain)
+        return handle
 
     def clone(self):
         """Clones the bitmap, and goes on with either. The other one is compared with what it was, later."""
@@ -537,7 +642,7 @@ class InterfaceScript(RandomScript):
         samples = {"u8": 1, "u32": 8, "u64": 0, "size": 0, "u8 array in": b"ab", "u64 array in": [1, 2], "u8 array out": 2, "u64 array out": 3}
         for name, function in self.library.declared.functions.items():
             kinds = [kind for _, kind in function.parameters]
-            if kinds and kinds[0] in HANDLES and name not in ("new", "read", "load"):
+            if kinds and kinds[0] in HANDLES and name not in ("new", "read", "load", "recover"):
                 others = [Handle() if kind in HANDLES else samples[kind] for kind in kinds[1:] if kind in HANDLES or kind in samples]
                 self.expect_of(Handle(), name, "EMPTY_HANDLE", *others)
 

@@ -211,6 +211,26 @@ static mortarpink_status log_begin_of_copy(struct subject *subject) {
     return mortarpink_log_begin(&subject->copy);
 }
 
+static mortarpink_status log_end(struct subject *subject) {
+    return mortarpink_log_end(&subject->bitmap);
+}
+
+/* Writes the bytes of the log: a first call finds their number. */
+static mortarpink_status log_bytes(struct subject *subject) {
+    size_t size = 0;
+    mortarpink_status status = mortarpink_log_bytes(&subject->bitmap, subject->bytes, 0, &size);
+    if (status != MORTARPINK_WRONG_SIZE) return status;
+    return mortarpink_log_bytes(&subject->bitmap, subject->bytes, size, &subject->size);
+}
+
+/* Recovers the log that was written. */
+static mortarpink_status recover_copy(struct subject *subject) {
+    size_t good = (size_t)subject->number;
+    mortarpink_status status = mortarpink_recover(&subject->copy, width, subject->bytes, subject->size, &good);
+    subject->number = good;
+    return status;
+}
+
 static mortarpink_status clone(struct subject *subject) {
     return mortarpink_clone(&subject->bitmap, &subject->copy);
 }
@@ -307,7 +327,8 @@ static step *const steps[] = {
     set_first, commit_2,   free_copy, clone,     save,       free_copy,  load_copy, rewind_copy_to_1,
     delta,     log_begin_of_copy, apply_delta, begin, set_chunk, set_range, push_bits, extend,
     truncate_to_first, commit_3, log_begin, begin, push, commit_4, rewind_to_1, drop_1,
-    clear,
+    clear,     free_copy,  log_end,  log_begin, begin,      push,       commit_4,   log_bytes,
+    recover_copy,
 };
 
 enum { STEPS = sizeof steps / sizeof *steps, STEPS_TO_BATCH = 9, STEPS_TO_COMMIT_3 = 22, POSITIONS = 6 };

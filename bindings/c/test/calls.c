@@ -330,6 +330,7 @@ static void test_widths(void) {
         check_unwritten(mortarpink_read(&bitmap, others[k], 0, UINT64_MAX, bytes, 16, &out.size, &out.number),
                         MORTARPINK_NO_SUCH_WIDTH);
         check_unwritten(load_any(&bitmap, others[k], bytes, 16, &out.size), MORTARPINK_NO_SUCH_WIDTH);
+        check_unwritten(mortarpink_recover(&bitmap, others[k], bytes, 16, &out.size), MORTARPINK_NO_SUCH_WIDTH);
         check_unwritten(mortarpink_free(&bitmap), MORTARPINK_EMPTY_HANDLE);
     }
 }
@@ -343,6 +344,8 @@ static void test_full_handle(uint32_t width) {
     check_unwritten(mortarpink_read(&bitmap, width, 0, 9, bytes, 16, &out.size, &out.number), MORTARPINK_FULL_HANDLE);
     check_unwritten(load_any(&bitmap, width, bytes, 16, &out.size), MORTARPINK_FULL_HANDLE);
     check_unwritten(load_any(&bitmap, 2, bytes, 16, &out.size), MORTARPINK_FULL_HANDLE);
+    check_unwritten(mortarpink_recover(&bitmap, width, bytes, 16, &out.size), MORTARPINK_FULL_HANDLE);
+    check_unwritten(mortarpink_recover(&bitmap, 2, bytes, 16, &out.size), MORTARPINK_FULL_HANDLE);
     check_unwritten(mortarpink_clone(&other, &bitmap), MORTARPINK_FULL_HANDLE);
     check_unwritten(mortarpink_checkout(&other, 1, &bitmap), MORTARPINK_FULL_HANDLE);
     check(has_bits(visible(&bitmap), "01"));
@@ -1508,6 +1511,217 @@ static void test_log_digest(uint32_t width) {
 }
 
 
+/* ---- A log that is recovered ---- */
+
+/* A log of width 1. Commit 1 has the bits 101, and commit 5 the bits 11010011 more. Then the bitmap is rewound to 1, the
+ * commits before 1 are dropped, and then all. */
+static const char log_text[] =
+    "4d504249544c4f47" "0000000000000001" "0000000000000001" "0b5345d577e3df7b" /* magic, version, width, check */
+    "0000000000000022" "681c20c77e3ca319"                                       /* 34 bytes of a base, head check */
+    "04" "00" "0000000000000000" "0000000000000000"                             /* a base: nothing is kept */
+    "0000000000000000" "0000000000000000"                                       /* pruned 0, no bits */
+    "210e45243dcc6fc5"                                                          /* digest */
+    "0000000000000022" "5e94e59343a9b255"                                       /* 34 bytes of a commit, head check */
+    "01" "0000000000000001" "0000000000000003" "0000000000000000"               /* number 1, length 3, pruned 0 */
+    "0000000000000000" "05"                                                     /* chunk 0 */
+    "047d3edd96aca7ad"                                                          /* digest */
+    "000000000000002b" "0617ef9306963819"                                       /* 43 bytes of a commit, head check */
+    "01" "0000000000000005" "000000000000000b" "0000000000000000"               /* number 5, length 11, pruned 0 */
+    "0000000000000000" "5d" "0000000000000001" "06"                             /* chunks 0 and 1 */
+    "ee3250713d159206"                                                          /* digest */
+    "0000000000000009" "3df4e7cbc31e449f" "02" "0000000000000001" "68ce0b476a18468b"  /* a rewind to 1 */
+    "0000000000000009" "2328220afb295d45" "03" "0000000000000001" "75872cd18716b0dc"  /* a drop before 1 */
+    "0000000000000001" "f0e8689801a08294" "05" "7356dd36b6d8bbf2";                    /* a clear */
+
+/* A frame for the place after the header, and one for the place after the base: a clear, and a rewind to 1. */
+static const char clear_at_32[] = "0000000000000001" "8777fb2ef6f06553" "05" "3c9e243c641247a4";
+static const char rewind_at_90[] = "0000000000000009" "bdafaba374d80f2f" "02" "0000000000000001" "0fad80476082398e";
+
+enum { HEADER = 32, LOG = 306, FRAMES = 6, FILE_BYTES = 512 };
+
+/* Where the frames of the worked log begin, and where the last one ends. */
+static const size_t log_places[FRAMES + 1] = {HEADER, 90, 148, 215, 248, 281, LOG};
+
+/* The bits after each frame, and the number of commits, which are 1 and 5. */
+static const char *const log_bits[FRAMES] = {"", "101", "10111010011", "101", "101", "101"};
+static const size_t log_commits[FRAMES] = {0, 1, 2, 1, 1, 0};
+
+/* The file of a program that writes a log. */
+struct file {
+    size_t size;
+    uint8_t bytes[FILE_BYTES];
+};
+
+/* Writes the bytes of a log that were not forgotten to the end of a file, and forgets them. */
+static void write_log(struct file *file, mortarpink_bitmap *bitmap) {
+    const size_t size = log_size(bitmap);
+    const int fits = file->size + size <= FILE_BYTES;
+    check(fits);
+    if (!fits) return;
+    memcpy(file->bytes + file->size, out.bytes, size);
+    file->size += size;
+    check_done(mortarpink_log_forget(bitmap));
+}
+
+static void commit_text(mortarpink_bitmap *bitmap, const char *bits, uint64_t number) {
+    check_done(mortarpink_begin(bitmap));
+    push_text(bitmap, bits);
+    commit(bitmap, number);
+}
+
+/* Recovers a bitmap from the first bytes of a file, of which so many have to be good. The next entry goes there. */
+static void check_recovered(mortarpink_bitmap *bitmap, uint32_t width, const uint8_t *bytes, size_t len, size_t good) {
+    check_value(mortarpink_recover(bitmap, width, bytes, len, &out.size), out.size, good);
+    check_number(mortarpink_log_position(bitmap, &out.number), good);
+    check_value(mortarpink_log_bytes(bitmap, out.bytes, 0, &out.size), out.size, 0);
+    check_unwritten(mortarpink_log_begin(bitmap), MORTARPINK_HAS_LOG);
+}
+
+/* A program writes the log after each call, and is stopped in a batch. It goes on with what it recovers. */
+static void test_recover(uint32_t width) {
+    mortarpink_bitmap bitmap = MORTARPINK_EMPTY, copy = MORTARPINK_EMPTY;
+    struct file file = {0, {0}};
+    check_done(mortarpink_new(&bitmap, width));
+    check_done(mortarpink_log_begin(&bitmap));
+    write_log(&file, &bitmap);
+    commit_text(&bitmap, "101", 1);
+    write_log(&file, &bitmap);
+    commit_text(&bitmap, "1", 2);
+    check_done(mortarpink_rewind(&bitmap, 1));
+    write_log(&file, &bitmap);
+    check_done(mortarpink_begin(&bitmap));
+    push_text(&bitmap, "00");
+
+    check_recovered(&copy, width, file.bytes, file.size, file.size);
+    check(log_digest(&copy) == log_digest(&bitmap));
+    check(has_bits(visible(&copy), "101"));
+    check_unwritten(mortarpink_push(&copy, 1), MORTARPINK_WRONG_MODE);
+    check_page(mortarpink_commits(&copy, 0, out.numbers, 8, &out.size), (const uint64_t[]){1}, 1);
+    commit_text(&copy, "11", 2);
+    write_log(&file, &copy);
+    check_done(mortarpink_free(&copy));
+
+    check_recovered(&copy, width, file.bytes, file.size, file.size);
+    check_page(mortarpink_commits(&copy, 0, out.numbers, 8, &out.size), ((const uint64_t[]){1, 2}), 2);
+    check(has_bits(at_commit(&copy, 1), "101"));
+    check(has_bits(at_commit(&copy, 2), "10111"));
+    check(has_bits(visible(&copy), "10111"));
+    check_done(mortarpink_free(&copy));
+    check_done(mortarpink_free(&bitmap));
+}
+
+/* How many frames of the worked log are whole in its first bytes. */
+static size_t whole_frames(size_t len) {
+    size_t count = 0;
+    while (count < FRAMES && log_places[count + 1] <= len) count++;
+    return count;
+}
+
+/* Commits a bit after the good bytes, which are in a file, and recovers the file. */
+static void check_goes_on(mortarpink_bitmap *bitmap, struct file *file, const char *bits) {
+    mortarpink_bitmap copy = MORTARPINK_EMPTY;
+    const size_t len = strlen(bits), before = file->size;
+    commit_text(bitmap, "1", 9);
+    write_log(file, bitmap);
+    check(file->size > before);
+    check_recovered(&copy, 1, file->bytes, file->size, file->size);
+    check(has_bits(at_commit(&copy, 9), len == 0 ? "1" : len == 3 ? "1011" : "101110100111"));
+    check_number(mortarpink_latest(&copy, &out.number), 9);
+    check_done(mortarpink_free(&copy));
+}
+
+/* From each prefix of the worked log the bitmap is that of the last frame that is whole in it. */
+static void test_recover_prefixes(void) {
+    const uint64_t numbers[] = {1, 5};
+    for (size_t len = 0; len <= LOG; len++) {
+        const size_t frames = whole_frames(len);
+        mortarpink_bitmap bitmap = MORTARPINK_EMPTY;
+        struct file file = {log_places[frames], {0}};
+        put_hex(file.bytes, log_text);
+        if (frames == 0) {
+            check_unwritten(mortarpink_recover(&bitmap, 1, file.bytes, len, &out.size), MORTARPINK_CUT_OFF);
+            check_unwritten(mortarpink_free(&bitmap), MORTARPINK_EMPTY_HANDLE);
+            continue;
+        }
+        check_recovered(&bitmap, 1, file.bytes, len, file.size);
+        check(has_bits(visible(&bitmap), log_bits[frames - 1]));
+        check_page(mortarpink_commits(&bitmap, 0, out.numbers, 8, &out.size), numbers, log_commits[frames - 1]);
+        check_goes_on(&bitmap, &file, log_bits[frames - 1]);
+        check_done(mortarpink_free(&bitmap));
+    }
+}
+
+/* A history is a log: what was saved is recovered, and goes on. */
+static void test_recover_history(void) {
+    mortarpink_bitmap bitmap = MORTARPINK_EMPTY;
+    struct file file = {HISTORY, {0}};
+    put_hex(file.bytes, history_text);
+    check_recovered(&bitmap, 1, file.bytes, HISTORY - 1, 92);
+    check(has_bits(visible(&bitmap), "1011000001"));
+    check_number(mortarpink_latest(&bitmap, &out.number), 2);
+    check_done(mortarpink_free(&bitmap));
+    check_recovered(&bitmap, 1, file.bytes, HISTORY, HISTORY);
+    check(is_worked(&bitmap, 1));
+    check_done(mortarpink_rewind(&bitmap, 2));
+    write_log(&file, &bitmap);
+    check_done(mortarpink_free(&bitmap));
+    check_recovered(&bitmap, 1, file.bytes, file.size, file.size);
+    check(has_bits(visible(&bitmap), "1011000001"));
+    check_done(mortarpink_free(&bitmap));
+}
+
+/* Checks that no bitmap is made of a log, and that no output is written but the number of bytes before the damage. */
+static void check_damage(const uint8_t *bytes, size_t len, mortarpink_status status, size_t at) {
+    mortarpink_bitmap bitmap = MORTARPINK_EMPTY;
+    fill_outputs();
+    check_status(mortarpink_recover(&bitmap, 1, bytes, len, &out.size), status);
+    check_equal(out.size, at);
+    memset(&out.size, 0xA5, sizeof out.size);
+    check(outputs_are_filled());
+    check_unwritten(mortarpink_free(&bitmap), MORTARPINK_EMPTY_HANDLE);
+}
+
+/* Each bit of the worked log that is flipped is found, with the place of its frame. */
+static void test_damaged_log(void) {
+    mortarpink_bitmap bitmap = MORTARPINK_EMPTY;
+    uint8_t bytes[LOG];
+    for (size_t bit = 0; bit < 8 * LOG; bit++) {
+        put_hex(bytes, log_text);
+        bytes[bit / 8] ^= (uint8_t)(1 << bit % 8);
+        if (bit < 8 * HEADER) {
+            check_unwritten(mortarpink_recover(&bitmap, 1, bytes, LOG, &out.size), MORTARPINK_WRONG_HEADER);
+        } else {
+            check_damage(bytes, LOG, MORTARPINK_DAMAGED, log_places[whole_frames(bit / 8)]);
+        }
+    }
+    check_unwritten(mortarpink_free(&bitmap), MORTARPINK_EMPTY_HANDLE);
+}
+
+/* What is after the worked log is torn or damaged. A whole frame that is no base or no entry is not accepted. */
+static void test_changed_log(void) {
+    mortarpink_bitmap bitmap = MORTARPINK_EMPTY;
+    uint8_t bytes[2 * LOG] = {0};
+    put_hex(bytes, log_text);
+    check_recovered(&bitmap, 1, bytes, sizeof bytes, LOG);
+    check(has_bits(visible(&bitmap), "101"));
+    check_done(mortarpink_free(&bitmap));
+    memset(bytes + LOG, 0xFF, LOG);
+    check_recovered(&bitmap, 1, bytes, LOG + 15, LOG);
+    check_done(mortarpink_free(&bitmap));
+    check_damage(bytes, LOG + 16, MORTARPINK_DAMAGED, LOG);
+    for (uint32_t width = 8; width <= 64; width++) {
+        const int is_width = width == 8 || width == 32 || width == 64;
+        check_unwritten(mortarpink_recover(&bitmap, width, bytes, LOG, &out.size),
+                        is_width ? MORTARPINK_WRONG_HEADER : MORTARPINK_NO_SUCH_WIDTH);
+    }
+    check_unwritten(mortarpink_free(&bitmap), MORTARPINK_EMPTY_HANDLE);
+    put_hex(bytes + 90, rewind_at_90);
+    check_damage(bytes, LOG, MORTARPINK_NOT_ACCEPTED, 90);
+    put_hex(bytes + HEADER, clear_at_32);
+    check_damage(bytes, LOG, MORTARPINK_NOT_ACCEPTED, HEADER);
+}
+
+
 /* ---- The ends of the positions ---- */
 
 /* Makes a bitmap of 2^64 - 1 bits, in a batch. Its last seven bits are set, and its other retained bits are not. */
@@ -1635,6 +1849,7 @@ static void test_width(uint32_t width) {
     test_replica(width);
     test_log_entries(width);
     test_log_digest(width);
+    test_recover(width);
     test_longest_edits(width);
     test_longest_reads(width);
 }
@@ -1665,5 +1880,9 @@ int main(void) {
     test_delta_errors();
     test_delta_not_accepted();
     test_log();
+    test_recover_prefixes();
+    test_recover_history();
+    test_damaged_log();
+    test_changed_log();
     return finish("checks", checks, failures);
 }

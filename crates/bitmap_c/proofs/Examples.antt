@@ -4,4 +4,5 @@ pub mod ListPages
 pub mod MadeSessions
 pub mod Outputs
 pub mod ReadValues
+pub mod RecoveredLogs
 pub mod SavedStatuses

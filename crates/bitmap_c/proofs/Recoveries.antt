@@ -1,6 +1,6 @@
 -- Logs that are recovered.
 use Rattle.std.proofs.Common.{◌≡◌, ℕ, Bool, false, ◌<◌, ◌≤◌, List, [], length, take, Option, Some, None, Result, Ok, Err, refl, sym, ap, subst, ◌∙◌, inl, inr, arith}
-use Rattle.std.specs.Prelude.{◌⊎◌, IfSome, alloc_error}
+use Rattle.std.specs.Prelude.{◌⊎◌, IfSome}
 use Rattle.std.proofs.lemmas.Bool.{cases_lt}
 use Rattle.std.proofs.lemmas.List.{length-take}
 use Rattle.log_frames.specs.declared.frame.Place.{Place}
@@ -65,12 +65,12 @@ pub read_log : (n : ℕ) (bytes : List ℕ) (v : LoggedView) (torn : Bool)
     → v.log.bytes ≡ []
     → v.log.place.at ≤ length bytes
     → ((base : Base) (entries : List Entry) → IsLog n base entries → bytes ≡ log_bytes n base entries
-        → (kept_part v.machine.state ≡ state_of n base entries) × (v.log.place ≡ place_of n base entries) × (torn ≡ false))
+    → (kept_part v.machine.state ≡ state_of n base entries) × (v.log.place ≡ place_of n base entries) × (torn ≡ false))
     → ((base : Base) (entries : List Entry) (size : ℕ) → IsPrefixOf n base entries size bytes
-        → IsMadeIn n base entries size (kept_part v.machine.state) v.log.place torn)
-    → ReadsBase n bytes (Ok ((v.machine, Some v.log), v.log.place.at))
+    → IsMadeIn n base entries size (kept_part v.machine.state) v.log.place torn)
+    → ((base : Base) (entries : List Entry) (size : ℕ) → EndsInBase n base entries size bytes → ⊥)
     → ReadsLog n bytes (Ok ((v.machine, Some v.log), v.log.place.at))
-read_log n bytes v torn recovers outside none within whole prefix reads = record {
+read_log n bytes v torn recovers outside none within whole prefix never = record {
   recovered = record {
     place = v.log.place;
     torn = torn;
@@ -81,14 +81,14 @@ read_log n bytes v torn recovers outside none within whole prefix reads = record
     within = within;
   };
   whole = λ base entries log is.
-    let made = whole base entries log is in
-    (made.0, nothing_left v.log (place_of n base entries) none made.1.0);
+      let made = whole base entries log is in
+      (made.0, nothing_left v.log (place_of n base entries) none made.1);
   prefix = λ base entries size is.
-    let made = prefix base entries size is in
-    (made.state_is, nothing_left v.log (place_of n base (entries_in size n base entries)) none made.place_is);
+      let made = prefix base entries size is in
+      (made.state_is, nothing_left v.log (place_of n base (entries_in size n base entries)) none made.place_is);
   of_prefix = λ base entries size is. tt;
   complete = λ state place tears is. tt;
-  cut = λ base entries size ends. never_recovered n bytes _ base entries size reads ends;
+  cut = λ base entries size ends. never base entries size ends;
   error = tt;
 }
 
@@ -111,9 +111,9 @@ pub recovered : (n : ℕ) (bytes : List ℕ) (made : AnySession) (old_good good 
 recovered n bytes made old_good good new read same some = record {
   outcome = inl (refl, (made, some, same, read.recovered));
   whole = λ base entries log is.
-    of_some new (λ m. KeepsEntries n base entries (machine m) (log_of m)) made some (read.whole base entries log is);
+      of_some new (λ m. KeepsEntries n base entries (machine m) (log_of m)) made some (read.whole base entries log is);
   prefix = λ base entries size is.
-    of_some new (λ m. KeepsEntries n base (entries_in size n base entries) (machine m) (log_of m)) made some (read.prefix base entries size is);
+      of_some new (λ m. KeepsEntries n base (entries_in size n base entries) (machine m) (log_of m)) made some (read.prefix base entries size is);
   of_prefix = λ base entries size is. inl refl;
   complete = λ state place torn is. inl refl;
   cut = λ base entries size ends. absurd (read.cut base entries size ends);

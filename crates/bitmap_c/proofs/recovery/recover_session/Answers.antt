@@ -1,13 +1,16 @@
-use Rattle.bitmap_c.proofs.Recoveries.{base_status, read_log}
-use Rattle.bitmap_session.specs.Machine.{Machine}
+use Rattle.bitmap_session.specs.declared.logged.RecoveredSession.{RecoveredSession}
+use Rattle.bitmap_c.proofs.Recoveries.{base_status, never_recovered, read_log}
 use Rattle.bitmap_c.proofs.recovery.recover_session.Goals as goal
 
 pub returns-in-Ok : goal.returns-in-Ok
 returns-in-Ok g c =
+    let n = g.row.N in
+    let bytes = c.args.bytes.now in
     let found = c.in-Ok.found in
     let is = c.in-Ok.ensures in
-    rw (c.into_parts.ensures.session, c.into_parts.ensures.log, c.position.ensures)
-    (read_log g.row.N c.args.bytes.now found.session found.torn is.state is.outside is.taken is.good is.whole is.prefix (is.short, is.no_base))
+    rw (c.into_parts-session.ensures.session, c.into_parts-session.ensures.log, c.position-good.ensures)
+    (read_log n bytes found.session found.torn is.state is.outside is.taken is.good is.whole is.prefix
+    (λ base entries size ends. never_recovered {X = RecoveredSession n} n bytes found base entries size (is.short, is.no_base) ends))
 
 pub returns-in-Err : goal.returns-in-Err
 returns-in-Err g c =
@@ -18,6 +21,7 @@ returns-in-Err g c =
       prefix = λ base entries size prefix. tt;
       of_prefix = λ base entries size prefix. is.complete base entries size prefix;
       complete = λ state place torn recovers. is.only_memory state place torn recovers;
-      cut = λ base entries size ends. base_status {X = Machine} g.row.N c.args.bytes.now c.in-Err.error base entries size (is.short, is.no_base) ends;
+      cut = λ base entries size ends.
+          base_status {X = RecoveredSession g.row.N} g.row.N c.args.bytes.now c.in-Err.error base entries size (is.short, is.no_base) ends;
       error = is.cause;
     }
