@@ -58,8 +58,11 @@ nothing_left : (log : LogView) (place : Place) → log.bytes ≡ [] → log.plac
 nothing_left log place none at =
     ap (λ (bytes : List ℕ). Some (record { bytes = bytes; place = log.place })) none ∙ ap (λ (p : Place). Some (log_at p)) at
 
--- a recovered session with its log
-pub read_log : (n : ℕ) (bytes : List ℕ) (v : LoggedView) (torn : Bool)
+-- a recovered session, its log and its position
+pub read_log : (n : ℕ) (bytes : List ℕ) (v : LoggedView) (torn : Bool) (m : Machine) (log : LogView) (good : ℕ)
+    → m ≡ v.machine
+    → log ≡ v.log
+    → good ≡ v.log.place.at
     → Recovers n bytes (kept_part v.machine.state) v.log.place torn
     → IsOutside v.machine
     → v.log.bytes ≡ []
@@ -69,28 +72,29 @@ pub read_log : (n : ℕ) (bytes : List ℕ) (v : LoggedView) (torn : Bool)
     → ((base : Base) (entries : List Entry) (size : ℕ) → IsPrefixOf n base entries size bytes
     → IsMadeIn n base entries size (kept_part v.machine.state) v.log.place torn)
     → ((base : Base) (entries : List Entry) (size : ℕ) → EndsInBase n base entries size bytes → ⊥)
-    → ReadsLog n bytes (Ok ((v.machine, Some v.log), v.log.place.at))
-read_log n bytes v torn recovers outside none within whole prefix never = record {
-  recovered = record {
-    place = v.log.place;
-    torn = torn;
-    recovers = recovers;
-    outside = outside;
-    log_is = nothing_left v.log v.log.place none refl;
-    good_is = refl;
-    within = within;
-  };
-  whole = λ base entries log is.
-      let made = whole base entries log is in
-      (made.0, nothing_left v.log (place_of n base entries) none made.1);
-  prefix = λ base entries size is.
-      let made = prefix base entries size is in
-      (made.state_is, nothing_left v.log (place_of n base (entries_in size n base entries)) none made.place_is);
-  of_prefix = λ base entries size is. tt;
-  complete = λ state place tears is. tt;
-  cut = λ base entries size ends. never base entries size ends;
-  error = tt;
-}
+    → ReadsLog n bytes (Ok ((m, Some log), good))
+read_log n bytes v torn m log good same_machine same_log same_good recovers outside none within whole prefix never =
+    rw (same_machine, same_log, same_good) (record {
+      recovered = record {
+        place = v.log.place;
+        torn = torn;
+        recovers = recovers;
+        outside = outside;
+        log_is = nothing_left v.log v.log.place none refl;
+        good_is = refl;
+        within = within;
+      };
+      whole = λ base entries log is.
+          let made = whole base entries log is in
+          (made.0, nothing_left v.log (place_of n base entries) none made.1);
+      prefix = λ base entries size is.
+          let made = prefix base entries size is in
+          (made.state_is, nothing_left v.log (place_of n base (entries_in size n base entries)) none made.place_is);
+      of_prefix = λ base entries size is. tt;
+      complete = λ state place tears is. tt;
+      cut = λ base entries size ends. never base entries size ends;
+      error = tt;
+    })
 
 -- ---- a log that is recovered
 

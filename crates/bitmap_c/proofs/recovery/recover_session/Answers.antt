@@ -8,9 +8,11 @@ returns-in-Ok g c =
     let bytes = c.args.bytes.now in
     let found = c.in-Ok.found in
     let is = c.in-Ok.ensures in
-    rw (c.into_parts-session.ensures.session, c.into_parts-session.ensures.log, c.position-good.ensures)
-    (read_log n bytes found.session found.torn is.state is.outside is.taken is.good is.whole is.prefix
-    (λ base entries size ends. never_recovered {X = RecoveredSession n} n bytes found base entries size (is.short, is.no_base) ends))
+    let parts = c.into_parts-session in
+    read_log n bytes found.session found.torn parts.result.0 parts.result.1 c.position-good.result
+    parts.ensures.session parts.ensures.log c.position-good.ensures
+    is.state is.outside is.taken is.good is.whole is.prefix
+    (λ base entries size ends. never_recovered {X = RecoveredSession n} n bytes found base entries size (is.short, is.no_base) ends)
 
 pub returns-in-Err : goal.returns-in-Err
 returns-in-Err g c =
