@@ -189,7 +189,7 @@ class InterfaceScript(RandomScript):
         self.encode("encode", [], reply)
 
     def run_encode_at(self, number, reply):
-        self.encode("encode_at", [int(number)], reply)
+        self.encode("encode_at", [int(number)], self.reply_of_read(number, reply))
 
     def run_at(self, number, reply):
         """Reads a past state whole, in place."""
@@ -491,7 +491,7 @@ class InterfaceScript(RandomScript):
         if self.state.pending is not None:
             return self.expect("delta", "WRONG_MODE", older, newer, 20)
         found = self.formats.delta(self.historical(), older, newer)
-        self.encode("delta", [older, newer], "none" if found is None else f"bytes {found.hex()}")
+        self.encode("delta", [older, newer], "refused no-such-commit" if found is None else f"bytes {found.hex()}")
 
     def any_delta(self):
         """The delta from the current bitmap to one with other bits, or a part of it. Its digest is often right if its bytes are not."""

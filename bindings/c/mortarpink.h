@@ -461,8 +461,8 @@ mortarpink_status mortarpink_select_one_at(const mortarpink_bitmap *bitmap, uint
 
 /* Fills `out` with the encoding of the bitmap at commit `number`, and writes the size of the encoding in bytes to
  * *size.
- * Errors: returns MORTARPINK_NONE, and not MORTARPINK_NO_SUCH_COMMIT, if no commit is kept under `number`. *size and
- *   `out` are then unchanged. Otherwise as mortarpink_encode.
+ * Errors: returns MORTARPINK_NO_SUCH_COMMIT if no commit is kept under `number`. *size and `out` are then unchanged.
+ *   Otherwise as mortarpink_encode.
  * Cost: linear in the current bitmap, plus the commits after `number` and the chunks that they changed. Allocates
  *   the bitmap and its encoding, which are freed before the return. */
 mortarpink_status mortarpink_encode_at(const mortarpink_bitmap *bitmap, uint64_t number, uint8_t *out, size_t len,
@@ -589,8 +589,8 @@ mortarpink_status mortarpink_load(mortarpink_bitmap *bitmap, uint32_t width, uin
  * bytes to *size. A delta has the chunks in which the two differ, and the number, the length and a digest of the
  * older one. A bitmap that is equal to the older one, and whose last number is `from`, follows by
  * mortarpink_apply_delta.
- * Errors: returns MORTARPINK_WRONG_MODE in a batch, and MORTARPINK_NONE unless both commits are kept and `from` is
- *   below `to`. *size and `out` are then unchanged. Otherwise as mortarpink_save.
+ * Errors: returns MORTARPINK_WRONG_MODE in a batch, and MORTARPINK_NO_SUCH_COMMIT unless both commits are kept and
+ *   `from` is below `to`. *size and `out` are then unchanged. Otherwise as mortarpink_save.
  * Cost: as mortarpink_changed_chunks, and linear in the delta. Each chunk in the delta is read at both commits,
  *   which takes a search of each commit after them. Allocates the delta, which is freed before the return. */
 mortarpink_status mortarpink_delta(const mortarpink_bitmap *bitmap, uint64_t from, uint64_t to, uint8_t *out,

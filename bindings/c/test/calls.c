@@ -189,7 +189,6 @@ static void check_past_reads(mortarpink_bitmap *bitmap, uint64_t number, mortarp
     check_unwritten(mortarpink_prev_zero_at(bitmap, number, 9, &out.number), status);
     check_unwritten(mortarpink_count_ones_at(bitmap, number, 0, 9, &out.number), status);
     check_unwritten(mortarpink_select_one_at(bitmap, number, 0, &out.number), status);
-    if (status == MORTARPINK_NO_SUCH_COMMIT) status = MORTARPINK_NONE;
     check_unwritten(mortarpink_encode_at(bitmap, number, out.bytes, sizeof out.bytes, &out.size), status);
 }
 
@@ -1280,10 +1279,10 @@ static void test_delta(void) {
     check_status(mortarpink_delta(&bitmap, 2, 9, out.bytes, 0, &out.size), MORTARPINK_WRONG_SIZE);
     check_equal(out.size, DELTA);
     check_equal(out.bytes[0], 0xA5);
-    check_none(mortarpink_delta(&bitmap, 9, 2, out.bytes, DELTA, &out.size));
-    check_none(mortarpink_delta(&bitmap, 2, 2, out.bytes, DELTA, &out.size));
-    check_none(mortarpink_delta(&bitmap, 2, 8, out.bytes, DELTA, &out.size));
-    check_none(mortarpink_delta(&bitmap, 1, 9, out.bytes, DELTA, &out.size));
+    check_unwritten(mortarpink_delta(&bitmap, 9, 2, out.bytes, DELTA, &out.size), MORTARPINK_NO_SUCH_COMMIT);
+    check_unwritten(mortarpink_delta(&bitmap, 2, 2, out.bytes, DELTA, &out.size), MORTARPINK_NO_SUCH_COMMIT);
+    check_unwritten(mortarpink_delta(&bitmap, 2, 8, out.bytes, DELTA, &out.size), MORTARPINK_NO_SUCH_COMMIT);
+    check_unwritten(mortarpink_delta(&bitmap, 1, 9, out.bytes, DELTA, &out.size), MORTARPINK_NO_SUCH_COMMIT);
     check_done(mortarpink_free(&bitmap));
 }
 

@@ -10,6 +10,11 @@ abbrev pub found : {A : Type 0} → Option A → ℕ
 found (Some value) = 0
 found None = 14
 
+-- DONE if there are the bytes of a commit or of two, and NO_SUCH_COMMIT otherwise
+abbrev pub found_bytes : Option (List ℕ) → ℕ
+found_bytes (Some bytes) = 0
+found_bytes None = 12
+
 -- the status of a reply
 abbrev pub reply_status : ReplyValue → ℕ
 reply_status Done = 0
@@ -19,7 +24,7 @@ reply_status (Wide number) = 0
 reply_status (Chunk bytes) = 0
 reply_status (Maybe number) = found number
 reply_status (Positions positions) = found positions
-reply_status (Bytes bytes) = found bytes
+reply_status (Bytes bytes) = found_bytes bytes
 reply_status (Snapshot bitmap) = found bitmap
 reply_status (Read bitmap left) = 0
 reply_status (Refused refusal) = refusal_status refusal

@@ -173,8 +173,7 @@ fn encode_at(any: &AnySession, number: u64, out: &mut [u8], size: &mut usize) ->
 ///
 /// # Errors
 ///
-/// Returns `NONE`, and not `NO_SUCH_COMMIT`, if no commit is kept under `number`. `size` and `out` are then unchanged. Otherwise as
-/// `mortarpink_encode`.
+/// Returns `NO_SUCH_COMMIT` if no commit is kept under `number`. `size` and `out` are then unchanged. Otherwise as `mortarpink_encode`.
 ///
 /// # Memory
 ///

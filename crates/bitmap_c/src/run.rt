@@ -8,7 +8,7 @@ ghost use Rattle.bitmap_c.specs.Calls.{Serves, ServesChunk};
 ghost use Rattle.bitmap_c.specs.Logged.{ServesLogged, StepsLogged};
 ghost use Rattle.bitmap_c.specs.Reports.{Reports, ReportsBit, ReportsBytes, ReportsChunk, ReportsEntries, ReportsNumber, ReportsPrevious, bit_or, chunk_or, entries_or, number_or, previous_or, reply_status};
 
-use crate::status::{DONE, NONE, WRONG_SIZE, refusal_status};
+use crate::status::{DONE, NO_SUCH_COMMIT, NONE, WRONG_SIZE, refusal_status};
 use bitmap_session::command::Command;
 use bitmap_session::reply::{Refusal, Reply};
 use bitmap_session::session::Session;
@@ -20,8 +20,8 @@ fn reply_status<const N: usize>(reply: &Reply<N>) -> u32
 {
     match reply {
         Reply::Refused(refusal) => refusal_status(refusal),
-        Reply::Maybe(None) | Reply::Positions(None) | Reply::Bytes(None) | Reply::Snapshot(None) =>
-            { NONE }
+        Reply::Maybe(None) | Reply::Positions(None) | Reply::Snapshot(None) => NONE,
+        Reply::Bytes(None) => NO_SUCH_COMMIT,
         _ => DONE,
     }
 }

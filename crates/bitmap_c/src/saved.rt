@@ -284,7 +284,7 @@ pub extern "C" fn mortarpink_load(
 ///
 /// # Errors
 ///
-/// Returns `WRONG_MODE` in a batch, and `NONE` unless both commits are kept and `from` is below `to`. `size` and `out` are then
+/// Returns `WRONG_MODE` in a batch, and `NO_SUCH_COMMIT` unless both commits are kept and `from` is below `to`. `size` and `out` are then
 /// unchanged. Otherwise as `mortarpink_save`.
 ///
 /// # Memory

@@ -60,6 +60,9 @@ a_chunk : chunk_or (Chunk (1 ∷ 2 ∷ [])) (7 ∷ 7 ∷ []) ≡ 1 ∷ 2 ∷ []
 a_chunk = refl
 
 -- bytes are written only to a buffer of their size, but their number is always reported
+bytes_of_no_commit : bytes_status (Bytes None) 1 ≡ 12
+bytes_of_no_commit = refl
+
 bytes_that_fit : bytes_or (Bytes (Some (1 ∷ 2 ∷ []))) (7 ∷ 7 ∷ []) ≡ 1 ∷ 2 ∷ []
 bytes_that_fit = refl
 
