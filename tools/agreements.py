@@ -40,7 +40,7 @@ ALL = {HEADER, RUST, PYTHON}
 CHANGES = [
     ("making.rt", "fn mortarpink_new(", "width: u32", "width: u64", ALL),
     ("making.rt", "fn mortarpink_new(", "width: u32", "width: u16", "the type `u16` of `width`"),
-    ("making.rt", "fn mortarpink_start(", ": usize", ": u64", ALL),
+    ("making.rt", "fn mortarpink_start(", ": u64", ": usize", ALL),
     ("reads.rt", "fn mortarpink_get(", "bit: &mut u8", "bit: u8", ALL),
     ("reads.rt", "fn mortarpink_encode(", "size: &mut usize", "size: &mut u64", ALL),
     ("many.rt", "fn mortarpink_push_bytes(", "bytes: &[u8]", "bytes: &mut [u8]", ALL),

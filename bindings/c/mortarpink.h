@@ -176,7 +176,7 @@ mortarpink_status mortarpink_checkout(const mortarpink_bitmap *bitmap, uint64_t 
  *   returns MORTARPINK_WRONG_MODE in a batch, and MORTARPINK_PRUNED_CHUNKS_OVERFLOW if the number of pruned bits
  *   would pass 2^64 - 1.
  * Cost: linear in what is freed. */
-mortarpink_status mortarpink_start(mortarpink_bitmap *bitmap, size_t pruned_chunks);
+mortarpink_status mortarpink_start(mortarpink_bitmap *bitmap, uint64_t pruned_chunks);
 
 
 /* ---- A batch: mortarpink_begin, edits, and mortarpink_commit or mortarpink_abort ---- */

@@ -1728,10 +1728,10 @@ static void make_longest(mortarpink_bitmap *bitmap, uint32_t width) {
     const uint64_t B = 8 * (uint64_t)width;
     const uint8_t zeros[64] = {0};
     check_done(mortarpink_new(bitmap, width));
-    check_unwritten(mortarpink_start(bitmap, (size_t)(UINT64_MAX / B + 1)), MORTARPINK_PRUNED_CHUNKS_OVERFLOW);
-    check_unwritten(mortarpink_start(bitmap, SIZE_MAX), MORTARPINK_PRUNED_CHUNKS_OVERFLOW);
+    check_unwritten(mortarpink_start(bitmap, UINT64_MAX / B + 1), MORTARPINK_PRUNED_CHUNKS_OVERFLOW);
+    check_unwritten(mortarpink_start(bitmap, UINT64_MAX), MORTARPINK_PRUNED_CHUNKS_OVERFLOW);
     check(has_bits(visible(bitmap), ""));
-    check_done(mortarpink_start(bitmap, (size_t)(UINT64_MAX / B)));
+    check_done(mortarpink_start(bitmap, UINT64_MAX / B));
     check_number(mortarpink_len(bitmap, &out.number), UINT64_MAX - B + 1);
     check_done(mortarpink_begin(bitmap));
     fill_outputs();

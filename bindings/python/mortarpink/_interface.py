@@ -63,7 +63,7 @@ FUNCTIONS: dict[str, tuple[Any, ...]] = {
     "free": (HANDLE,),
     "clone": (HANDLE, HANDLE),
     "checkout": (HANDLE, U64, HANDLE),
-    "start": (HANDLE, SIZE),
+    "start": (HANDLE, U64),
     "begin": (HANDLE,),
     "push": (HANDLE, U8),
     "push_byte": (HANDLE, U8),

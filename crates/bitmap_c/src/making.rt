@@ -336,9 +336,9 @@ fn start(any: &mut AnySession, pruned_chunks: usize) -> u32
 ///
 /// Linear in what is freed.
 #[unsafe(no_mangle)]
-pub extern "C" fn mortarpink_start(bitmap: &mut Handle, pruned_chunks: usize) -> u32
+pub extern "C" fn mortarpink_start(bitmap: &mut Handle, pruned_chunks: u64) -> u32
     ensures step { CallsUnlogged bitmap.old.value (λ N. Command.Start pruned_chunks)
         (Reports result) (result ≡ EMPTY_HANDLE) (result ≡ HAS_LOG) bitmap.new.value }
 {
-    in_handle!(bitmap, any => start(any, pruned_chunks))
+    in_handle!(bitmap, any => start(any, pruned_chunks as usize))
 }

@@ -53,7 +53,7 @@ unsafe extern "C" {
     pub fn mortarpink_free(bitmap: *mut Handle) -> Status;
     pub fn mortarpink_clone(bitmap: *const Handle, copy: *mut Handle) -> Status;
     pub fn mortarpink_checkout(bitmap: *const Handle, number: u64, copy: *mut Handle) -> Status;
-    pub fn mortarpink_start(bitmap: *mut Handle, pruned_chunks: usize) -> Status;
+    pub fn mortarpink_start(bitmap: *mut Handle, pruned_chunks: u64) -> Status;
     pub fn mortarpink_begin(bitmap: *mut Handle) -> Status;
     pub fn mortarpink_push(bitmap: *mut Handle, bit: u8) -> Status;
     pub fn mortarpink_push_byte(bitmap: *mut Handle, byte: u8) -> Status;
