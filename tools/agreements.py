@@ -16,8 +16,11 @@ CALLS_OF_RUST = "bindings/rust/src/ffi.rs"
 ERRORS_OF_PYTHON = "bindings/python/mortarpink/_errors.py"
 
 # The statuses that a binding does not name, since no call of its own returns them or since they are no errors.
-UNUSED = {CALLS_OF_RUST: {"WRONG_MODE", "EMPTY_HANDLE", "FULL_HANDLE", "NO_SUCH_WIDTH", "HAS_LOG", "NO_LOG"},
+UNUSED = {CALLS_OF_RUST: {"IN_BATCH", "NOT_IN_BATCH", "EMPTY_HANDLE", "FULL_HANDLE", "NO_SUCH_WIDTH", "HAS_LOG", "NO_LOG"},
           ERRORS_OF_PYTHON: {"FULL_HANDLE", "NONE", "HAS_LOG", "NO_LOG"}}
+
+# The status of the refusal `wrong-mode`; a call that needs a batch has NOT_IN_BATCH.
+WRONG_MODE = "IN_BATCH"
 
 # The version of the package.
 RELEASES = {
@@ -113,7 +116,7 @@ def refusals():
     items = re.findall(r"^\d+\. `([a-z-]+)(?: ([a-z-]+))?", text_of(SCRIPT), re.MULTILINE)
     decode_errors = {detail for _, detail in items if detail}
     groups = [decode_errors if name == "codec" else {name} for name, detail in items if not detail]
-    return [{name.upper().replace("-", "_") for name in group} for group in groups]
+    return [{WRONG_MODE if name == "wrong-mode" else name.upper().replace("-", "_") for name in group} for group in groups]
 
 
 def order_cases(statuses):

@@ -49,6 +49,10 @@ SEARCHES = {
     "select_one": lambda ones, zeros, at: ones[at] if at < len(ones) else None,
 }
 
+# The calls that need a batch. A command that is refused as `wrong-mode` has the status NOT_IN_BATCH by these calls, and IN_BATCH by any other.
+EDITS = {"push", "push_byte", "push_bytes", "push_chunk", "push_bits", "pop", "set", "set_many", "set_chunk", "set_range", "truncate", "extend_to",
+         "prune", "commit", "abort"}
+
 # The commands that add an entry to a log, with the tag of the entry.
 ENTRIES = {"commit": COMMIT, "rewind": REWIND, "drop-before": DROP, "clear": CLEAR}
 
@@ -123,6 +127,8 @@ class InterfaceScript(RandomScript):
 
     def expect_of(self, handle, name, status, *given, **written):
         self.recent.append((name, given))
+        if status == "WRONG_MODE":
+            status = "NOT_IN_BATCH" if name in EDITS else "IN_BATCH"
         found, wanted = self.library.call(name, handle, *given), outcome(status, written)
         self.calls[name, found.status] += 1
         if found != wanted:

@@ -88,7 +88,7 @@ typedef uint32_t mortarpink_status;
 
 enum {
     MORTARPINK_DONE = 0,                   /* the call succeeded */
-    MORTARPINK_WRONG_MODE = 1,             /* the call needs a batch and there is none, or the reverse */
+    MORTARPINK_IN_BATCH = 1,               /* there is a batch, and the call needs that there is none */
     MORTARPINK_OUT_OF_BOUNDS = 2,          /* the position is at or past the length; for a prune, past it */
     MORTARPINK_PRUNED = 3,                 /* the position is pruned */
     MORTARPINK_TOO_LONG = 4,               /* the length in bits would pass 2^64 - 1 */
@@ -113,7 +113,8 @@ enum {
     MORTARPINK_OUT_OF_RANGE = 23,          /* a number of retained bits or of commits is out of range */
     MORTARPINK_NOT_AT_BASE = 24,           /* the delta does not start at the current bitmap */
     MORTARPINK_HAS_LOG = 25,               /* the bitmap keeps a log */
-    MORTARPINK_NO_LOG = 26                 /* the bitmap keeps no log */
+    MORTARPINK_NO_LOG = 26,                /* the bitmap keeps no log */
+    MORTARPINK_NOT_IN_BATCH = 27           /* there is no batch, and the call needs one */
 };
 
 /* Returns the MORTARPINK_VERSION of the library. */
@@ -164,7 +165,7 @@ mortarpink_status mortarpink_clone(const mortarpink_bitmap *bitmap, mortarpink_b
  * Errors: returns the first status that applies. `copy` is then unchanged.
  * - MORTARPINK_EMPTY_HANDLE if `bitmap` is empty
  * - MORTARPINK_FULL_HANDLE if `copy` is not empty
- * - MORTARPINK_WRONG_MODE if there is a batch
+ * - MORTARPINK_IN_BATCH if there is a batch
  * - MORTARPINK_NO_SUCH_COMMIT if no commit is kept under `number`
  * - MORTARPINK_NO_MEMORY if an allocation fails
  * Cost: linear in the current bitmap, plus the commits after `number` and the chunks that they changed. Allocates
@@ -173,8 +174,8 @@ mortarpink_status mortarpink_checkout(const mortarpink_bitmap *bitmap, uint64_t 
 
 /* Replaces the bitmap by one with `pruned_chunks` pruned chunks, no bits, no commits and no last commit number.
  * Errors: returns MORTARPINK_HAS_LOG if the bitmap keeps a log, since a log goes on from its first state. Otherwise
- *   returns MORTARPINK_WRONG_MODE in a batch, and MORTARPINK_PRUNED_CHUNKS_OVERFLOW if the number of pruned bits
- *   would pass 2^64 - 1.
+ *   returns MORTARPINK_IN_BATCH in a batch, and MORTARPINK_PRUNED_CHUNKS_OVERFLOW if the number of pruned bits would
+ *   pass 2^64 - 1.
  * Cost: linear in what is freed. */
 mortarpink_status mortarpink_start(mortarpink_bitmap *bitmap, uint64_t pruned_chunks);
 
@@ -182,12 +183,12 @@ mortarpink_status mortarpink_start(mortarpink_bitmap *bitmap, uint64_t pruned_ch
 /* ---- A batch: mortarpink_begin, edits, and mortarpink_commit or mortarpink_abort ---- */
 
 /* Begins a batch of edits on the current bitmap.
- * Errors: returns MORTARPINK_WRONG_MODE in a batch. */
+ * Errors: returns MORTARPINK_IN_BATCH in a batch. */
 mortarpink_status mortarpink_begin(mortarpink_bitmap *bitmap);
 
 /* Appends a bit: 0 if `bit` is 0, and otherwise 1.
- * Errors: returns MORTARPINK_WRONG_MODE outside a batch, MORTARPINK_TOO_LONG if the length would pass 2^64 - 1, and
- *   MORTARPINK_NO_MEMORY if an allocation fails.
+ * Errors: returns MORTARPINK_NOT_IN_BATCH outside a batch, MORTARPINK_TOO_LONG if the length would pass 2^64 - 1,
+ *   and MORTARPINK_NO_MEMORY if an allocation fails.
  * Cost: amortized constant. May allocate. */
 mortarpink_status mortarpink_push(mortarpink_bitmap *bitmap, uint8_t bit);
 
@@ -210,19 +211,19 @@ mortarpink_status mortarpink_push_bytes(mortarpink_bitmap *bitmap, const uint8_t
 mortarpink_status mortarpink_push_chunk(mortarpink_bitmap *bitmap, const uint8_t *bytes, size_t len);
 
 /* Appends a bit per byte of `bits`, in order: 0 if the byte is 0, and otherwise 1. Appends all of them, or none.
- * Errors: returns MORTARPINK_WRONG_MODE outside a batch, MORTARPINK_TOO_LONG if the length would pass 2^64 - 1, and
- *   MORTARPINK_NO_MEMORY if an allocation fails.
+ * Errors: returns MORTARPINK_NOT_IN_BATCH outside a batch, MORTARPINK_TOO_LONG if the length would pass 2^64 - 1,
+ *   and MORTARPINK_NO_MEMORY if an allocation fails.
  * Cost: linear in the bits. Allocates the chunks of the new bits that the batch has not edited yet. Also allocates a
  *   byte per bit and the chunks of a copy of the bits, which are freed before the return. */
 mortarpink_status mortarpink_push_bits(mortarpink_bitmap *bitmap, const uint8_t *bits, size_t len);
 
 /* Removes the last bit; *bit becomes it.
- * Errors: returns MORTARPINK_WRONG_MODE outside a batch, and MORTARPINK_NO_RETAINED_BIT if no bit is retained. *bit
- *   is then unchanged. */
+ * Errors: returns MORTARPINK_NOT_IN_BATCH outside a batch, and MORTARPINK_NO_RETAINED_BIT if no bit is retained.
+ *   *bit is then unchanged. */
 mortarpink_status mortarpink_pop(mortarpink_bitmap *bitmap, uint8_t *bit);
 
 /* Replaces the bit at an absolute position: by 0 if `bit` is 0, and otherwise by 1.
- * Errors: returns MORTARPINK_WRONG_MODE outside a batch, MORTARPINK_OUT_OF_BOUNDS if the position is not below the
+ * Errors: returns MORTARPINK_NOT_IN_BATCH outside a batch, MORTARPINK_OUT_OF_BOUNDS if the position is not below the
  *   length, MORTARPINK_PRUNED if it is pruned, and MORTARPINK_NO_MEMORY if an allocation fails.
  * Cost: amortized constant. May allocate. */
 mortarpink_status mortarpink_set(mortarpink_bitmap *bitmap, uint64_t position, uint8_t bit);
@@ -241,7 +242,7 @@ mortarpink_status mortarpink_set_many(mortarpink_bitmap *bitmap, const uint64_t 
  * ignored. The lowest bit of the first byte is the first bit of the chunk.
  * Errors: returns the first status that applies.
  * - MORTARPINK_WRONG_SIZE if the length of `bytes` is not the width
- * - MORTARPINK_WRONG_MODE if there is no batch
+ * - MORTARPINK_NOT_IN_BATCH if there is no batch
  * - MORTARPINK_OUT_OF_BOUNDS if no bit of the chunk is below the length
  * - MORTARPINK_PRUNED if the chunk is pruned
  * - MORTARPINK_NO_MEMORY if an allocation fails
@@ -251,7 +252,7 @@ mortarpink_status mortarpink_set_chunk(mortarpink_bitmap *bitmap, size_t index, 
 /* Replaces each bit from `from` up to `to`: by 0 if `bit` is 0, and otherwise by 1. `to` is excluded. If `to` is not
  * above `from`, nothing changes. Otherwise each position has to be below the length, and not pruned.
  * Errors: returns the first status that applies.
- * - MORTARPINK_WRONG_MODE if there is no batch
+ * - MORTARPINK_NOT_IN_BATCH if there is no batch
  * - MORTARPINK_OUT_OF_BOUNDS if `to` is above the length, and above `from`
  * - MORTARPINK_PRUNED if the position `from` is pruned, and `to` is above `from`
  * - MORTARPINK_NO_MEMORY if an allocation fails
@@ -259,20 +260,20 @@ mortarpink_status mortarpink_set_chunk(mortarpink_bitmap *bitmap, size_t index, 
 mortarpink_status mortarpink_set_range(mortarpink_bitmap *bitmap, uint64_t from, uint64_t to, uint8_t bit);
 
 /* Removes the bits from position `length` on, so that this is the length. Pruned bits count.
- * Errors: returns MORTARPINK_WRONG_MODE outside a batch, MORTARPINK_OUT_OF_BOUNDS if `length` is above the length,
+ * Errors: returns MORTARPINK_NOT_IN_BATCH outside a batch, MORTARPINK_OUT_OF_BOUNDS if `length` is above the length,
  *   and MORTARPINK_PRUNED if it is below the number of pruned bits.
  * Cost: linear in the removed chunks that the batch has edited. */
 mortarpink_status mortarpink_truncate(mortarpink_bitmap *bitmap, uint64_t length);
 
 /* Appends zeros up to a length of `length` bits. Pruned bits count. If the bitmap has that length or more, nothing
  * changes.
- * Errors: returns MORTARPINK_WRONG_MODE outside a batch, and MORTARPINK_NO_MEMORY if an allocation fails.
+ * Errors: returns MORTARPINK_NOT_IN_BATCH outside a batch, and MORTARPINK_NO_MEMORY if an allocation fails.
  * Cost: linear in the chunks of the new bits. Allocates the chunks of the new bits that the batch has not edited
  *   yet. */
 mortarpink_status mortarpink_extend_to(mortarpink_bitmap *bitmap, uint64_t length);
 
 /* Prunes the chunks before the chunk of an absolute position, which may be the length.
- * Errors: returns MORTARPINK_WRONG_MODE outside a batch, MORTARPINK_OUT_OF_BOUNDS if the position is above the
+ * Errors: returns MORTARPINK_NOT_IN_BATCH outside a batch, MORTARPINK_OUT_OF_BOUNDS if the position is above the
  *   length, and MORTARPINK_NO_MEMORY if an allocation fails.
  * Cost: amortized linear in the chunks pruned. May allocate. */
 mortarpink_status mortarpink_prune(mortarpink_bitmap *bitmap, uint64_t position);
@@ -283,7 +284,7 @@ mortarpink_status mortarpink_prune(mortarpink_bitmap *bitmap, uint64_t position)
  * bitmap keeps a log, the entry of the commit is appended to it. With another status than MORTARPINK_DONE the log is
  * unchanged.
  * Errors: returns the first status that applies. The batch then goes on.
- * - MORTARPINK_WRONG_MODE if there is no batch
+ * - MORTARPINK_NOT_IN_BATCH if there is no batch
  * - MORTARPINK_RESERVED_COMMIT_NUMBER if the number is 2^64 - 1
  * - MORTARPINK_NON_MONOTONIC_COMMIT if the number is not above the last one
  * - MORTARPINK_NO_MEMORY if an allocation fails, or the log would have 2^64 bytes or more
@@ -294,7 +295,7 @@ mortarpink_status mortarpink_prune(mortarpink_bitmap *bitmap, uint64_t position)
 mortarpink_status mortarpink_commit(mortarpink_bitmap *bitmap, uint64_t number, uint64_t *previous);
 
 /* Ends the batch and drops its edits.
- * Errors: returns MORTARPINK_WRONG_MODE outside a batch.
+ * Errors: returns MORTARPINK_NOT_IN_BATCH outside a batch.
  * Cost: linear in the chunks that the batch edited or pruned. */
 mortarpink_status mortarpink_abort(mortarpink_bitmap *bitmap);
 
@@ -361,7 +362,7 @@ mortarpink_status mortarpink_select_one(const mortarpink_bitmap *bitmap, uint64_
 
 /* Fills `out` with the encoding of the current bitmap, and writes the size of the encoding in bytes to *size. A
  * caller that does not know the size calls with an empty `out` first, whose pointer is not NULL either.
- * Errors: returns MORTARPINK_WRONG_MODE in a batch, MORTARPINK_NO_MEMORY if an allocation fails, and
+ * Errors: returns MORTARPINK_IN_BATCH in a batch, MORTARPINK_NO_MEMORY if an allocation fails, and
  *   MORTARPINK_WRONG_SIZE if the length of `out` is not the size of the encoding. `out` is then unchanged. *size is
  *   written with MORTARPINK_WRONG_SIZE too, and otherwise unchanged.
  * Cost: linear in the encoding. Allocates the encoding, which is freed before the return. */
@@ -375,20 +376,20 @@ mortarpink_status mortarpink_encode(const mortarpink_bitmap *bitmap, uint8_t *ou
  * index. Only mortarpink_encode_at allocates. */
 
 /* Writes the length of the bitmap at commit `number`, in bits, to *len. Pruned bits count.
- * Errors: returns MORTARPINK_WRONG_MODE in a batch, and MORTARPINK_NO_SUCH_COMMIT if no commit is kept under
- *   `number`. *len is then unchanged.
+ * Errors: returns MORTARPINK_IN_BATCH in a batch, and MORTARPINK_NO_SUCH_COMMIT if no commit is kept under `number`.
+ *   *len is then unchanged.
  * Cost: a search among the kept commits. */
 mortarpink_status mortarpink_len_at(const mortarpink_bitmap *bitmap, uint64_t number, uint64_t *len);
 
 /* Writes the number of pruned chunks of the bitmap at commit `number` to *chunks.
- * Errors: returns MORTARPINK_WRONG_MODE in a batch, and MORTARPINK_NO_SUCH_COMMIT if no commit is kept under
- *   `number`. *chunks is then unchanged.
+ * Errors: returns MORTARPINK_IN_BATCH in a batch, and MORTARPINK_NO_SUCH_COMMIT if no commit is kept under `number`.
+ *   *chunks is then unchanged.
  * Cost: a search among the kept commits. */
 mortarpink_status mortarpink_pruned_chunks_at(const mortarpink_bitmap *bitmap, uint64_t number, uint64_t *chunks);
 
 /* Writes the bit at a position of the bitmap at commit `number` to *bit, as 0 or 1.
  * Errors: returns the first status that applies. *bit is then unchanged.
- * - MORTARPINK_WRONG_MODE if there is a batch
+ * - MORTARPINK_IN_BATCH if there is a batch
  * - MORTARPINK_NO_SUCH_COMMIT if no commit is kept under `number`
  * - MORTARPINK_OUT_OF_BOUNDS if the position is not below the length
  * - MORTARPINK_PRUNED if the position is pruned
@@ -398,7 +399,7 @@ mortarpink_status mortarpink_get_at(const mortarpink_bitmap *bitmap, uint64_t nu
 /* Fills `out` with the chunk of a position of the bitmap at commit `number`. Bits of the chunk past the length are
  * 0.
  * Errors: returns the first status that applies. `out` is then unchanged.
- * - MORTARPINK_WRONG_MODE if there is a batch
+ * - MORTARPINK_IN_BATCH if there is a batch
  * - MORTARPINK_NO_SUCH_COMMIT if no commit is kept under `number`
  * - MORTARPINK_WRONG_SIZE if the length of `out` is not the width
  * - MORTARPINK_OUT_OF_BOUNDS if the position is not below the length
@@ -410,50 +411,50 @@ mortarpink_status mortarpink_chunk_at(const mortarpink_bitmap *bitmap, uint64_t 
 /* Writes a page of the set positions of the bitmap at commit `number` from `from` up to `to`. The positions are in
  * bits, absolute and ascending. `to` is excluded. *count becomes how many are written. Pages are as those of
  * mortarpink_ones.
- * Errors: returns MORTARPINK_WRONG_MODE in a batch, and MORTARPINK_NO_SUCH_COMMIT if no commit is kept under
- *   `number`. *count and `out` are then unchanged.
+ * Errors: returns MORTARPINK_IN_BATCH in a batch, and MORTARPINK_NO_SUCH_COMMIT if no commit is kept under `number`.
+ *   *count and `out` are then unchanged.
  * Cost: linear in the chunks that are read. Each chunk that is read costs a search of each commit after `number`. */
 mortarpink_status mortarpink_ones_at(const mortarpink_bitmap *bitmap, uint64_t number, uint64_t from, uint64_t to,
                                      uint64_t *out, size_t len, size_t *count);
 
 /* Writes the least retained position, from `from` on, whose bit at commit `number` is 1, to *position.
- * Errors: returns MORTARPINK_WRONG_MODE in a batch, MORTARPINK_NO_SUCH_COMMIT if no commit is kept under `number`,
- *   and MORTARPINK_NONE if there is no such position. *position is then unchanged.
+ * Errors: returns MORTARPINK_IN_BATCH in a batch, MORTARPINK_NO_SUCH_COMMIT if no commit is kept under `number`, and
+ *   MORTARPINK_NONE if there is no such position. *position is then unchanged.
  * Cost: linear in the chunks that are read. Each chunk that is read costs a search of each commit after `number`. */
 mortarpink_status mortarpink_next_one_at(const mortarpink_bitmap *bitmap, uint64_t number, uint64_t from,
                                          uint64_t *position);
 
 /* Writes the least retained position, from `from` on, whose bit at commit `number` is 0, to *position.
- * Errors: returns MORTARPINK_WRONG_MODE in a batch, MORTARPINK_NO_SUCH_COMMIT if no commit is kept under `number`,
- *   and MORTARPINK_NONE if there is no such position. *position is then unchanged.
+ * Errors: returns MORTARPINK_IN_BATCH in a batch, MORTARPINK_NO_SUCH_COMMIT if no commit is kept under `number`, and
+ *   MORTARPINK_NONE if there is no such position. *position is then unchanged.
  * Cost: linear in the chunks that are read. Each chunk that is read costs a search of each commit after `number`. */
 mortarpink_status mortarpink_next_zero_at(const mortarpink_bitmap *bitmap, uint64_t number, uint64_t from,
                                           uint64_t *position);
 
 /* Writes the greatest retained position, below `end`, whose bit at commit `number` is 1, to *position.
- * Errors: returns MORTARPINK_WRONG_MODE in a batch, MORTARPINK_NO_SUCH_COMMIT if no commit is kept under `number`,
- *   and MORTARPINK_NONE if there is no such position. *position is then unchanged.
+ * Errors: returns MORTARPINK_IN_BATCH in a batch, MORTARPINK_NO_SUCH_COMMIT if no commit is kept under `number`, and
+ *   MORTARPINK_NONE if there is no such position. *position is then unchanged.
  * Cost: linear in the chunks that are read. Each chunk that is read costs a search of each commit after `number`. */
 mortarpink_status mortarpink_prev_one_at(const mortarpink_bitmap *bitmap, uint64_t number, uint64_t end,
                                          uint64_t *position);
 
 /* Writes the greatest retained position, below `end`, whose bit at commit `number` is 0, to *position.
- * Errors: returns MORTARPINK_WRONG_MODE in a batch, MORTARPINK_NO_SUCH_COMMIT if no commit is kept under `number`,
- *   and MORTARPINK_NONE if there is no such position. *position is then unchanged.
+ * Errors: returns MORTARPINK_IN_BATCH in a batch, MORTARPINK_NO_SUCH_COMMIT if no commit is kept under `number`, and
+ *   MORTARPINK_NONE if there is no such position. *position is then unchanged.
  * Cost: linear in the chunks that are read. Each chunk that is read costs a search of each commit after `number`. */
 mortarpink_status mortarpink_prev_zero_at(const mortarpink_bitmap *bitmap, uint64_t number, uint64_t end,
                                           uint64_t *position);
 
 /* Writes the number of set retained positions at commit `number` from `from` up to `to` to *count. `to` is excluded.
- * Errors: returns MORTARPINK_WRONG_MODE in a batch, and MORTARPINK_NO_SUCH_COMMIT if no commit is kept under
- *   `number`. *count is then unchanged.
+ * Errors: returns MORTARPINK_IN_BATCH in a batch, and MORTARPINK_NO_SUCH_COMMIT if no commit is kept under `number`.
+ *   *count is then unchanged.
  * Cost: linear in the chunks of the range. Each chunk that is read costs a search of each commit after `number`. */
 mortarpink_status mortarpink_count_ones_at(const mortarpink_bitmap *bitmap, uint64_t number, uint64_t from, uint64_t to,
                                            uint64_t *count);
 
 /* Writes the retained position set at commit `number` with `k` such positions below it to *position.
- * Errors: returns MORTARPINK_WRONG_MODE in a batch, MORTARPINK_NO_SUCH_COMMIT if no commit is kept under `number`,
- *   and MORTARPINK_NONE if there is no such position. *position is then unchanged.
+ * Errors: returns MORTARPINK_IN_BATCH in a batch, MORTARPINK_NO_SUCH_COMMIT if no commit is kept under `number`, and
+ *   MORTARPINK_NONE if there is no such position. *position is then unchanged.
  * Cost: linear in the retained chunks up to that of the position. Each chunk that is read costs a search of each
  *   commit after `number`. */
 mortarpink_status mortarpink_select_one_at(const mortarpink_bitmap *bitmap, uint64_t number, uint64_t k,
@@ -473,7 +474,7 @@ mortarpink_status mortarpink_encode_at(const mortarpink_bitmap *bitmap, uint64_t
 
 /* Makes the bitmap committed under the number current again, and drops the commits after it. If the bitmap keeps a
  * log, the entry of the rewind is appended to it. With another status than MORTARPINK_DONE the log is unchanged.
- * Errors: returns MORTARPINK_WRONG_MODE in a batch, MORTARPINK_NO_SUCH_COMMIT if no commit is kept under the number,
+ * Errors: returns MORTARPINK_IN_BATCH in a batch, MORTARPINK_NO_SUCH_COMMIT if no commit is kept under the number,
  *   and MORTARPINK_NO_MEMORY if an allocation fails, or the log would have 2^64 bytes or more.
  * Cost: per chunk that the dropped commits changed, logarithmic in their number. If the bitmap grows, it may also
  *   move in memory. Allocates the old bytes of the chunks that change, temporarily, and space by which the bitmap
@@ -482,23 +483,23 @@ mortarpink_status mortarpink_rewind(mortarpink_bitmap *bitmap, uint64_t number);
 
 /* Writes a page of the kept commit numbers from `from` on, ascending. *count becomes how many are written. Pages are
  * as those of mortarpink_ones.
- * Errors: returns MORTARPINK_WRONG_MODE in a batch. *count and `out` are then unchanged.
+ * Errors: returns MORTARPINK_IN_BATCH in a batch. *count and `out` are then unchanged.
  * Cost: logarithmic in the kept commits, plus linear in the numbers written. */
 mortarpink_status mortarpink_commits(const mortarpink_bitmap *bitmap, uint64_t from, uint64_t *out, size_t len,
                                      size_t *count);
 
 /* Writes 1 to *exists if a commit is kept under the number, and 0 otherwise.
- * Errors: returns MORTARPINK_WRONG_MODE in a batch. *exists is then unchanged.
+ * Errors: returns MORTARPINK_IN_BATCH in a batch. *exists is then unchanged.
  * Cost: logarithmic in the commits. */
 mortarpink_status mortarpink_exists(const mortarpink_bitmap *bitmap, uint64_t number, uint8_t *exists);
 
 /* Writes the greatest kept commit number to *number.
- * Errors: returns MORTARPINK_WRONG_MODE in a batch, and MORTARPINK_NONE if no commit is kept. *number is then
+ * Errors: returns MORTARPINK_IN_BATCH in a batch, and MORTARPINK_NONE if no commit is kept. *number is then
  *   unchanged. */
 mortarpink_status mortarpink_latest(const mortarpink_bitmap *bitmap, uint64_t *number);
 
 /* Writes the least kept commit number to *number.
- * Errors: returns MORTARPINK_WRONG_MODE in a batch, and MORTARPINK_NONE if no commit is kept. *number is then
+ * Errors: returns MORTARPINK_IN_BATCH in a batch, and MORTARPINK_NONE if no commit is kept. *number is then
  *   unchanged. */
 mortarpink_status mortarpink_earliest(const mortarpink_bitmap *bitmap, uint64_t *number);
 
@@ -506,7 +507,7 @@ mortarpink_status mortarpink_earliest(const mortarpink_bitmap *bitmap, uint64_t 
  * Indices count chunks. They are absolute and ascending. A chunk that only one of the bitmaps retains differs. Bits
  * past a length count as zeros, so zeros that are appended to a partly filled chunk change no chunk: a replica needs
  * the length too. *count becomes how many are written. Pages are as those of mortarpink_ones.
- * Errors: returns MORTARPINK_WRONG_MODE in a batch, and MORTARPINK_NO_SUCH_COMMIT unless both commits are kept and
+ * Errors: returns MORTARPINK_IN_BATCH in a batch, and MORTARPINK_NO_SUCH_COMMIT unless both commits are kept and
  *   `from` is at most `to`. *count and `out` are then unchanged.
  * Cost: two searches of the kept commits, and per chunk examined a search of each commit after `from`. A page
  *   examines the chunks from `first` on with an entry in a commit after `from` and up to `to`. If `out` is full, it
@@ -516,14 +517,14 @@ mortarpink_status mortarpink_changed_chunks(const mortarpink_bitmap *bitmap, uin
 
 /* Drops the commits below the number, and writes how many to *dropped. If the bitmap keeps a log, the entry of the
  * drop is appended to it. With another status than MORTARPINK_DONE the log is unchanged.
- * Errors: returns MORTARPINK_WRONG_MODE in a batch. Returns MORTARPINK_NO_MEMORY if the bitmap keeps a log and an
+ * Errors: returns MORTARPINK_IN_BATCH in a batch. Returns MORTARPINK_NO_MEMORY if the bitmap keeps a log and an
  *   allocation fails, or the log would have 2^64 bytes or more. *dropped is then unchanged.
  * Cost: linear in what is dropped. Allocates the entry if the bitmap keeps a log, and otherwise nothing. */
 mortarpink_status mortarpink_drop_before(mortarpink_bitmap *bitmap, uint64_t number, uint64_t *dropped);
 
 /* Drops all commits. If the bitmap keeps a log, the entry of the clear is appended to it. With another status than
  * MORTARPINK_DONE the log is unchanged.
- * Errors: returns MORTARPINK_WRONG_MODE in a batch. Returns MORTARPINK_NO_MEMORY if the bitmap keeps a log and an
+ * Errors: returns MORTARPINK_IN_BATCH in a batch. Returns MORTARPINK_NO_MEMORY if the bitmap keeps a log and an
  *   allocation fails, or the log would have 2^64 bytes or more.
  * Cost: linear in what is dropped. Allocates the entry if the bitmap keeps a log, and otherwise nothing. */
 mortarpink_status mortarpink_clear(mortarpink_bitmap *bitmap);
@@ -531,7 +532,7 @@ mortarpink_status mortarpink_clear(mortarpink_bitmap *bitmap);
 /* Adds an index of the kept commits if `on` is not 0, and drops it if `on` is 0. With the index, a read of a chunk
  * at a commit searches once, however many commits are kept. Commits, rewinds, and calls that drop commits keep the
  * index, and a copy of the bitmap has a copy of it. Nothing that a call returns depends on the index.
- * Errors: returns MORTARPINK_WRONG_MODE in a batch, and MORTARPINK_NO_MEMORY if an allocation fails. Nothing has
+ * Errors: returns MORTARPINK_IN_BATCH in a batch, and MORTARPINK_NO_MEMORY if an allocation fails. Nothing has
  *   changed then.
  * Cost: per chunk whose old bytes a kept commit has, logarithmic in their number. Linear in the index if it is
  *   dropped. Allocates the index: an entry per chunk whose old bytes a kept commit has, with these bytes. Does not
@@ -542,7 +543,7 @@ mortarpink_status mortarpink_index(mortarpink_bitmap *bitmap, uint8_t on);
  * more. The record of a commit has at most one entry per chunk that its batch edited, removed or pruned, and at most
  * one more. An entry has the old bytes of one chunk, or no bytes if the commit added the chunk. So *entries is at
  * least the number of old chunks that the history keeps. It is not the number of bytes that the history takes.
- * Errors: returns MORTARPINK_WRONG_MODE in a batch. *entries is then unchanged.
+ * Errors: returns MORTARPINK_IN_BATCH in a batch. *entries is then unchanged.
  * Cost: linear in the kept commits. */
 mortarpink_status mortarpink_entries(const mortarpink_bitmap *bitmap, uint64_t *entries);
 
@@ -553,7 +554,7 @@ mortarpink_status mortarpink_entries(const mortarpink_bitmap *bitmap, uint64_t *
  * the current bitmap, the kept commits and the last commit number, with digests by which mortarpink_load finds
  * damaged bytes. It does not have the index. A caller that does not know the size calls with an empty `out` first,
  * whose pointer is not NULL either.
- * Errors: returns MORTARPINK_WRONG_MODE in a batch, MORTARPINK_NO_MEMORY if an allocation fails, and
+ * Errors: returns MORTARPINK_IN_BATCH in a batch, MORTARPINK_NO_MEMORY if an allocation fails, and
  *   MORTARPINK_WRONG_SIZE if the length of `out` is not the size of the history. `out` is then unchanged. *size is
  *   written with MORTARPINK_WRONG_SIZE too, and otherwise unchanged.
  * Cost: linear in the current bitmap and in the history. Each chunk in the history is read at its commit, which
@@ -589,7 +590,7 @@ mortarpink_status mortarpink_load(mortarpink_bitmap *bitmap, uint32_t width, uin
  * bytes to *size. A delta has the chunks in which the two differ, and the number, the length and a digest of the
  * older one. A bitmap that is equal to the older one, and whose last number is `from`, follows by
  * mortarpink_apply_delta.
- * Errors: returns MORTARPINK_WRONG_MODE in a batch, and MORTARPINK_NO_SUCH_COMMIT unless both commits are kept and
+ * Errors: returns MORTARPINK_IN_BATCH in a batch, and MORTARPINK_NO_SUCH_COMMIT unless both commits are kept and
  *   `from` is below `to`. *size and `out` are then unchanged. Otherwise as mortarpink_save.
  * Cost: as mortarpink_changed_chunks, and linear in the delta. Each chunk in the delta is read at both commits,
  *   which takes a search of each commit after them. Allocates the delta, which is freed before the return. */
@@ -602,7 +603,7 @@ mortarpink_status mortarpink_delta(const mortarpink_bitmap *bitmap, uint64_t fro
  * need not be kept. Other chunks are not compared. If the bitmap keeps a log, the entry of the commit is appended to
  * it. With another status than MORTARPINK_DONE the log is unchanged.
  * Errors: returns the first status that applies. Nothing has changed then.
- * - MORTARPINK_WRONG_MODE if there is a batch
+ * - MORTARPINK_IN_BATCH if there is a batch
  * - MORTARPINK_CUT_OFF if there are fewer bytes than 88, which the shortest delta has
  * - MORTARPINK_WRONG_HEADER if the bytes do not begin as a delta, or their format has another version
  * - MORTARPINK_DAMAGED if the digest at the end is not that of the bytes before it, as in a delta that is cut off
@@ -629,7 +630,7 @@ mortarpink_status mortarpink_apply_delta(mortarpink_bitmap *bitmap, const uint8_
  * mortarpink_checkout make bitmaps that keep no log.
  * Errors: returns the first status that applies. Nothing has changed then.
  * - MORTARPINK_HAS_LOG if the bitmap keeps a log
- * - MORTARPINK_WRONG_MODE if there is a batch
+ * - MORTARPINK_IN_BATCH if there is a batch
  * - MORTARPINK_NO_MEMORY if an allocation fails
  * Cost: as mortarpink_save. Allocates the history as bytes, which the log has until mortarpink_log_forget. Also
  *   allocates the bitmap at the first kept commit, which is freed before the return. */

@@ -3,7 +3,7 @@
 
 static const char *const texts[] = {
     "done",
-    "the call needs a batch and there is none, or the reverse",
+    "there is a batch, and the call needs that there is none",
     "the position is out of bounds",
     "the position is pruned",
     "the bitmap would be too long",
@@ -29,6 +29,7 @@ static const char *const texts[] = {
     "the delta does not start at the current bitmap",
     "the bitmap keeps a log",
     "the bitmap keeps no log",
+    "there is no batch, and the call needs one",
 };
 
 const char *mortarpink_status_text(mortarpink_status status) {

@@ -136,11 +136,11 @@ static void test_texts(void) {
     check(strcmp(mortarpink_status_text(MORTARPINK_NO_MEMORY), "out of memory") == 0);
     check(strcmp(mortarpink_status_text(MORTARPINK_WRONG_SIZE), "the buffer has the wrong size") == 0);
     check(strcmp(mortarpink_status_text(MORTARPINK_NOT_AT_BASE), "the delta does not start at the current bitmap") == 0);
-    check(strcmp(mortarpink_status_text(27), "the number is not a status") == 0);
+    check(strcmp(mortarpink_status_text(28), "the number is not a status") == 0);
     check(strcmp(mortarpink_status_text(UINT32_MAX), "the number is not a status") == 0);
-    for (uint32_t pair = 0; pair < 28 * 28; pair++) {
-        const char *one = mortarpink_status_text(pair / 28), *other = mortarpink_status_text(pair % 28);
-        check((strcmp(one, other) == 0) == (pair / 28 == pair % 28));
+    for (uint32_t pair = 0; pair < 29 * 29; pair++) {
+        const char *one = mortarpink_status_text(pair / 29), *other = mortarpink_status_text(pair % 29);
+        check((strcmp(one, other) == 0) == (pair / 29 == pair % 29));
     }
 }
 
@@ -245,26 +245,26 @@ static void test_empty_handle(void) {
     check_unwritten(mortarpink_free(&none), status);
 }
 
-/* Calls of the other mode return WRONG_MODE and change nothing. */
+/* Calls that need a batch return NOT_IN_BATCH outside one, and those that need none IN_BATCH in one. They change nothing. */
 static void test_modes(uint32_t width) {
     mortarpink_bitmap bitmap = MORTARPINK_EMPTY;
     make(&bitmap, width, "101");
     commit(&bitmap, 1);
-    check_edits(&bitmap, width, MORTARPINK_WRONG_MODE);
+    check_edits(&bitmap, width, MORTARPINK_NOT_IN_BATCH);
     fill_outputs();
-    check_status(mortarpink_push_bytes(&bitmap, (const uint8_t *)"ab", 2, &out.size), MORTARPINK_WRONG_MODE);
+    check_status(mortarpink_push_bytes(&bitmap, (const uint8_t *)"ab", 2, &out.size), MORTARPINK_NOT_IN_BATCH);
     check_equal(out.size, 0);
     fill_outputs();
-    check_status(mortarpink_set_many(&bitmap, (const uint64_t[]){1, 2}, 2, 1, &out.size), MORTARPINK_WRONG_MODE);
+    check_status(mortarpink_set_many(&bitmap, (const uint64_t[]){1, 2}, 2, 1, &out.size), MORTARPINK_NOT_IN_BATCH);
     check_equal(out.size, 0);
     check_value(mortarpink_set_many(&bitmap, (const uint64_t[]){1}, 0, 1, &out.size), out.size, 0);
     check(has_bits(visible(&bitmap), "101"));
 
     check_done(mortarpink_begin(&bitmap));
     push_text(&bitmap, "1");
-    check_unwritten(mortarpink_encode(&bitmap, out.bytes, sizeof out.bytes, &out.size), MORTARPINK_WRONG_MODE);
-    check_past_reads(&bitmap, 1, MORTARPINK_WRONG_MODE);
-    check_commit_calls(&bitmap, MORTARPINK_WRONG_MODE);
+    check_unwritten(mortarpink_encode(&bitmap, out.bytes, sizeof out.bytes, &out.size), MORTARPINK_IN_BATCH);
+    check_past_reads(&bitmap, 1, MORTARPINK_IN_BATCH);
+    check_commit_calls(&bitmap, MORTARPINK_IN_BATCH);
     check(has_bits(visible(&bitmap), "1011"));
     check_done(mortarpink_abort(&bitmap));
     check(has_bits(visible(&bitmap), "101"));
@@ -1332,7 +1332,7 @@ static void test_delta_errors(void) {
     check_unwritten(apply_with(&other, 0, "", DELTA), MORTARPINK_NOT_AT_BASE);
     check_done(mortarpink_free(&other));
     check_done(mortarpink_begin(&bitmap));
-    check_unwritten(apply_with(&bitmap, 0, "", DELTA), MORTARPINK_WRONG_MODE);
+    check_unwritten(apply_with(&bitmap, 0, "", DELTA), MORTARPINK_IN_BATCH);
     check_done(mortarpink_set(&bitmap, 9, 0));
     commit(&bitmap, 3);
     check_unwritten(apply_with(&bitmap, 0, "", DELTA), MORTARPINK_NOT_AT_BASE);
@@ -1401,7 +1401,7 @@ static void test_log(void) {
     make_both(&bitmap);
     check_log_calls(&bitmap, MORTARPINK_NO_LOG);
     check_done(mortarpink_begin(&bitmap));
-    check_unwritten(mortarpink_log_begin(&bitmap), MORTARPINK_WRONG_MODE);
+    check_unwritten(mortarpink_log_begin(&bitmap), MORTARPINK_IN_BATCH);
     check_log_calls(&bitmap, MORTARPINK_NO_LOG);
     check_done(mortarpink_abort(&bitmap));
     check_unwritten(mortarpink_log_begin(&bitmap), MORTARPINK_DONE);
@@ -1463,13 +1463,13 @@ static void test_log_entries(uint32_t width) {
     position -= of_commit;
     check_entry(&bitmap, of_commit, &position);
 
-    check_unwritten(mortarpink_commit(&bitmap, 2, &out.number), MORTARPINK_WRONG_MODE);
+    check_unwritten(mortarpink_commit(&bitmap, 2, &out.number), MORTARPINK_NOT_IN_BATCH);
     check_done(mortarpink_begin(&bitmap));
     push_text(&bitmap, "1");
     check_unwritten(mortarpink_commit(&bitmap, UINT64_MAX, &out.number), MORTARPINK_RESERVED_COMMIT_NUMBER);
-    check_unwritten(mortarpink_rewind(&bitmap, 1), MORTARPINK_WRONG_MODE);
-    check_unwritten(mortarpink_drop_before(&bitmap, 1, &out.number), MORTARPINK_WRONG_MODE);
-    check_unwritten(mortarpink_clear(&bitmap), MORTARPINK_WRONG_MODE);
+    check_unwritten(mortarpink_rewind(&bitmap, 1), MORTARPINK_IN_BATCH);
+    check_unwritten(mortarpink_drop_before(&bitmap, 1, &out.number), MORTARPINK_IN_BATCH);
+    check_unwritten(mortarpink_clear(&bitmap), MORTARPINK_IN_BATCH);
     check_entry(&bitmap, 0, &position);
     commit(&bitmap, 2);
     check_entry(&bitmap, of_commit, &position);
@@ -1594,7 +1594,7 @@ static void test_recover(uint32_t width) {
     check_recovered(&copy, width, file.bytes, file.size, file.size);
     check(log_digest(&copy) == log_digest(&bitmap));
     check(has_bits(visible(&copy), "101"));
-    check_unwritten(mortarpink_push(&copy, 1), MORTARPINK_WRONG_MODE);
+    check_unwritten(mortarpink_push(&copy, 1), MORTARPINK_NOT_IN_BATCH);
     check_page(mortarpink_commits(&copy, 0, out.numbers, 8, &out.size), (const uint64_t[]){1}, 1);
     commit_text(&copy, "11", 2);
     write_log(&file, &copy);

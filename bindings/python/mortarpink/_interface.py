@@ -11,7 +11,7 @@ VERSION = 1
 
 # The statuses.
 DONE = 0
-WRONG_MODE = 1
+IN_BATCH = 1
 OUT_OF_BOUNDS = 2
 PRUNED = 3
 TOO_LONG = 4
@@ -37,6 +37,7 @@ OUT_OF_RANGE = 23
 NOT_AT_BASE = 24
 HAS_LOG = 25
 NO_LOG = 26
+NOT_IN_BATCH = 27
 
 
 class Handle(ctypes.Structure):

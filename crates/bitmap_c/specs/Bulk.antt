@@ -5,13 +5,13 @@ use Rattle.bitmap_session.specs.Laws.{StepsOn}
 use Rattle.bitmap_session.specs.Machine.{Machine, State}
 use Rattle.bitmap_session.specs.Replies.{Refusal}
 use Rattle.bitmap_c.specs.declared.any.AnySession.{AnySession}
-use Rattle.bitmap_c.specs.Statuses.{refusal_status}
+use Rattle.bitmap_c.specs.Statuses.{edit_refusal_status}
 use Rattle.bitmap_c.specs.Widths.{KeepsLog, machine, width}
 
 -- the status of a call that edits: DONE, or that of its refusal
 abbrev pub edit_status : Option Refusal → ℕ
 edit_status None = 0
-edit_status (Some refusal) = refusal_status refusal
+edit_status (Some refusal) = edit_refusal_status refusal
 
 -- a session of any width makes the edits of a call, or is refused for a reason; its width and its log are the same afterwards
 abbrev pub EditsAny : AnySession → ((N : ℕ) → State → EditCall) → Option Refusal → AnySession → Type 0
@@ -44,7 +44,7 @@ CallsEditChunk size (Some old) call status new =
 unfoldable pub SetsMany : ℕ → Machine → List ℕ → Bool → ℕ → ℕ → Machine → Type 0
 SetsMany N old positions value count status new =
     ((status ≡ 0) × (count ≡ length positions) × StepsOn N old (set_steps N positions value) new)
-    ⊎ ((count < length positions) × ((refusal : Refusal) × (status ≡ refusal_status refusal)
+    ⊎ ((count < length positions) × ((refusal : Refusal) × (status ≡ edit_refusal_status refusal)
     × StepsOn N old (stopped_steps N positions value count refusal) new))
 
 -- the same of a session of any width, which is the same afterwards, and so is the log

@@ -5,7 +5,7 @@ use Rattle.bitmap_session.specs.declared.command.Command.TheVariants.{PushByte}
 use Rattle.bitmap_session.specs.Replies.{ReplyValue}
 use Rattle.bitmap_session.specs.Machine.{Machine, Agrees, StepTo}
 use Rattle.bitmap_c.specs.declared.any.AnySession.{AnySession}
-use Rattle.bitmap_c.specs.Reports.{Reports}
+use Rattle.bitmap_c.specs.Reports.{ReportsEdit}
 use Rattle.bitmap_c.specs.Widths.{KeepsLog, width, machine}
 
 -- a session makes one step of the machine of its width, and the reply has the property
@@ -41,14 +41,14 @@ CallsChunk size (Some old) command Says Empty Wrong new =
 -- each byte is pushed by a step of its own, and each of these steps is accepted
 abbrev pub Pushed : ℕ → Machine → List ℕ → Machine → Type 0
 Pushed N old [] new = new ≡ old
-Pushed N old (byte ∷ bytes) new = (mid : Machine) × Serves N old (PushByte byte) (Reports 0) mid × Pushed N mid bytes new
+Pushed N old (byte ∷ bytes) new = (mid : Machine) × Serves N old (PushByte byte) (ReportsEdit 0) mid × Pushed N mid bytes new
 
 -- a session pushes the first `count` bytes; these are all, or the step of the next byte has the status, which is not DONE
 unfoldable pub PushesBytes : ℕ → Machine → List ℕ → ℕ → ℕ → Machine → Type 0
 PushesBytes N old bytes count status new =
     (mid : Machine) × Pushed N old (take count bytes) mid
     × (((status ≡ 0) × (count ≡ length bytes) × (new ≡ mid))
-    ⊎ ((0 < status) × (count < length bytes) × Serves N mid (PushByte (slice_index_or bytes count 0)) (Reports status) new))
+    ⊎ ((0 < status) × (count < length bytes) × Serves N mid (PushByte (slice_index_or bytes count 0)) (ReportsEdit status) new))
 
 -- the same of a session of any width, which is the same afterwards, and so is the log
 abbrev pub PushesAnyBytes : AnySession → List ℕ → ℕ → ℕ → AnySession → Type 0

@@ -97,7 +97,7 @@ CallsApplyLogged (Some old) bytes status new = (now : AnySession) × (new ≡ So
 abbrev pub first_log : ℕ → Machine → LogView
 first_log n m = record { bytes = history_bytes n (kept_part m.state); place = history_place n (kept_part m.state) }
 
--- a session that has a log keeps it, with HAS_LOG, and one in a batch gets none, with WRONG_MODE. Another one gets a log, which makes what the session keeps, or none, with NO_MEMORY
+-- a session that has a log keeps it, with HAS_LOG, and one in a batch gets none, with IN_BATCH. Another one gets a log, which makes what the session keeps, or none, with NO_MEMORY
 abbrev pub Begins : ℕ → ℕ → Machine → Option LogView → Option LogView → Type 0
 Begins status n m (Some log) new = (status ≡ 25) × (new ≡ Some log)
 Begins status n m None new = MatchOption (wants_no_batch m.state)

@@ -52,7 +52,7 @@ ChecksOut (Some old) number None status new = MatchOption (checkout_refusal (mac
     (Fills (IsVersion old number) status new)
     (λ refusal. (status ≡ refusal_status refusal) × (new ≡ None))
 
--- adding an index, or dropping it, has the status EMPTY_HANDLE of an empty handle, and WRONG_MODE in a batch; otherwise it is DONE, or NO_MEMORY if the index was to be added
+-- adding an index, or dropping it, has the status EMPTY_HANDLE of an empty handle, and IN_BATCH in a batch; otherwise it is DONE, or NO_MEMORY if the index was to be added
 abbrev pub Indexes : Option AnySession → Bool → ℕ → Type 0
 Indexes None on status = status ≡ 15
 Indexes (Some old) on status = MatchOption (wants_no_batch (machine old).state)

@@ -3,7 +3,7 @@ use Rattle.std.specs.Prelude.{◌≡◌, ℕ, ◌-◌, ◌^◌, Bool, true, fals
 use Rattle.bitmap_session.specs.Replies.{ReplyValue}
 use Rattle.bitmap_session.specs.Replies.ReplyValue.{Done, Bit, Number, Wide, Chunk, Maybe, Positions, Bytes, Snapshot, Read, Refused}
 use Rattle.bitmap_session.specs.Replies.Refusal.{NonMonotonicCommit}
-use Rattle.bitmap_c.specs.Statuses.{refusal_status}
+use Rattle.bitmap_c.specs.Statuses.{edit_refusal_status, refusal_status}
 
 -- DONE if there is a value, and NONE otherwise
 abbrev pub found : {A : Type 0} → Option A → ℕ
@@ -15,7 +15,7 @@ abbrev pub found_bytes : Option (List ℕ) → ℕ
 found_bytes (Some bytes) = 0
 found_bytes None = 12
 
--- the status of a reply
+-- the status of a reply to a call that needs that there is no batch, or reads the pending bitmap in one
 abbrev pub reply_status : ReplyValue → ℕ
 reply_status Done = 0
 reply_status (Bit bit) = 0
@@ -28,6 +28,11 @@ reply_status (Bytes bytes) = found_bytes bytes
 reply_status (Snapshot bitmap) = found bitmap
 reply_status (Read bitmap left) = 0
 reply_status (Refused refusal) = refusal_status refusal
+
+-- the status of a reply to a call that needs a batch
+abbrev pub edit_reply_status : ReplyValue → ℕ
+edit_reply_status (Refused refusal) = edit_refusal_status refusal
+edit_reply_status reply = reply_status reply
 
 -- a bit as a byte
 abbrev pub bit_byte : Bool → ℕ
@@ -79,9 +84,17 @@ bytes_status reply size = reply_status reply
 unfoldable pub Reports : ℕ → ReplyValue → Type 0
 Reports status reply = status ≡ reply_status reply
 
+-- the status is that of the reply, to a call that needs a batch
+unfoldable pub ReportsEdit : ℕ → ReplyValue → Type 0
+ReportsEdit status reply = status ≡ edit_reply_status reply
+
 -- the status and a bit are those of the reply
 unfoldable pub ReportsBit : ℕ → ℕ → ℕ → ReplyValue → Type 0
 ReportsBit status old new reply = (status ≡ reply_status reply) × (new ≡ bit_or reply old)
+
+-- the status and a bit are those of the reply, to a call that needs a batch
+unfoldable pub ReportsPop : ℕ → ℕ → ℕ → ReplyValue → Type 0
+ReportsPop status old new reply = (status ≡ edit_reply_status reply) × (new ≡ bit_or reply old)
 
 -- the status and a number are those of the reply
 unfoldable pub ReportsNumber : ℕ → ℕ → ℕ → ReplyValue → Type 0
@@ -91,9 +104,9 @@ ReportsNumber status old new reply = (status ≡ reply_status reply) × (new ≡
 unfoldable pub ReportsEntries : ℕ → ℕ → ℕ → ReplyValue → Type 0
 ReportsEntries status old new reply = (status ≡ reply_status reply) × (new ≡ entries_or reply old)
 
--- the status and the last number are those of the reply
+-- the status and the last number are those of the reply, to a call that needs a batch
 unfoldable pub ReportsPrevious : ℕ → ℕ → ℕ → ReplyValue → Type 0
-ReportsPrevious status old new reply = (status ≡ reply_status reply) × (new ≡ previous_or reply old)
+ReportsPrevious status old new reply = (status ≡ edit_reply_status reply) × (new ≡ previous_or reply old)
 
 -- the status and the bytes of a chunk are those of the reply
 unfoldable pub ReportsChunk : ℕ → List ℕ → List ℕ → ReplyValue → Type 0

@@ -27,7 +27,7 @@ decode_status (Some (InvalidLength length)) = 10
 decode_status (Some (Invalid what why)) = 11
 decode_status None = 11
 
--- the status of a refusal
+-- the status of a refusal of a call that needs that there is no batch
 abbrev pub refusal_status : Refusal → ℕ
 refusal_status WrongMode = 1
 refusal_status OutOfBounds = 2
@@ -40,6 +40,11 @@ refusal_status PrunedChunksOverflow = 8
 refusal_status (Codec decode_error) = decode_status decode_error
 refusal_status NoSuchCommit = 12
 refusal_status NoMemory = 13
+
+-- the status of a refusal of a call that needs a batch: NOT_IN_BATCH in place of IN_BATCH
+abbrev pub edit_refusal_status : Refusal → ℕ
+edit_refusal_status WrongMode = 27
+edit_refusal_status refusal = refusal_status refusal
 
 -- the status of an error of a header: CUT_OFF if it is not whole, and otherwise WRONG_HEADER
 abbrev pub header_status : HeaderError → ℕ

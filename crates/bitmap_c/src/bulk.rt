@@ -7,7 +7,7 @@ ghost use Rattle.bitmap_c.specs.Bulk.{CallsEdit, CallsEditChunk, EditsAny, Edits
 
 use crate::any::AnySession;
 use crate::handle::Handle;
-use crate::status::{DONE, EMPTY_HANDLE, WRONG_SIZE, refusal_status};
+use crate::status::{DONE, EMPTY_HANDLE, WRONG_SIZE, edit_refusal_status};
 use bitmap_session::reply::Refusal;
 use bitmap_session::session::Session;
 use std::alloc::{AllocError, Global};
@@ -18,7 +18,7 @@ fn edit_status(edited: &Result<(), Refusal>) -> u32
 {
     match edited {
         Ok(()) => DONE,
-        Err(refusal) => refusal_status(refusal),
+        Err(refusal) => edit_refusal_status(refusal),
     }
 }
 
@@ -56,7 +56,7 @@ fn set_chunk(any: &mut AnySession, index: usize, bytes: &[u8]) -> u32
 /// | Status | If |
 /// |---|---|
 /// | `WRONG_SIZE` | the length of `bytes` is not the width |
-/// | `WRONG_MODE` | there is no batch |
+/// | `NOT_IN_BATCH` | there is no batch |
 /// | `OUT_OF_BOUNDS` | no bit of the chunk is below the length |
 /// | `PRUNED` | the chunk is pruned |
 /// | `NO_MEMORY` | an allocation fails |
@@ -94,7 +94,7 @@ fn set_range(any: &mut AnySession, from: u64, to: u64, bit: bool) -> Result<(), 
 ///
 /// | Status | If |
 /// |---|---|
-/// | `WRONG_MODE` | there is no batch |
+/// | `NOT_IN_BATCH` | there is no batch |
 /// | `OUT_OF_BOUNDS` | `to` is above the length, and above `from` |
 /// | `PRUNED` | the position `from` is pruned, and `to` is above `from` |
 /// | `NO_MEMORY` | an allocation fails |
@@ -125,7 +125,7 @@ fn truncate(any: &mut AnySession, length: u64) -> Result<(), Refusal>
 ///
 /// # Errors
 ///
-/// Returns `WRONG_MODE` outside a batch, `OUT_OF_BOUNDS` if `length` is above the length, and `PRUNED` if it is below the number of
+/// Returns `NOT_IN_BATCH` outside a batch, `OUT_OF_BOUNDS` if `length` is above the length, and `PRUNED` if it is below the number of
 /// pruned bits.
 ///
 /// # Memory
@@ -155,7 +155,7 @@ fn extend_to(any: &mut AnySession, length: u64) -> Result<(), Refusal>
 ///
 /// # Errors
 ///
-/// Returns `WRONG_MODE` outside a batch, and `NO_MEMORY` if an allocation fails.
+/// Returns `NOT_IN_BATCH` outside a batch, and `NO_MEMORY` if an allocation fails.
 ///
 /// # Memory
 ///
@@ -217,7 +217,7 @@ fn push_bits(alloc: Global, any: &mut AnySession, bytes: &[u8]) -> Result<(), Re
 ///
 /// # Errors
 ///
-/// Returns `WRONG_MODE` outside a batch, `TOO_LONG` if the length would pass 2^64 - 1, and `NO_MEMORY` if an allocation fails.
+/// Returns `NOT_IN_BATCH` outside a batch, `TOO_LONG` if the length would pass 2^64 - 1, and `NO_MEMORY` if an allocation fails.
 ///
 /// # Memory
 ///

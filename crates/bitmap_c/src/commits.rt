@@ -8,7 +8,7 @@ ghost use Rattle.bitmap_c.specs.Widths.{machine, width};
 use crate::any::AnySession;
 use crate::handle::Handle;
 use crate::pages::write_page;
-use crate::status::{DONE, EMPTY_HANDLE, NO_SUCH_COMMIT, WRONG_MODE};
+use crate::status::{DONE, EMPTY_HANDLE, IN_BATCH, NO_SUCH_COMMIT};
 use bitmap_session::session::Session;
 
 // Writes a page of the kept commit numbers that are at least `from`.
@@ -22,7 +22,7 @@ fn numbers_of<const N: usize>(
         (numbers_read session.now from) }
 {
     let Some(mut numbers) = session.commits_from(from) else {
-        return WRONG_MODE;
+        return IN_BATCH;
     };
     *count = write_page(&mut numbers, out);
     DONE
@@ -49,7 +49,7 @@ fn changes_of<const N: usize>(
         (changes_read N session.now from to first) }
 {
     if session.current().is_none() {
-        return WRONG_MODE;
+        return IN_BATCH;
     }
     let Some(mut chunks) = session.changed_chunks(from, to) else {
         return NO_SUCH_COMMIT;
@@ -80,7 +80,7 @@ fn changes(
 ///
 /// # Errors
 ///
-/// Returns `WRONG_MODE` in a batch. `count` and `out` are then unchanged.
+/// Returns `IN_BATCH` in a batch. `count` and `out` are then unchanged.
 ///
 /// # Memory
 ///
@@ -111,7 +111,7 @@ pub extern "C" fn mortarpink_commits(
 ///
 /// # Errors
 ///
-/// Returns `WRONG_MODE` in a batch, and `NO_SUCH_COMMIT` unless both commits are kept and `from` is at most `to`.
+/// Returns `IN_BATCH` in a batch, and `NO_SUCH_COMMIT` unless both commits are kept and `from` is at most `to`.
 /// `count` and `out` are then unchanged.
 ///
 /// # Memory

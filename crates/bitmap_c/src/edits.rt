@@ -3,12 +3,13 @@
 ghost use Rattle.std.specs.Prelude.{◌≡◌, ◌==◌, length, not};
 ghost use Rattle.bitmap_c.specs.Calls.{Calls, CallsChunk, ServesAny, ServesAnyChunk};
 ghost use Rattle.bitmap_c.specs.Logged.{CallsLogged, ServesAnyLogged};
-ghost use Rattle.bitmap_c.specs.Reports.{Reports, ReportsBit, ReportsPrevious};
+ghost use Rattle.bitmap_c.specs.Reports.{Reports, ReportsEdit, ReportsPop, ReportsPrevious};
 
 use crate::any::AnySession;
 use crate::handle::Handle;
 use crate::run::{
-    run, run_commit, run_pop, run_prune, run_push, run_push_byte, run_push_chunk, run_set,
+    run, run_abort, run_commit, run_pop, run_prune, run_push, run_push_byte, run_push_chunk,
+    run_set,
 };
 use crate::status::{EMPTY_HANDLE, WRONG_SIZE};
 use bitmap_session::command::Command;
@@ -24,7 +25,7 @@ fn begin(any: &mut AnySession) -> u32
 ///
 /// # Errors
 ///
-/// Returns `WRONG_MODE` in a batch.
+/// Returns `IN_BATCH` in a batch.
 ///
 /// # Memory
 ///
@@ -43,7 +44,7 @@ pub extern "C" fn mortarpink_begin(bitmap: &mut Handle) -> u32
 
 #[tactic(auto, unfolding(crate::specs::Calls::ServesAny))]
 fn push(any: &mut AnySession, bit: bool) -> u32
-    ensures { ServesAny any.old (λ N. Command.Push bit) (Reports result) any.new }
+    ensures { ServesAny any.old (λ N. Command.Push bit) (ReportsEdit result) any.new }
 {
     at_width!(any, session => run_push(session, bit))
 }
@@ -52,7 +53,7 @@ fn push(any: &mut AnySession, bit: bool) -> u32
 ///
 /// # Errors
 ///
-/// Returns `WRONG_MODE` outside a batch, `TOO_LONG` if the length would pass 2^64 - 1, and `NO_MEMORY` if an allocation fails.
+/// Returns `NOT_IN_BATCH` outside a batch, `TOO_LONG` if the length would pass 2^64 - 1, and `NO_MEMORY` if an allocation fails.
 ///
 /// # Memory
 ///
@@ -63,7 +64,7 @@ fn push(any: &mut AnySession, bit: bool) -> u32
 /// Amortized constant.
 #[unsafe(no_mangle)]
 pub extern "C" fn mortarpink_push(bitmap: &mut Handle, bit: u8) -> u32
-    ensures step { Calls bitmap.old.value (λ N. Command.Push (not (bit == 0))) (Reports result)
+    ensures step { Calls bitmap.old.value (λ N. Command.Push (not (bit == 0))) (ReportsEdit result)
         (result ≡ EMPTY_HANDLE) bitmap.new.value }
 {
     in_handle!(bitmap, any => push(any, bit != 0))
@@ -71,7 +72,7 @@ pub extern "C" fn mortarpink_push(bitmap: &mut Handle, bit: u8) -> u32
 
 #[tactic(auto, unfolding(crate::specs::Calls::ServesAny))]
 fn push_byte(any: &mut AnySession, byte: u8) -> u32
-    ensures { ServesAny any.old (λ N. Command.PushByte byte) (Reports result) any.new }
+    ensures { ServesAny any.old (λ N. Command.PushByte byte) (ReportsEdit result) any.new }
 {
     at_width!(any, session => run_push_byte(session, byte))
 }
@@ -91,7 +92,7 @@ fn push_byte(any: &mut AnySession, byte: u8) -> u32
 /// Amortized constant.
 #[unsafe(no_mangle)]
 pub extern "C" fn mortarpink_push_byte(bitmap: &mut Handle, byte: u8) -> u32
-    ensures step { Calls bitmap.old.value (λ N. Command.PushByte byte) (Reports result)
+    ensures step { Calls bitmap.old.value (λ N. Command.PushByte byte) (ReportsEdit result)
         (result ≡ EMPTY_HANDLE) bitmap.new.value }
 {
     in_handle!(bitmap, any => push_byte(any, byte))
@@ -100,7 +101,7 @@ pub extern "C" fn mortarpink_push_byte(bitmap: &mut Handle, byte: u8) -> u32
 #[tactic(auto, unfolding(crate::specs::Calls::ServesAnyChunk))]
 fn push_chunk(any: &mut AnySession, bytes: &[u8]) -> u32
     ensures { ServesAnyChunk (length bytes.now) any.old (λ N. Command.PushChunk bytes.now)
-        (Reports result) (result ≡ WRONG_SIZE) any.new }
+        (ReportsEdit result) (result ≡ WRONG_SIZE) any.new }
 {
     at_width!(any, session => run_push_chunk(session, bytes))
 }
@@ -121,14 +122,14 @@ fn push_chunk(any: &mut AnySession, bytes: &[u8]) -> u32
 #[unsafe(no_mangle)]
 pub extern "C" fn mortarpink_push_chunk(bitmap: &mut Handle, bytes: &[u8]) -> u32
     ensures step { CallsChunk (length bytes.now) bitmap.old.value (λ N. Command.PushChunk bytes.now)
-        (Reports result) (result ≡ EMPTY_HANDLE) (result ≡ WRONG_SIZE) bitmap.new.value }
+        (ReportsEdit result) (result ≡ EMPTY_HANDLE) (result ≡ WRONG_SIZE) bitmap.new.value }
 {
     in_handle!(bitmap, any => push_chunk(any, bytes))
 }
 
 #[tactic(auto, unfolding(crate::specs::Calls::ServesAny))]
 fn pop(any: &mut AnySession, bit: &mut u8) -> u32
-    ensures { ServesAny any.old (λ N. Command.Pop) (ReportsBit result bit.old bit.new) any.new }
+    ensures { ServesAny any.old (λ N. Command.Pop) (ReportsPop result bit.old bit.new) any.new }
 {
     at_width!(any, session => run_pop(session, bit))
 }
@@ -137,7 +138,7 @@ fn pop(any: &mut AnySession, bit: &mut u8) -> u32
 ///
 /// # Errors
 ///
-/// Returns `WRONG_MODE` outside a batch, and `NO_RETAINED_BIT` if no bit is retained. `bit` is then unchanged.
+/// Returns `NOT_IN_BATCH` outside a batch, and `NO_RETAINED_BIT` if no bit is retained. `bit` is then unchanged.
 ///
 /// # Memory
 ///
@@ -148,7 +149,7 @@ fn pop(any: &mut AnySession, bit: &mut u8) -> u32
 /// Constant.
 #[unsafe(no_mangle)]
 pub extern "C" fn mortarpink_pop(bitmap: &mut Handle, bit: &mut u8) -> u32
-    ensures step { Calls bitmap.old.value (λ N. Command.Pop) (ReportsBit result bit.old bit.new)
+    ensures step { Calls bitmap.old.value (λ N. Command.Pop) (ReportsPop result bit.old bit.new)
         ((result ≡ EMPTY_HANDLE) × (bit.new ≡ bit.old)) bitmap.new.value }
 {
     in_handle!(bitmap, any => pop(any, bit))
@@ -156,7 +157,7 @@ pub extern "C" fn mortarpink_pop(bitmap: &mut Handle, bit: &mut u8) -> u32
 
 #[tactic(auto, unfolding(crate::specs::Calls::ServesAny))]
 fn set(any: &mut AnySession, position: u64, bit: bool) -> u32
-    ensures { ServesAny any.old (λ N. Command.Set position bit) (Reports result) any.new }
+    ensures { ServesAny any.old (λ N. Command.Set position bit) (ReportsEdit result) any.new }
 {
     at_width!(any, session => run_set(session, position, bit))
 }
@@ -165,7 +166,7 @@ fn set(any: &mut AnySession, position: u64, bit: bool) -> u32
 ///
 /// # Errors
 ///
-/// Returns `WRONG_MODE` outside a batch, `OUT_OF_BOUNDS` if the position is not below the length, `PRUNED` if it is pruned, and
+/// Returns `NOT_IN_BATCH` outside a batch, `OUT_OF_BOUNDS` if the position is not below the length, `PRUNED` if it is pruned, and
 /// `NO_MEMORY` if an allocation fails.
 ///
 /// # Memory
@@ -178,14 +179,14 @@ fn set(any: &mut AnySession, position: u64, bit: bool) -> u32
 #[unsafe(no_mangle)]
 pub extern "C" fn mortarpink_set(bitmap: &mut Handle, position: u64, bit: u8) -> u32
     ensures step { Calls bitmap.old.value (λ N. Command.Set position (not (bit == 0)))
-        (Reports result) (result ≡ EMPTY_HANDLE) bitmap.new.value }
+        (ReportsEdit result) (result ≡ EMPTY_HANDLE) bitmap.new.value }
 {
     in_handle!(bitmap, any => set(any, position, bit != 0))
 }
 
 #[tactic(auto, unfolding(crate::specs::Calls::ServesAny))]
 fn prune(any: &mut AnySession, position: u64) -> u32
-    ensures { ServesAny any.old (λ N. Command.Prune position) (Reports result) any.new }
+    ensures { ServesAny any.old (λ N. Command.Prune position) (ReportsEdit result) any.new }
 {
     at_width!(any, session => run_prune(session, position))
 }
@@ -194,7 +195,7 @@ fn prune(any: &mut AnySession, position: u64) -> u32
 ///
 /// # Errors
 ///
-/// Returns `WRONG_MODE` outside a batch, `OUT_OF_BOUNDS` if the position is above the length, and `NO_MEMORY` if an allocation
+/// Returns `NOT_IN_BATCH` outside a batch, `OUT_OF_BOUNDS` if the position is above the length, and `NO_MEMORY` if an allocation
 /// fails.
 ///
 /// # Memory
@@ -206,7 +207,7 @@ fn prune(any: &mut AnySession, position: u64) -> u32
 /// Amortized linear in the chunks pruned.
 #[unsafe(no_mangle)]
 pub extern "C" fn mortarpink_prune(bitmap: &mut Handle, position: u64) -> u32
-    ensures step { Calls bitmap.old.value (λ N. Command.Prune position) (Reports result)
+    ensures step { Calls bitmap.old.value (λ N. Command.Prune position) (ReportsEdit result)
         (result ≡ EMPTY_HANDLE) bitmap.new.value }
 {
     in_handle!(bitmap, any => prune(any, position))
@@ -233,7 +234,7 @@ fn commit(any: &mut AnySession, number: u64, previous: &mut u64) -> u32
 ///
 /// | Status | If |
 /// |---|---|
-/// | `WRONG_MODE` | there is no batch |
+/// | `NOT_IN_BATCH` | there is no batch |
 /// | `RESERVED_COMMIT_NUMBER` | the number is 2^64 - 1 |
 /// | `NON_MONOTONIC_COMMIT` | the number is not above the last one |
 /// | `NO_MEMORY` | an allocation fails, or the log would have 2^64 bytes or more |
@@ -258,16 +259,16 @@ pub extern "C" fn mortarpink_commit(bitmap: &mut Handle, number: u64, previous: 
 
 #[tactic(auto, unfolding(crate::specs::Calls::ServesAny))]
 fn abort(any: &mut AnySession) -> u32
-    ensures { ServesAny any.old (λ N. Command.Abort) (Reports result) any.new }
+    ensures { ServesAny any.old (λ N. Command.Abort) (ReportsEdit result) any.new }
 {
-    at_width!(any, session => run(session, Command::Abort))
+    at_width!(any, session => run_abort(session))
 }
 
 /// Ends the batch and drops its edits.
 ///
 /// # Errors
 ///
-/// Returns `WRONG_MODE` outside a batch.
+/// Returns `NOT_IN_BATCH` outside a batch.
 ///
 /// # Memory
 ///
@@ -278,7 +279,7 @@ fn abort(any: &mut AnySession) -> u32
 /// Linear in the chunks that the batch edited or pruned.
 #[unsafe(no_mangle)]
 pub extern "C" fn mortarpink_abort(bitmap: &mut Handle) -> u32
-    ensures step { Calls bitmap.old.value (λ N. Command.Abort) (Reports result)
+    ensures step { Calls bitmap.old.value (λ N. Command.Abort) (ReportsEdit result)
         (result ≡ EMPTY_HANDLE) bitmap.new.value }
 {
     in_handle!(bitmap, any => abort(any))

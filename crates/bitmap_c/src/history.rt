@@ -26,7 +26,7 @@ fn rewind(any: &mut AnySession, number: u64) -> u32
 ///
 /// # Errors
 ///
-/// Returns `WRONG_MODE` in a batch, `NO_SUCH_COMMIT` if no commit is kept under the number, and `NO_MEMORY` if an allocation fails,
+/// Returns `IN_BATCH` in a batch, `NO_SUCH_COMMIT` if no commit is kept under the number, and `NO_MEMORY` if an allocation fails,
 /// or the log would have 2^64 bytes or more.
 ///
 /// # Memory
@@ -56,7 +56,7 @@ fn exists(any: &AnySession, number: u64, exists: &mut u8) -> u32
 ///
 /// # Errors
 ///
-/// Returns `WRONG_MODE` in a batch. `exists` is then unchanged.
+/// Returns `IN_BATCH` in a batch. `exists` is then unchanged.
 ///
 /// # Memory
 ///
@@ -86,7 +86,7 @@ fn latest(any: &AnySession, number: &mut u64) -> u32
 ///
 /// # Errors
 ///
-/// Returns `WRONG_MODE` in a batch, and `NONE` if no commit is kept. `number` is then unchanged.
+/// Returns `IN_BATCH` in a batch, and `NONE` if no commit is kept. `number` is then unchanged.
 ///
 /// # Memory
 ///
@@ -116,7 +116,7 @@ fn earliest(any: &AnySession, number: &mut u64) -> u32
 ///
 /// # Errors
 ///
-/// Returns `WRONG_MODE` in a batch, and `NONE` if no commit is kept. `number` is then unchanged.
+/// Returns `IN_BATCH` in a batch, and `NONE` if no commit is kept. `number` is then unchanged.
 ///
 /// # Memory
 ///
@@ -149,7 +149,7 @@ fn drop_before(any: &mut AnySession, number: u64, dropped: &mut u64) -> u32
 ///
 /// # Errors
 ///
-/// Returns `WRONG_MODE` in a batch. Returns `NO_MEMORY` if the bitmap keeps a log and an allocation fails, or the log would have 2^64 bytes
+/// Returns `IN_BATCH` in a batch. Returns `NO_MEMORY` if the bitmap keeps a log and an allocation fails, or the log would have 2^64 bytes
 /// or more. `dropped` is then unchanged.
 ///
 /// # Memory
@@ -181,7 +181,7 @@ fn clear(any: &mut AnySession) -> u32
 ///
 /// # Errors
 ///
-/// Returns `WRONG_MODE` in a batch. Returns `NO_MEMORY` if the bitmap keeps a log and an allocation fails, or the log would have 2^64 bytes
+/// Returns `IN_BATCH` in a batch. Returns `NO_MEMORY` if the bitmap keeps a log and an allocation fails, or the log would have 2^64 bytes
 /// or more.
 ///
 /// # Memory
@@ -215,7 +215,7 @@ fn entries(any: &AnySession, entries: &mut u64) -> u32
 ///
 /// # Errors
 ///
-/// Returns `WRONG_MODE` in a batch. `entries` is then unchanged.
+/// Returns `IN_BATCH` in a batch. `entries` is then unchanged.
 ///
 /// # Memory
 ///

@@ -10,7 +10,7 @@ ghost use Rattle.bitmap_c.specs.Widths.{log_of};
 use crate::any::AnySession;
 use crate::handle::Handle;
 use crate::run::copy_bytes;
-use crate::status::{DONE, EMPTY_HANDLE, HAS_LOG, NO_LOG, NO_MEMORY, WRONG_MODE};
+use crate::status::{DONE, EMPTY_HANDLE, HAS_LOG, IN_BATCH, NO_LOG, NO_MEMORY};
 use bitmap_session::session::{SaveError, Session};
 use commit_log::Log;
 use std::alloc::Global;
@@ -27,7 +27,7 @@ fn begin_of<const N: usize>(alloc: Global, session: &Session<N>, log: &mut Optio
             *log = Some(begun);
             DONE
         }
-        Err(SaveError::InBatch) => WRONG_MODE,
+        Err(SaveError::InBatch) => IN_BATCH,
         Err(SaveError::Memory(_)) => NO_MEMORY,
     }
 }
@@ -52,7 +52,7 @@ fn begin(alloc: Global, any: &mut AnySession) -> u32
 /// | Status | If |
 /// |---|---|
 /// | `HAS_LOG` | the bitmap keeps a log |
-/// | `WRONG_MODE` | there is a batch |
+/// | `IN_BATCH` | there is a batch |
 /// | `NO_MEMORY` | an allocation fails |
 ///
 /// # Memory

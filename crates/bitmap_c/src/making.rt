@@ -325,7 +325,7 @@ fn start(any: &mut AnySession, pruned_chunks: usize) -> u32
 ///
 /// # Errors
 ///
-/// Returns `HAS_LOG` if the bitmap keeps a log, since a log goes on from its first state. Otherwise returns `WRONG_MODE` in a batch, and
+/// Returns `HAS_LOG` if the bitmap keeps a log, since a log goes on from its first state. Otherwise returns `IN_BATCH` in a batch, and
 /// `PRUNED_CHUNKS_OVERFLOW` if the number of pruned bits would pass 2^64 - 1.
 ///
 /// # Memory

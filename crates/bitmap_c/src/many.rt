@@ -8,7 +8,7 @@ ghost use Rattle.bitmap_c.specs.Calls.{CallsPushBytes, PushesAnyBytes, PushesByt
 use crate::any::AnySession;
 use crate::handle::Handle;
 use crate::run::run_push_byte;
-use crate::status::{DONE, EMPTY_HANDLE, refusal_status};
+use crate::status::{DONE, EMPTY_HANDLE, edit_refusal_status};
 use bitmap_session::session::Session;
 
 // Pushes the bytes in order, up to the first one that is refused. Returns its status, and writes the number of bytes pushed.
@@ -75,7 +75,7 @@ fn set_each<const N: usize>(
         }
         Err((set, refusal)) => {
             *count = set;
-            refusal_status(&refusal)
+            edit_refusal_status(&refusal)
         }
     }
 }

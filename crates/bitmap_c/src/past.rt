@@ -11,7 +11,7 @@ use crate::handle::Handle;
 use crate::pages::write_ones;
 use crate::queries::{Query, number_read};
 use crate::status::{
-    DONE, EMPTY_HANDLE, NO_SUCH_COMMIT, NONE, OUT_OF_BOUNDS, PRUNED, WRONG_MODE, WRONG_SIZE,
+    DONE, EMPTY_HANDLE, IN_BATCH, NO_SUCH_COMMIT, NONE, OUT_OF_BOUNDS, PRUNED, WRONG_SIZE,
 };
 use bitmap_core::bitmap::Readable;
 use bitmap_core::chunk::chunk_index;
@@ -22,7 +22,7 @@ fn number_of<const N: usize>(session: &Session<N>, number: u64, query: Query, ou
     ensures { Returns result out.old out.new (session_commit N session.now number (queried query)) }
 {
     if session.current().is_none() {
-        return WRONG_MODE;
+        return IN_BATCH;
     }
     let Some(bitmap) = session.at(number) else {
         return NO_SUCH_COMMIT;
@@ -48,7 +48,7 @@ fn bit_of<const N: usize>(session: &Session<N>, number: u64, position: u64, bit:
         (session_commit N session.now number (λ N b. bit_read N b position)) }
 {
     if session.current().is_none() {
-        return WRONG_MODE;
+        return IN_BATCH;
     }
     let Some(bitmap) = session.at(number) else {
         return NO_SUCH_COMMIT;
@@ -77,7 +77,7 @@ fn chunk_of<const N: usize>(session: &Session<N>, number: u64, position: u64, ou
         (session_commit N session.now number (λ N b. chunk_read N b position (length out.old))) }
 {
     if session.current().is_none() {
-        return WRONG_MODE;
+        return IN_BATCH;
     }
     let Some(bitmap) = session.at(number) else {
         return NO_SUCH_COMMIT;
@@ -118,7 +118,7 @@ fn ones_of<const N: usize>(
         (session_commit N session.now number (λ N b. ones_read N b from to)) }
 {
     if session.current().is_none() {
-        return WRONG_MODE;
+        return IN_BATCH;
     }
     let Some(bitmap) = session.at(number) else {
         return NO_SUCH_COMMIT;
@@ -148,7 +148,7 @@ fn any_ones(
 ///
 /// # Errors
 ///
-/// Returns `WRONG_MODE` in a batch, and `NO_SUCH_COMMIT` if no commit is kept under `number`. `len` is then unchanged.
+/// Returns `IN_BATCH` in a batch, and `NO_SUCH_COMMIT` if no commit is kept under `number`. `len` is then unchanged.
 ///
 /// # Memory
 ///
@@ -170,7 +170,7 @@ pub extern "C" fn mortarpink_len_at(bitmap: &mut Handle, number: u64, len: &mut 
 ///
 /// # Errors
 ///
-/// Returns `WRONG_MODE` in a batch, and `NO_SUCH_COMMIT` if no commit is kept under `number`. `chunks` is then unchanged.
+/// Returns `IN_BATCH` in a batch, and `NO_SUCH_COMMIT` if no commit is kept under `number`. `chunks` is then unchanged.
 ///
 /// # Memory
 ///
@@ -202,7 +202,7 @@ pub extern "C" fn mortarpink_pruned_chunks_at(
 ///
 /// | Status | If |
 /// |---|---|
-/// | `WRONG_MODE` | there is a batch |
+/// | `IN_BATCH` | there is a batch |
 /// | `NO_SUCH_COMMIT` | no commit is kept under `number` |
 /// | `OUT_OF_BOUNDS` | the position is not below the length |
 /// | `PRUNED` | the position is pruned |
@@ -238,7 +238,7 @@ pub extern "C" fn mortarpink_get_at(
 ///
 /// | Status | If |
 /// |---|---|
-/// | `WRONG_MODE` | there is a batch |
+/// | `IN_BATCH` | there is a batch |
 /// | `NO_SUCH_COMMIT` | no commit is kept under `number` |
 /// | `WRONG_SIZE` | the length of `out` is not the width |
 /// | `OUT_OF_BOUNDS` | the position is not below the length |
@@ -272,7 +272,7 @@ pub extern "C" fn mortarpink_chunk_at(
 ///
 /// # Errors
 ///
-/// Returns `WRONG_MODE` in a batch, and `NO_SUCH_COMMIT` if no commit is kept under `number`. `count` and `out` are then unchanged.
+/// Returns `IN_BATCH` in a batch, and `NO_SUCH_COMMIT` if no commit is kept under `number`. `count` and `out` are then unchanged.
 ///
 /// # Memory
 ///
@@ -303,7 +303,7 @@ pub extern "C" fn mortarpink_ones_at(
 ///
 /// # Errors
 ///
-/// Returns `WRONG_MODE` in a batch, `NO_SUCH_COMMIT` if no commit is kept under `number`, and `NONE` if there is no such position.
+/// Returns `IN_BATCH` in a batch, `NO_SUCH_COMMIT` if no commit is kept under `number`, and `NONE` if there is no such position.
 /// `position` is then unchanged.
 ///
 /// # Memory
@@ -333,7 +333,7 @@ pub extern "C" fn mortarpink_next_one_at(
 ///
 /// # Errors
 ///
-/// Returns `WRONG_MODE` in a batch, `NO_SUCH_COMMIT` if no commit is kept under `number`, and `NONE` if there is no such position.
+/// Returns `IN_BATCH` in a batch, `NO_SUCH_COMMIT` if no commit is kept under `number`, and `NONE` if there is no such position.
 /// `position` is then unchanged.
 ///
 /// # Memory
@@ -363,7 +363,7 @@ pub extern "C" fn mortarpink_next_zero_at(
 ///
 /// # Errors
 ///
-/// Returns `WRONG_MODE` in a batch, `NO_SUCH_COMMIT` if no commit is kept under `number`, and `NONE` if there is no such position.
+/// Returns `IN_BATCH` in a batch, `NO_SUCH_COMMIT` if no commit is kept under `number`, and `NONE` if there is no such position.
 /// `position` is then unchanged.
 ///
 /// # Memory
@@ -393,7 +393,7 @@ pub extern "C" fn mortarpink_prev_one_at(
 ///
 /// # Errors
 ///
-/// Returns `WRONG_MODE` in a batch, `NO_SUCH_COMMIT` if no commit is kept under `number`, and `NONE` if there is no such position.
+/// Returns `IN_BATCH` in a batch, `NO_SUCH_COMMIT` if no commit is kept under `number`, and `NONE` if there is no such position.
 /// `position` is then unchanged.
 ///
 /// # Memory
@@ -423,7 +423,7 @@ pub extern "C" fn mortarpink_prev_zero_at(
 ///
 /// # Errors
 ///
-/// Returns `WRONG_MODE` in a batch, and `NO_SUCH_COMMIT` if no commit is kept under `number`. `count` is then unchanged.
+/// Returns `IN_BATCH` in a batch, and `NO_SUCH_COMMIT` if no commit is kept under `number`. `count` is then unchanged.
 ///
 /// # Memory
 ///
@@ -453,7 +453,7 @@ pub extern "C" fn mortarpink_count_ones_at(
 ///
 /// # Errors
 ///
-/// Returns `WRONG_MODE` in a batch, `NO_SUCH_COMMIT` if no commit is kept under `number`, and `NONE` if there is no such position.
+/// Returns `IN_BATCH` in a batch, `NO_SUCH_COMMIT` if no commit is kept under `number`, and `NONE` if there is no such position.
 /// `position` is then unchanged.
 ///
 /// # Memory

@@ -141,7 +141,7 @@ fn encode(any: &AnySession, out: &mut [u8], size: &mut usize) -> u32
 ///
 /// # Errors
 ///
-/// Returns `WRONG_MODE` in a batch, `NO_MEMORY` if an allocation fails, and `WRONG_SIZE` if the length of `out` is not the size of the
+/// Returns `IN_BATCH` in a batch, `NO_MEMORY` if an allocation fails, and `WRONG_SIZE` if the length of `out` is not the size of the
 /// encoding. `out` is then unchanged. `size` is written with `WRONG_SIZE` too, and otherwise unchanged.
 ///
 /// # Memory

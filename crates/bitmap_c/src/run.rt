@@ -6,15 +6,15 @@ ghost use Rattle.bitmap_session.specs.Abstraction.{value_of};
 ghost use Rattle.bitmap_session.specs.Replies.ReplyValue.{Bytes};
 ghost use Rattle.bitmap_c.specs.Calls.{Serves, ServesChunk};
 ghost use Rattle.bitmap_c.specs.Logged.{ServesLogged, StepsLogged};
-ghost use Rattle.bitmap_c.specs.Reports.{Reports, ReportsBit, ReportsBytes, ReportsChunk, ReportsEntries, ReportsNumber, ReportsPrevious, bit_or, chunk_or, entries_or, number_or, previous_or, reply_status};
+ghost use Rattle.bitmap_c.specs.Reports.{Reports, ReportsBit, ReportsBytes, ReportsChunk, ReportsEdit, ReportsEntries, ReportsNumber, ReportsPop, ReportsPrevious, bit_or, chunk_or, edit_reply_status, entries_or, number_or, previous_or, reply_status};
 
-use crate::status::{DONE, NO_SUCH_COMMIT, NONE, WRONG_SIZE, refusal_status};
+use crate::status::{DONE, NO_SUCH_COMMIT, NONE, WRONG_SIZE, edit_refusal_status, refusal_status};
 use bitmap_session::command::Command;
 use bitmap_session::reply::{Refusal, Reply};
 use bitmap_session::session::Session;
 use commit_log::Log;
 
-// Returns the status of a reply.
+// Returns the status of a reply to a call that needs that there is no batch, or reads the pending bitmap in one.
 fn reply_status<const N: usize>(reply: &Reply<N>) -> u32
     ensures { result ≡ reply_status (value_of reply.now) }
 {
@@ -26,15 +26,33 @@ fn reply_status<const N: usize>(reply: &Reply<N>) -> u32
     }
 }
 
+// Returns the status of a reply to a call that needs a batch.
+fn edit_reply_status<const N: usize>(reply: &Reply<N>) -> u32
+    ensures { result ≡ edit_reply_status (value_of reply.now) }
+{
+    match reply {
+        Reply::Refused(refusal) => edit_refusal_status(refusal),
+        _ => reply_status(reply),
+    }
+}
+
+// Writes the bit of a reply.
+#[inline(always)]
+fn write_bit<const N: usize>(reply: &Reply<N>, bit: &mut u8)
+    ensures { bit.new ≡ bit_or (value_of reply.now) bit.old }
+{
+    if let Reply::Bit(value) = reply {
+        *bit = *value as u8;
+    }
+}
+
 // Returns the status of a reply, and writes its bit.
 #[inline(always)]
 fn report_bit<const N: usize>(reply: &Reply<N>, bit: &mut u8) -> u32
     ensures status { result ≡ reply_status (value_of reply.now) }
     ensures bit { bit.new ≡ bit_or (value_of reply.now) bit.old }
 {
-    if let Reply::Bit(value) = reply {
-        *bit = *value as u8;
-    }
+    write_bit(reply, bit);
     reply_status(reply)
 }
 
@@ -61,15 +79,15 @@ fn report_entries<const N: usize>(reply: &Reply<N>, entries: &mut u64) -> u32
     reply_status(reply)
 }
 
-// Returns the status of a reply, and writes the last number if it refuses a commit number that is not above it.
+// Returns the status of the reply to a commit, and writes the last number if it refuses a commit number that is not above it.
 fn report_previous<const N: usize>(reply: &Reply<N>, previous: &mut u64) -> u32
-    ensures status { result ≡ reply_status (value_of reply.now) }
+    ensures status { result ≡ edit_reply_status (value_of reply.now) }
     ensures previous { previous.new ≡ previous_or (value_of reply.now) previous.old }
 {
     if let Reply::Refused(Refusal::NonMonotonicCommit { previous: last, .. }) = reply {
         *previous = *last;
     }
-    reply_status(reply)
+    edit_reply_status(reply)
 }
 
 // Writes a chunk to a buffer of its size.
@@ -218,63 +236,74 @@ pub fn run_chunk<const N: usize>(session: &Session<N>, position: u64, out: &mut 
 }
 
 /// Runs `Push` in place, and returns the status of its reply.
-#[tactic(auto, unfolding(crate::specs::Calls::Serves, crate::specs::Reports::Reports))]
+#[tactic(auto, unfolding(crate::specs::Calls::Serves, crate::specs::Reports::ReportsEdit))]
 pub fn run_push<const N: usize>(session: &mut Session<N>, bit: bool) -> u32
     requires width { IsWidth N }
-    ensures { Serves N session.old (Command.Push bit) (Reports result) session.new }
+    ensures { Serves N session.old (Command.Push bit) (ReportsEdit result) session.new }
 {
-    reply_status(&session.push(bit))
+    edit_reply_status(&session.push(bit))
 }
 
 /// Runs `PushByte` in place, and returns the status of its reply.
-#[tactic(auto, unfolding(crate::specs::Calls::Serves, crate::specs::Reports::Reports))]
+#[tactic(auto, unfolding(crate::specs::Calls::Serves, crate::specs::Reports::ReportsEdit))]
 pub fn run_push_byte<const N: usize>(session: &mut Session<N>, byte: u8) -> u32
     requires width { IsWidth N }
-    ensures { Serves N session.old (Command.PushByte byte) (Reports result) session.new }
+    ensures { Serves N session.old (Command.PushByte byte) (ReportsEdit result) session.new }
 {
-    reply_status(&session.push_byte(byte))
+    edit_reply_status(&session.push_byte(byte))
 }
 
 /// Runs `PushChunk` in place if the bytes have the size of a chunk, and returns the status of its reply.
-#[tactic(auto, unfolding(crate::specs::Calls::Serves, crate::specs::Calls::ServesChunk, crate::specs::Reports::Reports))]
+#[tactic(auto, unfolding(crate::specs::Calls::Serves, crate::specs::Calls::ServesChunk, crate::specs::Reports::ReportsEdit))]
 pub fn run_push_chunk<const N: usize>(session: &mut Session<N>, bytes: &[u8]) -> u32
     requires width { IsWidth N }
     ensures { ServesChunk N (length bytes.now) session.old (Command.PushChunk bytes.now)
-        (Reports result) (result ≡ WRONG_SIZE) session.new }
+        (ReportsEdit result) (result ≡ WRONG_SIZE) session.new }
 {
     if bytes.len() != N {
         return WRONG_SIZE;
     }
     let mut chunk = [0; N];
     chunk.copy_from_slice(bytes);
-    reply_status(&session.push_chunk(&chunk))
+    edit_reply_status(&session.push_chunk(&chunk))
 }
 
 /// Runs `Pop` in place, returns the status of its reply, and writes the bit.
-#[tactic(auto, unfolding(crate::specs::Calls::Serves, crate::specs::Reports::ReportsBit))]
+#[tactic(auto, unfolding(crate::specs::Calls::Serves, crate::specs::Reports::ReportsPop))]
 pub fn run_pop<const N: usize>(session: &mut Session<N>, bit: &mut u8) -> u32
     requires width { IsWidth N }
-    ensures { Serves N session.old Command.Pop (ReportsBit result bit.old bit.new) session.new }
+    ensures { Serves N session.old Command.Pop (ReportsPop result bit.old bit.new) session.new }
 {
-    report_bit(&session.pop(), bit)
+    let reply = session.pop();
+    write_bit(&reply, bit);
+    edit_reply_status(&reply)
 }
 
 /// Runs `Set` in place, and returns the status of its reply.
-#[tactic(auto, unfolding(crate::specs::Calls::Serves, crate::specs::Reports::Reports))]
+#[tactic(auto, unfolding(crate::specs::Calls::Serves, crate::specs::Reports::ReportsEdit))]
 pub fn run_set<const N: usize>(session: &mut Session<N>, position: u64, bit: bool) -> u32
     requires width { IsWidth N }
-    ensures { Serves N session.old (Command.Set position bit) (Reports result) session.new }
+    ensures { Serves N session.old (Command.Set position bit) (ReportsEdit result) session.new }
 {
-    reply_status(&session.set(position, bit))
+    edit_reply_status(&session.set(position, bit))
 }
 
 /// Runs `Prune` in place, and returns the status of its reply.
-#[tactic(auto, unfolding(crate::specs::Calls::Serves, crate::specs::Reports::Reports))]
+#[tactic(auto, unfolding(crate::specs::Calls::Serves, crate::specs::Reports::ReportsEdit))]
 pub fn run_prune<const N: usize>(session: &mut Session<N>, position: u64) -> u32
     requires width { IsWidth N }
-    ensures { Serves N session.old (Command.Prune position) (Reports result) session.new }
+    ensures { Serves N session.old (Command.Prune position) (ReportsEdit result) session.new }
 {
-    reply_status(&session.prune(position))
+    edit_reply_status(&session.prune(position))
+}
+
+/// Runs `Abort`, and returns the status of its reply.
+#[tactic(auto, unfolding(crate::specs::Calls::Serves, crate::specs::Reports::ReportsEdit))]
+pub fn run_abort<const N: usize>(session: &mut Session<N>) -> u32
+    requires width { IsWidth N }
+    ensures { Serves N session.old Command.Abort (ReportsEdit result) session.new }
+{
+    edit_reply_status(&session.serve(&Command::Abort))
 }
 
 /// Runs `Get` in place, returns the status of its reply, and writes the bit.

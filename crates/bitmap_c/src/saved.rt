@@ -199,7 +199,7 @@ fn apply_delta(any: &mut AnySession, bytes: &[u8]) -> u32
 ///
 /// # Errors
 ///
-/// Returns `WRONG_MODE` in a batch, `NO_MEMORY` if an allocation fails, and `WRONG_SIZE` if the length of `out` is not the size of the
+/// Returns `IN_BATCH` in a batch, `NO_MEMORY` if an allocation fails, and `WRONG_SIZE` if the length of `out` is not the size of the
 /// history. `out` is then unchanged. `size` is written with `WRONG_SIZE` too, and otherwise unchanged.
 ///
 /// # Memory
@@ -284,7 +284,7 @@ pub extern "C" fn mortarpink_load(
 ///
 /// # Errors
 ///
-/// Returns `WRONG_MODE` in a batch, and `NO_SUCH_COMMIT` unless both commits are kept and `from` is below `to`. `size` and `out` are then
+/// Returns `IN_BATCH` in a batch, and `NO_SUCH_COMMIT` unless both commits are kept and `from` is below `to`. `size` and `out` are then
 /// unchanged. Otherwise as `mortarpink_save`.
 ///
 /// # Memory
@@ -324,7 +324,7 @@ pub extern "C" fn mortarpink_delta(
 ///
 /// | Status | If |
 /// |---|---|
-/// | `WRONG_MODE` | there is a batch |
+/// | `IN_BATCH` | there is a batch |
 /// | `CUT_OFF` | there are fewer bytes than 88, which the shortest delta has |
 /// | `WRONG_HEADER` | the bytes do not begin as a delta, or their format has another version |
 /// | `DAMAGED` | the digest at the end is not that of the bytes before it, as in a delta that is cut off |

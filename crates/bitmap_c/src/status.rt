@@ -2,7 +2,7 @@
 
 ghost use Rattle.std.specs.Prelude.{◌≡◌, ◌<◌};
 ghost use Rattle.bitmap_session.specs.Abstraction.{reason};
-ghost use Rattle.bitmap_c.specs.Statuses.{apply_status, base_status, damage_status, delta_status, header_status, history_status, recover_status, refusal_status};
+ghost use Rattle.bitmap_c.specs.Statuses.{apply_status, base_status, damage_status, delta_status, edit_refusal_status, header_status, history_status, recover_status, refusal_status};
 
 use bitmap_core::bitmap::codec::CodecError;
 use bitmap_session::reply::Refusal;
@@ -13,8 +13,8 @@ use log_frames::HeaderError;
 /// The call succeeded.
 pub const DONE: u32 = 0;
 
-/// The call needs a batch and there is none, or the reverse.
-pub const WRONG_MODE: u32 = 1;
+/// There is a batch, and the call needs that there is none.
+pub const IN_BATCH: u32 = 1;
 
 /// The position is at or past the length; for a prune, past it.
 pub const OUT_OF_BOUNDS: u32 = 2;
@@ -91,6 +91,9 @@ pub const HAS_LOG: u32 = 25;
 /// The bitmap keeps no log.
 pub const NO_LOG: u32 = 26;
 
+/// There is no batch, and the call needs one.
+pub const NOT_IN_BATCH: u32 = 27;
+
 /// Returns the status of a decode error.
 pub fn codec_status(error: &CodecError) -> u32
     ensures { result ≡ refusal_status (reason (Refusal.Codec error.now)) }
@@ -102,12 +105,12 @@ pub fn codec_status(error: &CodecError) -> u32
     }
 }
 
-/// Returns the status of a refusal.
+/// Returns the status of a refusal of a call that needs that there is no batch.
 pub fn refusal_status(refusal: &Refusal) -> u32
     ensures { result ≡ refusal_status (reason refusal.now) }
 {
     match refusal {
-        Refusal::WrongMode => WRONG_MODE,
+        Refusal::WrongMode => IN_BATCH,
         Refusal::OutOfBounds => OUT_OF_BOUNDS,
         Refusal::Pruned => PRUNED,
         Refusal::TooLong => TOO_LONG,
@@ -118,6 +121,16 @@ pub fn refusal_status(refusal: &Refusal) -> u32
         Refusal::Codec(error) => codec_status(error),
         Refusal::NoSuchCommit => NO_SUCH_COMMIT,
         Refusal::NoMemory => NO_MEMORY,
+    }
+}
+
+/// Returns the status of a refusal of a call that needs a batch.
+pub fn edit_refusal_status(refusal: &Refusal) -> u32
+    ensures { result ≡ edit_refusal_status (reason refusal.now) }
+{
+    match refusal {
+        Refusal::WrongMode => NOT_IN_BATCH,
+        _ => refusal_status(refusal),
     }
 }
 
@@ -200,7 +213,7 @@ pub fn apply_status(error: &ApplyDeltaError) -> u32
     ensures error { 0 < result }
 {
     match error {
-        ApplyDeltaError::InBatch => WRONG_MODE,
+        ApplyDeltaError::InBatch => IN_BATCH,
         ApplyDeltaError::Delta(error) => delta_status(error),
     }
 }

@@ -52,7 +52,7 @@ fn check_out(alloc: Global, any: &AnySession, number: u64, copy: &mut Handle) ->
 /// |---|---|
 /// | `EMPTY_HANDLE` | `bitmap` is empty |
 /// | `FULL_HANDLE` | `copy` is not empty |
-/// | `WRONG_MODE` | there is a batch |
+/// | `IN_BATCH` | there is a batch |
 /// | `NO_SUCH_COMMIT` | no commit is kept under `number` |
 /// | `NO_MEMORY` | an allocation fails |
 ///
@@ -95,7 +95,7 @@ fn index(any: &mut AnySession, on: bool) -> u32
 ///
 /// # Errors
 ///
-/// Returns `WRONG_MODE` in a batch, and `NO_MEMORY` if an allocation fails. Nothing has changed then.
+/// Returns `IN_BATCH` in a batch, and `NO_MEMORY` if an allocation fails. Nothing has changed then.
 ///
 /// # Memory
 ///

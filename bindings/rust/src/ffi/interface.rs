@@ -17,7 +17,7 @@ pub struct Handle {
 pub type Status = u32;
 
 pub const DONE: Status = 0;
-pub const WRONG_MODE: Status = 1;
+pub const IN_BATCH: Status = 1;
 pub const OUT_OF_BOUNDS: Status = 2;
 pub const PRUNED: Status = 3;
 pub const TOO_LONG: Status = 4;
@@ -43,6 +43,7 @@ pub const OUT_OF_RANGE: Status = 23;
 pub const NOT_AT_BASE: Status = 24;
 pub const HAS_LOG: Status = 25;
 pub const NO_LOG: Status = 26;
+pub const NOT_IN_BATCH: Status = 27;
 
 #[rustfmt::skip]
 unsafe extern "C" {

@@ -6,7 +6,7 @@ use Rattle.bitmap_session.specs.Replies.ReplyValue.{Done, Bit, Number, Wide, Chu
 use Rattle.bitmap_session.specs.Replies.Refusal.{Codec, NoMemory, NonMonotonicCommit, WrongMode}
 use Rattle.bitmap_c.specs.Making.{between, length_or, read_status}
 use Rattle.bitmap_c.specs.Reads.{Returns}
-use Rattle.bitmap_c.specs.Reports.{bit_or, bytes_or, bytes_status, chunk_or, entries_or, number_or, previous_or, reply_status, size_or}
+use Rattle.bitmap_c.specs.Reports.{bit_or, bytes_or, bytes_status, chunk_or, edit_reply_status, entries_or, number_or, previous_or, reply_status, size_or}
 use Rattle.bitmap_c.specs.Widths.{is_width}
 
 -- ---- statuses
@@ -16,8 +16,14 @@ done = refl
 no_number : reply_status (Maybe None) ≡ 14
 no_number = refl
 
-wrong_mode : reply_status (Refused WrongMode) ≡ 1
-wrong_mode = refl
+in_batch : reply_status (Refused WrongMode) ≡ 1
+in_batch = refl
+
+not_in_batch : edit_reply_status (Refused WrongMode) ≡ 27
+not_in_batch = refl
+
+edit_out_of_memory : edit_reply_status (Refused NoMemory) ≡ 13
+edit_out_of_memory = refl
 
 out_of_memory : reply_status (Refused NoMemory) ≡ 13
 out_of_memory = refl

@@ -79,7 +79,7 @@ abbrev in_batch : Machine
 in_batch = record { state = record { current = no_bits; pending = Some no_bits; history = []; costs = []; last = None }; touched = [] }
 
 -- outside a batch the length cannot be changed, and in one no bit can be removed if there is none
-not_extended : CallsEdit (Some (Width8 first_machine None)) (λ N. lengthens N 9) 1 (Some (Width8 first_machine None))
+not_extended : CallsEdit (Some (Width8 first_machine None)) (λ N. lengthens N 9) 27 (Some (Width8 first_machine None))
 not_extended = (Width8 first_machine None, refl, (Some WrongMode, refl, ((refl, refl), (refl, refl))))
 
 edit_of_an_empty_handle : CallsEdit None (λ N. shortens N 9) 15 None
