@@ -67,7 +67,7 @@ extern "C" {
 #endif
 
 /* The version of this interface, which mortarpink_version returns. */
-#define MORTARPINK_VERSION 1
+#define MORTARPINK_VERSION 2
 
 /* A handle. Its member is private. */
 typedef struct {

@@ -131,7 +131,7 @@ static int is_encoding(const uint8_t *bytes, uint64_t pruned, uint64_t bits, con
 
 static void test_texts(void) {
     check_equal(mortarpink_version(), MORTARPINK_VERSION);
-    check_equal(mortarpink_version(), 1);
+    check_equal(mortarpink_version(), 2);
     check(strcmp(mortarpink_status_text(MORTARPINK_DONE), "done") == 0);
     check(strcmp(mortarpink_status_text(MORTARPINK_NO_MEMORY), "out of memory") == 0);
     check(strcmp(mortarpink_status_text(MORTARPINK_WRONG_SIZE), "the buffer has the wrong size") == 0);

@@ -7,7 +7,7 @@ import ctypes
 from typing import Any
 
 # The version of the interface that this module declares.
-VERSION = 1
+VERSION = 2
 
 # The statuses.
 DONE = 0

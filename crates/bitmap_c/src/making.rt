@@ -22,7 +22,7 @@ use commit_log::Log;
 use std::alloc::{AllocError, Global};
 
 /// The version of this interface, which `mortarpink_version` returns.
-pub const VERSION: u32 = 1;
+pub const VERSION: u32 = 2;
 
 /// Returns the `VERSION` of the library.
 ///

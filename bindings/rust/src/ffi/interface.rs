@@ -5,7 +5,7 @@
 use std::ffi::{c_char, c_void};
 
 /// The version of the interface that this module declares.
-pub const VERSION: u32 = 1;
+pub const VERSION: u32 = 2;
 
 /// A handle of the library.
 #[repr(C)]
