@@ -81,7 +81,7 @@ fn main() -> Result<(), Error> {
     write(&mut writer, 5, &[1], 2000)?;
     let delta = Message::Delta(writer.delta(4, 5)?.expect("both versions are kept"));
     println!("a delta from 4, at 3: {}", receive(&mut away, &delta).unwrap_err());
-    writer.drop_before(4);
+    writer.drop_before(4)?;
     follow("away", &mut away, &writer)?;
     write(&mut writer, 6, &[2], 2000)?;
     follow("away", &mut away, &writer)

@@ -74,7 +74,7 @@ fn main() -> Result<(), Error> {
     println!("free now: {:?}", scheduler.free().collect::<Vec<u64>>());
 
     // Minutes before 3 are forgotten.
-    let dropped = scheduler.slots.drop_before(3);
+    let dropped = scheduler.slots.drop_before(3)?;
     println!(
         "{dropped} minutes dropped, {:?} left",
         scheduler.slots.commits().collect::<Vec<u64>>()

@@ -25,7 +25,7 @@ fn append(log: &mut Bitmap, hour: u64) -> Result<(), Error> {
     batch.push_bits(&events(hour))?;
     batch.prune(batch.len().saturating_sub(WINDOW))?;
     batch.commit(hour)?;
-    log.drop_before((hour + 1).saturating_sub(HOURS));
+    log.drop_before((hour + 1).saturating_sub(HOURS))?;
     Ok(())
 }
 

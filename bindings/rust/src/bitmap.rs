@@ -736,11 +736,21 @@ impl Bitmap {
         self.settled_mut().rewind(number)
     }
 
-    /// Drops the commits below a number. Returns how many.
+    /// Drops the commits below a number. Returns how many. If the bitmap keeps a log, the entry of the
+    /// drop is appended to it.
+    ///
+    /// # Errors
+    ///
+    /// [`Error::NoMemory`] if the bitmap keeps a log, and an allocation fails or the log would have 2^64
+    /// bytes or more. Nothing is dropped then. Without a log the call does not fail.
     ///
     /// # Complexity
     ///
     /// Linear in what is dropped.
+    ///
+    /// # Memory
+    ///
+    /// Allocates the entry if the bitmap keeps a log, and otherwise nothing.
     ///
     /// # Examples
     ///
@@ -751,21 +761,30 @@ impl Bitmap {
     /// bitmap.begin().commit(3)?;
     /// bitmap.begin().commit(5)?;
     ///
-    /// assert_eq!(bitmap.drop_before(5), 1);
+    /// assert_eq!(bitmap.drop_before(5), Ok(1));
     /// assert_eq!(bitmap.earliest(), Some(5));
     /// # Ok::<(), mortarpink_proved::Error>(())
     /// ```
-    pub fn drop_before(&mut self, number: u64) -> u64 {
+    pub fn drop_before(&mut self, number: u64) -> Result<u64, Error> {
         self.settled_mut().drop_before(number)
     }
 
-    /// Drops all commits. The current bitmap stays.
+    /// Drops all commits. The current bitmap stays. If the bitmap keeps a log, the entry of the clear is
+    /// appended to it.
+    ///
+    /// # Errors
+    ///
+    /// The errors of [`drop_before`](Bitmap::drop_before).
     ///
     /// # Complexity
     ///
     /// Linear in what is dropped.
-    pub fn clear(&mut self) {
-        self.settled_mut().clear();
+    ///
+    /// # Memory
+    ///
+    /// Allocates the entry if the bitmap keeps a log, and otherwise nothing.
+    pub fn clear(&mut self) -> Result<(), Error> {
+        self.settled_mut().clear()
     }
 
     /// Returns the number of entries in the reverse records of the kept commits, or `u64::MAX` if there are more.

@@ -446,12 +446,12 @@ impl Session {
         })
     }
 
-    pub fn drop_before(&mut self, number: u64) -> u64 {
-        self.value(|handle, dropped| call!(mortarpink_drop_before(handle, number, dropped)))
+    pub fn drop_before(&mut self, number: u64) -> Result<u64, Error> {
+        self.output(|handle, dropped| call!(mortarpink_drop_before(handle, number, dropped)))
     }
 
-    pub fn clear(&mut self) {
-        always(call!(mortarpink_clear(self.handle.get())));
+    pub fn clear(&mut self) -> Result<(), Error> {
+        check(call!(mortarpink_clear(self.handle.get())))
     }
 
     pub fn set_indexed(&mut self, on: bool) -> Result<(), Error> {

@@ -256,8 +256,8 @@ fn the_next_edit_aborts_a_leaked_batch() {
         |bitmap| bitmap.begin().abort(),
         |bitmap| bitmap.rewind_to(1).unwrap(),
         |bitmap| assert_eq!(bitmap.apply_delta(&[]), Err(Error::CutOff)),
-        |bitmap| assert_eq!(bitmap.drop_before(1), 0),
-        Bitmap::clear,
+        |bitmap| assert_eq!(bitmap.drop_before(1), Ok(0)),
+        |bitmap| bitmap.clear().unwrap(),
     ];
     for edit in edits {
         let mut bitmap = bitmap_of(Width::Bytes8, &[3]);

@@ -35,8 +35,8 @@ fn a_bitmap_without_commits_lists_none() {
     assert_eq!(bitmap.at(0).unwrap_err(), Error::NoSuchCommit);
     assert_eq!(bitmap.changed_chunks(0, 0).unwrap_err(), Error::NoSuchCommit);
     assert_eq!(bitmap.rewind_to(0), Err(Error::NoSuchCommit));
-    assert_eq!(bitmap.drop_before(u64::MAX), 0);
-    bitmap.clear();
+    assert_eq!(bitmap.drop_before(u64::MAX), Ok(0));
+    bitmap.clear().unwrap();
     assert_eq!(bitmap.entries(), 0);
 }
 
@@ -93,12 +93,12 @@ fn the_number_that_was_rewound_to_is_the_last_one() {
 #[test]
 fn drop_before_drops_lower_numbers() {
     let mut bitmap = with_commits(&[2, 4, 6, 8]);
-    assert_eq!(bitmap.drop_before(2), 0);
-    assert_eq!(bitmap.drop_before(5), 2);
+    assert_eq!(bitmap.drop_before(2), Ok(0));
+    assert_eq!(bitmap.drop_before(5), Ok(2));
     assert!(bitmap.commits().eq([6, 8]));
     assert_eq!(bitmap.at(4).unwrap_err(), Error::NoSuchCommit);
     assert_eq!(bitmap.at(6).unwrap().len(), 3);
-    assert_eq!(bitmap.drop_before(u64::MAX), 2);
+    assert_eq!(bitmap.drop_before(u64::MAX), Ok(2));
     assert_eq!(bitmap.latest(), None);
     assert_eq!(bitmap.len(), 4);
 }
@@ -106,7 +106,7 @@ fn drop_before_drops_lower_numbers() {
 #[test]
 fn clear_keeps_the_bitmap_and_the_last_number() {
     let mut bitmap = with_commits(&[2, 4]);
-    bitmap.clear();
+    bitmap.clear().unwrap();
     assert_eq!(bitmap.commits().next(), None);
     assert_eq!((bitmap.len(), bitmap.entries()), (2, 0));
     let error = bitmap.begin().commit(4).unwrap_err();
@@ -129,7 +129,7 @@ fn entries_are_the_chunks_that_commits_changed() {
             batch.set(3 * bits, true).unwrap();
         });
         assert_eq!(bitmap.entries(), 6);
-        assert_eq!(bitmap.drop_before(3), 2);
+        assert_eq!(bitmap.drop_before(3), Ok(2));
         assert_eq!(bitmap.entries(), 2);
     }
 }

@@ -196,8 +196,8 @@ fn commit_numbers_end_before_the_greatest() {
     assert_eq!(bitmap.at(u64::MAX).unwrap_err(), Error::NoSuchCommit);
     assert_eq!(bitmap.rewind_to(u64::MAX), Err(Error::NoSuchCommit));
     bitmap.rewind_to(last).unwrap();
-    assert_eq!(bitmap.drop_before(last), 1);
-    assert_eq!(bitmap.drop_before(u64::MAX), 1);
+    assert_eq!(bitmap.drop_before(last), Ok(1));
+    assert_eq!(bitmap.drop_before(u64::MAX), Ok(1));
 }
 
 #[test]

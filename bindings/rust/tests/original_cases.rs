@@ -261,10 +261,10 @@ mod historical {
         for number in 1..=5 {
             commit(&mut bitmap, number, |batch| batch.push(true).unwrap());
         }
-        assert_eq!(bitmap.drop_before(3), 2);
+        assert_eq!(bitmap.drop_before(3), Ok(2));
         assert_eq!((bitmap.earliest(), bitmap.latest()), (Some(3), Some(5)));
         assert!(!bitmap.commit_exists(2));
-        bitmap.clear();
+        bitmap.clear().unwrap();
         assert_eq!(bitmap.commits().next(), None);
         assert_eq!(bitmap.len(), 5);
     }

@@ -285,7 +285,7 @@ impl Pair {
                 self.commits.truncate(index + 1);
             }
             1 => {
-                assert_eq!(self.bitmap.drop_before(number), index as u64);
+                assert_eq!(self.bitmap.drop_before(number), Ok(index as u64));
                 self.commits.drain(..index);
             }
             2 => self.bitmap = self.bitmap.try_clone().unwrap(),

@@ -47,10 +47,10 @@ fn histories(width: Width) -> Vec<(Bitmap, Option<u64>)> {
         (bitmap_of(width, &[]), Some(1)),
         (bitmap_of(width, &[0xff, 0x03]), Some(1)),
         (four_versions(width), Some(4)),
-        (after(width, |bitmap| assert_eq!(bitmap.drop_before(3), 2)), Some(4)),
-        (after(width, |bitmap| assert_eq!(bitmap.drop_before(4), 3)), Some(4)),
-        (after(width, |bitmap| assert_eq!(bitmap.drop_before(9), 4)), Some(4)),
-        (after(width, Bitmap::clear), Some(4)),
+        (after(width, |bitmap| assert_eq!(bitmap.drop_before(3), Ok(2))), Some(4)),
+        (after(width, |bitmap| assert_eq!(bitmap.drop_before(4), Ok(3))), Some(4)),
+        (after(width, |bitmap| assert_eq!(bitmap.drop_before(9), Ok(4))), Some(4)),
+        (after(width, |bitmap| bitmap.clear().unwrap()), Some(4)),
         (after(width, |bitmap| bitmap.rewind_to(2).unwrap()), Some(2)),
         (after(width, |bitmap| bitmap.rewind_to(1).unwrap()), Some(1)),
         (after(width, |bitmap| bitmap.set_indexed(true).unwrap()), Some(4)),
@@ -115,7 +115,7 @@ fn a_loaded_bitmap_goes_on() {
     bitmap.rewind_to(2).unwrap();
     let wanted = four_versions(Width::Bytes8);
     assert_eq!(bitmap.to_bytes(), wanted.at(2).unwrap().to_bytes());
-    assert_eq!(bitmap.drop_before(2), 1);
+    assert_eq!(bitmap.drop_before(2), Ok(1));
     commit(&mut bitmap, 3, |batch| batch.push(true).unwrap());
     assert!(bitmap.commits().eq([2, 3]));
 }
@@ -231,7 +231,7 @@ fn the_numbers_of_bits_and_commits_are_limited() {
 #[test]
 fn without_a_kept_commit_the_current_bitmap_is_limited() {
     let mut bitmap = bitmap_of(Width::Bytes8, &[0xff; 20]);
-    bitmap.clear();
+    bitmap.clear().unwrap();
     let bytes = bitmap.save().unwrap();
     assert_eq!(limited(&bytes, 160..=160, 0..=0), None);
     assert_eq!(limited(&bytes, 0..=159, 0..=0), Some(Error::OutOfRange));
@@ -287,7 +287,7 @@ fn deltas_one_after_another_make_the_same_versions() {
 fn a_replica_need_not_keep_the_older_version() {
     let versions = four_versions(Width::Bytes32);
     let mut replica = replica_at(&versions, 2);
-    replica.clear();
+    replica.clear().unwrap();
     replica.apply_delta(&versions.delta(2, 4).unwrap().unwrap()).unwrap();
     assert!(replica.commits().eq([4]));
     assert_eq!(replica.to_bytes(), versions.to_bytes());
@@ -300,10 +300,10 @@ fn only_kept_commits_in_order_have_a_delta() {
     for (older, newer) in [(1, 1), (4, 4), (2, 1), (4, 1), (0, 1), (1, 5), (5, 6), (0, u64::MAX)] {
         assert_eq!(versions.delta(older, newer), Ok(None));
     }
-    versions.drop_before(3);
+    versions.drop_before(3).unwrap();
     assert_eq!(versions.delta(2, 3), Ok(None));
     assert!(versions.delta(3, 4).unwrap().is_some());
-    versions.clear();
+    versions.clear().unwrap();
     assert_eq!(versions.delta(3, 4), Ok(None));
 }
 

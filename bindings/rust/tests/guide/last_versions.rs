@@ -7,7 +7,7 @@ pub fn commit_set(versions: &mut Bitmap, positions: &[u64], number: u64) -> Resu
     batch.commit(number)?;
     let dropped = versions.commits().count().saturating_sub(100);
     if let Some(oldest) = versions.commits().nth(dropped) {
-        versions.drop_before(oldest);
+        versions.drop_before(oldest)?;
     }
     Ok(())
 }

@@ -7,6 +7,6 @@ pub fn append(log: &mut Bitmap, event: bool, number: u64) -> Result<(), Error> {
     batch.push(event)?;
     batch.prune(batch.len().saturating_sub(1024))?;
     batch.commit(number)?;
-    log.drop_before(number.saturating_sub(10));
+    log.drop_before(number.saturating_sub(10))?;
     Ok(())
 }
