@@ -316,13 +316,27 @@ impl<'a> Batch<'a> {
     /// dropped since. After a commit under `u64::MAX - 1`, the greatest number, there is none unless
     /// the bitmap is rewound to an earlier commit.
     ///
+    /// If the bitmap keeps a log, the entry of the commit is appended to it. The entry has the chunks
+    /// that the batch changed, with their new bytes.
+    ///
     /// # Errors
     ///
-    /// The batch is aborted. [`try_commit`](Batch::try_commit) returns it instead.
+    /// The batch is aborted, and the log is unchanged. [`try_commit`](Batch::try_commit) returns the
+    /// batch instead.
     ///
     /// - [`Error::ReservedCommitNumber`] if the number is `u64::MAX`.
     /// - [`Error::NonMonotonicCommit`] if the number is not above the last one.
-    /// - [`Error::NoMemory`] if an allocation fails.
+    /// - [`Error::NoMemory`] if an allocation fails, or if the log would have 2^64 bytes or more.
+    ///
+    /// # Complexity
+    ///
+    /// Amortized linear in the chunks that the batch edited, pruned or removed, and in the bytes of the
+    /// entry.
+    ///
+    /// # Memory
+    ///
+    /// Allocates the old bytes of the chunks that the batch changed, and space by which the bitmap, the
+    /// list of commits and the log grow.
     pub fn commit(self, number: u64) -> Result<(), Error> {
         Ok(self.try_commit(number)?)
     }

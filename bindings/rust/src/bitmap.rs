@@ -12,7 +12,8 @@ use crate::{Batch, ChangedChunks, Chunk, Commits, Error, Ones, Version, Width, r
 /// # Memory
 ///
 /// Reads do not allocate, except for [`to_bytes`](Bitmap::to_bytes), [`save`](Bitmap::save),
-/// [`delta`](Bitmap::delta), [`try_clone`](Bitmap::try_clone) and [`checkout`](Bitmap::checkout).
+/// [`delta`](Bitmap::delta), [`log_bytes`](Bitmap::log_bytes), [`try_clone`](Bitmap::try_clone) and
+/// [`checkout`](Bitmap::checkout).
 ///
 /// # Threads
 ///
@@ -56,7 +57,7 @@ pub struct Bitmap {
 
 /// Making, encoding and copying.
 impl Bitmap {
-    fn from_session(session: Session, width: Width) -> Bitmap {
+    pub(crate) fn from_session(session: Session, width: Width) -> Bitmap {
         Bitmap { session, width }
     }
 
@@ -169,7 +170,8 @@ impl Bitmap {
     /// Returns the history of the bitmap: the current bitmap, the kept commits and the last commit
     /// number, with digests by which [`load`](Bitmap::load) finds damaged bytes.
     ///
-    /// The index of [`set_indexed`](Bitmap::set_indexed) is not in it.
+    /// The index of [`set_indexed`](Bitmap::set_indexed) and the log of [`begin_log`](Bitmap::begin_log)
+    /// are not in it.
     ///
     /// # Errors
     ///
@@ -197,7 +199,7 @@ impl Bitmap {
     ///
     /// The bitmap has the same current version, kept commits and last number as the saved one. A
     /// commit may have fewer entries, so [`entries`](Bitmap::entries) may return a smaller number. It
-    /// is not indexed.
+    /// is not indexed, and keeps no log.
     ///
     /// # Errors
     ///
@@ -256,7 +258,7 @@ impl Bitmap {
         Ok((Bitmap::from_session(session, width), used))
     }
 
-    /// Returns a copy of the bitmap and its commits.
+    /// Returns a copy of the bitmap and its commits. The copy keeps no log.
     ///
     /// # Errors
     ///
@@ -271,12 +273,12 @@ impl Bitmap {
     }
 
     /// Returns the session, out of a batch. It is in one here only if a batch was leaked.
-    fn settled(&self) -> &Session {
+    pub(crate) fn settled(&self) -> &Session {
         self.session.settle();
         &self.session
     }
 
-    fn settled_mut(&mut self) -> &mut Session {
+    pub(crate) fn settled_mut(&mut self) -> &mut Session {
         self.session.settle();
         &mut self.session
     }
@@ -444,6 +446,9 @@ impl Bitmap {
 impl Bitmap {
     /// Begins a batch of edits on the current bitmap.
     ///
+    /// If the bitmap keeps a log, [`Batch::commit`] appends one entry to it for the whole batch. A batch
+    /// that is aborted appends none.
+    ///
     /// If an earlier batch was leaked, for example by [`std::mem::forget`], the next call on the
     /// bitmap aborts it.
     pub fn begin(&mut self) -> Batch<'_> {
@@ -477,7 +482,7 @@ impl Bitmap {
         Ok(Version::new(session, self.width, number))
     }
 
-    /// Makes a bitmap of its own of the one at a commit. It has no commits.
+    /// Makes a bitmap of its own of the one at a commit. It has no commits, and keeps no log.
     ///
     /// # Errors
     ///
@@ -679,9 +684,11 @@ impl Bitmap {
     /// Other chunks are not compared. The digest finds damage and mistakes, and is no protection from
     /// someone who forges a delta.
     ///
+    /// If the bitmap keeps a log, the entry of the commit is appended to it.
+    ///
     /// # Errors
     ///
-    /// The bitmap is then unchanged.
+    /// The bitmap and its log are then unchanged.
     ///
     /// - [`Error::CutOff`] if there are fewer bytes than any delta has, or if the bytes of the chunks
     ///   are not whole.
@@ -690,7 +697,7 @@ impl Bitmap {
     ///   deltas that are cut off.
     /// - [`Error::NotAtBase`] if the delta does not start at the current bitmap.
     /// - [`Error::NotAccepted`] if the digest is right, but the delta has no commit that can follow.
-    /// - [`Error::NoMemory`] if an allocation fails.
+    /// - [`Error::NoMemory`] if an allocation fails, or if the log would have 2^64 bytes or more.
     ///
     /// # Complexity
     ///
@@ -698,18 +705,21 @@ impl Bitmap {
     ///
     /// # Memory
     ///
-    /// Allocates the reverse record of the commit, and space by which the bitmap and the list of
-    /// commits grow.
+    /// Allocates the reverse record of the commit, and space by which the bitmap, the list of commits
+    /// and the log grow.
     pub fn apply_delta(&mut self, bytes: &[u8]) -> Result<(), Error> {
         self.settled_mut().apply_delta(bytes)
     }
 
-    /// Makes the bitmap at a commit current again, and drops the commits after it.
+    /// Makes the bitmap at a commit current again, and drops the commits after it. If the bitmap keeps
+    /// a log, the entry of the rewind is appended to it.
     ///
     /// # Errors
     ///
+    /// The bitmap and its log are then unchanged.
+    ///
     /// - [`Error::NoSuchCommit`] if no commit is kept under the number.
-    /// - [`Error::NoMemory`] if an allocation fails.
+    /// - [`Error::NoMemory`] if an allocation fails, or if the log would have 2^64 bytes or more.
     ///
     /// # Complexity
     ///

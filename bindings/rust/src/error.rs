@@ -4,7 +4,7 @@ use crate::Batch;
 
 /// The reason why a call failed.
 ///
-/// A call that fails leaves the bitmap and its batch as they were, with three exceptions.
+/// A call that fails leaves the bitmap, its log and its batch as they were, with three exceptions.
 /// [`Batch::push_bytes`] appends the bytes before the one that fails, [`Batch::set_many`] replaces
 /// the bits at the positions before the one that fails, and [`Batch::commit`] aborts the batch.
 #[derive(Clone, Copy, Debug, PartialEq, Eq, Hash)]
@@ -44,18 +44,22 @@ pub enum Error {
     NoMemory,
     /// The chunk has the wrong size.
     WrongSize,
-    /// The bytes do not begin as a history or a delta of this width does.
+    /// The bytes do not begin as a history, a log or a delta of this width does.
     WrongHeader,
-    /// The bytes end before the history or the delta does.
+    /// The bytes end before the history, the delta or the first bitmap of the log does.
     CutOff,
     /// A digest is not that of the bytes before it: the bytes are damaged.
     Damaged,
-    /// A part of the bytes is no bitmap, or no commit that can follow.
+    /// A part of the bytes is no bitmap, or no commit or other entry that can follow.
     NotAccepted,
     /// A number of retained bits or of commits is out of range.
     OutOfRange,
     /// The delta does not start at the current bitmap.
     NotAtBase,
+    /// The bitmap keeps a log already.
+    HasLog,
+    /// The bitmap keeps no log.
+    NoLog,
 }
 
 impl fmt::Display for Error {
@@ -81,12 +85,20 @@ impl fmt::Display for Error {
             Error::NoSuchCommit => "no commit is kept under the number",
             Error::NoMemory => "memory allocation failed",
             Error::WrongSize => "chunk has the wrong size",
-            Error::WrongHeader => "bytes do not begin as a history or a delta of this width does",
-            Error::CutOff => "bytes end before the history or the delta does",
+            Error::WrongHeader => {
+                "bytes do not begin as a history, a log or a delta of this width does"
+            }
+            Error::CutOff => {
+                "bytes end before the history, the delta or the first bitmap of the log does"
+            }
             Error::Damaged => "a digest is not that of the bytes before it",
-            Error::NotAccepted => "a part of the bytes is no bitmap, or no commit that can follow",
+            Error::NotAccepted => {
+                "a part of the bytes is no bitmap, or no commit or other entry that can follow"
+            }
             Error::OutOfRange => "a number of retained bits or of commits is out of range",
             Error::NotAtBase => "delta does not start at the current bitmap",
+            Error::HasLog => "bitmap keeps a log already",
+            Error::NoLog => "bitmap keeps no log",
         })
     }
 }
@@ -212,5 +224,66 @@ impl std::error::Error for SetManyError {}
 impl From<SetManyError> for Error {
     fn from(set: SetManyError) -> Error {
         set.error
+    }
+}
+
+/// The error of [`Bitmap::recover`](crate::Bitmap::recover): why the bytes are not read, and where the
+/// frame begins that is not right.
+///
+/// # Examples
+///
+/// ```
+/// use mortarpink_proved::{Bitmap, Error, Width};
+///
+/// let mut bitmap = Bitmap::new(Width::Bytes8)?;
+/// bitmap.begin_log()?;
+/// bitmap.begin().commit(1)?;
+/// bitmap.begin().commit(2)?;
+/// let mut bytes = bitmap.take_log()?;
+/// // The header and the base have 90 bytes, and each entry has 49. This byte is in the second entry.
+/// bytes[170] ^= 1;
+///
+/// let failed = Bitmap::recover(Width::Bytes8, &bytes).unwrap_err();
+/// assert_eq!((failed.error(), failed.at()), (Error::Damaged, Some(139)));
+/// // The bytes before the damage are a log of the versions before it.
+/// let before = Bitmap::recover(Width::Bytes8, &bytes[..139])?;
+/// assert!(before.bitmap.commits().eq([1]));
+/// # Ok::<(), Error>(())
+/// ```
+#[derive(Clone, Copy, Debug, PartialEq, Eq, Hash)]
+pub struct RecoverError {
+    pub(crate) at: Option<usize>,
+    pub(crate) error: Error,
+}
+
+impl RecoverError {
+    /// Returns the position of the first frame that is not right, in bytes from the start of the log.
+    ///
+    /// The frames before it are whole, and their entries were accepted. Returns `None` unless the
+    /// reason is [`Error::Damaged`] or [`Error::NotAccepted`].
+    pub fn at(&self) -> Option<usize> {
+        self.at
+    }
+
+    /// Returns the reason.
+    pub fn error(&self) -> Error {
+        self.error
+    }
+}
+
+impl fmt::Display for RecoverError {
+    fn fmt(&self, f: &mut fmt::Formatter<'_>) -> fmt::Result {
+        match self.at {
+            Some(at) => write!(f, "{}, in the frame at byte {at}", self.error),
+            None => self.error.fmt(f),
+        }
+    }
+}
+
+impl std::error::Error for RecoverError {}
+
+impl From<RecoverError> for Error {
+    fn from(recover: RecoverError) -> Error {
+        recover.error
     }
 }

@@ -33,7 +33,7 @@ use std::ptr;
 use std::sync::atomic::{AtomicBool, Ordering};
 use std::sync::{Mutex, PoisonError};
 
-use crate::Error;
+use crate::{Error, RecoverError};
 use interface::*;
 
 /// Calls a function of the library. The module says why that is sound.
@@ -103,6 +103,8 @@ fn check(status: Status) -> Result<(), Error> {
         NOT_ACCEPTED => Error::NotAccepted,
         OUT_OF_RANGE => Error::OutOfRange,
         NOT_AT_BASE => Error::NotAtBase,
+        HAS_LOG => Error::HasLog,
+        NO_LOG => Error::NoLog,
         status => unexpected(status),
     })
 }
@@ -192,6 +194,16 @@ impl Session {
             &mut used
         )))?;
         Ok((session, used))
+    }
+
+    /// Makes a session from a log, and returns the number of good bytes.
+    pub fn recover(width: u32, bytes: &[u8]) -> Result<(Session, usize), RecoverError> {
+        let session = Session::empty();
+        let (handle, start, len, mut good) = (session.handle.get(), bytes.as_ptr(), bytes.len(), 0);
+        let status = call!(mortarpink_recover(handle, width, start, len, &mut good));
+        let at = matches!(status, DAMAGED | NOT_ACCEPTED).then_some(good);
+        check(status).map_err(|error| RecoverError { at, error })?;
+        Ok((session, good))
     }
 
     pub fn try_clone(&self) -> Result<Session, Error> {
@@ -484,6 +496,36 @@ impl Session {
 
     pub fn apply_delta(&mut self, bytes: &[u8]) -> Result<(), Error> {
         check(call!(mortarpink_apply_delta(self.handle.get(), bytes.as_ptr(), bytes.len())))
+    }
+}
+
+/// The log.
+impl Session {
+    pub fn begin_log(&mut self) -> Result<(), Error> {
+        check(call!(mortarpink_log_begin(self.handle.get())))
+    }
+
+    pub fn end_log(&mut self) -> Result<(), Error> {
+        check(call!(mortarpink_log_end(self.handle.get())))
+    }
+
+    pub fn log_bytes(&self) -> Result<Vec<u8>, Error> {
+        let (status, bytes) = self.filled(|handle, start, len, size| {
+            call!(mortarpink_log_bytes(handle, start, len, size))
+        });
+        check(status).map(|()| bytes)
+    }
+
+    pub fn forget_log(&mut self) -> Result<(), Error> {
+        check(call!(mortarpink_log_forget(self.handle.get())))
+    }
+
+    pub fn log_position(&self) -> Result<u64, Error> {
+        self.output(|handle, position| call!(mortarpink_log_position(handle, position)))
+    }
+
+    pub fn log_digest(&self) -> Result<u64, Error> {
+        self.output(|handle, digest| call!(mortarpink_log_digest(handle, digest)))
     }
 }
 

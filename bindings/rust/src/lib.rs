@@ -62,6 +62,11 @@
 //! | [`Bitmap::load`] | linear in the history |
 //! | [`Bitmap::delta`] | as [`Bitmap::changed_chunks`], plus per chunk in the delta two reads through a [`Version`] |
 //! | [`Bitmap::apply_delta`] | linear in the delta, plus the chunks that the commit prunes or removes |
+//! | [`Bitmap::begin_log`] | as [`Bitmap::save`] |
+//! | an entry that a call appends to the log | linear in its bytes; amortized, since the log grows |
+//! | [`Bitmap::log_bytes`], [`Bitmap::take_log`] | linear in the bytes |
+//! | [`Bitmap::keeps_log`], [`Bitmap::log_position`], [`Bitmap::log_digest`], [`Bitmap::forget_log`], [`Bitmap::end_log`] | constant |
+//! | [`Bitmap::recover`] | linear in the log, plus what [`Bitmap::rewind_to`] takes for each rewind in it |
 //! | a chunk read through a [`Version`] | a search of each later commit, or one search if the bitmap is indexed |
 //!
 //! # Finding the library
@@ -81,6 +86,7 @@ mod chunk;
 mod error;
 #[allow(unsafe_code)]
 mod ffi;
+mod log;
 mod pages;
 mod range;
 mod version;
@@ -88,7 +94,8 @@ mod version;
 pub use batch::Batch;
 pub use bitmap::Bitmap;
 pub use chunk::{Chunk, NoSuchWidthError, Width};
-pub use error::{CommitError, Error, PushBytesError, SetManyError};
+pub use error::{CommitError, Error, PushBytesError, RecoverError, SetManyError};
+pub use log::Recovered;
 pub use pages::{ChangedChunks, Commits, Ones};
 pub use version::Version;
 

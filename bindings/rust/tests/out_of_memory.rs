@@ -15,7 +15,8 @@ const IS_SMALL: &str = "MORTARPINK_TEST_IS_SMALL";
 #[test]
 fn allocations_may_fail() {
     if env::var_os(IS_SMALL).is_some() {
-        return WIDTHS.into_iter().for_each(check);
+        WIDTHS.into_iter().for_each(check);
+        return WIDTHS.into_iter().for_each(check_log);
     }
     let mut shell = Command::new("sh");
     shell.args(["-c", "ulimit -v 163840 && exec \"$0\" --exact allocations_may_fail"]);
@@ -38,11 +39,17 @@ fn fill_memory(bitmap: &Bitmap) -> Vec<Bitmap> {
     }
 }
 
-/// Checks the calls that allocate while there is no memory, and once there is.
-fn check(width: Width) {
+/// Returns the encoding of a MiB of set bits.
+fn large(width: Width) -> Vec<u8> {
     let mut bytes = bitmap_of(width, &[0xff; 1 << 10]).to_bytes().unwrap();
     bytes[8..16].copy_from_slice(&(8u64 << 20).to_be_bytes());
     bytes.resize(16 + (1 << 20), 0xff);
+    bytes
+}
+
+/// Checks the calls that allocate while there is no memory, and once there is.
+fn check(width: Width) {
+    let bytes = large(width);
     let (mut bitmap, _) = Bitmap::from_bytes(width, &bytes, ..).unwrap();
     commit(&mut bitmap, 1, |batch| batch.set(0, true).unwrap());
     let (history, bits) = (bitmap.save().unwrap(), vec![true; 4 << 20]);
@@ -73,4 +80,42 @@ fn check(width: Width) {
     assert_eq!(bitmap.at(1).unwrap().to_bytes(), Ok(bytes));
     let (loaded, _) = Bitmap::load(width, &history, .., ..).unwrap();
     assert_eq!(loaded.count_ones(..), 8 << 20);
+}
+
+/// Checks the calls on a log while there is no memory, and once there is.
+fn check_log(width: Width) {
+    let (mut plain, _) = Bitmap::from_bytes(width, &large(width), ..).unwrap();
+    let mut logged = plain.try_clone().unwrap();
+    logged.begin_log().unwrap();
+    let bytes = logged.log_bytes().unwrap();
+    let len = bytes.len() as u64;
+    // The entry of the commit would have more than a MiB.
+    let chunks = (1 << 17).min((1 << 20) / width.bytes() as u64);
+    let mut batch = logged.begin();
+    batch.set_range(..chunks * width.bits(), false).unwrap();
+    let mut copies = fill_memory(&plain);
+    assert_eq!(batch.commit(1), Err(Error::NoMemory));
+    // The batch was aborted, which has freed memory.
+    copies.extend(fill_memory(&plain));
+
+    assert_eq!((logged.log_position(), logged.count_ones(..)), (Ok(len), 8 << 20));
+    assert_eq!(logged.log_bytes(), Err(Error::NoMemory));
+    assert_eq!(logged.take_log(), Err(Error::NoMemory));
+    assert_eq!(Bitmap::recover(width, &bytes).unwrap_err().error(), Error::NoMemory);
+    assert_eq!((plain.begin_log(), plain.keeps_log()), (Err(Error::NoMemory), false));
+    // Each clear appends 25 bytes, until the log cannot grow.
+    let mut clears = (0..).map(|count| (count, logged.clear()));
+    let (count, failed) = clears.find_map(|(count, clear)| Some((count, clear.err()?))).unwrap();
+    assert_eq!((failed, logged.log_position()), (Error::NoMemory, Ok(len + 25 * count)));
+
+    // The same calls succeed as soon as there is memory.
+    drop(copies);
+    logged.clear().unwrap();
+    plain.begin_log().unwrap();
+    let appended = logged.take_log().unwrap();
+    assert_eq!(appended.len() as u64, len + 25 * (count + 1));
+    assert_eq!(appended[..bytes.len()], bytes);
+    let recovered = Bitmap::recover(width, &appended).unwrap();
+    assert_eq!((recovered.good, recovered.torn), (appended.len(), false));
+    assert_eq!(recovered.bitmap.count_ones(..), 8 << 20);
 }

@@ -10,7 +10,7 @@ use std::thread;
 use common::{WIDTHS, bitmap_of, commit};
 use mortarpink_proved::{
     Batch, Bitmap, ChangedChunks, Chunk, CommitError, Commits, Error, NoSuchWidthError, Ones,
-    PushBytesError, SetManyError, Version, Width,
+    PushBytesError, RecoverError, Recovered, SetManyError, Version, Width,
 };
 
 /// Fails to compile if a type has a trait: then there are two candidates for `_`.
@@ -38,10 +38,12 @@ const _: fn() = || {
     is_shared::<CommitError<'_>>();
     is_shared::<Commits<'_>>();
     is_shared::<Ones<'_>>();
+    is_shared::<Recovered>();
     is_shared::<Version<'_>>();
     is_plain::<Chunk>();
     is_plain::<Error>();
     is_plain::<PushBytesError>();
+    is_plain::<RecoverError>();
     is_plain::<SetManyError>();
     is_plain::<NoSuchWidthError>();
     is_plain::<Width>();
@@ -183,17 +185,28 @@ fn errors_have_texts() {
         (Error::NoSuchCommit, "no commit is kept under the number"),
         (Error::NoMemory, "memory allocation failed"),
         (Error::WrongSize, "chunk has the wrong size"),
-        (Error::WrongHeader, "bytes do not begin as a history or a delta of this width does"),
-        (Error::CutOff, "bytes end before the history or the delta does"),
+        (
+            Error::WrongHeader,
+            "bytes do not begin as a history, a log or a delta of this width does",
+        ),
+        (
+            Error::CutOff,
+            "bytes end before the history, the delta or the first bitmap of the log does",
+        ),
         (Error::Damaged, "a digest is not that of the bytes before it"),
-        (Error::NotAccepted, "a part of the bytes is no bitmap, or no commit that can follow"),
+        (
+            Error::NotAccepted,
+            "a part of the bytes is no bitmap, or no commit or other entry that can follow",
+        ),
         (Error::OutOfRange, "a number of retained bits or of commits is out of range"),
         (Error::NotAtBase, "delta does not start at the current bitmap"),
+        (Error::HasLog, "bitmap keeps a log already"),
+        (Error::NoLog, "bitmap keeps no log"),
     ];
     for (error, text) in texts {
         assert_eq!(error.to_string(), text);
     }
-    assert_eq!(HashSet::from(texts.map(|(error, _)| error)).len(), 19);
+    assert_eq!(HashSet::from(texts.map(|(error, _)| error)).len(), 21);
 }
 
 #[test]
@@ -209,6 +222,20 @@ fn wrapping_errors_have_texts() {
     let failed = batch.try_commit(u64::MAX).unwrap_err();
     assert_eq!(failed.to_string(), "commit number 2^64 - 1 is reserved");
     assert!(error::Error::source(&failed).is_none());
+}
+
+#[test]
+fn an_error_of_a_log_has_a_position() {
+    let mut bitmap = Bitmap::new(Width::Bytes8).unwrap();
+    bitmap.begin_log().unwrap();
+    let mut bytes = bitmap.log_bytes().unwrap();
+    let failed = Bitmap::recover(Width::Bytes8, &bytes[..40]).unwrap_err();
+    assert_eq!(failed.to_string(), Error::CutOff.to_string());
+    bytes[50] ^= 1;
+    let failed = Bitmap::recover(Width::Bytes8, &bytes).unwrap_err();
+    let text = "a digest is not that of the bytes before it, in the frame at byte 32";
+    assert_eq!(failed.to_string(), text);
+    assert_eq!(Error::from(failed), Error::Damaged);
 }
 
 #[test]

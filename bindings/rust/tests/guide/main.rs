@@ -6,12 +6,14 @@ mod all_or_none;
 mod common;
 mod last_versions;
 mod log;
+mod logged;
 mod restarts;
 mod slots;
 mod threads;
 mod versions;
 
 use std::fs::{self, OpenOptions};
+use std::io::Write;
 use std::path::Path;
 use std::sync::Mutex;
 
@@ -19,6 +21,7 @@ use all_or_none::set_all;
 use common::{WIDTHS, bitmap_of, commit};
 use last_versions::commit_set;
 use log::append;
+use logged::{append_entries, open};
 use mortarpink_proved::{Bitmap, Error, Width};
 use restarts::{load, save};
 use slots::{new_slots, take_slot};
@@ -104,7 +107,10 @@ fn saved_versions_are_loaded() {
     assert!(load(Width::Bytes8, &path).is_err());
     OpenOptions::new().write(true).open(&path).unwrap().set_len(300).unwrap();
     let error = load(Width::Bytes64, &path).unwrap_err();
-    assert_eq!(error.to_string(), "bytes end before the history or the delta does");
+    assert_eq!(
+        error.to_string(),
+        "bytes end before the history, the delta or the first bitmap of the log does"
+    );
     fs::remove_file(&path).unwrap();
     assert!(load(Width::Bytes64, &path).is_err());
 }
@@ -117,6 +123,35 @@ fn a_file_with_more_than_a_history_is_refused() {
     let error = load(Width::Bytes8, &path).unwrap_err();
     assert_eq!(error.to_string(), "there are bytes after the history");
     fs::remove_file(&path).unwrap();
+}
+
+#[test]
+fn logged_versions_are_opened() {
+    let path = Path::new(env!("CARGO_TARGET_TMPDIR")).join("logged_versions.log");
+    let _ = fs::remove_file(&path);
+    for width in WIDTHS {
+        let (mut versions, mut file) = open(width, &path).unwrap();
+        for number in 1..5 {
+            commit(&mut versions, number, |batch| batch.push_byte(number as u8).unwrap());
+            append_entries(&mut versions, &mut file).unwrap();
+            assert_same(&open(width, &path).unwrap().0, &versions);
+        }
+        // A crash cuts off the entry of commit 4, and another write leaves bytes that are no entry.
+        file.set_len(file.metadata().unwrap().len() - 1).unwrap();
+        let (mut opened, mut file) = open(width, &path).unwrap();
+        assert!(opened.commits().eq(1..4));
+        versions.rewind_to(3).unwrap();
+        assert_same(&opened, &versions);
+        file.write_all(&[0xa5; 3]).unwrap();
+        commit(&mut opened, 9, |batch| batch.push(true).unwrap());
+        append_entries(&mut opened, &mut file).unwrap();
+        assert_same(&open(width, &path).unwrap().0, &opened);
+
+        file.set_len(80).unwrap();
+        let error = open(width, &path).unwrap_err().to_string();
+        assert_eq!(error, Error::CutOff.to_string());
+        fs::remove_file(&path).unwrap();
+    }
 }
 
 #[test]
