@@ -139,6 +139,28 @@ fn each_entry_has_the_size_of_its_body() {
     WIDTHS.into_iter().for_each(check_sizes);
 }
 
+#[test]
+fn the_greatest_length_and_number_are_logged() {
+    for width in WIDTHS {
+        let pruned_chunks = u64::MAX / width.bits();
+        let bitmap = Bitmap::with_pruned_chunks(width, pruned_chunks).unwrap();
+        let mut logged = Logged::new(bitmap);
+        // Pruned chunks take no bytes, and what is left of the positions is in one chunk.
+        assert_eq!(logged.bytes.len() as u64, HEADER + FRAME + BASE);
+        let extend = |batch: &mut Batch<'_>| batch.extend_to(u64::MAX).unwrap();
+        let size = logged.call(|bitmap| commit(bitmap, u64::MAX - 1, extend));
+        assert_eq!(size, FRAME + COMMIT + listed(width));
+        logged.call(|bitmap| assert_eq!(bitmap.drop_before(u64::MAX), Ok(1)));
+
+        let mut recovered = Bitmap::recover(width, &logged.bytes).unwrap().bitmap;
+        assert_eq!((recovered.len(), recovered.pruned_chunks()), (u64::MAX, pruned_chunks));
+        assert_eq!(recovered.latest(), None);
+        let last = u64::MAX - 1;
+        let failed = recovered.begin().commit(last).unwrap_err();
+        assert_eq!(failed, Error::NonMonotonicCommit { previous: last, attempted: last });
+    }
+}
+
 /// The log of `docs/FORMATS.md`, which is worked there by hand.
 #[test]
 fn the_worked_log_has_its_bytes() {
