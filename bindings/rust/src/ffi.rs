@@ -219,8 +219,7 @@ impl Session {
     }
 
     pub fn start(&mut self, pruned_chunks: u64) -> Result<(), Error> {
-        let chunks = usize::try_from(pruned_chunks).map_err(|_| Error::PrunedChunksOverflow)?;
-        check(call!(mortarpink_start(self.handle.get(), chunks)))
+        check(call!(mortarpink_start(self.handle.get(), pruned_chunks)))
     }
 
     /// Returns the output of a call that can fail.
@@ -489,7 +488,7 @@ impl Session {
             call!(mortarpink_delta(handle, from, to, start, len, size))
         });
         match status {
-            NONE => Ok(None),
+            NO_SUCH_COMMIT => Ok(None),
             status => check(status).map(|()| Some(bytes)),
         }
     }

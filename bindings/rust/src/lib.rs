@@ -109,7 +109,7 @@ struct Readme;
 /// # Examples
 ///
 /// ```
-/// assert_eq!(mortarpink_proved::interface_version(), 1);
+/// assert_eq!(mortarpink_proved::interface_version(), 2);
 /// ```
 pub fn interface_version() -> u32 {
     ffi::version()

@@ -294,5 +294,5 @@ fn an_iterator_outlives_its_version() {
 
 #[test]
 fn the_interface_has_a_version() {
-    assert_eq!(mortarpink_proved::interface_version(), 1);
+    assert_eq!(mortarpink_proved::interface_version(), 2);
 }
