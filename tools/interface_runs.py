@@ -570,8 +570,9 @@ class InterfaceScript(RandomScript):
         """Recovers other bytes and the log itself into another handle. Goes on with either bitmap, unless it is in a batch."""
         log = self.handle.log
         if log is None:
-            return self.recover(self.changed(self.other_history()))
-        self.recover(self.random.choice([self.changed(log.data), log.data[: self.random.randrange(len(log.data))] + bytes(self.random.randint(0, 30))]))
+            return self.recover_and_free(self.changed(self.other_history()))
+        cut = log.data[: self.random.randrange(len(log.data))] + bytes(self.random.randint(0, 30))
+        self.recover_and_free(self.random.choice([self.changed(log.data), cut]))
         handle = self.recover(log.data + self.random.randbytes(self.random.randint(0, 15)))
         if self.state.pending is not None:
             return self.expect_of(handle, "free", "DONE")
@@ -598,6 +599,12 @@ class InterfaceScript(RandomScript):
         self.expect_of(handle, "log_position", "DONE", position=found.place.at)
         self.expect_of(handle, "log_digest", "DONE", digest=found.place.chain)
         return handle
+
+    def recover_and_free(self, data):
+        """Recovers bytes into another handle, and frees what they make, if they make a bitmap."""
+        handle = self.recover(data)
+        if handle.session is not None:
+            self.expect_of(handle, "free", "DONE")
 
     def clone(self):
         """Clones the bitmap, and goes on with either. The other one is compared with what it was, later."""
