@@ -219,6 +219,7 @@ def constants():
     worked = [leaf(bytes.fromhex(text)) for text in ("01", "80", "0f")]
     values = {"NOTHING": tree([]), "LAST_FOUR": tree(eight[4:]), "FIVE_CHUNKS": tree(five)}
     values |= {f"TREE_{n}": tree(eight[:n]) for n in range(1, 9)}
+    values |= {f"TREE_{n}_REPLACED_{index}": tree([*eight[:index], leaf(b"other"), *eight[index + 1 : n]]) for index, n in ((5, 8), (6, 7))}
     values |= {f"PATH_{index}_OF_{n}_{k}": one for index, n in ((5, 8), (6, 7)) for k, one in enumerate(audit_path(index, eight[:n]))}
     values |= {f"RANGE_2_TO_7_OF_8_{k}": one for k, one in enumerate(range_siblings(2, 5, eight))}
     values |= {f"PATH_CHUNK_2_{k}": one for k, one in enumerate(audit_path(2, five))}

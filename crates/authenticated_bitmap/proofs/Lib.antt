@@ -21,3 +21,4 @@ pub mod RangeEncodings
 pub mod StoredRanges
 pub mod StoredChunks
 pub mod Appended
+pub mod Replaced

@@ -103,7 +103,7 @@ pub record Grown (old new : List (List ℕ)) : Type 0 where
   pub rest : List (List ℕ)
   pub is : new ≡ old ++ rest
 
-pub top : (List ℕ → List ℕ) → ℕ → List (List ℕ) → List (List ℕ)
+unfoldable pub top : (List ℕ → List ℕ) → ℕ → List (List ℕ) → List (List ℕ)
 top H k digests = if length digests == 2 ^ suc k then subtree_hash H (suc k) digests ∷ [] else []
 
 pub below_suc : (H : List ℕ → List ℕ) (k : ℕ) (digests : List (List ℕ)) → stored_below H (suc k) digests ≡ stored_below H k (take (2 ^ k) digests) ++ stored_below H k (drop (2 ^ k) digests) ++ top H k digests

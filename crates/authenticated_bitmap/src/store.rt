@@ -4,11 +4,11 @@
 //! comes after those of its two halves. So the place of a digest does not depend on the number of
 //! leaves, and a leaf that is appended appends digests and moves none.
 
-ghost use Rattle.std.specs.Prelude.{◌++◌, ◌-◌, reverse, IfOk, OnErr, OnOk, ◌≡◌, ◌+◌, ◌*◌, ◌^◌, ◌<◌, ◌≤◌, ℕ, List, [], ◌∷◌, length, take};
+ghost use Rattle.std.specs.Prelude.{◌++◌, ◌-◌, reverse, IfOk, OnErr, OnOk, ◌≡◌, ◌+◌, ◌*◌, ◌^◌, ◌<◌, ◌≤◌, ℕ, List, [], ◌∷◌, length, slice_index_or, slice_set, take};
 ghost use Rattle.authenticated_bitmap.specs.StoredBitmap.{full_chunks};
-ghost use Rattle.authenticated_bitmap.specs.Stored.{KeepsApart, StoresSubtrees, leaves_under, nodes, position, stored as stored_of};
+ghost use Rattle.authenticated_bitmap.specs.Stored.{KeepsApart, StoresSubtrees, leaves_under, nodes, position, stored as stored_of, stored_below};
 ghost use Rattle.authenticated_bitmap.specs.Range.{range_siblings, siblings_below};
-ghost use Rattle.authenticated_bitmap.specs.Tree.{audit_path, siblings, subtree_hash, tree_hash};
+ghost use Rattle.authenticated_bitmap.specs.Tree.{audit_path, node_hash, siblings, subtree_hash, tree_hash};
 
 use crate::hash::Digest;
 use crate::node_source::{InBitmap, InSlice, Nodes};
@@ -221,6 +221,99 @@ pub fn append_leaf<D: Digest>(
             Err(error)
         }
     }
+}
+
+// Replaces the digest of a subtree of `2 * half` leaves, from those of its halves. The digests of
+// its right half begin at place `right`. Does nothing if there are fewer than `2 * half` leaves.
+fn rehash<D: Digest>(hash: &D, stored: &mut [[u8; 32]], right: u64, half: u64, count: u64)
+    requires some { 0 < half }
+    requires small { half ≤ 2 ^ 61 }
+    requires few { count ≤ 2 * half }
+    requires after_left { 0 < right }
+    requires within { count ≡ 2 * half → right + 2 * half - 1 < length stored.old }
+    ensures part { count < 2 * half → stored.new ≡ stored.old }
+    ensures whole { count ≡ 2 * half → stored.new ≡ slice_set stored.old (right + 2 * half - 1)
+        (node_hash (D.digest_of hash.now) (slice_index_or stored.old (right - 1) [])
+        (slice_index_or stored.old (right + 2 * half - 2) [])) }
+{
+    if count == 2 * half {
+        let left = stored[(right - 1) as usize];
+        let top = (right + count - 1) as usize;
+        let last = stored[top - 1];
+        stored[top] = node_digest(hash, &left, &last);
+    }
+}
+
+// Replaces leaf `i` of a part of the tree, by its digest. The part has `count` leaves, at most
+// `2 ^ level`, and its digests begin at `place`.
+fn replace_below<D: Digest>(
+    hash: &D,
+    stored: &mut [[u8; 32]],
+    place: u64,
+    level: u32,
+    count: u64,
+    i: u64,
+    digest: &[u8; 32],
+)
+    requires low { level ≤ 61 }
+    requires few { count ≤ 2 ^ level }
+    requires some { i < count }
+    requires within { place + nodes count ≤ length stored.old }
+    ensures value { (before block after : List (List ℕ)) → length before ≡ place → length block ≡ count
+        → stored.old ≡ before ++ stored_below (D.digest_of hash.now) level block ++ after
+        → stored.new ≡ before
+        ++ stored_below (D.digest_of hash.now) level (slice_set block i digest.now) ++ after }
+    ensures size { length stored.new ≡ length stored.old }
+{
+    if level == 0 {
+        stored[place as usize] = *digest;
+        return;
+    }
+    let half = size_of(level - 1);
+    if count <= half {
+        replace_below(hash, stored, place, level - 1, count, i, digest);
+        return;
+    }
+    let right = place + 2 * half - 1;
+    if i < half {
+        replace_below(hash, stored, place, level - 1, half, i, digest);
+        rehash(hash, stored, right, half, count);
+        return;
+    }
+    replace_below(
+        hash,
+        stored,
+        right,
+        level - 1,
+        count - half,
+        i - half,
+        digest,
+    );
+    rehash(hash, stored, right, half, count);
+}
+
+/// Replaces leaf `i` of a tree of `n` leaves, by the digest of the new leaf: replaces the stored
+/// digest of the leaf, and that of each complete subtree that contains it.
+///
+/// `stored` has [`node_count(n)`](node_count) digests, `i` is below `n`, and `n` is at most 2 to
+/// the power 61. The stored digests are then those of the leaves with leaf `i` replaced.
+///
+/// # Memory
+/// Does not allocate.
+///
+/// # Complexity
+/// Logarithmic in `n`: reads two digests and hashes once per complete subtree of two leaves or more
+/// that contains the leaf.
+pub fn replace_leaf<D: Digest>(hash: &D, stored: &mut [[u8; 32]], n: u64, i: u64, digest: &[u8; 32])
+    requires few { n ≤ 2 ^ 61 }
+    requires some { i < n }
+    requires count { length stored.old ≡ nodes n }
+    ensures value { (digests : List (List ℕ)) → length digests ≡ n
+        → stored.old ≡ stored_of (D.digest_of hash.now) digests
+        → stored.new ≡ stored_of (D.digest_of hash.now) (slice_set digests i digest.now) }
+    ensures count { length stored.new ≡ nodes n }
+{
+    replace_below(hash, stored, 0, 61, n, i, digest);
 }
 
 // Appends the digests beside the way to leaf `i` in a part of the tree, the part's last, from the

@@ -74,6 +74,18 @@ pub const TREE_8: [u8; 32] = [
     173, 47, 73, 96, 207, 227, 112, 239, 244, 96, 67, 40,
 ];
 
+/// The digest of the tree of the first 8 of the eight leaves, with the leaf of the bytes `other` in the place of leaf 5.
+pub const TREE_8_REPLACED_5: [u8; 32] = [
+    175, 145, 46, 141, 9, 47, 223, 91, 229, 40, 41, 241, 209, 78, 151, 240, 52, 167, 162, 110, 89,
+    126, 215, 101, 219, 50, 107, 205, 30, 194, 123, 5,
+];
+
+/// The digest of the tree of the first 7 of the eight leaves, with the leaf of the bytes `other` in the place of leaf 6.
+pub const TREE_7_REPLACED_6: [u8; 32] = [
+    226, 218, 230, 165, 119, 134, 74, 200, 45, 204, 119, 37, 75, 248, 98, 162, 34, 63, 120, 150,
+    246, 215, 207, 14, 172, 114, 184, 47, 101, 90, 92, 241,
+];
+
 /// The digest of the last four of the eight leaves.
 pub const LAST_FOUR: [u8; 32] = [
     107, 71, 170, 242, 158, 227, 194, 175, 154, 248, 137, 188, 31, 185, 37, 77, 171, 211, 17, 119,

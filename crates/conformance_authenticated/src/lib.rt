@@ -19,4 +19,6 @@ mod sha;
 #[cfg(test)]
 mod stored;
 #[cfg(test)]
+mod stored_edits;
+#[cfg(test)]
 mod trees;

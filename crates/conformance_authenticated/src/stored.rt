@@ -12,9 +12,9 @@ use authenticated_bitmap::store::{
 };
 use authenticated_bitmap::tree::node_digest;
 
-/// Returns the stored digests of the eight leaves: each complete subtree after its two halves.
-pub fn eight_stored() -> [[u8; 32]; 15] {
-    let [a, b, c, d, e, f, g, h] = eight_digests();
+/// Returns the stored digests of eight leaves: each complete subtree after its two halves.
+pub fn stored_of(leaves: [[u8; 32]; 8]) -> [[u8; 32]; 15] {
+    let [a, b, c, d, e, f, g, h] = leaves;
     let ab = node_digest(&Sha, &a, &b);
     let cd = node_digest(&Sha, &c, &d);
     let abcd = node_digest(&Sha, &ab, &cd);
@@ -23,6 +23,11 @@ pub fn eight_stored() -> [[u8; 32]; 15] {
     let efgh = node_digest(&Sha, &ef, &gh);
     let all = node_digest(&Sha, &abcd, &efgh);
     [a, b, ab, c, d, cd, abcd, e, f, ef, g, h, gh, efgh, all]
+}
+
+/// Returns the stored digests of the eight leaves of certificate transparency.
+pub fn eight_stored() -> [[u8; 32]; 15] {
+    stored_of(eight_digests())
 }
 
 #[test]

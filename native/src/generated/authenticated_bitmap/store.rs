@@ -223,6 +223,68 @@ pub fn append_leaf<D: Digest>(hash: &D, stored: &mut Vec<[u8; 32]>, n: u64, dige
     }
 }
 
+// Replaces the digest of a subtree of `2 * half` leaves, from those of its halves. The digests of
+// its right half begin at place `right`. Does nothing if there are fewer than `2 * half` leaves.
+fn rehash<D: Digest>(hash: &D, stored: &mut [[u8; 32]], right: u64, half: u64, count: u64) {
+    if count == 2 * half {
+        let left = stored[(right - 1) as usize];
+        let top = (right + count - 1) as usize;
+        let last = stored[top - 1];
+        stored[top] = node_digest(hash, &left, &last);
+    }
+}
+
+// Replaces leaf `i` of a part of the tree, by its digest. The part has `count` leaves, at most
+// `2 ^ level`, and its digests begin at `place`.
+fn replace_below<D: Digest>(hash: &D, stored: &mut [[u8; 32]], place: u64, level: u32, count: u64, i: u64, digest: &[u8; 32]) {
+    if level == 0 {
+        stored[place as usize] = *digest;
+        return;
+    }
+    let half = size_of(level - 1);
+    if count <= half {
+        replace_below(hash, stored, place, level - 1, count, i, digest);
+        return;
+    }
+    let right = place + 2 * half - 1;
+    if i < half {
+        replace_below(hash, stored, place, level - 1, half, i, digest);
+        rehash(hash, stored, right, half, count);
+        return;
+    }
+    replace_below(hash, stored, right, level - 1, count - half, i - half, digest);
+    rehash(hash, stored, right, half, count);
+}
+
+/// Replaces leaf `i` of a tree of `n` leaves, by the digest of the new leaf: replaces the stored
+/// digest of the leaf, and that of each complete subtree that contains it.
+///
+/// `stored` has [`node_count(n)`](node_count) digests, `i` is below `n`, and `n` is at most 2 to
+/// the power 61. The stored digests are then those of the leaves with leaf `i` replaced.
+///
+/// # Memory
+/// Does not allocate.
+///
+/// # Complexity
+/// Logarithmic in `n`: reads two digests and hashes once per complete subtree of two leaves or more
+/// that contains the leaf.
+///
+/// # Panics
+///
+/// Panics if `n` is above 2^61; or if `i` is not below `n`; or if the number of `stored` is not `node_count(n)`.
+pub fn replace_leaf<D: Digest>(hash: &D, stored: &mut [[u8; 32]], n: u64, i: u64, digest: &[u8; 32]) {
+    assert!(n <= 1 << 61, "n {} is above 2^61", n);
+    assert!(i < n, "index {} out of bounds (len: {})", i, n);
+    assert!(
+        stored.len() as u64 == crate::generated::authenticated_bitmap::store::node_count(n),
+        "{} digests are stored for {} leaves",
+        stored.len(),
+        n
+    );
+
+    replace_below(hash, stored, 0, 61, n, i, digest);
+}
+
 // Appends the digests beside the way to leaf `i` in a part of the tree, the part's last, from the
 // stored digests.
 fn push_stored_siblings<D: Digest, S: Nodes>(
