@@ -22,3 +22,4 @@ pub mod StoredRanges
 pub mod StoredChunks
 pub mod Appended
 pub mod Replaced
+pub mod Truncated

@@ -13,10 +13,13 @@ use crate::known::{
 use crate::range_encodings::worked_range;
 use crate::sha::Sha;
 use crate::stored::eight_stored;
+use crate::stored_edits::eight_appended;
 use authenticated_bitmap::encoding::Proof;
 use authenticated_bitmap::range::prove_range;
 use authenticated_bitmap::range_encoding::RangeProof;
-use authenticated_bitmap::store::{node_count, prove_from_stored, prove_range_from_stored};
+use authenticated_bitmap::store::{
+    append_leaf, node_count, prove_from_stored, prove_range_from_stored, truncate_leaves,
+};
 use authenticated_bitmap::tree::{leaf_digests, prove, tree_digest};
 
 const PATH: [[u8; 32]; 3] = [PATH_5_OF_8_0, PATH_5_OF_8_1, PATH_5_OF_8_2];
@@ -68,6 +71,27 @@ fn siblings_of_a_range_from_stored_digests(rt: HostRuntime) {
     }
     if let Ok(siblings) = prove_range_from_stored(rt.alloc(), &Sha, &stored, 8, 2, 5) {
         equal_digests(&rt, &siblings, &[RANGE_2_TO_7_OF_8_0, RANGE_2_TO_7_OF_8_1]);
+    }
+}
+
+#[test]
+fn leaf_appended(rt: HostRuntime) {
+    let Ok(mut stored) = eight_appended(rt.alloc()) else {
+        return;
+    };
+    // There is space for two of the four digests that the eighth leaf adds.
+    stored.truncate(13);
+    stored.shrink_to_fit();
+    truncate_leaves(&mut stored, 7);
+    let whole = eight_stored();
+    if stored.len() as u64 != node_count(7) {
+        return;
+    }
+    let [_, _, _, _, _, _, _, last] = eight_digests();
+    if append_leaf(&Sha, &mut stored, 7, &last).is_ok() {
+        equal_digests(&rt, &stored, &whole);
+    } else {
+        equal_digests(&rt, &stored, &whole[..11]);
     }
 }
 

@@ -1,4 +1,4 @@
-//! Stored digests whose leaves are appended and replaced.
+//! Stored digests whose leaves are appended, replaced and removed.
 
 use crate::checks::{equal, equal_digests, ok};
 use crate::known::{
@@ -7,12 +7,27 @@ use crate::known::{
 };
 use crate::sha::Sha;
 use crate::stored::{eight_stored, stored_of};
-use authenticated_bitmap::store::{append_leaf, node_count, replace_leaf, tree_from_stored};
+use authenticated_bitmap::store::{
+    append_leaf, node_count, replace_leaf, tree_from_stored, truncate_leaves,
+};
 use authenticated_bitmap::tree::leaf_digest;
+use std::alloc::{AllocError, Global};
 
 const TREES: [[u8; 32]; 8] = [
     TREE_1, TREE_2, TREE_3, TREE_4, TREE_5, TREE_6, TREE_7, TREE_8,
 ];
+
+/// Returns the stored digests of the eight leaves, which are appended one by one.
+pub fn eight_appended(alloc: Global) -> Result<Vec<[u8; 32]>, AllocError> {
+    let digests = eight_digests();
+    let mut stored = Vec::new(alloc);
+    for k in 0..8 {
+        if stored.len() as u64 == node_count(k as u64) {
+            append_leaf(&Sha, &mut stored, k as u64, &digests[k])?;
+        }
+    }
+    Ok(stored)
+}
 
 #[test]
 fn leaves_appended(rt: HostRuntime) {
@@ -82,4 +97,37 @@ fn each_leaf_of_each_tree_replaced(rt: HostRuntime) {
             equal_digests(&rt, &stored[count..], &before[count..]);
         }
     }
+}
+
+#[test]
+fn leaves_removed(rt: HostRuntime) {
+    let whole = eight_stored();
+    let digests = eight_digests();
+    for kept in 0..8 {
+        let mut stored = ok(&rt, eight_appended(rt.alloc()));
+        truncate_leaves(&mut stored, kept as u64);
+        let count = (node_count(kept as u64) as usize).min(15);
+        equal_digests(&rt, &stored, &whole[..count]);
+        // The tree grows again.
+        if stored.len() as u64 == node_count(kept as u64) {
+            ok(
+                &rt,
+                append_leaf(&Sha, &mut stored, kept as u64, &digests[kept]),
+            );
+        }
+        let more = (node_count(kept as u64 + 1) as usize).min(15);
+        equal_digests(&rt, &stored, &whole[..more]);
+    }
+}
+
+#[test]
+fn no_leaf_removed(rt: HostRuntime) {
+    let whole = eight_stored();
+    let mut stored = ok(&rt, eight_appended(rt.alloc()));
+    truncate_leaves(&mut stored, 8);
+    equal_digests(&rt, &stored, &whole);
+    truncate_leaves(&mut stored, 9);
+    equal_digests(&rt, &stored, &whole);
+    truncate_leaves(&mut stored, 9_223_372_036_854_775_807);
+    equal_digests(&rt, &stored, &whole);
 }

@@ -285,6 +285,26 @@ pub fn replace_leaf<D: Digest>(hash: &D, stored: &mut [[u8; 32]], n: u64, i: u64
     replace_below(hash, stored, 0, 61, n, i, digest);
 }
 
+/// Keeps the first `kept` leaves of a tree, and removes the others: shortens the stored digests to
+/// those of the first `kept` leaves.
+///
+/// Changes nothing if the tree has at most `kept` leaves. `kept` is below 2 to the power 63.
+///
+/// # Memory
+/// Does not allocate, and frees nothing.
+///
+/// # Complexity
+/// Constant: hashes nothing, since the digests of fewer leaves are the first of those of more.
+///
+/// # Panics
+///
+/// Panics if `kept` is not below 2^63.
+pub fn truncate_leaves(stored: &mut Vec<[u8; 32]>, kept: u64) {
+    assert!(kept < 1 << 63, "kept {} is not below 2^63", kept);
+
+    stored.truncate(node_count(kept) as usize);
+}
+
 // Appends the digests beside the way to leaf `i` in a part of the tree, the part's last, from the
 // stored digests.
 fn push_stored_siblings<D: Digest, S: Nodes>(
