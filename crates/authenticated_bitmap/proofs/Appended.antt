@@ -1,7 +1,7 @@
 -- A leaf is appended: its digest, and then one for each subtree that it completes.
 use Rattle.std.proofs.Common.{◌≡◌, ℕ, zero, suc, ◌+◌, ◌-◌, ◌*◌, ◌/◌, ◌^◌, ◌<◌, ◌≤◌, List, [], ◌∷◌, ◌++◌, length, take, drop, get_or, refl, inl, inr, sym, ap, ◌∙◌, arith, append_assoc}
 use Rattle.std.specs.Prelude.{count_ones}
-use Rattle.std.proofs.lemmas.List.{take_more, take_all, take-append-le, drop-append-le, drop_all, get_or-take, length-append, take_at, take-append-drop}
+use Rattle.std.proofs.lemmas.List.{take_more, take_all, drop-append-le, drop_all, get_or-take, length-append, take_at, take-append-drop}
 use Rattle.std.proofs.lemmas.Nat.{pow_pos, ones_cat, ones_le_self}
 use Rattle.authenticated_bitmap.specs.Tree.{node_hash, subtree_hash}
 use Rattle.authenticated_bitmap.specs.Stored.{stored, nodes, position, leaves_under}

@@ -1,4 +1,4 @@
-use Rattle.std.proofs.Common.{◌≡◌, ◌+◌, ◌*◌, ◌/◌, ◌<◌, ◌≤◌, [], length, get_or, ap, arith, ◌∙◌}
+use Rattle.std.proofs.Common.{◌<◌, [], length, get_or, ap, arith, ◌∙◌}
 use Rattle.authenticated_bitmap.specs.StoredBitmap.{full_chunks}
 use Rattle.authenticated_bitmap.proofs.StoredChunks.{count_full, shown_full}
 use Rattle.authenticated_bitmap.proofs.node_source.InBitmapNodes.node.Goals as goal
