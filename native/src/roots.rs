@@ -14,6 +14,7 @@
 //! | [`RangeProof::write`], [`RangeProof::read`], [`RangeProof::verify`] | write, read and check such a proof |
 //! | [`leaf_digests`], [`leaf_digest`], [`node_digest`], [`tree_digest`], [`root_digest`] | are the parts of a root, for chunks that are in no bitmap |
 //! | [`node_count`], [`node_position`], [`tree_from_stored`], [`prove_from_stored`], [`prove_range_from_stored`] | compute a tree, audit paths and the digests of a range from digests that are stored, of which they read few |
+//! | [`append_leaf`], [`replace_leaf`], [`truncate_leaves`] | append, replace and remove leaves of a tree whose digests are stored |
 //! | [`tree_from_bitmap`], [`prove_from_bitmap`], [`prove_range_from_bitmap`] | do the same with stored digests that are the chunks of a bitmap, such as a past version of one with history |
 //!
 //! ```
@@ -64,8 +65,8 @@ pub use crate::generated::authenticated_bitmap::range::{try_prove_range, verify_
 pub use crate::generated::authenticated_bitmap::range_encoding::RangeProof;
 pub use crate::generated::authenticated_bitmap::root::{root_digest, verify_bit, verify_chunk};
 pub use crate::generated::authenticated_bitmap::store::{
-    node_count, node_position, tree_from_bitmap, tree_from_stored, try_prove_from_bitmap, try_prove_from_stored,
-    try_prove_range_from_bitmap, try_prove_range_from_stored,
+    node_count, node_position, replace_leaf, tree_from_bitmap, tree_from_stored, truncate_leaves, try_append_leaf, try_prove_from_bitmap,
+    try_prove_from_stored, try_prove_range_from_bitmap, try_prove_range_from_stored,
 };
 pub use crate::generated::authenticated_bitmap::tree::{leaf_digest, node_digest, tree_digest, try_leaf_digests, try_prove};
 
@@ -198,6 +199,29 @@ pub fn leaf_digests<D: Digest, const N: usize>(hash: &D, leaves: &[[u8; N]]) -> 
 #[must_use]
 pub fn prove<D: Digest>(hash: &D, digests: &[[u8; 32]], i: usize) -> Vec<[u8; 32]> {
     expect_memory(try_prove(hash, digests, i))
+}
+
+/// Appends a leaf to a tree of `n` leaves, by its digest: appends the digest, and that of each subtree that the leaf completes, to the stored
+/// digests. There are [`node_count(n)`](node_count) of them before.
+///
+/// # Panics
+///
+/// Panics if memory runs out; or if `n` is not below 2^61; or if the number of `stored` is not `node_count(n)`.
+///
+/// ```
+/// use mortarpink::roots::{append_leaf, leaf_digests, tree_digest, tree_from_stored};
+/// # mod sha256 { include!(concat!(env!("CARGO_MANIFEST_DIR"), "/examples/sha256/mod.rs")); }
+/// # use sha256::Sha256;
+///
+/// let leaves = leaf_digests(&Sha256, &[[1], [2], [3]]);
+/// let mut stored = Vec::new();
+/// for (n, leaf) in leaves.iter().enumerate() {
+///     append_leaf(&Sha256, &mut stored, n as u64, leaf);
+/// }
+/// assert_eq!(tree_from_stored(&Sha256, &stored, 3), tree_digest(&Sha256, &leaves));
+/// ```
+pub fn append_leaf<D: Digest>(hash: &D, stored: &mut Vec<[u8; 32]>, n: u64, digest: &[u8; 32]) {
+    expect_memory(try_append_leaf(hash, stored, n, digest));
 }
 
 /// Returns the audit path of leaf `i` of the tree of `n` leaves, from the stored digests. There are [`node_count(n)`](node_count) of them.

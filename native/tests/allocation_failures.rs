@@ -11,8 +11,8 @@ use mortarpink::log::{
     read_history, recover, rewind_logged, write_history,
 };
 use mortarpink::roots::{
-    Proof, RangeProof, chunk_digests, leaf_digests, prove, prove_from_stored, prove_range, prove_range_from_stored, try_chunk_digests,
-    try_leaf_digests, try_prove, try_prove_from_stored, try_prove_range, try_prove_range_from_stored,
+    Proof, RangeProof, append_leaf, chunk_digests, leaf_digests, prove, prove_from_stored, prove_range, prove_range_from_stored,
+    try_append_leaf, try_chunk_digests, try_leaf_digests, try_prove, try_prove_from_stored, try_prove_range, try_prove_range_from_stored,
 };
 use mortarpink::support::alloc::Global;
 use mortarpink::support::collections::{BTreeMap, DequeWithin, VecDeque};
@@ -193,6 +193,13 @@ fn of_roots() {
     assert_eq!(made(&|| try_leaf_digests(&Sha256, &[[1]; 9]).is_err()), 3);
     assert_eq!(made(&|| try_prove(&Sha256, &digests, 5).is_err()), 2);
     assert_eq!(made(&|| try_prove_from_stored(&Sha256, &digests[..63], 32, 5).is_err()), 2);
+    // There is space for two of the six digests that leaf 31 adds.
+    let stored = || {
+        let mut stored = Vec::with_capacity(59);
+        stored.extend_from_slice(&digests[..57]);
+        stored
+    };
+    assert_eq!(each_edit(stored, Vec::clone, |stored| try_append_leaf(&Sha256, stored, 31, &[2; 32])), 1);
     assert_eq!(made(&|| try_prove_range(&Sha256, &digests, 5, 3).is_err()), 2);
     assert_eq!(made(&|| try_prove_range_from_stored(&Sha256, &digests[..63], 32, 5, 1).is_err()), 2);
     assert!(made(&|| proof.try_write().is_err()) > 1);
@@ -536,6 +543,7 @@ fn of_calls_that_return_no_error() {
     assert!(panics(&|| drop(chunk_digests(&Sha256, &dense, &[]))));
     assert!(panics(&|| drop(leaf_digests(&Sha256, &[[1]]))));
     assert!(panics(&|| drop(prove(&Sha256, &digests, 1))));
+    assert!(panics(&|| append_leaf(&Sha256, &mut Vec::new(), 0, &[1; 32])));
     assert!(panics(&|| drop(prove_from_stored(&Sha256, &digests, 2, 1))));
     assert!(panics(&|| drop(prove_range(&Sha256, &digests, 1, 1))));
     assert!(panics(&|| drop(prove_range_from_stored(&Sha256, &digests, 2, 1, 1))));

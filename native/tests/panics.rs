@@ -8,9 +8,9 @@ use mortarpink::bitmap::{BitMap, Prunable, Readable};
 use mortarpink::log::frames::{Place, next_frame, push_frame};
 use mortarpink::log::{Past, from_base};
 use mortarpink::roots::{
-    bitmap_root, chunk_digests, node_count, node_position, prove, prove_from_bitmap, prove_from_stored, prove_range,
-    prove_range_from_bitmap, prove_range_from_stored, tree_from_bitmap, tree_from_stored, try_chunk_digests, try_prove,
-    try_prove_from_stored, try_prove_range, try_prove_range_from_stored,
+    append_leaf, bitmap_root, chunk_digests, node_count, node_position, prove, prove_from_bitmap, prove_from_stored, prove_range,
+    prove_range_from_bitmap, prove_range_from_stored, replace_leaf, tree_from_bitmap, tree_from_stored, truncate_leaves, try_append_leaf,
+    try_chunk_digests, try_prove, try_prove_from_stored, try_prove_range, try_prove_range_from_stored,
 };
 use sha256::Sha256;
 use std::panic::{AssertUnwindSafe, catch_unwind};
@@ -239,6 +239,13 @@ fn of_stored_digests() {
     assert_eq!(panic_of(|| prove_from_stored(&Sha256, &stored, 2, 2)), "index 2 out of bounds (len: 2)");
     assert_eq!(panic_of(|| prove_from_stored(&Sha256, &stored, 1, 0)), "3 digests are stored for 1 leaves");
     assert_eq!(panic_of(|| try_prove_from_stored(&Sha256, &stored, u64::MAX, 0)), "n 18446744073709551615 is above 2^61");
+    assert_eq!(panic_of(|| append_leaf(&Sha256, &mut stored.to_vec(), 1 << 61, &[0; 32])), "n 2305843009213693952 is not below 2^61");
+    assert_eq!(panic_of(|| append_leaf(&Sha256, &mut stored.to_vec(), 3, &[0; 32])), "3 digests are stored for 3 leaves");
+    assert_eq!(panic_of(|| try_append_leaf(&Sha256, &mut stored.to_vec(), 1, &[0; 32])), "3 digests are stored for 1 leaves");
+    assert_eq!(panic_of(|| replace_leaf(&Sha256, &mut stored.clone(), (1 << 61) + 1, 0, &[0; 32])), "n 2305843009213693953 is above 2^61");
+    assert_eq!(panic_of(|| replace_leaf(&Sha256, &mut stored.clone(), 2, 2, &[0; 32])), "index 2 out of bounds (len: 2)");
+    assert_eq!(panic_of(|| replace_leaf(&Sha256, &mut stored.clone(), 3, 0, &[0; 32])), "3 digests are stored for 3 leaves");
+    assert_eq!(panic_of(|| truncate_leaves(&mut stored.to_vec(), 1 << 63)), "kept 9223372036854775808 is not below 2^63");
     assert_eq!(panic_of(|| prove_range_from_stored(&Sha256, &stored, 2, 1, 0)), "a range has at least one chunk");
     assert_eq!(panic_of(|| prove_range_from_stored(&Sha256, &stored, 2, 1, 2)), "range of 2 from 1 out of bounds (len: 2)");
     assert_eq!(

@@ -8,9 +8,9 @@ use formats::{bytes_of, rows, section};
 use mortarpink::bitmap::historical::CleanBitMap;
 use mortarpink::bitmap::{BitMap, Prunable, Readable};
 use mortarpink::roots::{
-    DecodeError, Proof, RangeProof, bitmap_root, chunk_digests, leaf_digest, leaf_digests, node_count, node_digest, node_position, prove,
-    prove_from_stored, prove_range, prove_range_from_stored, root_digest, tree_digest, tree_from_stored, verify_bit, verify_chunk,
-    verify_range,
+    DecodeError, Proof, RangeProof, append_leaf, bitmap_root, chunk_digests, leaf_digest, leaf_digests, node_count, node_digest,
+    node_position, prove, prove_from_stored, prove_range, prove_range_from_stored, replace_leaf, root_digest, tree_digest,
+    tree_from_stored, truncate_leaves, verify_bit, verify_chunk, verify_range,
 };
 use sha256::{Hasher, Sha256};
 use std::collections::HashMap;
@@ -290,6 +290,32 @@ fn trees_are_computed_from_stored_digests() {
     assert_eq!(node_count((1 << 63) - 1), u64::MAX - 64);
     assert_eq!(node_position(61, 0), (1 << 62) - 2);
     assert_eq!(node_position(0, (1 << 62) - 2), node_count((1 << 62) - 2));
+}
+
+#[test]
+fn leaves_of_stored_digests_are_appended_replaced_and_removed() {
+    let leaves: Digests = (0..33).map(|leaf| leaf_digest(&Sha256, &[leaf])).collect();
+    let other = leaf_digest(&Sha256, b"other");
+    let mut appended = Vec::new();
+    for (n, leaf) in leaves.iter().enumerate() {
+        append_leaf(&Sha256, &mut appended, n as u64, leaf);
+        assert_eq!(appended, stored(&leaves[..=n]), "{n} leaves and one more");
+    }
+    for n in 1..=leaves.len() {
+        for i in 0..n {
+            let (mut replaced, mut digests) = (leaves[..n].to_vec(), stored(&leaves[..n]));
+            replaced[i] = other;
+            replace_leaf(&Sha256, &mut digests, n as u64, i as u64, &other);
+            assert_eq!(digests, stored(&replaced), "leaf {i} of {n}");
+        }
+        for kept in 0..n + 2 {
+            let mut digests = stored(&leaves[..n]);
+            truncate_leaves(&mut digests, kept as u64);
+            assert_eq!(digests, stored(&leaves[..kept.min(n)]), "{kept} of {n} leaves");
+        }
+    }
+    truncate_leaves(&mut appended, (1 << 63) - 1);
+    assert_eq!(appended, stored(&leaves));
 }
 
 /// The encoding of the proof of chunk 1 of the worked root.

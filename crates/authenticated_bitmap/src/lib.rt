@@ -17,7 +17,7 @@
 //!   [`RangeProof`](range_encoding::RangeProof) has its encoding. For two chunks or more it has
 //!   fewer digests than their proofs together.
 //! - [`store`] computes trees, audit paths and the digests of ranges from stored digests, of which
-//!   it reads few.
+//!   it reads few. It appends, replaces and removes leaves, and writes few of them.
 //!
 //! A pruned chunk stays in the tree by its digest, so a proof stays good when chunks are pruned:
 //! only the number of pruned chunks in the root changes.

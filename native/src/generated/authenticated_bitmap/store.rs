@@ -204,7 +204,21 @@ fn push_leaf<D: Digest>(hash: &D, stored: &mut Vec<[u8; 32]>, n: u64, digest: &[
 /// # Panics
 ///
 /// Panics if `n` is not below 2^61; or if the number of `stored` is not `node_count(n)`.
-pub fn append_leaf<D: Digest>(hash: &D, stored: &mut Vec<[u8; 32]>, n: u64, digest: &[u8; 32]) -> Result<(), AllocError> {
+///
+/// # Examples
+///
+/// ```
+/// use mortarpink::roots::{node_digest, try_append_leaf};
+/// # mod sha256 { include!(concat!(env!("CARGO_MANIFEST_DIR"), "/examples/sha256/mod.rs")); }
+/// # use sha256::Sha256;
+///
+/// let [a, b] = [[1; 32], [2; 32]];
+/// let mut stored = vec![a];
+/// try_append_leaf(&Sha256, &mut stored, 1, &b)?;
+/// assert_eq!(stored, [a, b, node_digest(&Sha256, &a, &b)]);
+/// # Ok::<(), mortarpink::AllocError>(())
+/// ```
+pub fn try_append_leaf<D: Digest>(hash: &D, stored: &mut Vec<[u8; 32]>, n: u64, digest: &[u8; 32]) -> Result<(), AllocError> {
     assert!(n < 1 << 61, "n {} is not below 2^61", n);
     assert!(
         stored.len() as u64 == crate::generated::authenticated_bitmap::store::node_count(n),
@@ -272,6 +286,19 @@ fn replace_below<D: Digest>(hash: &D, stored: &mut [[u8; 32]], place: u64, level
 /// # Panics
 ///
 /// Panics if `n` is above 2^61; or if `i` is not below `n`; or if the number of `stored` is not `node_count(n)`.
+///
+/// # Examples
+///
+/// ```
+/// use mortarpink::roots::{node_digest, replace_leaf};
+/// # mod sha256 { include!(concat!(env!("CARGO_MANIFEST_DIR"), "/examples/sha256/mod.rs")); }
+/// # use sha256::Sha256;
+///
+/// let [a, b, c] = [[1; 32], [2; 32], [3; 32]];
+/// let mut stored = [a, b, node_digest(&Sha256, &a, &b)];
+/// replace_leaf(&Sha256, &mut stored, 2, 0, &c);
+/// assert_eq!(stored, [c, b, node_digest(&Sha256, &c, &b)]);
+/// ```
 pub fn replace_leaf<D: Digest>(hash: &D, stored: &mut [[u8; 32]], n: u64, i: u64, digest: &[u8; 32]) {
     assert!(n <= 1 << 61, "n {} is above 2^61", n);
     assert!(i < n, "index {} out of bounds (len: {})", i, n);
@@ -299,6 +326,19 @@ pub fn replace_leaf<D: Digest>(hash: &D, stored: &mut [[u8; 32]], n: u64, i: u64
 /// # Panics
 ///
 /// Panics if `kept` is not below 2^63.
+///
+/// # Examples
+///
+/// ```
+/// use mortarpink::roots::{node_digest, truncate_leaves};
+/// # mod sha256 { include!(concat!(env!("CARGO_MANIFEST_DIR"), "/examples/sha256/mod.rs")); }
+/// # use sha256::Sha256;
+///
+/// let [a, b, c] = [[1; 32], [2; 32], [3; 32]];
+/// let mut stored = vec![a, b, node_digest(&Sha256, &a, &b), c];
+/// truncate_leaves(&mut stored, 1);
+/// assert_eq!(stored, [a]);
+/// ```
 pub fn truncate_leaves(stored: &mut Vec<[u8; 32]>, kept: u64) {
     assert!(kept < 1 << 63, "kept {} is not below 2^63", kept);
 
