@@ -12,12 +12,16 @@ from types import TracebackType
 from typing import TYPE_CHECKING, Callable, Iterable, Iterator, NoReturn, Optional, SupportsIndex, cast, overload
 
 from ._errors import (
+    BY_STATUS,
     ClosedError,
+    DamagedError,
     Error,
     InvalidError,
     InvalidLengthError,
+    NoLogError,
     NonMonotonicCommitError,
     NoSuchCommitError,
+    NotAcceptedError,
     PrunedError,
     WrongModeError,
     check,
@@ -446,7 +450,8 @@ class Bitmap(_Reads):
         (False, True)
 
     In a batch, the reads of bits, searches and counts among them, are of the pending bitmap. The other calls, `bytes` and
-    those of versions and commits, raise WrongModeError. Only `copy`, `abort` and `close` do not.
+    those of versions and commits, raise WrongModeError. Only `copy`, `abort` and `close` do not, and the calls of a log that
+    was begun before.
 
     Several threads may use a bitmap. Calls that read run at the same time. Any other call has the bitmap to itself, so
     calls of other threads wait. A batch is several calls: threads that begin batches on one bitmap need a lock of their
@@ -537,12 +542,94 @@ class Bitmap(_Reads):
             raise InvalidError("bytes follow the history")
         return bitmap
 
+    @classmethod
+    def recover(cls, data: ReadableBuffer, width: int = 8) -> tuple[Bitmap, int]:
+        """Makes a bitmap of a log, whole or cut off by a crash. Returns it, and the number of good bytes of the log.
+
+        The bitmap is that after the last entry that is whole in the bytes. It keeps the log and goes on with it: its next entry
+        belongs right after the good bytes. Bytes after these are what a crash has left of an entry. The program cuts them off its
+        file before it appends to it.
+
+        Raises NoSuchWidthError, NoMemoryError, or a DecodeError. CutOffError means that the bytes end before the first bitmap of
+        the log does, and WrongHeaderError that they are no log of this width. DamagedError and NotAcceptedError are for
+        damage that no cut explains. Their `position` is the number of good bytes before it.
+        """
+        session, data, good = Session(width), bytes_of(data), SIZE()
+        status = session.status("recover", session.width, data, len(data), good)
+        if status in (DamagedError.status, NotAcceptedError.status):
+            raise BY_STATUS[status](good.value)
+        check(status)
+        return cls._of(session), good.value
+
+    def begin_log(self) -> None:
+        """Begins a log of what the bitmap keeps. Its first bytes are the history, as `save` returns it.
+
+        From then on each commit, `rewind_to`, `drop_before`, `clear` and `apply_delta` also appends its entry to the log: both,
+        or neither. A program writes the bytes of `take_log`, or of `log_bytes`, at the end of a file, from which `recover` makes
+        the bitmap again. Until they are taken or forgotten, they are in memory. A copy of the bitmap keeps no log, and neither
+        does a bitmap that is unpickled.
+
+        Raises HasLogError if the bitmap keeps a log, WrongModeError in a batch, or NoMemoryError.
+        """
+        self._run("log_begin")
+
+    def end_log(self) -> None:
+        """Ends the log. Bytes that were neither taken nor forgotten are lost. Raises NoLogError."""
+        self._run("log_end")
+
+    @property
+    def keeps_log(self) -> bool:
+        """Whether the bitmap keeps a log."""
+        status = self._status("log_position", U64())
+        if status != NoLogError.status:
+            check(status)
+        return status != NoLogError.status
+
+    def log_bytes(self) -> bytes:
+        """Returns the bytes of the log that were neither taken nor forgotten. They stay in the log.
+
+        They are the bytes of the log before `log_position`. Raises NoLogError.
+        """
+        return self._encoding("log_bytes")
+
+    def forget_log(self) -> None:
+        """Removes the bytes that `log_bytes` returns, once the program has written them to its file.
+
+        An entry that another thread appends between the two calls is removed too. Threads that change the bitmap share a lock
+        for their batches: it is held from `log_bytes` to `forget_log`. Raises NoLogError.
+        """
+        self._run("log_forget")
+
+    def take_log(self) -> bytes:
+        """Removes the bytes that `log_bytes` returns, and returns them. No entry of another thread comes between the two.
+
+        Raises NoLogError.
+        """
+        with self._session.lock:
+            data = self.log_bytes()
+            self.forget_log()
+            return data
+
+    @property
+    def log_position(self) -> int:
+        """The number of bytes of the whole log, those included that were taken or forgotten. Raises NoLogError."""
+        return self._number("log_position")
+
+    @property
+    def log_digest(self) -> int:
+        """The digest of the whole log, which is its last eight bytes as a number, the most significant first.
+
+        If two logs of one width have the same position and the same digest, they have the same bytes, unless two inputs of the
+        digest collide. Raises NoLogError.
+        """
+        return self._number("log_digest")
+
     def __reduce__(self) -> tuple[object, ...]:
-        """Pickles the history and the width. The index is not pickled. Raises WrongModeError in a batch."""
+        """Pickles the history and the width. The index and the log are not pickled. Raises WrongModeError in a batch."""
         return type(self).load, (self.save(), self.width)
 
     def copy(self) -> Bitmap:
-        """Returns a copy of the bitmap and its commits. It is not in a batch. Raises NoMemoryError."""
+        """Returns a copy of the bitmap and its commits. It is not in a batch, and keeps no log. Raises NoMemoryError."""
         return self._of(self._session.copied())
 
     def __copy__(self) -> Bitmap:
@@ -681,7 +768,7 @@ class Bitmap(_Reads):
     def checkout(self, number: int) -> Bitmap:
         """Returns a bitmap of its own that is the bitmap at a commit, without commits. Later edits change neither by the other.
 
-        Raises NoSuchCommitError or NoMemoryError.
+        It keeps no log. Raises NoSuchCommitError or NoMemoryError.
         """
         return self._of(self._session.checked_out(u64(number)))
 

@@ -95,7 +95,7 @@ class PrunedChunksOverflowError(Error, OverflowError, status=_interface.PRUNED_C
 
 
 class DecodeError(Error, ValueError):
-    """The base of the errors of `Bitmap.from_bytes`, `Bitmap.decode`, `Bitmap.load` and `Bitmap.apply_delta` in their input."""
+    """The base of the errors in the input of `Bitmap.from_bytes`, `decode`, `load`, `decode_history`, `apply_delta` and `recover`."""
 
 
 class EndOfBufferError(DecodeError, status=_interface.END_OF_BUFFER):
@@ -119,19 +119,31 @@ class InvalidError(DecodeError, status=_interface.INVALID):
 
 
 class WrongHeaderError(DecodeError, status=_interface.WRONG_HEADER):
-    """The bytes do not begin as a history or a delta of this width does."""
+    """The bytes do not begin as a history, a log or a delta of this width does."""
 
 
 class CutOffError(DecodeError, status=_interface.CUT_OFF):
-    """The bytes end before the history or the delta does."""
+    """The bytes end before the history, the delta or the first bitmap of the log does."""
 
 
-class DamagedError(DecodeError, status=_interface.DAMAGED):
+class _Damage(DecodeError):
+    """The base of the errors that have a position in a log."""
+
+    @property
+    def position(self) -> Optional[int]:
+        """The number of bytes of the log before the entry that is damaged, if `Bitmap.recover` has raised the error, or None."""
+        return int(self.args[0]) if self.args else None
+
+    def _detail(self) -> str:
+        return "" if self.position is None else f"after {self.position} good bytes"
+
+
+class DamagedError(_Damage, status=_interface.DAMAGED):
     """A digest is not that of the bytes before it."""
 
 
-class NotAcceptedError(DecodeError, status=_interface.NOT_ACCEPTED):
-    """A part of the bytes is no bitmap, or no commit that can follow."""
+class NotAcceptedError(_Damage, status=_interface.NOT_ACCEPTED):
+    """A part of the bytes is no bitmap, or no commit or other entry that can follow."""
 
 
 class OutOfRangeError(DecodeError, status=_interface.OUT_OF_RANGE):
@@ -140,6 +152,14 @@ class OutOfRangeError(DecodeError, status=_interface.OUT_OF_RANGE):
 
 class NotAtBaseError(Error, ValueError, status=_interface.NOT_AT_BASE):
     """The delta does not start at the current bitmap."""
+
+
+class HasLogError(Error, RuntimeError, status=_interface.HAS_LOG):
+    """The bitmap keeps a log already."""
+
+
+class NoLogError(Error, RuntimeError, status=_interface.NO_LOG):
+    """The bitmap keeps no log. `Bitmap.begin_log` begins one."""
 
 
 class NoSuchCommitError(Error, LookupError, status=_interface.NO_SUCH_COMMIT):

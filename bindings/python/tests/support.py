@@ -39,6 +39,11 @@ def with_versions() -> Bitmap:
     return bitmap
 
 
+def states(bitmap):
+    """Returns what can be read of a bitmap: the encoding of the current version, and of each kept one by its number."""
+    return bytes(bitmap), {number: bytes(bitmap.at(number)) for number in bitmap.commits()}
+
+
 def failing(name: str, status: int = NO_MEMORY):
     """Returns a context in which a function of the library fails with a status, and changes nothing."""
     return mock.patch.dict(CALLS, {name: lambda *arguments: status})
@@ -49,3 +54,37 @@ def run_script(*lines: str):
     script = "\n".join(["from mortarpink import Bitmap, NoMemoryError, _library", *lines])
     done = subprocess.run([sys.executable, "-c", script], capture_output=True, text=True)
     return done.stdout, done.stderr
+
+
+def digest(data):
+    """Returns the digest of bytes that logs and receipts have, SipHash-1-3 with a zero key, as it is stored: most significant byte first."""
+    state = [0x736F6D6570736575, 0x646F72616E646F6D, 0x6C7967656E657261, 0x7465646279746573]
+    whole = len(data) // 8 * 8
+    words = [int.from_bytes(data[at : at + 8], "little") for at in range(0, whole, 8)]
+    for word in *words, int.from_bytes(data[whole:], "little") + (len(data) % 256 << 56):
+        state[3] ^= word
+        state = sip_round(*state)
+        state[0] ^= word
+    state[2] ^= 0xFF
+    for _ in range(3):
+        state = sip_round(*state)
+    return (state[0] ^ state[1] ^ state[2] ^ state[3]).to_bytes(8, "big")
+
+
+def sip_round(v0, v1, v2, v3):
+    """Returns the four words of a state of SipHash after one round."""
+    v0 = v0 + v1 & MAX
+    v1 = rotated(v1, 13) ^ v0
+    v0 = rotated(v0, 32)
+    v2 = v2 + v3 & MAX
+    v3 = rotated(v3, 16) ^ v2
+    v0 = v0 + v3 & MAX
+    v3 = rotated(v3, 21) ^ v0
+    v2 = v2 + v1 & MAX
+    v1 = rotated(v1, 17) ^ v2
+    return [v0, v1, rotated(v2, 32), v3]
+
+
+def rotated(word, places):
+    """Returns a word of 64 bits, rotated to the left."""
+    return word << places & MAX | word >> 64 - places

@@ -40,12 +40,14 @@ EXPECTED = {
     "ClosedError": (15, ValueError, "the bitmap is closed"),
     "NoSuchWidthError": (17, ValueError, "the width is not 1, 8, 32 or 64"),
     "WrongSizeError": (18, ValueError, "the buffer has the wrong size"),
-    "WrongHeaderError": (19, ValueError, "the bytes do not begin as a history or a delta of this width does"),
-    "CutOffError": (20, ValueError, "the bytes end before the history or the delta does"),
+    "WrongHeaderError": (19, ValueError, "the bytes do not begin as a history, a log or a delta of this width does"),
+    "CutOffError": (20, ValueError, "the bytes end before the history, the delta or the first bitmap of the log does"),
     "DamagedError": (21, ValueError, "a digest is not that of the bytes before it"),
-    "NotAcceptedError": (22, ValueError, "a part of the bytes is no bitmap, or no commit that can follow"),
+    "NotAcceptedError": (22, ValueError, "a part of the bytes is no bitmap, or no commit or other entry that can follow"),
     "OutOfRangeError": (23, ValueError, "a number of retained bits or of commits is out of range"),
     "NotAtBaseError": (24, ValueError, "the delta does not start at the current bitmap"),
+    "HasLogError": (25, RuntimeError, "the bitmap keeps a log"),
+    "NoLogError": (26, RuntimeError, "the bitmap keeps no log"),
 }
 
 DETAILS = {"NonMonotonicCommitError": (9, 4), "InvalidLengthError": (9,)}

@@ -18,12 +18,7 @@ from mortarpink import (
     WrongHeaderError,
     WrongModeError,
 )
-from support import MAX, bitmap_of, failing, with_versions
-
-
-def states(bitmap):
-    """Returns what can be read of a bitmap: the encoding of the current version, and of each kept one by its number."""
-    return bytes(bitmap), {number: bytes(bitmap.at(number)) for number in bitmap.commits()}
+from support import MAX, bitmap_of, failing, states, with_versions
 
 
 def random_bitmap(chooser, width):
