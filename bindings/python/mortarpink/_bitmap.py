@@ -9,19 +9,16 @@ from ctypes import byref
 from functools import partial
 from operator import attrgetter, index
 from types import TracebackType
-from typing import TYPE_CHECKING, Callable, Iterable, Iterator, NoReturn, Optional, SupportsIndex, cast, overload
+from typing import TYPE_CHECKING, Callable, Iterable, Iterator, NoReturn, Optional, SupportsIndex, TypeVar, cast, overload
 
 from ._errors import (
-    BY_STATUS,
     ClosedError,
-    DamagedError,
     Error,
     InvalidError,
     InvalidLengthError,
     NoLogError,
     NonMonotonicCommitError,
     NoSuchCommitError,
-    NotAcceptedError,
     PrunedError,
     WrongModeError,
     check,
@@ -37,6 +34,8 @@ HEAD = 16
 
 # An encoding has all retained chunks. It is read in place of single chunks, if at least one chunk of so many is wanted.
 SHARE = 16
+
+K = TypeVar("K", bound="Kept")
 
 # The bits of each byte, the lowest first, as bytes.
 BITS = [bytes(byte >> place & 1 for place in range(8)) for byte in range(256)]
@@ -435,215 +434,20 @@ class Batch(_Bits):
         return f"<mortarpink.Batch, {'open' if self._is_open() else 'ended'}>"
 
 
-class Bitmap(_Reads):
-    """A bitmap with numbered commits, past states of which are read in place.
+class Kept(_Reads):
+    """What bitmaps and stores have: the reads and edits of the current bitmap and of its commits."""
 
-    Chunks have 1, 8, 32 or 64 bytes: the width. The bitmap is freed by `close`, at the end of a `with` block, or with
-    its last reference. Positions and lengths are in bits. They are absolute: they count from 0, and pruned bits count.
+    if TYPE_CHECKING:
 
-        >>> bitmap = Bitmap()
-        >>> with bitmap.batch(commit=7) as batch:
-        ...     batch.push(True)
-        >>> with bitmap.batch(commit=8) as batch:
-        ...     batch[0] = False
-        >>> bitmap[0], bitmap.at(7)[0]
-        (False, True)
-
-    In a batch, the reads of bits, searches and counts among them, are of the pending bitmap. The other calls, `bytes` and
-    those of versions and commits, raise WrongModeError. Only `copy`, `abort` and `close` do not, and the calls of a log that
-    was begun before.
-
-    Several threads may use a bitmap. Calls that read run at the same time. Any other call has the bitmap to itself, so
-    calls of other threads wait. A batch is several calls: threads that begin batches on one bitmap need a lock of their
-    own.
-    """
-
-    def __init__(self, width: int = 8, pruned_chunks: int = 0) -> None:
-        """Makes a bitmap with pruned chunks and no retained bit.
-
-        Raises NoSuchWidthError, PrunedChunksOverflowError or NoMemoryError.
-        """
-        super().__init__(Session(width))
-        self._run("new", self.width)
-        self._run("start", u64(pruned_chunks))
-
-    @classmethod
-    def _of(cls, session: Session) -> Bitmap:
-        bitmap = cls.__new__(cls)
-        Caller.__init__(bitmap, session)
-        return bitmap
-
-    @classmethod
-    def decode(cls, data: ReadableBuffer, width: int = 8, least: int = 0, most: int = MAX) -> tuple[Bitmap, int]:
-        """Makes a bitmap, without commits, from the encoding that the bytes begin with.
-
-        The number of retained bits is from `least` to `most`, both included. Returns the bitmap, and the number of
-        bytes of the encoding. Raises NoSuchWidthError, a DecodeError or NoMemoryError.
-
-        The encoding has no width and no checksum. Damaged bytes, or bytes read with another width, can be the encoding
-        of another bitmap.
-        """
-        session, data = Session(width), bytes_of(data)
-        used, length = SIZE(), U64()
-        status = session.status("read", session.width, u64(least), u64(most), data, len(data), used, length)
-        if status == InvalidLengthError.status:
-            raise InvalidLengthError(length.value)
-        check(status)
-        return cls._of(session), used.value
-
-    @classmethod
-    def from_bytes(cls, data: ReadableBuffer, width: int = 8, least: int = 0, most: int = MAX) -> Bitmap:
-        """Makes a bitmap, without commits, from its encoding: the reverse of `bytes(bitmap)`.
-
-        The arguments and errors are those of `decode`. Raises InvalidError if bytes follow the encoding.
-        """
-        data = bytes_of(data)
-        bitmap, used = cls.decode(data, width, least, most)
-        if used != len(data):
-            raise InvalidError("bytes follow the encoding")
-        return bitmap
-
-    def save(self) -> bytes:
-        """Returns the history as bytes: the current bitmap, the kept commits and the last commit number.
-
-        `load` makes a bitmap of them. They have the width, and digests by which damaged bytes are found. The index of
-        `set_indexed` is not in them. Raises NoMemoryError.
-        """
-        return self._encoding("save")
-
-    @classmethod
-    def decode_history(
-        cls, data: ReadableBuffer, width: int = 8, least: int = 0, most: int = MAX, least_commits: int = 0, most_commits: int = MAX
-    ) -> tuple[Bitmap, int]:
-        """Makes a bitmap of the history that the bytes begin with. Returns it, and the number of bytes of the history.
-
-        The number of retained bits, of the current bitmap and of each kept one, is from `least` to `most`, both included. The
-        number of commits after the first kept one is from `least_commits` to `most_commits`, both included.
-
-        Raises NoSuchWidthError, NoMemoryError, or a DecodeError: CutOffError, WrongHeaderError, DamagedError, NotAcceptedError
-        or OutOfRangeError.
-        """
-        session, data, used = Session(width), bytes_of(data), SIZE()
-        ranges = map(u64, (least, most, least_commits, most_commits))
-        check(session.status("load", session.width, *ranges, data, len(data), used))
-        return cls._of(session), used.value
-
-    @classmethod
-    def load(
-        cls, data: ReadableBuffer, width: int = 8, least: int = 0, most: int = MAX, least_commits: int = 0, most_commits: int = MAX
-    ) -> Bitmap:
-        """Makes a bitmap of a history: the reverse of `save`.
-
-        The arguments and errors are those of `decode_history`. Raises InvalidError if bytes follow the history.
-        """
-        data = bytes_of(data)
-        bitmap, used = cls.decode_history(data, width, least, most, least_commits, most_commits)
-        if used != len(data):
-            raise InvalidError("bytes follow the history")
-        return bitmap
-
-    @classmethod
-    def recover(cls, data: ReadableBuffer, width: int = 8) -> tuple[Bitmap, int]:
-        """Makes a bitmap of a log, whole or cut off by a crash. Returns it, and the number of good bytes of the log.
-
-        The bitmap is that after the last entry that is whole in the bytes. It keeps the log and goes on with it: its next entry
-        belongs right after the good bytes. Bytes after these are what a crash has left of an entry. The program cuts them off its
-        file before it appends to it.
-
-        Raises NoSuchWidthError, NoMemoryError, or a DecodeError. CutOffError means that the bytes end before the first bitmap of
-        the log does, and WrongHeaderError that they are no log of this width. DamagedError and NotAcceptedError are for
-        damage that no cut explains. Their `position` is the number of good bytes before it.
-        """
-        session, data, good = Session(width), bytes_of(data), SIZE()
-        status = session.status("recover", session.width, data, len(data), good)
-        if status in (DamagedError.status, NotAcceptedError.status):
-            raise BY_STATUS[status](good.value)
-        check(status)
-        return cls._of(session), good.value
-
-    def begin_log(self) -> None:
-        """Begins a log of what the bitmap keeps. Its first bytes are the history, as `save` returns it.
-
-        From then on each commit, `rewind_to`, `drop_before`, `clear` and `apply_delta` also appends its entry to the log: both,
-        or neither. A program writes the bytes of `take_log`, or of `log_bytes`, at the end of a file, from which `recover` makes
-        the bitmap again. Until they are taken or forgotten, they are in memory. A copy of the bitmap keeps no log, and neither
-        does a bitmap that is unpickled.
-
-        Raises HasLogError if the bitmap keeps a log, WrongModeError in a batch, or NoMemoryError.
-        """
-        self._run("log_begin")
-
-    def end_log(self) -> None:
-        """Ends the log. Bytes that were neither taken nor forgotten are lost. Raises NoLogError."""
-        self._run("log_end")
-
-    @property
-    def keeps_log(self) -> bool:
-        """Whether the bitmap keeps a log."""
-        status = self._status("log_position", U64())
-        if status != NoLogError.status:
-            check(status)
-        return status != NoLogError.status
-
-    def log_bytes(self) -> bytes:
-        """Returns the bytes of the log that were neither taken nor forgotten. They stay in the log.
-
-        They are the bytes of the log before `log_position`. Raises NoLogError.
-        """
-        return self._encoding("log_bytes")
-
-    def forget_log(self) -> None:
-        """Removes the bytes that `log_bytes` returns, once the program has written them to its file.
-
-        An entry that another thread appends between the two calls is removed too. Threads that change the bitmap share a lock
-        for their batches: it is held from `log_bytes` to `forget_log`. Raises NoLogError.
-        """
-        self._run("log_forget")
-
-    def take_log(self) -> bytes:
-        """Removes the bytes that `log_bytes` returns, and returns them. No entry of another thread comes between the two.
-
-        Raises NoLogError.
-        """
-        with self._session.lock:
-            data = self.log_bytes()
-            self.forget_log()
-            return data
-
-    @property
-    def log_position(self) -> int:
-        """The number of bytes of the whole log, those included that were taken or forgotten. Raises NoLogError."""
-        return self._number("log_position")
-
-    @property
-    def log_digest(self) -> int:
-        """The digest of the whole log, which is its last eight bytes as a number, the most significant first.
-
-        If two logs of one width have the same position and the same digest, they have the same bytes, unless two inputs of the
-        digest collide. Raises NoLogError.
-        """
-        return self._number("log_digest")
-
-    def __reduce__(self) -> tuple[object, ...]:
-        """Pickles the history and the width. The index and the log are not pickled. Raises WrongModeError in a batch."""
-        return type(self).load, (self.save(), self.width)
-
-    def copy(self) -> Bitmap:
-        """Returns a copy of the bitmap and its commits. It is not in a batch, and keeps no log. Raises NoMemoryError."""
-        return self._of(self._session.copied())
-
-    def __copy__(self) -> Bitmap:
-        return self.copy()
-
-    def __deepcopy__(self, memo: dict[int, object]) -> Bitmap:
-        """Returns a copy. Versions that are copied in the same call are versions of the same copy."""
-        return self._of(deepcopy(self._session, memo))
+        @classmethod
+        def _of(cls, session: Session) -> Bitmap:
+            """Returns the bitmap of a session, in memory."""
 
     def close(self) -> None:
         """Frees the bitmap. Other calls raise ClosedError afterwards, a ValueError."""
         self._session.free()
 
-    def __enter__(self) -> Bitmap:
+    def __enter__(self: K) -> K:
         return self
 
     def __exit__(self, *exception: object) -> None:
@@ -651,9 +455,9 @@ class Bitmap(_Reads):
 
     def __repr__(self) -> str:
         try:
-            return f"<mortarpink.Bitmap, {self.length} bits, {self.pruned_chunks} pruned chunks>"
+            return f"<mortarpink.{type(self).__name__}, {self.length} bits, {self.pruned_chunks} pruned chunks>"
         except ClosedError:
-            return "<mortarpink.Bitmap, closed>"
+            return f"<mortarpink.{type(self).__name__}, closed>"
 
     def batch(self, commit: Optional[int] = None) -> Batch:
         """Begins a batch of edits. In a `with` block it ends by a commit under the number, if there is one.
@@ -795,3 +599,205 @@ class Bitmap(_Reads):
     def clear(self) -> None:
         """Drops all commits. The current bitmap stays."""
         self._run("clear")
+
+    def save(self) -> bytes:
+        """Returns the history as bytes: the current bitmap, the kept commits and the last commit number.
+
+        `load` makes a bitmap of them. They have the width, and digests by which damaged bytes are found. The index of
+        `set_indexed` is not in them. Raises NoMemoryError.
+        """
+        return self._encoding("save")
+
+    def copy(self) -> Bitmap:
+        """Returns a copy of the bitmap and its commits. It is not in a batch, and keeps no log. Raises NoMemoryError."""
+        return self._of(self._session.copied())
+
+
+class Bitmap(Kept):
+    """A bitmap with numbered commits, past states of which are read in place.
+
+    Chunks have 1, 8, 32 or 64 bytes: the width. The bitmap is freed by `close`, at the end of a `with` block, or with
+    its last reference. Positions and lengths are in bits. They are absolute: they count from 0, and pruned bits count.
+
+        >>> bitmap = Bitmap()
+        >>> with bitmap.batch(commit=7) as batch:
+        ...     batch.push(True)
+        >>> with bitmap.batch(commit=8) as batch:
+        ...     batch[0] = False
+        >>> bitmap[0], bitmap.at(7)[0]
+        (False, True)
+
+    In a batch, the reads of bits, searches and counts among them, are of the pending bitmap. The other calls, `bytes` and
+    those of versions and commits, raise WrongModeError. Only `copy`, `abort` and `close` do not, and the calls of a log that
+    was begun before.
+
+    Several threads may use a bitmap. Calls that read run at the same time. Any other call has the bitmap to itself, so
+    calls of other threads wait. A batch is several calls: threads that begin batches on one bitmap need a lock of their
+    own.
+    """
+
+    def __init__(self, width: int = 8, pruned_chunks: int = 0) -> None:
+        """Makes a bitmap with pruned chunks and no retained bit.
+
+        Raises NoSuchWidthError, PrunedChunksOverflowError or NoMemoryError.
+        """
+        super().__init__(Session(width))
+        self._run("new", self.width)
+        self._run("start", u64(pruned_chunks))
+
+    @classmethod
+    def _of(cls, session: Session) -> Bitmap:
+        bitmap = cls.__new__(cls)
+        Caller.__init__(bitmap, session)
+        return bitmap
+
+    @classmethod
+    def decode(cls, data: ReadableBuffer, width: int = 8, least: int = 0, most: int = MAX) -> tuple[Bitmap, int]:
+        """Makes a bitmap, without commits, from the encoding that the bytes begin with.
+
+        The number of retained bits is from `least` to `most`, both included. Returns the bitmap, and the number of
+        bytes of the encoding. Raises NoSuchWidthError, a DecodeError or NoMemoryError.
+
+        The encoding has no width and no checksum. Damaged bytes, or bytes read with another width, can be the encoding
+        of another bitmap.
+        """
+        session, data = Session(width), bytes_of(data)
+        used, length = SIZE(), U64()
+        status = session.status("read", session.width, u64(least), u64(most), data, len(data), used, length)
+        if status == InvalidLengthError.status:
+            raise InvalidLengthError(length.value)
+        check(status)
+        return cls._of(session), used.value
+
+    @classmethod
+    def from_bytes(cls, data: ReadableBuffer, width: int = 8, least: int = 0, most: int = MAX) -> Bitmap:
+        """Makes a bitmap, without commits, from its encoding: the reverse of `bytes(bitmap)`.
+
+        The arguments and errors are those of `decode`. Raises InvalidError if bytes follow the encoding.
+        """
+        data = bytes_of(data)
+        bitmap, used = cls.decode(data, width, least, most)
+        if used != len(data):
+            raise InvalidError("bytes follow the encoding")
+        return bitmap
+
+    @classmethod
+    def decode_history(
+        cls, data: ReadableBuffer, width: int = 8, least: int = 0, most: int = MAX, least_commits: int = 0, most_commits: int = MAX
+    ) -> tuple[Bitmap, int]:
+        """Makes a bitmap of the history that the bytes begin with. Returns it, and the number of bytes of the history.
+
+        The number of retained bits, of the current bitmap and of each kept one, is from `least` to `most`, both included. The
+        number of commits after the first kept one is from `least_commits` to `most_commits`, both included.
+
+        Raises NoSuchWidthError, NoMemoryError, or a DecodeError: CutOffError, WrongHeaderError, DamagedError, NotAcceptedError
+        or OutOfRangeError.
+        """
+        session, data, used = Session(width), bytes_of(data), SIZE()
+        ranges = map(u64, (least, most, least_commits, most_commits))
+        check(session.status("load", session.width, *ranges, data, len(data), used))
+        return cls._of(session), used.value
+
+    @classmethod
+    def load(
+        cls, data: ReadableBuffer, width: int = 8, least: int = 0, most: int = MAX, least_commits: int = 0, most_commits: int = MAX
+    ) -> Bitmap:
+        """Makes a bitmap of a history: the reverse of `save`.
+
+        The arguments and errors are those of `decode_history`. Raises InvalidError if bytes follow the history.
+        """
+        data = bytes_of(data)
+        bitmap, used = cls.decode_history(data, width, least, most, least_commits, most_commits)
+        if used != len(data):
+            raise InvalidError("bytes follow the history")
+        return bitmap
+
+    @classmethod
+    def recover(cls, data: ReadableBuffer, width: int = 8) -> tuple[Bitmap, int]:
+        """Makes a bitmap of a log, whole or cut off by a crash. Returns it, and the number of good bytes of the log.
+
+        The bitmap is that after the last entry that is whole in the bytes. It keeps the log and goes on with it: its next entry
+        belongs right after the good bytes. Bytes after these are what a crash has left of an entry. The program cuts them off its
+        file before it appends to it.
+
+        Raises NoSuchWidthError, NoMemoryError, or a DecodeError. CutOffError means that the bytes end before the first bitmap of
+        the log does, and WrongHeaderError that they are no log of this width. DamagedError and NotAcceptedError are for
+        damage that no cut explains. Their `position` is the number of good bytes before it.
+        """
+        session = Session(width)
+        good = session.recover(bytes_of(data))
+        return cls._of(session), good
+
+    def begin_log(self) -> None:
+        """Begins a log of what the bitmap keeps. Its first bytes are the history, as `save` returns it.
+
+        From then on each commit, `rewind_to`, `drop_before`, `clear` and `apply_delta` also appends its entry to the log: both,
+        or neither. A program writes the bytes of `take_log`, or of `log_bytes`, at the end of a file, from which `recover` makes
+        the bitmap again. Until they are taken or forgotten, they are in memory. A copy of the bitmap keeps no log, and neither
+        does a bitmap that is unpickled.
+
+        Raises HasLogError if the bitmap keeps a log, WrongModeError in a batch, or NoMemoryError.
+        """
+        self._run("log_begin")
+
+    def end_log(self) -> None:
+        """Ends the log. Bytes that were neither taken nor forgotten are lost. Raises NoLogError."""
+        self._run("log_end")
+
+    @property
+    def keeps_log(self) -> bool:
+        """Whether the bitmap keeps a log."""
+        status = self._status("log_position", U64())
+        if status != NoLogError.status:
+            check(status)
+        return status != NoLogError.status
+
+    def log_bytes(self) -> bytes:
+        """Returns the bytes of the log that were neither taken nor forgotten. They stay in the log.
+
+        They are the bytes of the log before `log_position`. Raises NoLogError.
+        """
+        return self._encoding("log_bytes")
+
+    def forget_log(self) -> None:
+        """Removes the bytes that `log_bytes` returns, once the program has written them to its file.
+
+        An entry that another thread appends between the two calls is removed too. Threads that change the bitmap share a lock
+        for their batches: it is held from `log_bytes` to `forget_log`. Raises NoLogError.
+        """
+        self._run("log_forget")
+
+    def take_log(self) -> bytes:
+        """Removes the bytes that `log_bytes` returns, and returns them. No entry of another thread comes between the two.
+
+        Raises NoLogError.
+        """
+        with self._session.lock:
+            data = self.log_bytes()
+            self.forget_log()
+            return data
+
+    @property
+    def log_position(self) -> int:
+        """The number of bytes of the whole log, those included that were taken or forgotten. Raises NoLogError."""
+        return self._number("log_position")
+
+    @property
+    def log_digest(self) -> int:
+        """The digest of the whole log, which is its last eight bytes as a number, the most significant first.
+
+        If two logs of one width have the same position and the same digest, they have the same bytes, unless two inputs of the
+        digest collide. Raises NoLogError.
+        """
+        return self._number("log_digest")
+
+    def __reduce__(self) -> tuple[object, ...]:
+        """Pickles the history and the width. The index and the log are not pickled. Raises WrongModeError in a batch."""
+        return type(self).load, (self.save(), self.width)
+
+    def __copy__(self) -> Bitmap:
+        return self.copy()
+
+    def __deepcopy__(self, memo: dict[int, object]) -> Bitmap:
+        """Returns a copy. Versions that are copied in the same call are versions of the same copy."""
+        return self._of(deepcopy(self._session, memo))

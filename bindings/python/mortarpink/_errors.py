@@ -35,11 +35,11 @@ class Error(Exception):
         return str(self.args[0]) if self.args else ""
 
     def _text(self) -> str:
-        text: str = CALLS["status_text"](self.status).decode()
+        text: str = CALLS["status_text"](self.status).decode() if self.status else ""
         return text
 
     def __str__(self) -> str:
-        texts = (self._text() if self.status else "", self._detail())
+        texts = (self._text(), self._detail())
         return ": ".join(text for text in texts if text)
 
 
@@ -126,23 +126,23 @@ class CutOffError(DecodeError, status=_interface.CUT_OFF):
     """The bytes end before the history, the delta or the first bitmap of the log does."""
 
 
-class _Damage(DecodeError):
+class _AtPosition(Error):
     """The base of the errors that have a position in a log."""
 
     @property
     def position(self) -> Optional[int]:
-        """The number of bytes of the log before the entry that is damaged, if `Bitmap.recover` has raised the error, or None."""
+        """The number of bytes of the log that are good: those before the damage. None if the error is not of a log."""
         return int(self.args[0]) if self.args else None
 
     def _detail(self) -> str:
         return "" if self.position is None else f"after {self.position} good bytes"
 
 
-class DamagedError(_Damage, status=_interface.DAMAGED):
+class DamagedError(_AtPosition, DecodeError, status=_interface.DAMAGED):
     """A digest is not that of the bytes before it."""
 
 
-class NotAcceptedError(_Damage, status=_interface.NOT_ACCEPTED):
+class NotAcceptedError(_AtPosition, DecodeError, status=_interface.NOT_ACCEPTED):
     """A part of the bytes is no bitmap, or no commit or other entry that can follow."""
 
 
@@ -183,6 +183,62 @@ class NoSuchWidthError(Error, ValueError, status=_interface.NO_SUCH_WIDTH):
 
 class WrongSizeError(Error, ValueError, status=_interface.WRONG_SIZE):
     """The chunk has the wrong size."""
+
+
+class StoreError(Error):
+    """The base of the errors of a `Store` that a `Bitmap` has not."""
+
+    text = ""
+
+    def _text(self) -> str:
+        return self.text
+
+    def _detail(self) -> str:
+        return ""
+
+
+class LockedError(StoreError):
+    """Another store has the file open, in this process or in another one."""
+
+    text = "another store has the file open"
+
+
+class NotEmptyError(StoreError, ValueError):
+    """A store was to be created in a file that has bytes."""
+
+    text = "the file has bytes, so no store is created in it"
+
+
+class MissingEndError(StoreError, _AtPosition, ValueError):
+    """The end of the log is missing: all bytes that there are belong to a log, but more of them were acknowledged."""
+
+    text = "the end of the log is missing"
+
+    @property
+    def acknowledged(self) -> int:
+        """The number of bytes that were acknowledged."""
+        return int(self.args[1])
+
+    def _detail(self) -> str:
+        return f"{self.position} bytes are good, and {self.acknowledged} were acknowledged"
+
+
+class OtherLogError(StoreError, _AtPosition, ValueError):
+    """The file has another log than the one whose receipts are beside it."""
+
+    text = "the receipts beside the file are those of another log"
+
+
+class NotAnEndError(StoreError, ValueError):
+    """No entry ends at the position at which a log is to be cut off."""
+
+    text = "no entry ends at the position at which the log is to be cut off"
+
+
+class ReadOnlyError(StoreError):
+    """The store can only be read: an earlier call failed to write, or it is the copy of a store that the child of a fork has."""
+
+    text = "the store is read-only until it is opened again"
 
 
 def check(status: int) -> None:

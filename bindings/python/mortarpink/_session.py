@@ -11,9 +11,12 @@ from operator import index, methodcaller
 from typing import TYPE_CHECKING, Callable, Iterable, Iterator, Optional, cast
 
 from ._errors import (
+    BY_STATUS,
     ClosedError,
+    DamagedError,
     NoSuchCommitError,
     NoSuchWidthError,
+    NotAcceptedError,
     OutOfBoundsError,
     WrongModeError,
     WrongSizeError,
@@ -135,6 +138,26 @@ class Session:
         self._free.detach()
         self.handle, self.shared = Handle(), SharedLock()
         self.lock = self.shared.gate
+
+    def recover(self, data: bytes) -> int:
+        """Makes the bitmap of a log in the handle, which is empty. Returns the number of good bytes.
+
+        Raises NoMemoryError or a DecodeError.
+        """
+        good = SIZE()
+        status = self.status("recover", self.width, data, len(data), good)
+        if status in (DamagedError.status, NotAcceptedError.status):
+            raise BY_STATUS[status](good.value)
+        check(status)
+        return good.value
+
+    def take(self, other: Session) -> None:
+        """Frees the bitmap, and takes that of another session, which has none afterwards."""
+        with self.lock:
+            self.shared.write(CALLS["free"], self.handle)
+            # No two handles have one bitmap at any time, since a handler of a signal may raise an exception between the steps.
+            bitmap, other.handle.session = other.handle.session, None
+            self.handle.session = bitmap
 
     def copied(self) -> Session:
         """Returns a copy, which is not in a batch. Raises NoMemoryError."""

@@ -15,6 +15,23 @@ MAX = 2**64 - 1
 NO_MEMORY = 13
 
 
+# The log of the calls of `worked_steps`, a frame in each line after the header. Each frame has the length of its body, a digest of its place and this
+# length, the body, and a digest of the body and of all that is before it.
+WORKED = [
+    "4d504249544c4f47 0000000000000001 0000000000000001 0b5345d577e3df7b",
+    "0000000000000022 681c20c77e3ca319 04 00 0000000000000000 0000000000000000 0000000000000000 0000000000000000 210e45243dcc6fc5",
+    "0000000000000022 5e94e59343a9b255 01 0000000000000001 0000000000000003 0000000000000000 0000000000000000 05 047d3edd96aca7ad",
+    "000000000000002b 0617ef9306963819 01 0000000000000005 000000000000000b 0000000000000000 0000000000000000 5d 0000000000000001 06"
+    " ee3250713d159206",
+    "0000000000000009 3df4e7cbc31e449f 02 0000000000000001 68ce0b476a18468b",
+    "0000000000000009 2328220afb295d45 03 0000000000000001 75872cd18716b0dc",
+    "0000000000000001 f0e8689801a08294 05 7356dd36b6d8bbf2",
+]
+
+# Where each of its frames ends. A frame has 24 bytes beside its body. The body of a commit has 25 bytes, and 9 for each chunk.
+ENDS = [90, 148, 215, 248, 281, 306]
+
+
 def bitmap_of(bits: str, width: int = 1, pruned_chunks: int = 0, commit: int = 1) -> Bitmap:
     """Returns a bitmap with one commit, whose retained bits are the digits."""
     bitmap = Bitmap(width, pruned_chunks)
@@ -37,6 +54,22 @@ def with_versions() -> Bitmap:
         batch.push(True)
         batch.prune(16)
     return bitmap
+
+
+def worked_steps():
+    """Returns the calls on an empty bitmap of width 1 that make the frames after the first one."""
+
+    def commit(bitmap, number, bits):
+        with bitmap.batch(number) as batch:
+            batch.push_bits(map(int, bits))
+
+    return [
+        lambda bitmap: commit(bitmap, 1, "101"),
+        lambda bitmap: commit(bitmap, 5, "11010011"),
+        lambda bitmap: bitmap.rewind_to(1),
+        lambda bitmap: bitmap.drop_before(1),
+        lambda bitmap: bitmap.clear(),
+    ]
 
 
 def states(bitmap):

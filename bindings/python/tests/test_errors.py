@@ -16,6 +16,7 @@ from mortarpink import (
     OutOfBoundsError,
     PrunedChunksOverflowError,
     ReservedCommitNumberError,
+    StoreError,
     WrongModeError,
 )
 from mortarpink._errors import BY_STATUS
@@ -50,7 +51,17 @@ EXPECTED = {
     "NoLogError": (26, RuntimeError, "the bitmap keeps no log"),
 }
 
-DETAILS = {"NonMonotonicCommitError": (9, 4), "InvalidLengthError": (9,)}
+# The same of the exceptions of stores, which have no status.
+OF_STORES = {
+    "LockedError": (Error, "another store has the file open"),
+    "NotEmptyError": (ValueError, "the file has bytes, so no store is created in it"),
+    "MissingEndError": (ValueError, "the end of the log is missing: 90 bytes are good, and 204 were acknowledged"),
+    "OtherLogError": (ValueError, "the receipts beside the file are those of another log"),
+    "NotAnEndError": (ValueError, "no entry ends at the position at which the log is to be cut off"),
+    "ReadOnlyError": (Error, "the store is read-only until it is opened again"),
+}
+
+DETAILS = {"NonMonotonicCommitError": (9, 4), "InvalidLengthError": (9,), "MissingEndError": (90, 204), "OtherLogError": (90,)}
 
 
 class Exceptions(unittest.TestCase):
@@ -64,8 +75,16 @@ class Exceptions(unittest.TestCase):
             self.assertIsInstance(error, base)
             self.assertEqual((str(error), error.appended), (text, 0))
 
+    def test_errors_of_stores(self):
+        for name, (base, text) in OF_STORES.items():
+            error = getattr(mortarpink, name)(*DETAILS.get(name, ()))
+            self.assertIsInstance(error, StoreError)
+            self.assertIsInstance(error, base)
+            self.assertEqual((str(error), str(pickle.loads(pickle.dumps(error)))), (text, text))
+
     def test_exported_names(self):
-        self.assertEqual(set(mortarpink.__all__), {*EXPECTED, "Error", "DecodeError", "Bitmap", "Version", "Batch"})
+        classes = {"Error", "DecodeError", "StoreError", "Bitmap", "Version", "Batch", "Store"}
+        self.assertEqual(set(mortarpink.__all__), {*EXPECTED, *OF_STORES, *classes})
         for name in mortarpink.__all__:
             self.assertTrue(hasattr(mortarpink, name))
 

@@ -1,11 +1,13 @@
 """Runs the examples of the README and of the documentation in the code."""
 
 import doctest
+import os
 import re
+import tempfile
 import unittest
 from pathlib import Path
 
-from mortarpink import _bitmap
+from mortarpink import _bitmap, _store
 
 README = Path(__file__).parent.parent / "README.md"
 
@@ -22,6 +24,12 @@ class Examples(unittest.TestCase):
         self.run_example(doctest.DocTestParser().get_doctest(text, {}, "README", str(README), 0))
 
     def test_documentation(self):
-        for test in doctest.DocTestFinder(exclude_empty=True).find(_bitmap):
-            if test.examples:
+        folder, before = tempfile.TemporaryDirectory(), os.getcwd()
+        self.addCleanup(folder.cleanup)
+        self.addCleanup(os.chdir, before)
+        os.chdir(folder.name)
+        for module in _bitmap, _store:
+            tests = [test for test in doctest.DocTestFinder(exclude_empty=True).find(module) if test.examples]
+            self.assertGreater(len(tests), 0)
+            for test in tests:
                 self.run_example(test)
