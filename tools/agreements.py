@@ -17,7 +17,7 @@ ERRORS_OF_PYTHON = "bindings/python/mortarpink/_errors.py"
 
 # The statuses that a binding does not name, since no call of its own returns them or since they are no errors.
 UNUSED = {CALLS_OF_RUST: {"IN_BATCH", "NOT_IN_BATCH", "EMPTY_HANDLE", "FULL_HANDLE", "NO_SUCH_WIDTH"},
-          ERRORS_OF_PYTHON: {"FULL_HANDLE", "NONE", "HAS_LOG", "NO_LOG"}}
+          ERRORS_OF_PYTHON: {"FULL_HANDLE", "NONE"}}
 
 # The status of the refusal `wrong-mode`; a call that needs a batch has NOT_IN_BATCH.
 WRONG_MODE = "IN_BATCH"

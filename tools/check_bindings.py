@@ -14,6 +14,7 @@ usage: check_bindings.py                  builds the library and installs it twi
 - The C tests pass with sanitizers, under valgrind, and with failing allocations. The tests of the Rust crate and of the Python package pass.
   The examples of the Rust crate print what they should.
 - The calls that take a handle as `const` write neither the handle nor the bitmap, and threads may make them at the same time.
+- Python and the Rust crate in `native` change one store in turn, and what they acknowledged is there after each of them is killed.
 - The example of replicas works over a Redis server and a PostgreSQL server (tools/check_replicas.py).
 - Random scripts through the C interface give what the reference model gives, and free what they allocate (tools/check_frees.py).
 
@@ -38,6 +39,7 @@ from replay import report
 
 TOOLS = ("cc", "cargo", "python3", "pkg-config", "nm")
 SECONDS = 3600  # the most that one command may take
+KILLS = 200  # how often the programs that change a store are killed
 WARNINGS = ("-Wall", "-Wextra", "-Wpedantic", "-Werror")
 SANITIZERS = ("-g", "-fsanitize=address,undefined", "-fno-sanitize-recover=all")
 LEAKS = ("env", "ASAN_OPTIONS=detect_leaks=1")
@@ -260,6 +262,16 @@ def python_cases(place):
     yield "the tests of the Python package", failure_of(command, environment, ending, cwd=copied(place, "python"))
 
 
+def store_cases(place):
+    """One store, which a program in Python and one of the Rust crate in `native` change in turn. Each of them is killed."""
+    target, python = place.folder / "native", copied(place, "python")
+    build = ["cargo", "build", "--quiet", "--offline", "--release", "--example", "crash"]
+    command = [sys.executable, python / "tests/exchange.py", target / "release/examples/crash", str(KILLS)]
+    environment = {"MORTARPINK_LIB_DIR": str(place.libraries), "PYTHONDONTWRITEBYTECODE": "1"}
+    yield "a store of Python and Rust", first_failure(lambda: failure_of(build, {"CARGO_TARGET_DIR": str(target)}, cwd=TOP / "native"),
+                                                      lambda: failure_of(command, environment, rf"^{KILLS} kills, [1-9]\d* changes"))
+
+
 def replica_cases(place):
     """The replicas of the example, over the engines if this machine has them or can install them."""
     status, printed = run([sys.executable, TOP / "tools/check_replicas.py", place.libraries])
@@ -276,7 +288,7 @@ def script_cases(place):
 
 def library_cases(place):
     """Every check of an installed library. The random scripts are last, since a call that crashes ends their process."""
-    for cases in (symbol_cases, header_cases, example_cases, c_test_cases, rust_cases, python_cases, replica_cases, script_cases):
+    for cases in (symbol_cases, header_cases, example_cases, c_test_cases, rust_cases, python_cases, store_cases, replica_cases, script_cases):
         try:
             yield from cases(place)
         except (OSError, subprocess.TimeoutExpired) as error:

@@ -19,8 +19,8 @@ from ._errors import (
     NoLogError,
     NonMonotonicCommitError,
     NoSuchCommitError,
+    NotInBatchError,
     PrunedError,
-    WrongModeError,
     check,
 )
 from ._interface import SIZE, U8, U64
@@ -465,7 +465,7 @@ class Kept(_Reads):
         Without a number, the end of the block aborts the batch and drops its edits, unless the block has called
         `Batch.commit`.
 
-        Raises WrongModeError if there is a batch already.
+        Raises InBatchError if there is a batch already.
         """
         batch = Batch._owning(self._session, None if commit is None else u64(commit))
         try:
@@ -480,11 +480,11 @@ class Kept(_Reads):
     def abort(self) -> None:
         """Ends the batch that the bitmap is in, if there is one, and drops its edits.
 
-        The batch ends whichever object or thread began it. Further calls of its Batch raise WrongModeError, and the end
+        The batch ends whichever object or thread began it. Further calls of its Batch raise NotInBatchError, and the end
         of its `with` block does nothing. A program calls this when an exception may have left a batch open.
         """
         status = self._session.abort()
-        if status != WrongModeError.status:
+        if status != NotInBatchError.status:
             check(status)
 
     def at(self, number: int) -> Version:
@@ -628,7 +628,7 @@ class Bitmap(Kept):
         (False, True)
 
     In a batch, the reads of bits, searches and counts among them, are of the pending bitmap. The other calls, `bytes` and
-    those of versions and commits, raise WrongModeError. Only `copy`, `abort` and `close` do not, and the calls of a log that
+    those of versions and commits, raise InBatchError. Only `copy`, `abort` and `close` do not, and the calls of a log that
     was begun before.
 
     Several threads may use a bitmap. Calls that read run at the same time. Any other call has the bitmap to itself, so
@@ -736,7 +736,7 @@ class Bitmap(Kept):
         the bitmap again. Until they are taken or forgotten, they are in memory. A copy of the bitmap keeps no log, and neither
         does a bitmap that is unpickled.
 
-        Raises HasLogError if the bitmap keeps a log, WrongModeError in a batch, or NoMemoryError.
+        Raises HasLogError if the bitmap keeps a log, InBatchError in a batch, or NoMemoryError.
         """
         self._run("log_begin")
 
@@ -792,7 +792,7 @@ class Bitmap(Kept):
         return self._number("log_digest")
 
     def __reduce__(self) -> tuple[object, ...]:
-        """Pickles the history and the width. The index and the log are not pickled. Raises WrongModeError in a batch."""
+        """Pickles the history and the width. The index and the log are not pickled. Raises InBatchError in a batch."""
         return type(self).load, (self.save(), self.width)
 
     def __copy__(self) -> Bitmap:

@@ -43,14 +43,25 @@ class Error(Exception):
         return ": ".join(text for text in texts if text)
 
 
-class WrongModeError(Error, RuntimeError, status=_interface.WRONG_MODE):
-    """The bitmap is in a batch and the call needs that it is in none, or the call is one of a batch that has ended.
+class WrongModeError(Error, RuntimeError):
+    """The base of the exceptions of a call that needs a batch and has none, or the reverse.
 
     `Bitmap.batch` begins a batch. `Batch.commit`, `Batch.abort`, `Bitmap.abort` and the end of a `with` block end it.
     """
 
+
+class InBatchError(WrongModeError, status=_interface.IN_BATCH):
+    """The bitmap is in a batch, and the call needs that it is in none."""
+
     def _text(self) -> str:
-        return "" if self.args else "the bitmap is in a batch: Batch.commit, Batch.abort, Bitmap.abort or the end of its with block ends it"
+        return "the bitmap is in a batch: Batch.commit, Batch.abort, Bitmap.abort or the end of its with block ends it"
+
+
+class NotInBatchError(WrongModeError, status=_interface.NOT_IN_BATCH):
+    """The call is one of a batch that has ended."""
+
+    def _text(self) -> str:
+        return "the batch has ended: Bitmap.batch begins another one"
 
 
 class OutOfBoundsError(Error, IndexError, status=_interface.OUT_OF_BOUNDS):

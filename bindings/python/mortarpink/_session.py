@@ -14,11 +14,11 @@ from ._errors import (
     BY_STATUS,
     ClosedError,
     DamagedError,
-    NoSuchCommitError,
+    InBatchError,
     NoSuchWidthError,
     NotAcceptedError,
+    NotInBatchError,
     OutOfBoundsError,
-    WrongModeError,
     WrongSizeError,
     check,
 )
@@ -169,7 +169,7 @@ class Session:
     def checked_out(self, number: int) -> Session:
         """Returns a session of the bitmap at a commit, without commits.
 
-        Raises WrongModeError, NoSuchCommitError or NoMemoryError.
+        Raises InBatchError, NoSuchCommitError or NoMemoryError.
         """
         version = Session(self.width)
         check(self.status("checkout", number, version.handle))
@@ -196,7 +196,7 @@ class Session:
         with self.lock:
             self._settle()
             if self.owner is not None and not self.closed:
-                return WrongModeError.status
+                return InBatchError.status
             self.owner = owner
             return self.shared.write(CALLS["begin"], self.handle)
 
@@ -215,10 +215,10 @@ class Session:
                 self.abort()
 
     def _check_owner(self, owner: Callable[[], object]) -> None:
-        """Raises WrongModeError unless the batch of an owner is open. The lock is held."""
+        """Raises NotInBatchError unless the batch of an owner is open. The lock is held."""
         self._settle()
         if self.owner is not owner:
-            raise WrongModeError("the batch has ended: Bitmap.batch begins another one")
+            raise NotInBatchError()
 
     def status_in_batch(self, owner: Callable[[], object], name: str, *arguments: object) -> int:
         """Calls a function in the batch of an owner, and returns its status."""
@@ -347,14 +347,12 @@ class Caller:
         return numbers(read(start))
 
     def _encoding(self, name: str, *arguments: object) -> bytes:
-        """Calls a function that writes bytes of any number, and returns them. Raises NoSuchCommitError if there are none."""
+        """Calls a function that writes bytes of any number, and returns them."""
         buffer, size = (U8 * 0)(), SIZE()
         while True:
             status = self._status(name, *arguments, buffer, len(buffer), size)
             if status == DONE:
                 return bytes(buffer)
-            if status == NONE:
-                raise NoSuchCommitError()
             if status != WrongSizeError.status:
                 check(status)
             buffer = (U8 * size.value)()

@@ -366,7 +366,7 @@ class Store(Kept):
         The new log is written to another file, which replaces the log once it is on the disk. If a crash cuts the call off, the file
         has the old log or the new one. All changes are on the disk then, those of a buffered store too.
 
-        Raises WrongModeError in a batch, ReadOnlyError, NoMemoryError or OSError. If the new log could not be written, the store can
+        Raises InBatchError in a batch, ReadOnlyError, NoMemoryError or OSError. If the new log could not be written, the store can
         still be changed. If it could not replace the old one, or if a handler of a signal has raised an exception meanwhile, the
         store is read-only.
         """

@@ -75,9 +75,9 @@ class Loading(unittest.TestCase):
         self.assertEqual(str(caught.exception), "the library mortarpink is not found: set MORTARPINK_LIB_DIR to its folder")
 
     def test_another_version_of_the_interface(self):
-        with mock.patch.object(_library, "VERSION", 2), self.assertRaises(ImportError) as caught:
+        with mock.patch.object(_library, "VERSION", 3), self.assertRaises(ImportError) as caught:
             _library._load()
-        self.assertEqual(str(caught.exception), "the library mortarpink has version 1 of its interface, not 2")
+        self.assertEqual(str(caught.exception), "the library mortarpink has version 2 of its interface, not 3")
 
 
 @unittest.skipUnless(HEADER.exists(), "the header is not beside the package")
