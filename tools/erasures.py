@@ -453,7 +453,10 @@ def holder_before(tokens, at):
 
 
 def erase_allocators(tokens, counts):
-    """The functions of WITHOUT_ALLOCATOR lose their first parameter, the allocator, and their calls the argument for it."""
+    """The functions of WITHOUT_ALLOCATOR lose their first parameter, the allocator, and their calls the argument for it.
+
+    A private function of the file that has the name of one of them keeps its parameters.
+    """
     for function in reversed(functions_of(tokens)):
         holder = re.match(r"impl\s*(?:<.*?>)?\s*(\w+)", function.scope.header)[1] + "::" if function.scope and function.scope.word == "impl" else ""
         if not function.is_public or holder + function.name not in WITHOUT_ALLOCATOR:
@@ -466,8 +469,11 @@ def erase_allocators(tokens, counts):
         counts["allocator of a function"] += 1
         tokens.insert(function.opened + 1, made("\nlet alloc = Global;\n", tokens[function.at].line))
         del tokens[opened + 1:line_end(tokens, end + 1)]
+    own = {function.name for function in functions_of(tokens) if not function.is_public and not function.scope}
     for at in reversed(range(len(tokens))):
         if tokens[at].kind != "name" or is_name(tokens, preceding(tokens, at - 1), "fn"):
+            continue
+        if tokens[at].text in own and not is_path(tokens, at - 2):
             continue
         opened = following_call(tokens, at)
         if holder_before(tokens, at) + tokens[at].text in WITHOUT_ALLOCATOR and is_mark(tokens, opened, "(") and not is_mark(tokens, preceding(tokens, at - 1), "."):
