@@ -1,6 +1,7 @@
 //! Logs: entries that calls append, what each cut of a log recovers to, and damage.
 
 mod common;
+mod random;
 
 use std::fs::{self, OpenOptions};
 use std::hash::{DefaultHasher, Hasher};
@@ -11,6 +12,7 @@ use std::thread;
 
 use common::{WIDTHS, bitmap_of, commit};
 use mortarpink_proved::{Batch, Bitmap, Error, RecoverError, Recovered, Width};
+use random::Random;
 
 /// The size of the header in bytes, and of a frame without its body.
 const HEADER: u64 = 32;
@@ -537,18 +539,6 @@ fn threads_read_a_log() {
             scope.spawn(|| (0..50).for_each(|_| assert_eq!(reads(&bitmap), wanted)));
         }
     });
-}
-
-/// A generator of numbers that are the same in each run.
-struct Random(u64);
-
-impl Random {
-    /// Returns a number below a bound.
-    fn below(&mut self, bound: u64) -> u64 {
-        self.0 =
-            self.0.wrapping_mul(6_364_136_223_846_793_005).wrapping_add(1_442_695_040_888_963_407);
-        (self.0 >> 33) % bound
-    }
 }
 
 /// Makes a random edit in a batch, or none.

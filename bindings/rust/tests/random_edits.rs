@@ -1,22 +1,9 @@
 //! Random batches, compared with lists of bits.
 
+mod random;
+
 use mortarpink_proved::{Batch, Bitmap, Error, Version, Width};
-
-/// A generator of numbers that are the same in each run.
-struct Random(u64);
-
-impl Random {
-    /// Returns a number below a bound.
-    fn below(&mut self, bound: u64) -> u64 {
-        self.0 =
-            self.0.wrapping_mul(6_364_136_223_846_793_005).wrapping_add(1_442_695_040_888_963_407);
-        (self.0 >> 33) % bound
-    }
-
-    fn bit(&mut self) -> bool {
-        self.below(2) == 1
-    }
-}
+use random::Random;
 
 /// A bitmap as a list of its retained bits.
 #[derive(Clone)]
@@ -148,10 +135,10 @@ impl List {
 /// Makes the same random edit of many bits in a batch and in a list.
 fn edit_many(batch: &mut Batch<'_>, list: &mut List, random: &mut Random) {
     let (from, to, bit) =
-        (random.below(list.len() + 2), random.below(list.len() + 2), random.bit());
+        (random.below(list.len() + 2), random.below(list.len() + 2), random.below(2) == 1);
     match random.below(6) {
         0 => {
-            let bits: Vec<bool> = (0..random.below(100)).map(|_| random.bit()).collect();
+            let bits: Vec<bool> = (0..random.below(100)).map(|_| random.below(2) == 1).collect();
             batch.push_bits(&bits).unwrap();
             list.bits.extend(bits);
         }
@@ -178,7 +165,7 @@ fn edit_many(batch: &mut Batch<'_>, list: &mut List, random: &mut Random) {
 
 /// Makes the same random edit in a batch and in a list.
 fn edit(batch: &mut Batch<'_>, list: &mut List, random: &mut Random) {
-    let (position, bit) = (random.below(list.len() + 2), random.bit());
+    let (position, bit) = (random.below(list.len() + 2), random.below(2) == 1);
     let bytes: Vec<u8> = (0..random.below(20)).map(|_| random.below(256) as u8).collect();
     match random.below(10) {
         0 => {
