@@ -42,6 +42,12 @@ def documents():
     return sorted([*TOP.glob("*.md"), *TOP.glob("docs/*.md"), *TOP.glob("bench/*.md")])
 
 
+def linked_pages():
+    """The documents, and the pages of the other folders."""
+    folders = [sorted((TOP / folder).glob("**/README.md")) for folder in ("bindings", "examples", "native")]
+    return [*documents(), *(page for found in folders for page in found)]
+
+
 def lines_of(path):
     return path.read_text().split("\n")
 
@@ -193,7 +199,7 @@ def main():
     texts = [path for path in sources(TOP / "crates") if USES not in path.parents] + documents()
     callers = [lines_of(path) for path in sources(USES / "src")]
     all_examples = [example for path in texts for example in rattle_examples(path)]
-    all_links = [(path, link) for path in [*documents(), *sorted(TOP.glob("bindings/**/README.md"))] for link in links(path)]
+    all_links = [(path, link) for path in linked_pages() for link in links(path)]
     files = [str(path.relative_to(TOP)) for path in TOP.rglob("*") if path.is_file() and "out" not in path.relative_to(TOP).parts]
     mutants = {path.stem for folder in ("must-fail", "mutants") for path in TOP.glob(f"crates/*/{folder}/*.edit")}
     labels = known_labels()
