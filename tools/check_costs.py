@@ -2,11 +2,12 @@
 """Compares the guide's tables of costs with the public calls of the library crates.
 
 - Each public function of a public type, and each function of a public trait, is in a table whose heading names the type or the trait.
-- Each function that is exported by `log_frames` or `commit_log` and is of no type is in a table whose heading names the crate.
+- Each public function of no type is in a table whose heading names the crate: one of a public module, or one that such a module re-exports.
 - Each call that a table names is a function of a type, trait or crate in that table's heading, its own or one of a trait that the type implements.
 - No two rows are for the same call of the same type.
 
-The heading of a table's first column names the types. Laws are no calls: their costs are in their own documentation.
+The heading of a table's first column names the types. Laws are no calls: their costs are in their own documentation. They are in modules `laws`,
+or are functions without parameters and result. What is hidden from the documentation is for the other crates of the repository, and is no call.
 """
 
 import re
@@ -15,8 +16,9 @@ from pathlib import Path
 from typing import NamedTuple
 
 TOP = Path(__file__).resolve().parent.parent
-CRATES = ("bitmap_core", "historical_bitmap", "log_frames", "commit_log", "bitmap_session")
-FREE = ("log_frames", "commit_log")  # the crates whose exported functions of no type are listed
+CRATES = (
+    "bitmap_bytes", "bitmap_core", "historical_bitmap", "log_frames", "commit_log", "bitmap_session", "log_store", "authenticated_bitmap",
+)
 GUIDE = TOP / "docs/GUIDE.md"
 SECTION = "## What each call costs"
 HISTORICAL = {"BitMap<N, Clean>": ["CleanBitMap"], "BitMap<N, Dirty<N>>": ["DirtyBitMap"], "BitMap<N, S>": ["CleanBitMap", "DirtyBitMap"]}
@@ -38,10 +40,22 @@ def sources(crate):
     return [path.read_text() for path in paths if not {"laws", "laws.rt"} & set(path.relative_to(TOP).parts)]
 
 
+def shown_modules(path):
+    """The texts of a module and of its public modules, without laws and hidden modules."""
+    text = path.read_text()
+    yield text
+    folder = path.parent if path.name == "lib.rt" else path.with_suffix("")
+    for hidden, name in re.findall(r"^(#\[doc\(hidden\)\]\n)?pub mod (\w+);", text, re.MULTILINE):
+        if not hidden and name != "laws":
+            yield from shown_modules(folder / f"{name}.rt")
+
+
 def free_calls(crate):
-    """The exported functions of a crate that are of no type."""
-    exported = set(re.findall(r"\w+", " ".join(re.findall(r"^pub use ([^;]*);", (TOP / "crates" / crate / "src/lib.rt").read_text(), re.MULTILINE))))
-    return {(crate, name) for text in sources(crate) for name in re.findall(r"^pub fn (\w+)", text, re.MULTILINE) if name in exported}
+    """The public functions of a crate that are of no type, without laws."""
+    shown = list(shown_modules(TOP / "crates" / crate / "src/lib.rt"))
+    exported = {name for text in shown for use in re.findall(r"^pub use ([^;]*);", text, re.MULTILINE) for name in re.findall(r"\w+(?!\w|::)", use)}
+    found = [(text, name) for text in sources(crate) for name in re.findall(r"^pub fn (\w+)(?!\w|\(\)$)", text, re.MULTILINE)]
+    return {(crate, name) for text, name in found if text in shown or name in exported}
 
 
 def blocks(text):
@@ -119,7 +133,7 @@ def errors_in(listed, calls):
 
 def main():
     calls = public_calls([text for crate in CRATES for text in sources(crate)])
-    for crate in FREE:
+    for crate in CRATES:
         calls.own.update(free_calls(crate))
     listed = list(rows(GUIDE.read_text()))
     errors = list(errors_in(listed, calls))
