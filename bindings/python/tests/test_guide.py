@@ -7,19 +7,38 @@ from pathlib import Path
 
 from guide.all_or_none import set_all
 from guide.any_bits import next_around
+from guide.appended import append_version
 from guide.deltas import message_for, receive
+from guide.encodings import from_bytes, to_bytes
 from guide.files import load, save
 from guide.histories import load_versions, save_versions
 from guide.last_versions import commit_set
 from guide.log import append
+from guide.logged import append_entries, open_log
+from guide.reads import read_versions
 from guide.replicas import apply_update
 from guide.restarts import restored, saved
 from guide.slots import new_slots, take_slot
+from guide.stores import close_day, keep_days, open_orders
 from guide.threads import add_flag
 from guide.updates import update_between
+from guide.values import received, versions_from
 from guide.versions import bit_then
-from mortarpink import Bitmap, DecodeError, Error, InvalidError, InvalidLengthError, NoMemoryError, OutOfBoundsError
-from support import bitmap_of, failing, with_versions
+from mortarpink import (
+    Bitmap,
+    CutOffError,
+    DecodeError,
+    EndOfBufferError,
+    Error,
+    InvalidError,
+    InvalidLengthError,
+    LockedError,
+    NoMemoryError,
+    NonMonotonicCommitError,
+    OutOfBoundsError,
+    OutOfRangeError,
+)
+from support import bitmap_of, failing, states, with_versions
 
 
 class Tasks(unittest.TestCase):
@@ -37,6 +56,15 @@ class Tasks(unittest.TestCase):
         for number in range(1, 1101):
             append(log, number % 3 == 0, number)
         self.assertEqual((len(log), log.pruned_chunks, log[1099], log[1097], len(list(log.commits()))), (1100, 9, False, True, 11))
+
+    def test_an_appended_version(self):
+        versions = bitmap_of("101")
+        append_version(versions, 2, True)
+        self.assertRaises(NonMonotonicCommitError, append_version, versions, 2, True)
+        self.assertEqual((versions[:], list(versions.commits())), ([True, False, True, True], [1, 2]))
+
+    def test_three_reads(self):
+        read_versions()
 
     def test_versions(self):
         versions = bitmap_of("1111111111")
@@ -153,6 +181,71 @@ class Replicas(unittest.TestCase):
             retained = len(bitmap) - 64 * bitmap.pruned_chunks
             self.assertEqual(len(restored(number, data, most=retained)), len(bitmap))
             self.assertRaises(InvalidLengthError, restored, number, data, most=retained - 1)
+
+    def test_encodings(self):
+        versions = self.versions(8)
+        for bits in versions, versions.at(1), versions.at(3):
+            data = to_bytes(bits)
+            self.assertEqual(list(from_bytes(data).ones()), list(bits.ones()))
+            self.assertRaises(InvalidError, from_bytes, data + b"\0")
+            self.assertRaises(EndOfBufferError, from_bytes, data[:15])
+        self.assertRaises(InvalidLengthError, from_bytes, bytes(bitmap_of("0" * 4097, 8)))
+
+    def test_one_value(self):
+        versions = self.versions(8)
+        for first in range(1, 6):
+            expected, data = versions.copy(), versions_from(versions, first)
+            expected.drop_before(first)
+            self.assertEqual(states(received(data)), states(expected))
+            self.assertRaises(DecodeError, received, data[:-1])
+            self.assertRaises(InvalidError, received, data + b"\0")
+        self.assertRaises(OutOfRangeError, received, bitmap_of("0" * 4097, 8).save())
+
+    def states_in(self, path, width):
+        """Returns what the file of a log has: the states of its bitmap."""
+        versions, file = open_log(path, width)
+        file.close()
+        return states(versions)
+
+    def test_a_log_in_a_file(self):
+        with tempfile.TemporaryDirectory() as folder:
+            path = Path(folder, "versions.log")
+            for width in 1, 64:
+                versions, file = open_log(path, width)
+                with file:
+                    for number in range(1, 5):
+                        append_version(versions, number, number % 2)
+                        append_entries(versions, file)
+                        self.assertEqual(self.states_in(path, width), states(versions))
+                    # A crash cuts off the entry of commit 4, and another write leaves bytes that are no entry.
+                    file.truncate(path.stat().st_size - 1)
+                versions.rewind_to(3)
+                opened, file = open_log(path, width)
+                with file:
+                    self.assertEqual(states(opened), states(versions))
+                    file.write(b"\xa5" * 3)
+                    append_version(opened, 9, True)
+                    append_entries(opened, file)
+                    self.assertEqual(self.states_in(path, width), states(opened))
+                    file.truncate(80)
+                self.assertRaises(CutOffError, open_log, path, width)
+                path.unlink()
+
+    def test_a_store(self):
+        with tempfile.TemporaryDirectory() as folder:
+            path = Path(folder, "orders.log")
+            with open_orders(path) as orders:
+                for day in range(1, 5):
+                    close_day(orders, day, lambda batch: batch.push(True))
+                self.assertRaises(OutOfBoundsError, close_day, orders, 5, lambda batch: batch.set(9, False))
+                self.assertRaises(LockedError, open_orders, path)
+                keep_days(orders, 3)
+                before = states(orders)
+            with open_orders(path) as orders:
+                self.assertEqual((states(orders), orders.cut_bytes), (before, 0))
+                self.assertEqual(list(orders.commits()), [2, 3, 4])
+                keep_days(orders, 5)
+                self.assertEqual(list(orders.commits()), [2, 3, 4])
 
     def test_files(self):
         with tempfile.TemporaryDirectory() as folder:

@@ -2,14 +2,21 @@
 //! one of them and the guide differ.
 
 mod all_or_none;
+mod appended;
 #[path = "../common/mod.rs"]
 mod common;
+mod encodings;
+mod files;
 mod last_versions;
 mod log;
 mod logged;
+mod reads;
+mod replicas;
 mod restarts;
 mod slots;
 mod threads;
+mod updates;
+mod values;
 mod versions;
 
 use std::fs::{self, OpenOptions};
@@ -18,14 +25,21 @@ use std::path::Path;
 use std::sync::Mutex;
 
 use all_or_none::set_all;
+use appended::append_version;
 use common::{WIDTHS, bitmap_of, commit};
+use encodings::{from_bytes, to_bytes};
+use files::{load_version, save_version};
 use last_versions::commit_set;
 use log::append;
 use logged::{append_entries, open};
 use mortarpink_proved::{Bitmap, Error, Width};
+use reads::read_versions;
+use replicas::apply_update;
 use restarts::{load, save};
 use slots::{new_slots, take_slot};
 use threads::count_and_append;
+use updates::update_between;
+use values::{received, versions_from};
 use versions::bit_then;
 
 #[test]
@@ -49,6 +63,21 @@ fn a_log_keeps_its_last_events() {
     assert_eq!((log.get(1099), log.get(1097)), (Ok(false), Ok(true)));
     assert_eq!(log.get(71), Err(Error::Pruned));
     assert_eq!(log.commits().count(), 11);
+}
+
+#[test]
+fn a_version_is_appended_or_nothing() {
+    let mut versions = bitmap_of(Width::Bytes8, &[5]);
+    assert_eq!(append_version(&mut versions, 2, true), Ok(()));
+    let refused = Error::NonMonotonicCommit { previous: 2, attempted: 2 };
+    assert_eq!(append_version(&mut versions, 2, true), Err(refused));
+    assert_eq!((versions.len(), versions.get(8)), (9, Ok(true)));
+    assert!(versions.commits().eq([1, 2]));
+}
+
+#[test]
+fn versions_are_read_in_three_ways() {
+    read_versions().unwrap();
 }
 
 #[test]
@@ -85,6 +114,105 @@ fn assert_same(left: &Bitmap, right: &Bitmap) {
         assert_eq!(left.to_bytes(), right.to_bytes());
     }
     assert_eq!(left.to_bytes(), right.to_bytes());
+}
+
+/// Versions 1 and 2 grow, version 3 is cut off, and version 4 grows and prunes.
+fn grown_and_cut(width: Width) -> Bitmap {
+    let bytes = width.bytes();
+    let mut versions = bitmap_of(width, &vec![0xa5; 3 * bytes + 1]);
+    commit(&mut versions, 2, |batch| {
+        batch.set(width.bits() + 1, true).unwrap();
+        batch.push_bytes(&vec![0x3c; 2 * bytes]).unwrap();
+    });
+    commit(&mut versions, 3, |batch| batch.truncate(2 * width.bits() - 3).unwrap());
+    commit(&mut versions, 4, |batch| {
+        batch.push_bytes(&vec![0xf1; 3 * bytes]).unwrap();
+        batch.prune(2 * width.bits() + 1).unwrap();
+    });
+    versions
+}
+
+/// Returns a replica that is at a version, and keeps no other.
+fn replica_at(versions: &Bitmap, number: u64) -> Bitmap {
+    let mut replica = versions.checkout(number).unwrap();
+    replica.begin().commit(number).unwrap();
+    replica
+}
+
+#[test]
+fn a_replica_applies_an_update_that_fits() {
+    for width in WIDTHS {
+        let versions = grown_and_cut(width);
+        for (older, newer) in [(1, 2), (2, 3), (3, 4), (1, 3), (1, 4), (2, 4)] {
+            let update = update_between(&versions, older, newer).unwrap();
+            for at in 1..=4 {
+                let mut replica = replica_at(&versions, at);
+                assert_eq!(apply_update(&mut replica, &update), Ok(at == older));
+                let number = if at == older { newer } else { at };
+                assert_eq!(replica.latest(), Some(number));
+                assert_eq!(replica.to_bytes(), versions.at(number).unwrap().to_bytes());
+            }
+        }
+    }
+    let update = update_between(&grown_and_cut(Width::Bytes1), 2, 3).unwrap();
+    let mut other = replica_at(&grown_and_cut(Width::Bytes8), 2);
+    assert_eq!(apply_update(&mut other, &update), Ok(false));
+    assert_eq!(apply_update(&mut Bitmap::new(Width::Bytes1).unwrap(), &update), Ok(false));
+}
+
+#[test]
+fn a_version_is_decoded_from_its_encoding() {
+    let versions = grown_and_cut(Width::Bytes8);
+    for number in versions.commits() {
+        let mut bytes = to_bytes(&versions, number).unwrap();
+        let decoded = from_bytes(&bytes).unwrap();
+        assert!(decoded.ones(..).eq(versions.at(number).unwrap().ones(..)));
+        bytes.push(0);
+        assert_eq!(from_bytes(&bytes).unwrap_err().to_string(), "there are bytes after the bitmap");
+        let error = from_bytes(&bytes[..15]).unwrap_err().to_string();
+        assert_eq!(error, Error::EndOfBuffer.to_string());
+    }
+    let long = bitmap_of(Width::Bytes8, &[0; 513]).to_bytes().unwrap();
+    let error = from_bytes(&long).unwrap_err().to_string();
+    assert_eq!(error, Error::InvalidLength { length: 4104 }.to_string());
+}
+
+#[test]
+fn a_version_is_loaded_from_its_file() {
+    let path = Path::new(env!("CARGO_TARGET_TMPDIR")).join("one_version.history");
+    for width in WIDTHS {
+        let versions = grown_and_cut(width);
+        for number in versions.commits() {
+            save_version(&versions, number, &path).unwrap();
+            let loaded = load_version(width, &path).unwrap();
+            assert_eq!(loaded.to_bytes(), versions.at(number).unwrap().to_bytes());
+            assert_eq!(loaded.latest(), None);
+        }
+        let bytes = fs::read(&path).unwrap();
+        let last = bytes.len() - 1;
+        for damaged in [&bytes[..last], &[&bytes[..last], &[bytes[last] ^ 1]].concat()] {
+            fs::write(&path, damaged).unwrap();
+            assert!(load_version(width, &path).is_err());
+        }
+        fs::write(&path, [&bytes[..], &[0]].concat()).unwrap();
+        assert!(load_version(width, &path).is_err());
+    }
+    fs::remove_file(&path).unwrap();
+}
+
+#[test]
+fn the_last_versions_are_received() {
+    let versions = grown_and_cut(Width::Bytes8);
+    for first in 1..=5 {
+        let mut expected = versions.try_clone().unwrap();
+        expected.drop_before(first).unwrap();
+        let bytes = versions_from(&versions, first).unwrap();
+        assert_same(&received(&bytes).unwrap(), &expected);
+        assert!(received(&bytes[..bytes.len() - 1]).is_err());
+        assert!(received(&[&bytes[..], &[0]].concat()).is_err());
+    }
+    let long = bitmap_of(Width::Bytes8, &[0; 513]).save().unwrap();
+    assert_eq!(received(&long).unwrap_err().to_string(), Error::OutOfRange.to_string());
 }
 
 #[test]
