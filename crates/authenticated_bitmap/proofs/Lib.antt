@@ -20,6 +20,8 @@ pub mod RangeLengths
 pub mod RangeEncodings
 pub mod StoredRanges
 pub mod StoredChunks
+pub mod EditedChunks
 pub mod Appended
 pub mod Replaced
 pub mod Truncated
+pub mod BatchDigests

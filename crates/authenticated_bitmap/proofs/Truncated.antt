@@ -6,7 +6,7 @@ use Rattle.authenticated_bitmap.proofs.Places.{stores_subtrees}
 use Rattle.authenticated_bitmap.proofs.Tests.{le_or_lt}
 
 -- more leaves have no fewer digests
-nodes_rise : (few more : ℕ) → nodes few ≤ nodes (few + more)
+pub nodes_rise : (few more : ℕ) → nodes few ≤ nodes (few + more)
 nodes_rise few more =
     let nothing : List ℕ = [] in
     let same : List ℕ → List ℕ = λ xs. xs in
