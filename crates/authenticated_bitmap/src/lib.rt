@@ -33,6 +33,7 @@ pub mod hash;
 pub mod laws;
 pub mod node_edits;
 mod node_source;
+mod node_target;
 pub mod range;
 pub mod range_encoding;
 pub mod root;

@@ -1,17 +1,58 @@
 //! Edits of stored digests that are the chunks of a batch.
 //!
-//! They are edits of a batch of width 32 in which nothing is pruned and the last chunk is full. If
-//! each version of the leaves is committed, the tree of each kept version can be read in place by
+//! They do what `append_leaf`, `replace_leaf` and `truncate_leaves` do, on a batch of width 32 in
+//! which nothing is pruned and the last chunk is full. If each version of the leaves is committed,
+//! the tree of each kept version can be read in place by
 //! [`tree_from_bitmap`](crate::store::tree_from_bitmap).
+//!
+//! After an error a batch may have a part of an edit. Its current bitmap and its commits are
+//! unchanged, so the caller aborts it.
 
-ghost use Rattle.std.specs.Prelude.{◌≡◌, ◌*◌, ℕ, List, length, min, take};
+ghost use Rattle.std.specs.Prelude.{◌≡◌, ◌++◌, ◌+◌, ◌*◌, ℕ, List, [], ◌∷◌, OnOk, length, min, take};
 ghost use Rattle.bitmap_core.specs.PrunedBits.{bit_len};
 ghost use Rattle.historical_bitmap.specs.View.{pending_of};
 ghost use Rattle.authenticated_bitmap.specs.Stored.{nodes, stored as stored_of};
 ghost use Rattle.authenticated_bitmap.specs.StoredBitmap.{IsOnBaseOf, digests_in};
 
-use crate::store::node_count;
+use crate::hash::Digest;
+use crate::store::{node_count, push_leaf};
 use historical_bitmap::bitmap::historical::DirtyBitMap;
+use std::alloc::AllocError;
+
+/// Appends a leaf to a tree of `n` leaves, by its digest: appends the stored digests that it adds.
+///
+/// `stored` has [`node_count(n)`](crate::store::node_count) digests as chunks before, and
+/// `node_count(n + 1)` after. Nothing is pruned in it.
+///
+/// # Errors
+/// `AllocError` if an allocation fails, or if the digests would have 2 to the power 64 bits or
+/// more. The batch may then have some of the digests.
+///
+/// # Memory
+/// Allocates an edited chunk per digest that is appended, of which there are at most 62.
+///
+/// # Complexity
+/// Reads one stored digest and hashes once per subtree that the leaf completes, as `append_leaf`
+/// does. Each digest that is read or appended takes a few searches among the edited chunks at most.
+pub fn append_leaf_in_batch<D: Digest>(
+    hash: &D,
+    stored: &mut DirtyBitMap<32>,
+    n: u64,
+    digest: &[u8; 32],
+) -> Result<(), AllocError>
+    requires pruned { (pending_of 32 stored.old).pruned ≡ 0 }
+    requires count { bit_len 32 (pending_of 32 stored.old) ≡ 256 * nodes n }
+    ensures value { (digests : List (List ℕ)) → length digests ≡ n
+        → digests_in stored.old ≡ stored_of (D.digest_of hash.now) digests
+        → OnOk result (digests_in stored.new
+        ≡ stored_of (D.digest_of hash.now) (digests ++ digest.now ∷ [])) }
+    ensures count { OnOk result (bit_len 32 (pending_of 32 stored.new) ≡ 256 * nodes (n + 1)) }
+    ensures pruned { (pending_of 32 stored.new).pruned ≡ 0 }
+    ensures base { IsOnBaseOf stored.old stored.new }
+{
+    let _ = stored.len();
+    push_leaf(hash, stored, n, digest)
+}
 
 /// Keeps the first `kept` leaves of a tree of `n` leaves, and removes the others: removes their
 /// stored digests from the end of a batch.

@@ -12,6 +12,7 @@ ghost use Rattle.authenticated_bitmap.specs.Tree.{audit_path, node_hash, sibling
 
 use crate::hash::Digest;
 use crate::node_source::{InBitmap, InSlice, Nodes};
+use crate::node_target::AppendNodes;
 use crate::tree::node_digest;
 use bitmap_core::bitmap::Readable;
 use std::alloc::{AllocError, Global};
@@ -137,49 +138,55 @@ pub fn tree_from_bitmap<D: Digest, B: Readable<32>>(hash: &D, stored: &B, n: u64
 
 // Appends the digest of each subtree that is completed by the `index`-th subtree of `2 ^ level`
 // leaves. That is the last so far, its digest is `above`, and it is the last of `stored`.
-fn push_completed<D: Digest>(
+fn push_completed<D: Digest, S: AppendNodes>(
     hash: &D,
-    stored: &mut Vec<[u8; 32]>,
+    stored: &mut S,
     level: u32,
     index: u64,
     above: &[u8; 32],
 ) -> Result<(), AllocError>
     requires low { level ≤ 61 }
     requires fits { (index + 1) * 2 ^ level ≤ 2 ^ 61 }
-    requires count { length stored.old.items ≡ position level index + 1 }
+    requires ready { S.is_ready stored.old }
+    requires count { length (S.held stored.old) ≡ position level index + 1 }
     ensures value { (all : List (List ℕ)) → length all ≡ (index + 1) * 2 ^ level
-        → stored.old.items ≡ take (position level index + 1) (stored_of (D.digest_of hash.now) all)
+        → S.held stored.old ≡ take (position level index + 1) (stored_of (D.digest_of hash.now) all)
         → above.now ≡ subtree_hash (D.digest_of hash.now) level (leaves_under level index all)
-        → OnOk result (stored.new.items ≡ stored_of (D.digest_of hash.now) all) }
-    ensures count { OnOk result (length stored.new.items ≡ nodes ((index + 1) * 2 ^ level)) }
-    ensures begins { take (length stored.old.items) stored.new.items ≡ stored.old.items }
+        → OnOk result (S.held stored.new ≡ stored_of (D.digest_of hash.now) all) }
+    ensures count { OnOk result (length (S.held stored.new) ≡ nodes ((index + 1) * 2 ^ level)) }
+    ensures begins { take (length (S.held stored.old)) (S.held stored.new) ≡ S.held stored.old }
+    ensures ready { S.is_ready stored.new }
+    ensures rest { (begun : S) → S.has_rest begun stored.old → S.has_rest begun stored.new }
 {
     if index % 2 == 0 {
         return Ok(());
     }
-    let left = stored[node_position(level, index - 1) as usize];
+    let left = stored.node(node_position(level, index - 1));
     let whole = node_digest(hash, &left, above);
-    stored.push(whole)?;
+    stored.push_node(&whole)?;
     push_completed(hash, stored, level + 1, index / 2, &whole)
 }
 
-// Appends the digests that leaf `n` adds. After an error, `stored` may have some of them.
-fn push_leaf<D: Digest>(
+/// Appends the digests that leaf `n` adds. After an error, `stored` may have some of them.
+pub(crate) fn push_leaf<D: Digest, S: AppendNodes>(
     hash: &D,
-    stored: &mut Vec<[u8; 32]>,
+    stored: &mut S,
     n: u64,
     digest: &[u8; 32],
 ) -> Result<(), AllocError>
     requires few { n < 2 ^ 61 }
-    requires count { length stored.old.items ≡ nodes n }
+    requires ready { S.is_ready stored.old }
+    requires count { length (S.held stored.old) ≡ nodes n }
     ensures value { (digests : List (List ℕ)) → length digests ≡ n
-        → stored.old.items ≡ stored_of (D.digest_of hash.now) digests
-        → OnOk result (stored.new.items
+        → S.held stored.old ≡ stored_of (D.digest_of hash.now) digests
+        → OnOk result (S.held stored.new
         ≡ stored_of (D.digest_of hash.now) (digests ++ digest.now ∷ [])) }
-    ensures count { OnOk result (length stored.new.items ≡ nodes (n + 1)) }
-    ensures begins { take (length stored.old.items) stored.new.items ≡ stored.old.items }
+    ensures count { OnOk result (length (S.held stored.new) ≡ nodes (n + 1)) }
+    ensures begins { take (length (S.held stored.old)) (S.held stored.new) ≡ S.held stored.old }
+    ensures ready { S.is_ready stored.new }
+    ensures rest { (begun : S) → S.has_rest begun stored.old → S.has_rest begun stored.new }
 {
-    stored.push(*digest)?;
+    stored.push_node(digest)?;
     push_completed(hash, stored, 0, n, digest)
 }
 
