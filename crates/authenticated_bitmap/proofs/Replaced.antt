@@ -1,8 +1,9 @@
 -- A leaf is replaced: its digest, and that of each complete subtree that contains it.
-use Rattle.std.proofs.Common.{◌≡◌, ℕ, zero, suc, ◌+◌, ◌-◌, ◌*◌, ◌^◌, ◌<◌, ◌≤◌, List, [], ◌∷◌, ◌++◌, length, take, drop, get_or, set, inl, inr, refl, sym, ap, ◌∙◌, arith, append_assoc}
-use Rattle.std.specs.Prelude.{count_ones}
+use Rattle.std.proofs.Common.{◌≡◌, ℕ, zero, suc, ◌+◌, ◌-◌, ◌*◌, ◌^◌, ◌<◌, ◌≤◌, List, [], ◌∷◌, ◌++◌, length, take, drop, get_or, set, inl, inr, refl, sym, ap, ◌∙◌, arith, append_assoc, Result, Ok, Err, OnOk}
+use Rattle.std.specs.Prelude.{count_ones, IsOk}
 use Rattle.std.proofs.Math.Seq.{set-append_seam, take-set-lt}
 use Rattle.std.proofs.lemmas.List.{length-append, length-take-le, length-drop, length-set, drop-set-lt, drop-set-add, take-set-le, take_all, get_or_append_left, get_or-append-add}
+use Rattle.std.proofs.lemmas.Bool.{false≢true}
 use Rattle.std.proofs.lemmas.Nat.{pow_pos, ones_le_self}
 use Rattle.authenticated_bitmap.specs.Tree.{node_hash, subtree_hash}
 use Rattle.authenticated_bitmap.specs.Stored.{stored_below, leaves_under, position, nodes}
@@ -227,3 +228,22 @@ module _ (H : List ℕ → List ℕ) (level half : ℕ) (e : half ≡ 2 ^ (level
             if_part (omega (arith, less, size)) ∙ is ∙ part H k before new block after same less
             ∙ ap (λ l. before ++ stored_below H l new ++ after) up)
       ]
+
+  -- the same where the digest of the whole may be refused
+  pub code_finishes_ok : {A E : Type 0} (r : Result A E) (new mid result : List (List ℕ)) (right : ℕ) → length new ≡ length block → length new ≤ 2 ^ level → mid ≡ before ++ halfway H (level - 1) new block ++ after
+      → right ≡ length before + 2 * half - 1
+      → (length new < 2 * half → result ≡ mid)
+      → (length new ≡ 2 * half → OnOk r (result ≡ set mid (right + 2 * half - 1) (node_hash H (get_or mid (right - 1) []) (get_or mid (right + 2 * half - 2) []))))
+      → OnOk r (result ≡ before ++ stored_below H level new ++ after)
+  code_finishes_ok (Ok x) new mid result right same few is at if_part if_whole = code_finishes new mid result right same few is at if_part if_whole
+  code_finishes_ok (Err x) new mid result right same few is at if_part if_whole = tt
+
+-- what is equal on success is equal to each of two equal lists
+pub on_ok_equal : {A E : Type 0} (r : Result A E) (new one other : List (List ℕ)) → OnOk r (new ≡ one) → one ≡ other → OnOk r (new ≡ other)
+on_ok_equal (Ok x) new one other h e = h ∙ e
+on_ok_equal (Err x) new one other h e = tt
+
+-- what is so on success is so if nothing fails
+pub surely : {A E P : Type 0} (r : Result A E) → IsOk r → OnOk r P → P
+surely (Ok x) ok h = h
+surely (Err x) ok h = absurd (false≢true ok)

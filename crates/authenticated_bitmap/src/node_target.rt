@@ -1,6 +1,6 @@
-//! Where stored digests are edited: a vector, or a batch whose chunks they are.
+//! Where stored digests are edited: a vector, a slice, or a batch whose chunks they are.
 
-ghost use Rattle.std.specs.Prelude.{⊤, ◌≡◌, ◌<◌, ◌++◌, ℕ, List, [], ◌∷◌, OnErr, OnOk, length, slice_index_or};
+ghost use Rattle.std.specs.Prelude.{⊤, ◌≡◌, ◌<◌, ◌++◌, ℕ, List, [], ◌∷◌, IsOk, OnErr, OnOk, length, slice_index_or, slice_set};
 ghost use Rattle.authenticated_bitmap.specs.StoredBitmap.{HasWholeChunks, IsOnBaseOf, digests_in};
 
 use crate::node_source::{InBitmap, Nodes};
@@ -38,6 +38,24 @@ pub(crate) trait AppendNodes: EditNodes {
             → Self.has_rest begun self.new };
 }
 
+/// Stored digests that can be replaced.
+pub(crate) trait ReplaceNodes: EditNodes {
+    /// No call of `set_node` fails.
+    ghost never_fails: { Type 0 };
+
+    /// Replaces the digest at a place.
+    fn set_node(&mut self, place: u64, digest: &[u8; 32]) -> Result<(), AllocError>
+        requires ready { Self.is_ready self.old }
+        requires within { place < length (Self.held self.old) }
+        ensures ok { OnOk result (Self.held self.new
+            ≡ slice_set (Self.held self.old) place digest.now) }
+        ensures size { length (Self.held self.new) ≡ length (Self.held self.old) }
+        ensures sure { never_fails → IsOk result }
+        ensures ready { Self.is_ready self.new }
+        ensures rest { (begun : Self) → Self.has_rest begun self.old
+            → Self.has_rest begun self.new };
+}
+
 impl EditNodes for Vec<[u8; 32]> {
     ghost held = { λ v. v.items };
 
@@ -53,6 +71,31 @@ impl EditNodes for Vec<[u8; 32]> {
 impl AppendNodes for Vec<[u8; 32]> {
     fn push_node(&mut self, digest: &[u8; 32]) -> Result<(), AllocError> {
         self.push(*digest)?;
+        Ok(())
+    }
+}
+
+/// The digests of a slice that is edited.
+#[derive(Drop)]
+pub(crate) struct InMutSlice<'a>(pub(crate) &'a mut [[u8; 32]]);
+
+impl<'a> EditNodes for InMutSlice<'a> {
+    ghost held = { λ s. s.0.now };
+
+    ghost is_ready = { λ _. ⊤ };
+
+    ghost has_rest = { λ begun s. s.0.ghost_name ≡ begun.0.ghost_name };
+
+    fn node(&self, place: u64) -> [u8; 32] {
+        self.0[place as usize]
+    }
+}
+
+impl<'a> ReplaceNodes for InMutSlice<'a> {
+    ghost never_fails = { ⊤ };
+
+    fn set_node(&mut self, place: u64, digest: &[u8; 32]) -> Result<(), AllocError> {
+        self.0[place as usize] = *digest;
         Ok(())
     }
 }
@@ -76,5 +119,14 @@ impl AppendNodes for DirtyBitMap<32> {
             return Err(AllocError);
         }
         self.try_push_chunk(digest)
+    }
+}
+
+impl ReplaceNodes for DirtyBitMap<32> {
+    ghost never_fails = { ⊥ };
+
+    fn set_node(&mut self, place: u64, digest: &[u8; 32]) -> Result<(), AllocError> {
+        known(digest);
+        self.try_set_chunk(place as usize, digest)
     }
 }

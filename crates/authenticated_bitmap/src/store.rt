@@ -4,7 +4,7 @@
 //! comes after those of its two halves. So the place of a digest does not depend on the number of
 //! leaves, and a leaf that is appended appends digests and moves none.
 
-ghost use Rattle.std.specs.Prelude.{◌++◌, ◌-◌, reverse, IfOk, OnErr, OnOk, ◌≡◌, ◌+◌, ◌*◌, ◌^◌, ◌<◌, ◌≤◌, ℕ, List, [], ◌∷◌, length, slice_index_or, slice_set, take};
+ghost use Rattle.std.specs.Prelude.{◌++◌, ◌-◌, reverse, IfOk, IsOk, OnErr, OnOk, ◌≡◌, ◌+◌, ◌*◌, ◌^◌, ◌<◌, ◌≤◌, ℕ, List, [], ◌∷◌, length, slice_index_or, slice_set, take};
 ghost use Rattle.authenticated_bitmap.specs.StoredBitmap.{full_chunks};
 ghost use Rattle.authenticated_bitmap.specs.Stored.{KeepsApart, StoresSubtrees, leaves_under, nodes, position, stored as stored_of, stored_below};
 ghost use Rattle.authenticated_bitmap.specs.Range.{range_siblings, siblings_below};
@@ -12,7 +12,7 @@ ghost use Rattle.authenticated_bitmap.specs.Tree.{audit_path, node_hash, sibling
 
 use crate::hash::Digest;
 use crate::node_source::{InBitmap, InSlice, Nodes};
-use crate::node_target::AppendNodes;
+use crate::node_target::{AppendNodes, InMutSlice, ReplaceNodes};
 use crate::tree::node_digest;
 use bitmap_core::bitmap::Readable;
 use std::alloc::{AllocError, Global};
@@ -232,71 +232,103 @@ pub fn append_leaf<D: Digest>(
 
 // Replaces the digest of a subtree of `2 * half` leaves, from those of its halves. The digests of
 // its right half begin at place `right`. Does nothing if there are fewer than `2 * half` leaves.
-fn rehash<D: Digest>(hash: &D, stored: &mut [[u8; 32]], right: u64, half: u64, count: u64)
+fn rehash<D: Digest, S: ReplaceNodes>(
+    hash: &D,
+    stored: &mut S,
+    right: u64,
+    half: u64,
+    count: u64,
+) -> Result<(), AllocError>
     requires some { 0 < half }
-    requires small { half ≤ 2 ^ 61 }
+    requires fits { right + 2 * half ≤ 2 ^ 63 }
     requires few { count ≤ 2 * half }
     requires after_left { 0 < right }
-    requires within { count ≡ 2 * half → right + 2 * half - 1 < length stored.old }
-    ensures part { count < 2 * half → stored.new ≡ stored.old }
-    ensures whole { count ≡ 2 * half → stored.new ≡ slice_set stored.old (right + 2 * half - 1)
-        (node_hash (D.digest_of hash.now) (slice_index_or stored.old (right - 1) [])
-        (slice_index_or stored.old (right + 2 * half - 2) [])) }
+    requires ready { S.is_ready stored.old }
+    requires within { count ≡ 2 * half → right + 2 * half - 1 < length (S.held stored.old) }
+    ensures part { count < 2 * half → S.held stored.new ≡ S.held stored.old }
+    ensures whole { count ≡ 2 * half → OnOk result (S.held stored.new
+        ≡ slice_set (S.held stored.old) (right + 2 * half - 1) (node_hash (D.digest_of hash.now)
+        (slice_index_or (S.held stored.old) (right - 1) [])
+        (slice_index_or (S.held stored.old) (right + 2 * half - 2) []))) }
+    ensures size { length (S.held stored.new) ≡ length (S.held stored.old) }
+    ensures sure { S.never_fails → IsOk result }
+    ensures ready { S.is_ready stored.new }
+    ensures rest { (begun : S) → S.has_rest begun stored.old → S.has_rest begun stored.new }
 {
-    if count == 2 * half {
-        let left = stored[(right - 1) as usize];
-        let top = (right + count - 1) as usize;
-        let last = stored[top - 1];
-        stored[top] = node_digest(hash, &left, &last);
+    if count < 2 * half {
+        return Ok(());
     }
+    let top = right + 2 * half - 1;
+    let left = stored.node(right - 1);
+    let last = stored.node(top - 1);
+    stored.set_node(top, &node_digest(hash, &left, &last))
 }
 
-// Replaces leaf `i` of a part of the tree, by its digest. The part has `count` leaves, at most
-// `2 ^ level`, and its digests begin at `place`.
-fn replace_below<D: Digest>(
+/// Replaces leaf `i` of a part of the tree, by its digest. The part has `count` leaves, at most
+/// `2 ^ level`, and its digests begin at `place`. After an error, `stored` may have some of the new
+/// digests.
+pub(crate) fn replace_below<D: Digest, S: ReplaceNodes>(
     hash: &D,
-    stored: &mut [[u8; 32]],
+    stored: &mut S,
     place: u64,
     level: u32,
     count: u64,
     i: u64,
     digest: &[u8; 32],
-)
+) -> Result<(), AllocError>
     requires low { level ≤ 61 }
     requires few { count ≤ 2 ^ level }
     requires some { i < count }
-    requires within { place + nodes count ≤ length stored.old }
-    ensures value { (before block after : List (List ℕ)) → length before ≡ place → length block ≡ count
-        → stored.old ≡ before ++ stored_below (D.digest_of hash.now) level block ++ after
-        → stored.new ≡ before
-        ++ stored_below (D.digest_of hash.now) level (slice_set block i digest.now) ++ after }
-    ensures size { length stored.new ≡ length stored.old }
+    requires fits { place + 2 * count ≤ 2 ^ 62 }
+    requires ready { S.is_ready stored.old }
+    requires within { place + nodes count ≤ length (S.held stored.old) }
+    ensures value { (before block after : List (List ℕ)) → length before ≡ place
+        → length block ≡ count
+        → S.held stored.old ≡ before ++ stored_below (D.digest_of hash.now) level block ++ after
+        → OnOk result (S.held stored.new ≡ before
+        ++ stored_below (D.digest_of hash.now) level (slice_set block i digest.now) ++ after) }
+    ensures size { length (S.held stored.new) ≡ length (S.held stored.old) }
+    ensures sure { S.never_fails → IsOk result }
+    ensures ready { S.is_ready stored.new }
+    ensures rest { (begun : S) → S.has_rest begun stored.old → S.has_rest begun stored.new }
 {
     if level == 0 {
-        stored[place as usize] = *digest;
-        return;
+        return stored.set_node(place, digest);
     }
     let half = size_of(level - 1);
     if count <= half {
-        replace_below(hash, stored, place, level - 1, count, i, digest);
-        return;
+        return replace_below(hash, stored, place, level - 1, count, i, digest);
     }
     let right = place + 2 * half - 1;
     if i < half {
-        replace_below(hash, stored, place, level - 1, half, i, digest);
-        rehash(hash, stored, right, half, count);
-        return;
+        replace_below(hash, stored, place, level - 1, half, i, digest)?;
+        return rehash(hash, stored, right, half, count);
     }
-    replace_below(
-        hash,
-        stored,
-        right,
-        level - 1,
-        count - half,
-        i - half,
-        digest,
-    );
-    rehash(hash, stored, right, half, count);
+    let rest = count - half;
+    replace_below(hash, stored, right, level - 1, rest, i - half, digest)?;
+    rehash(hash, stored, right, half, count)
+}
+
+// Replaces leaf `i` of a tree of `n` leaves in a slice, by its digest.
+fn replace_in_slice<D: Digest>(
+    hash: &D,
+    stored: &mut InMutSlice<'_>,
+    n: u64,
+    i: u64,
+    digest: &[u8; 32],
+)
+    requires few { n ≤ 2 ^ 61 }
+    requires some { i < n }
+    requires count { length stored.old.0.now ≡ nodes n }
+    ensures value { (digests : List (List ℕ)) → length digests ≡ n
+        → stored.old.0.now ≡ stored_of (D.digest_of hash.now) digests
+        → stored.new.0.now
+        ≡ stored_of (D.digest_of hash.now) (slice_set digests i digest.now) }
+    ensures count { length stored.new.0.now ≡ nodes n }
+    ensures same_reference { stored.new.0.ghost_name ≡ stored.old.0.ghost_name }
+{
+    // A write to a slice does not fail.
+    let _ = replace_below(hash, stored, 0, 61, n, i, digest);
 }
 
 /// Replaces leaf `i` of a tree of `n` leaves, by the digest of the new leaf: replaces the stored
@@ -320,7 +352,7 @@ pub fn replace_leaf<D: Digest>(hash: &D, stored: &mut [[u8; 32]], n: u64, i: u64
         → stored.new ≡ stored_of (D.digest_of hash.now) (slice_set digests i digest.now) }
     ensures count { length stored.new ≡ nodes n }
 {
-    replace_below(hash, stored, 0, 61, n, i, digest);
+    replace_in_slice(hash, &mut InMutSlice(stored), n, i, digest);
 }
 
 /// Keeps the first `kept` leaves of a tree, and removes the others: shortens the stored digests to
