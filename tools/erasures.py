@@ -57,6 +57,7 @@ METHODS_WITHIN = {"write": "write_within"}
 # The same for functions of modules, where they are defined, imported and called. Nothing else has these names.
 FUNCTIONS = {
     "append_leaf": "try_append_leaf",
+    "append_leaf_in_batch": "try_append_leaf_in_batch",
     "leaf_digests": "try_leaf_digests",
     "prove": "try_prove",
     "prove_from_bitmap": "try_prove_from_bitmap",
@@ -64,6 +65,7 @@ FUNCTIONS = {
     "prove_range": "try_prove_range",
     "prove_range_from_bitmap": "try_prove_range_from_bitmap",
     "prove_range_from_stored": "try_prove_range_from_stored",
+    "replace_leaf_in_batch": "try_replace_leaf_in_batch",
 }
 
 # Types that are Rust's own or the host's, whose constructors keep their names.
@@ -75,7 +77,8 @@ HIDDEN |= {*CONSTRUCTORS.values(), *METHODS_WITHIN.values()}
 
 # Public functions that take the allocator first. In Rust they take none: in their bodies it is the global one.
 WITHOUT_ALLOCATOR = {"Log::begin", "base_bytes", "delta", "from_base", "read_base", "read_history", "recover", *FUNCTIONS.values()}
-WITHOUT_ALLOCATOR -= {"try_append_leaf"}  # it appends to a vector, which has an allocator
+# These edit a vector or a batch, which has an allocator.
+WITHOUT_ALLOCATOR -= {"try_append_leaf", "try_append_leaf_in_batch", "try_replace_leaf_in_batch"}
 
 # Public methods that do nothing when code runs, which proofs call for what their contracts state. Documentation does not show them.
 STATEMENTS = {"pruned_counts_rise"}

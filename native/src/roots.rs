@@ -54,6 +54,7 @@
 //! `docs/FORMATS.md` of the repository describes the tree, the root and the encoding of a proof.
 
 use crate::bitmap::Readable;
+use crate::bitmap::historical::DirtyBitMap;
 use crate::support::alloc::{AllocError, Global, expect_memory};
 use crate::support::vec::VecWithin;
 use alloc::vec::Vec;
@@ -61,6 +62,7 @@ use core::{error, fmt};
 
 pub use crate::generated::authenticated_bitmap::encoding::{DecodeError, Proof};
 pub use crate::generated::authenticated_bitmap::hash::Digest;
+pub use crate::generated::authenticated_bitmap::node_edits::{truncate_leaves_in_batch, try_append_leaf_in_batch, try_replace_leaf_in_batch};
 pub use crate::generated::authenticated_bitmap::range::{try_prove_range, verify_range};
 pub use crate::generated::authenticated_bitmap::range_encoding::RangeProof;
 pub use crate::generated::authenticated_bitmap::root::{root_digest, verify_bit, verify_chunk};
@@ -222,6 +224,60 @@ pub fn prove<D: Digest>(hash: &D, digests: &[[u8; 32]], i: usize) -> Vec<[u8; 32
 /// ```
 pub fn append_leaf<D: Digest>(hash: &D, stored: &mut Vec<[u8; 32]>, n: u64, digest: &[u8; 32]) {
     expect_memory(try_append_leaf(hash, stored, n, digest));
+}
+
+/// Appends a leaf to a tree of `n` leaves whose stored digests are the chunks of a batch. It does what [`append_leaf`] does.
+///
+/// # Panics
+///
+/// Panics if memory runs out; or if the digests would have 2^64 bits or more; or if chunks of `stored` are pruned; or if the number of chunks of
+/// `stored` is not `node_count(n)`, or the last is not full.
+///
+/// ```
+/// use mortarpink::bitmap::historical::{CleanBitMap, Error};
+/// use mortarpink::roots::{append_leaf_in_batch, leaf_digests, tree_digest, tree_from_bitmap};
+/// # mod sha256 { include!(concat!(env!("CARGO_MANIFEST_DIR"), "/examples/sha256/mod.rs")); }
+/// # use sha256::Sha256;
+///
+/// let leaves = leaf_digests(&Sha256, &[[1], [2], [3]]);
+/// let mut stored = CleanBitMap::<32>::new();
+/// for (n, leaf) in leaves.iter().enumerate() {
+///     stored = stored.apply_batch(n as u64, |batch| {
+///         append_leaf_in_batch(&Sha256, batch, n as u64, leaf);
+///     })?;
+/// }
+///
+/// // The trees of two leaves and of three.
+/// assert_eq!(tree_from_bitmap(&Sha256, &stored.at(1).unwrap(), 2), tree_digest(&Sha256, &leaves[..2]));
+/// assert_eq!(tree_from_bitmap(&Sha256, stored.current(), 3), tree_digest(&Sha256, &leaves));
+/// # Ok::<(), Error>(())
+/// ```
+pub fn append_leaf_in_batch<D: Digest>(hash: &D, stored: &mut DirtyBitMap<32>, n: u64, digest: &[u8; 32]) {
+    expect_memory(try_append_leaf_in_batch(hash, stored, n, digest));
+}
+
+/// Replaces leaf `i` of a tree of `n` leaves whose stored digests are the chunks of a batch. It does what [`replace_leaf`] does.
+///
+/// # Panics
+///
+/// Panics if memory runs out; or if `i` is not below `n`; or if chunks of `stored` are pruned; or if the number of chunks of `stored` is not
+/// `node_count(n)`, or the last is not full.
+///
+/// ```
+/// use mortarpink::bitmap::historical::CleanBitMap;
+/// use mortarpink::roots::{append_leaf_in_batch, node_digest, replace_leaf_in_batch};
+/// # mod sha256 { include!(concat!(env!("CARGO_MANIFEST_DIR"), "/examples/sha256/mod.rs")); }
+/// # use sha256::Sha256;
+///
+/// let [a, b, c] = [[1; 32], [2; 32], [3; 32]];
+/// let mut stored = CleanBitMap::<32>::new().into_dirty();
+/// append_leaf_in_batch(&Sha256, &mut stored, 0, &a);
+/// append_leaf_in_batch(&Sha256, &mut stored, 1, &b);
+/// replace_leaf_in_batch(&Sha256, &mut stored, 2, 0, &c);
+/// assert_eq!((stored.get_chunk(0), stored.get_chunk(512)), (c, node_digest(&Sha256, &c, &b)));
+/// ```
+pub fn replace_leaf_in_batch<D: Digest>(hash: &D, stored: &mut DirtyBitMap<32>, n: u64, i: u64, digest: &[u8; 32]) {
+    expect_memory(try_replace_leaf_in_batch(hash, stored, n, i, digest));
 }
 
 /// Returns the audit path of leaf `i` of the tree of `n` leaves, from the stored digests. There are [`node_count(n)`](node_count) of them.

@@ -18,7 +18,8 @@
 //!   [`RangeProof`](range_encoding::RangeProof) has its encoding. For two chunks or more it has
 //!   fewer digests than their proofs together.
 //! - [`store`] computes trees, audit paths and the digests of ranges from stored digests, of which
-//!   it reads few. It appends, replaces and removes leaves, and writes few of them.
+//!   it reads few. It appends, replaces and removes leaves, and writes few of them. [`node_edits`]
+//!   does so where the digests are the chunks of a batch.
 //!
 //! A pruned chunk stays in the tree by its digest, so a proof stays good when chunks are pruned:
 //! only the number of pruned chunks in the root changes.
@@ -30,7 +31,9 @@
 use crate::support::prelude::*;
 pub mod encoding;
 pub mod hash;
+pub mod node_edits;
 mod node_source;
+mod node_target;
 pub mod range;
 pub mod range_encoding;
 pub mod root;

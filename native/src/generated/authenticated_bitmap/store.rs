@@ -7,6 +7,7 @@
 
 use crate::generated::authenticated_bitmap::hash::Digest;
 use crate::generated::authenticated_bitmap::node_source::{InBitmap, InSlice, Nodes};
+use crate::generated::authenticated_bitmap::node_target::{AppendNodes, InMutSlice, ReplaceNodes};
 use crate::generated::authenticated_bitmap::tree::node_digest;
 use crate::generated::bitmap_core::bitmap::Readable;
 use crate::support::alloc::{AllocError, Global};
@@ -169,19 +170,19 @@ pub fn tree_from_bitmap<D: Digest, B: Readable<32>>(hash: &D, stored: &B, n: u64
 
 // Appends the digest of each subtree that is completed by the `index`-th subtree of `2 ^ level`
 // leaves. That is the last so far, its digest is `above`, and it is the last of `stored`.
-fn push_completed<D: Digest>(hash: &D, stored: &mut Vec<[u8; 32]>, level: u32, index: u64, above: &[u8; 32]) -> Result<(), AllocError> {
+fn push_completed<D: Digest, S: AppendNodes>(hash: &D, stored: &mut S, level: u32, index: u64, above: &[u8; 32]) -> Result<(), AllocError> {
     if index % 2 == 0 {
         return Ok(());
     }
-    let left = stored[node_position(level, index - 1) as usize];
+    let left = stored.node(node_position(level, index - 1));
     let whole = node_digest(hash, &left, above);
-    stored.try_push(whole)?;
+    stored.push_node(&whole)?;
     push_completed(hash, stored, level + 1, index / 2, &whole)
 }
 
-// Appends the digests that leaf `n` adds. After an error, `stored` may have some of them.
-fn push_leaf<D: Digest>(hash: &D, stored: &mut Vec<[u8; 32]>, n: u64, digest: &[u8; 32]) -> Result<(), AllocError> {
-    stored.try_push(*digest)?;
+/// Appends the digests that leaf `n` adds. After an error, `stored` may have some of them.
+pub(crate) fn push_leaf<D: Digest, S: AppendNodes>(hash: &D, stored: &mut S, n: u64, digest: &[u8; 32]) -> Result<(), AllocError> {
+    stored.push_node(digest)?;
     push_completed(hash, stored, 0, n, digest)
 }
 
@@ -239,35 +240,49 @@ pub fn try_append_leaf<D: Digest>(hash: &D, stored: &mut Vec<[u8; 32]>, n: u64, 
 
 // Replaces the digest of a subtree of `2 * half` leaves, from those of its halves. The digests of
 // its right half begin at place `right`. Does nothing if there are fewer than `2 * half` leaves.
-fn rehash<D: Digest>(hash: &D, stored: &mut [[u8; 32]], right: u64, half: u64, count: u64) {
-    if count == 2 * half {
-        let left = stored[(right - 1) as usize];
-        let top = (right + count - 1) as usize;
-        let last = stored[top - 1];
-        stored[top] = node_digest(hash, &left, &last);
+fn rehash<D: Digest, S: ReplaceNodes>(hash: &D, stored: &mut S, right: u64, half: u64, count: u64) -> Result<(), AllocError> {
+    if count < 2 * half {
+        return Ok(());
     }
+    let top = right + 2 * half - 1;
+    let left = stored.node(right - 1);
+    let last = stored.node(top - 1);
+    stored.set_node(top, &node_digest(hash, &left, &last))
 }
 
-// Replaces leaf `i` of a part of the tree, by its digest. The part has `count` leaves, at most
-// `2 ^ level`, and its digests begin at `place`.
-fn replace_below<D: Digest>(hash: &D, stored: &mut [[u8; 32]], place: u64, level: u32, count: u64, i: u64, digest: &[u8; 32]) {
+/// Replaces leaf `i` of a part of the tree, by its digest. The part has `count` leaves, at most
+/// `2 ^ level`, and its digests begin at `place`. After an error, `stored` may have some of the new
+/// digests.
+pub(crate) fn replace_below<D: Digest, S: ReplaceNodes>(
+    hash: &D,
+    stored: &mut S,
+    place: u64,
+    level: u32,
+    count: u64,
+    i: u64,
+    digest: &[u8; 32],
+) -> Result<(), AllocError> {
     if level == 0 {
-        stored[place as usize] = *digest;
-        return;
+        return stored.set_node(place, digest);
     }
     let half = size_of(level - 1);
     if count <= half {
-        replace_below(hash, stored, place, level - 1, count, i, digest);
-        return;
+        return replace_below(hash, stored, place, level - 1, count, i, digest);
     }
     let right = place + 2 * half - 1;
     if i < half {
-        replace_below(hash, stored, place, level - 1, half, i, digest);
-        rehash(hash, stored, right, half, count);
-        return;
+        replace_below(hash, stored, place, level - 1, half, i, digest)?;
+        return rehash(hash, stored, right, half, count);
     }
-    replace_below(hash, stored, right, level - 1, count - half, i - half, digest);
-    rehash(hash, stored, right, half, count);
+    let rest = count - half;
+    replace_below(hash, stored, right, level - 1, rest, i - half, digest)?;
+    rehash(hash, stored, right, half, count)
+}
+
+// Replaces leaf `i` of a tree of `n` leaves in a slice, by its digest.
+fn replace_in_slice<D: Digest>(hash: &D, stored: &mut InMutSlice<'_>, n: u64, i: u64, digest: &[u8; 32]) {
+    // A write to a slice does not fail.
+    let _ = replace_below(hash, stored, 0, 61, n, i, digest);
 }
 
 /// Replaces leaf `i` of a tree of `n` leaves, by the digest of the new leaf: replaces the stored
@@ -309,7 +324,7 @@ pub fn replace_leaf<D: Digest>(hash: &D, stored: &mut [[u8; 32]], n: u64, i: u64
         n
     );
 
-    replace_below(hash, stored, 0, 61, n, i, digest);
+    replace_in_slice(hash, &mut InMutSlice(stored), n, i, digest);
 }
 
 /// Keeps the first `kept` leaves of a tree, and removes the others: shortens the stored digests to
