@@ -25,7 +25,7 @@ test true = inl refl
 test false = inr refl
 
 -- behind a closed gate, since the length that begins with it is more than there is
-pub closed_unfinished : (place : Place) (after : List ℕ) → length after < 2 ^ 56 → IsUnfinished place (closed ∷ after)
+pub closed_unfinished : (place : Place) (after : List ℕ) → length after < 2 ^ 63 → IsUnfinished place (closed ∷ after)
 closed_unfinished place after few =
     let bytes : List ℕ = closed ∷ after in
     let size : ℕ = number_at 0 bytes in

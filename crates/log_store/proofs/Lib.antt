@@ -6,6 +6,7 @@ pub mod Gates
 pub mod Left
 pub mod Moments
 pub mod Past
+pub mod Prefixes
 pub mod Reopening
 pub mod Replaced
 pub mod Stored

@@ -1,5 +1,5 @@
 -- A log on a device that is opened, and what a crash leaves while it is.
-use Rattle.std.proofs.Common.{◌≡◌, inl, inr, ℕ, ◌≤◌, List, [], ◌∷◌, ◌++◌, length, take, drop, refl, sym, ap, subst, ◌∙◌, arith}
+use Rattle.std.proofs.Common.{◌≡◌, inl, inr, ℕ, ◌^◌, ◌<◌, ◌≤◌, List, [], ◌∷◌, ◌++◌, length, take, drop, refl, sym, ap, subst, ◌∙◌, arith, length-append}
 use Rattle.std.proofs.lemmas.List.{drop_at, length-take-le, take_all, take_at}
 use Rattle.log_frames.specs.declared.frame.Place.{Place}
 use Rattle.commit_log.specs.Base.{Base}
@@ -27,13 +27,12 @@ whole_torn n base entries kept c within is =
       within = omega arith;
       rest = closed ∷ [];
       is = is ∙ ap (λ (es : List Entry). log_bytes n base es ++ closed ∷ []) (sym every);
-      few = omega arith;
       unfinished = closed_unfinished (place_of n base (take (length entries) entries)) [] (omega arith);
     }
 
 -- what a crash leaves while a closed gate is put in the place of the rest
-pub shutting_torn : (n : ℕ) (base : Base) (entries : List Entry) (kept : ℕ) (bytes c : List ℕ) → (h : IsTornLog n base entries kept bytes) → IsShutting (log_bytes n base (take h.count entries)) h.rest c → IsTornLog n base entries kept c
-shutting_torn n base entries kept bytes c h s =
+pub shutting_torn : (n : ℕ) (base : Base) (entries : List Entry) (kept : ℕ) (bytes c : List ℕ) → length bytes < 2 ^ 63 → (h : IsTornLog n base entries kept bytes) → IsShutting (log_bytes n base (take h.count entries)) h.rest c → IsTornLog n base entries kept c
+shutting_torn n base entries kept bytes c small h s =
     let place : Place = place_of n base (take h.count entries) in
     elim s.2 [
       | inl same ↦ record {
@@ -41,7 +40,6 @@ shutting_torn n base entries kept bytes c h s =
         least_is = h.least_is;
         within = h.within;
         rest = h.rest;
-        few = h.few;
         unfinished = h.unfinished;
         is = s.1 ∙ ap (λ (x : List ℕ). log_bytes n base (take h.count entries) ++ x) same;
       }
@@ -52,7 +50,6 @@ shutting_torn n base entries kept bytes c h s =
           within = h.within;
           rest = s.0;
           is = s.1;
-          few = omega (arith, few);
           unfinished = few_unfinished place s.0 (omega (arith, few));
         }
         | inr shut ↦ record {
@@ -61,8 +58,7 @@ shutting_torn n base entries kept bytes c h s =
           within = h.within;
           rest = closed ∷ shut.0;
           is = s.1 ∙ ap (λ (x : List ℕ). log_bytes n base (take h.count entries) ++ x) shut.1;
-          few = omega (arith, shut.2, h.few);
-          unfinished = closed_unfinished place shut.0 (omega (arith, shut.2, h.few));
+          unfinished = closed_unfinished place shut.0 (omega (arith, shut.2, small, ap length h.is, length-append (log_bytes n base (take h.count entries)) h.rest));
         }
       ]
     ]
@@ -118,13 +114,13 @@ module _ {D : Type 0} (n : ℕ) (g : Ghosts D) (base : Base) where
       weaker g old mid (λ c. c ≡ g.seen old) (IsTornLog n base entries kept) read (λ c is. subst (IsTornLog n base entries kept) (sym is) torn)
 
   -- and while a closed gate is put in the place of a frame that is not finished
-  pub opening_leaves : (entries : List Entry) (kept : ℕ) (old mid new : D) (place : Place) → (h : IsTornLog n base entries kept (g.seen old)) → place ≡ place_of n base (take h.count entries) → LeavesOnly g old mid (λ c. c ≡ g.seen old)
+  pub opening_leaves : (entries : List Entry) (kept : ℕ) (old mid new : D) (place : Place) → length (g.seen old) < 2 ^ 63 → (h : IsTornLog n base entries kept (g.seen old)) → place ≡ place_of n base (take h.count entries) → LeavesOnly g old mid (λ c. c ≡ g.seen old)
       → LeavesOnly g mid new (IsShutting (take place.at (g.seen old)) (drop place.at (g.seen old))) → LeavesOnly g old new (IsTornLog n base entries kept)
-  opening_leaves entries kept old mid new place h place_is read shutting =
+  opening_leaves entries kept old mid new place small h place_is read shutting =
       let whole : List ℕ = log_bytes n base (take h.count entries) in
       let at : place.at ≡ length whole = ap (λ (p : Place). p.at) place_is ∙ place_counts n base (take h.count entries) in
       let good : take place.at (g.seen old) ≡ whole = ap (take place.at) h.is ∙ take_at whole h.rest place.at (sym at) in
       let left : drop place.at (g.seen old) ≡ h.rest = ap (drop place.at) h.is ∙ drop_at whole h.rest place.at (sym at) in
       joined g old mid new (λ c. c ≡ g.seen old) (IsShutting (take place.at (g.seen old)) (drop place.at (g.seen old))) (IsTornLog n base entries kept) read shutting
       (λ c is. subst (IsTornLog n base entries kept) (sym is) h)
-      (λ c s. shutting_torn n base entries kept (g.seen old) c h (subst (λ (x : List ℕ). IsShutting x h.rest c) good (subst (λ (y : List ℕ). IsShutting (take place.at (g.seen old)) y c) left s)))
+      (λ c s. shutting_torn n base entries kept (g.seen old) c small h (subst (λ (x : List ℕ). IsShutting x h.rest c) good (subst (λ (y : List ℕ). IsShutting (take place.at (g.seen old)) y c) left s)))

@@ -34,7 +34,7 @@ all begun kept is = take_all kept begun (omega (arith, is))
 -- what a crash leaves of a log of which fewer entries are asked for
 torn_fewer : (n : ℕ) (base : Base) (entries : List Entry) (fewer kept : ℕ) (c : List ℕ) → fewer ≤ kept → IsTornLog n base entries kept c → IsTornLog n base entries fewer c
 torn_fewer n base entries fewer kept c le h =
-    record { count = h.count; least_is = omega (arith, le, h.least_is); within = h.within; rest = h.rest; is = h.is; few = h.few; unfinished = h.unfinished }
+    record { count = h.count; least_is = omega (arith, le, h.least_is); within = h.within; rest = h.rest; is = h.is; unfinished = h.unfinished }
 
 -- what a crash leaves of a log, as of one with further entries
 torn_later : (n : ℕ) (base : Base) (begun later : List Entry) (kept : ℕ) (c : List ℕ) → IsTornLog n base begun kept c → IsTornLog n base (begun ++ later) kept c
@@ -46,7 +46,6 @@ torn_later n base begun later kept c h =
       within = omega (arith, h.within, length-append begun later);
       rest = h.rest;
       is = h.is ∙ ap (λ (es : List Entry). log_bytes n base es ++ h.rest) same;
-      few = h.few;
       unfinished = subst (λ (es : List Entry). IsUnfinished (place_of n base es) h.rest) same h.unfinished;
     }
 
@@ -88,7 +87,6 @@ module _ {D : Type 0} (n : ℕ) (g : Ghosts D) (base : Base) where
             within = omega (arith, length-append begun (e ∷ []));
             rest = closed ∷ shut.0;
             is = shut.1 ∙ ap (λ (es : List Entry). log_bytes n base es ++ closed ∷ shut.0) (sym before);
-            few = omega (arith, shut.2, few);
             unfinished = closed_unfinished (place_of n base (take (length begun) (begun ++ e ∷ []))) shut.0 (omega (arith, shut.2, few));
           }
       gated c (inr whole) = whole_torn n base (begun ++ e ∷ []) kept c (omega (arith, h.within, length-append begun (e ∷ []))) (whole ∙ pushed begun kept state e old first rest h writes is)

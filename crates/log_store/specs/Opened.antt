@@ -4,14 +4,14 @@ use Rattle.log_frames.specs.declared.frame.Place.{Place}
 use Rattle.commit_log.specs.Base.{Base}
 use Rattle.commit_log.specs.Entries.{Entry}
 use Rattle.commit_log.specs.Kept.{Kept}
-use Rattle.commit_log.specs.Logs.{log_bytes, place_of, state_of}
+use Rattle.commit_log.specs.Logs.{IsLog, log_bytes, place_of, state_of}
 use Rattle.commit_log.specs.Recovered.{IsRecoverError, ReadsTo}
 use Rattle.commit_log.specs.declared.base.Past.TheVariants.{NoCommit}
 use Rattle.commit_log.specs.declared.recovery.RecoverError.TheVariants as recover_errors
 use Rattle.log_store.specs.Device.{IsFailed}
 use Rattle.log_store.specs.Gate.{IsShut, IsUnfinished, closed}
 use Rattle.log_store.specs.Moments.{IsAtRest}
-use Rattle.log_store.specs.Store.{IsStored}
+use Rattle.log_store.specs.Store.{IsStored, IsTornLog}
 use Rattle.log_store.specs.declared.device.Device.{Ghosts}
 use Rattle.log_store.specs.declared.opening.CreateError.{CreateError}
 use Rattle.log_store.specs.declared.opening.CreateError.TheVariants as create_errors
@@ -65,6 +65,14 @@ pub record OpensTo {D : Type 0} (n : ℕ) (g : Ghosts D) (base : Base) (entries 
   pub least_is : kept ≤ count
   pub within : count ≤ length entries
   pub stored : IsStored n g base (take count entries) count state log
+
+-- bytes are what a crash may leave of the log of these entries, all of which are kept
+abbrev pub IsTornAfter : ℕ → Base → List Entry → List ℕ → Type 0
+IsTornAfter n base entries bytes = IsLog n base entries × IsTornLog n base entries (length entries) bytes
+
+-- a log is opened with these entries, all of which are kept
+abbrev pub IsOpenedWith : {D : Type 0} → ℕ → Ghosts D → Base → List Entry → Kept → StoredLog D → Type 0
+IsOpenedWith n g base entries state log = IsStored n g base entries (length entries) state log
 
 -- bytes are read up to the state after some first entries of a log, at least so many
 pub record RecoversTo (n : ℕ) (base : Base) (entries : List Entry) (kept : ℕ) (bytes : List ℕ) : Type 0 where

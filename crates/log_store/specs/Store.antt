@@ -1,5 +1,5 @@
 -- A log on a device: its entries that were begun, those of them that are kept, and what a crash leaves of it. A chunk has n bytes.
-use Rattle.std.specs.Prelude.{◌≡◌, ◌⊎◌, ℕ, ◌+◌, ◌^◌, ◌<◌, ◌≤◌, true, false, List, [], ◌∷◌, ◌++◌, length, take}
+use Rattle.std.specs.Prelude.{◌≡◌, ◌⊎◌, ℕ, ◌+◌, ◌<◌, ◌≤◌, true, false, List, [], ◌∷◌, ◌++◌, length, take}
 use Rattle.commit_log.specs.Base.{Base}
 use Rattle.commit_log.specs.Entries.{Entry}
 use Rattle.commit_log.specs.Kept.{Kept}
@@ -19,7 +19,6 @@ pub record IsTornLog (n : ℕ) (base : Base) (entries : List Entry) (kept : ℕ)
   pub within : count ≤ length entries
   pub rest : List ℕ
   pub is : c ≡ log_bytes n base (take count entries) ++ rest
-  pub few : length rest < 2 ^ 56
   pub unfinished : IsUnfinished (place_of n base (take count entries)) rest
 
 -- a device has the bytes of a log with these entries and a closed gate, all of which are kept, and the place after the entries is known

@@ -7,9 +7,11 @@ ghost use Rattle.commit_log.specs.Base.{Base};
 ghost use Rattle.commit_log.specs.Entries.{Entry};
 ghost use Rattle.commit_log.specs.History.{HasLog, IsHistory};
 ghost use Rattle.commit_log.specs.Kept.{Kept, kept_of};
+ghost use Rattle.commit_log.specs.Logs.{entries_in};
+ghost use Rattle.commit_log.specs.Recovered.{IsPrefixOf};
 ghost use Rattle.log_store.specs.Compacted.{IsCompacting};
 ghost use Rattle.log_store.specs.Moments.{IsAtRest, LeavesOnly};
-ghost use Rattle.log_store.specs.Opened.{IsPassing, OpensTo, RecoversTo};
+ghost use Rattle.log_store.specs.Opened.{IsOpenedWith, IsPassing, IsTornAfter, OpensTo, RecoversTo};
 ghost use Rattle.log_store.specs.Store.{Becomes, IsStored};
 
 use crate::device::Device;
@@ -66,6 +68,36 @@ pub fn a_crash_is_opened<const N: usize, D: Device>(
         → IsAtRest D.Device device → MatchResult result (λ store. OpensTo N D.Device base
         (begun ++ further) kept (kept_of N store.bitmap) store.log) (λ e. IsPassing e.1) }
 {
+    Store::open(alloc, device)
+}
+
+/// The first bytes of a log, in which its base is whole, are what a crash may leave of the entries that are whole in them.
+///
+/// So what the contract of [`Store::open`] says of the bytes that a crash left, it says of each such prefix of a log. In a shorter one the base is
+/// not whole, and `open` reports `Header(Short)` or `NoBase`.
+pub fn any_prefix_is_a_torn_log()
+    ensures { (n : ℕ) (base : Base) (entries : List Entry) (m : ℕ) (bytes : List ℕ)
+        → IsPrefixOf n base entries m bytes
+        → IsTornAfter n base (entries_in m n base entries) bytes }
+{}
+
+/// Opens a device that has the first bytes of a log, in which its base is whole: as a copy of a log that was cut off anywhere.
+///
+/// The store is opened with the entries that are whole in these bytes, and with no other.
+///
+/// # Errors
+/// Those of [`Store::open`]. The device or an allocation has then failed.
+pub fn a_prefix_is_opened<const N: usize, D: Device>(
+    alloc: Global,
+    device: D,
+) -> Result<Store<N, D>, (D, OpenError)>
+    requires { IsWidth N }
+    ensures { (base : Base) (entries : List Entry) (m : ℕ)
+        → IsPrefixOf N base entries m (D.seen device) → IsAtRest D.Device device
+        → MatchResult result (λ store. IsOpenedWith N D.Device base (entries_in m N base entries)
+        (kept_of N store.bitmap) store.log) (λ e. IsPassing e.1) }
+{
+    any_prefix_is_a_torn_log();
     Store::open(alloc, device)
 }
 

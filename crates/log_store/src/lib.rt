@@ -26,7 +26,8 @@ pub use device::{Device, DeviceError};
 pub use error::StoreError;
 pub use file::FileDevice;
 pub use laws::{
-    a_compaction_is_opened, a_crash_is_opened, a_crash_keeps_what_is_kept, calls_in_a_row,
+    a_compaction_is_opened, a_crash_is_opened, a_crash_keeps_what_is_kept, a_prefix_is_opened,
+    any_prefix_is_a_torn_log, calls_in_a_row,
 };
 pub use memory::MemoryDevice;
 pub use opening::{CreateError, OpenError};

@@ -32,7 +32,7 @@ returns-in-Err-shut-clause-any_moment g c base entries kept rest log torn =
     let good : at ≤ length seen = omega (arith, c.in-Ok-recover_left.ensures.good, ap length bytes) in
     let split : g.D.Device.seen mid ≡ take at seen ++ drop at seen = c.in-Ok.ensures.seen rest ∙ sym (take-append-drop at seen) in
     let at_is : at ≡ length (take at seen) = sym (length-take-le at seen good) in
-    opening_leaves n g.D.Device base entries kept old mid c.shut.new.device c.in-Ok-recover_left.found.1 torn made.1 (c.in-Ok.ensures.any_moment rest)
+    opening_leaves n g.D.Device base entries kept old mid c.shut.new.device c.in-Ok-recover_left.found.1 (omega (arith, ap length bytes)) torn made.1 (c.in-Ok.ensures.any_moment rest)
     (c.shut.ensures.any_moment (take at seen) (drop at seen) (c.in-Ok.ensures.rests rest) split at_is (omega (arith, ap length split, ap length (c.in-Ok.ensures.seen rest), ap length (c.in-Ok.ensures.bytes rest), length-append (take at seen) (drop at seen))))
 
 pub returns-clause-any_moment : goal.returns-clause-any_moment
@@ -48,7 +48,7 @@ returns-clause-any_moment g c base entries kept rest log torn =
     let good : at ≤ length seen = omega (arith, c.in-Ok-recover_left.ensures.good, ap length bytes) in
     let split : g.D.Device.seen mid ≡ take at seen ++ drop at seen = c.in-Ok.ensures.seen rest ∙ sym (take-append-drop at seen) in
     let at_is : at ≡ length (take at seen) = sym (length-take-le at seen good) in
-    opening_leaves n g.D.Device base entries kept old mid c.shut.new.device c.in-Ok-recover_left.found.1 torn made.1 (c.in-Ok.ensures.any_moment rest)
+    opening_leaves n g.D.Device base entries kept old mid c.shut.new.device c.in-Ok-recover_left.found.1 (omega (arith, ap length bytes)) torn made.1 (c.in-Ok.ensures.any_moment rest)
     (c.shut.ensures.any_moment (take at seen) (drop at seen) (c.in-Ok.ensures.rests rest) split at_is (omega (arith, ap length split, ap length (c.in-Ok.ensures.seen rest), ap length (c.in-Ok.ensures.bytes rest), length-append (take at seen) (drop at seen))))
 
 pub returns-clause-opened : goal.returns-clause-opened
