@@ -1,10 +1,10 @@
 #!/usr/bin/env python3
 """Checks the Rust crate in native/, which erase.py generates from the sources.
 
-usage: check_native.py [--after-gate] [--target DIR] [PART..]    runs the parts, or all: generated, tests, store, erased, replay, proved, original,
-                                                               mutants
+usage: check_native.py [--after-gate] [--tenth] [--target DIR] [PART..]    runs the parts, or all: generated, tests, store, erased, replay, proved,
+                                                                         original, mutants
 
-- generated: native/src/generated is what erase.py writes. docs/NATIVE.md has the forms of conditions that erase.py knows.
+- generated: native/src/generated is what erase.py writes. docs/NATIVE.md has the forms of conditions that erase.py knows, and each mutant.
 - tests: the crate's tests, examples and doc tests pass, with checks of overflow and as a release; its examples print what they should.
   It builds without the feature `std`. Clippy and rustdoc have no warning, and rustfmt has no change.
 - store: a program that changes a store is killed again and again, for a minute, and what was acknowledged is there (tools/crash.sh).
@@ -14,9 +14,10 @@ usage: check_native.py [--after-gate] [--target DIR] [PART..]    runs the parts,
   proved program is the one that `rt ci` has just left, and has to be there.
 - original: what is written for commonware-utils compiles with that crate too, passes, and prints the same, if the environment variable
   COMMONWARE_UTILS names the folder of that crate.
-- mutants: faults in the parts that are written by hand, and in the eraser, make a test fail.
+- mutants: faults in the parts that are written by hand, and in the eraser, make a test fail. With --tenth a tenth of them is tried, which the hash
+  of the commit chooses, so that later commits try the others.
 
-The gate runs all but the last two. A machine without cargo leaves out all but the first part, and says so. DIR keeps what cargo builds;
+The gate runs all but `original`, and a tenth of the mutants. A machine without cargo leaves out all but the first part, and says so. DIR keeps what cargo builds;
 without it, that is temporary.
 """
 
@@ -40,6 +41,7 @@ from replay import PROVED, TOP, WIDTHS, report
 NATIVE = TOP / "native"
 JOBS = "2"
 SECONDS = 1200  # the most that one command may take, on a busy machine
+MUTANT_SECONDS = 300  # the most that the tests of a mutant may take: those that do not end have noticed it
 PARTS = ("generated", "tests", "store", "erased", "replay", "proved", "original", "mutants")
 CRASH_SECONDS = 60  # how long the program that changes a store is killed again and again
 SCRIPTS = 1000  # random scripts for the comparison with the proved program
@@ -58,23 +60,25 @@ commonware-utils = {{ path = "{folder}" }}
 
 
 class Place:
-    """Where the checks write: a temporary folder, and the folder in which cargo builds; and whether they run after the gate."""
+    """Where the checks write: a temporary folder, and the folder in which cargo builds. Also whether they run after the gate, and whether they try
+    a tenth of the mutants."""
 
-    def __init__(self, folder, target, after_gate):
-        self.folder, self.target, self.after_gate = Path(folder), Path(target or f"{folder}/target").resolve(), after_gate
+    def __init__(self, folder, target, after_gate, is_tenth):
+        self.folder, self.target = Path(folder), Path(target or f"{folder}/target").resolve()
+        self.after_gate, self.is_tenth = after_gate, is_tenth
 
-    def run(self, *command, folder=NATIVE, **environment):
+    def run(self, *command, folder=NATIVE, seconds=SECONDS, **environment):
         """Runs a command. Returns its status and all that it prints."""
         variables = {**os.environ, "CARGO_TARGET_DIR": str(self.target), "CARGO_NET_OFFLINE": "true", **environment}
         process = subprocess.Popen(command, cwd=folder, env=variables, stdout=subprocess.PIPE, stderr=subprocess.STDOUT, text=True, errors="replace",
                                    start_new_session=True)
         try:
-            printed, _ = process.communicate(timeout=SECONDS)
+            printed, _ = process.communicate(timeout=seconds)
         except subprocess.TimeoutExpired:
             # The process and what it has started, such as a test that does not end.
             os.killpg(process.pid, signal.SIGKILL)
             printed, _ = process.communicate()
-            printed += f"\nstopped after {SECONDS} seconds"
+            printed += f"\nstopped after {seconds} seconds"
         return process.returncode, printed
 
     def case(self, name, *command, **options):
@@ -94,14 +98,23 @@ def cargo(*words):
 
 
 def check_generated(place):
-    return [place.case("generated modules", sys.executable, str(TOP / "tools/erase.py"), "--check"), ("table of conditions", table_difference())]
+    forms = {name for cell in first_cells("Conditions") for name in re.findall(r"`(\w+)`", cell)}
+    mutants = {cell.strip().replace("\\|", "|") for cell in first_cells("The mutants")[2:]}
+    return [
+        place.case("generated modules", sys.executable, str(TOP / "tools/erase.py"), "--check"),
+        ("table of conditions", table_difference(forms, {form.name for form in FORMS})),
+        ("table of mutants", table_difference(mutants, {mutant.name for mutant in [*HAND_WRITTEN, *ERASER]})),
+    ]
 
 
-def table_difference():
-    """How the forms of conditions that docs/NATIVE.md lists differ from those that the eraser has, or None."""
-    section = (TOP / "docs/NATIVE.md").read_text().partition("\n## Conditions\n")[2].partition("\n## ")[0]
-    listed = {name for row in re.findall(r"^\|([^|]*)\|", section, re.M) for name in re.findall(r"`(\w+)`", row)}
-    names = {form.name for form in FORMS}
+def first_cells(section):
+    """The first cells of the tables in a section of docs/NATIVE.md."""
+    text = (TOP / "docs/NATIVE.md").read_text().partition(f"\n## {section}\n")[2].partition("\n## ")[0]
+    return re.findall(r"^\|((?:[^|\\]|\\.)*)\|", text, re.M)
+
+
+def table_difference(listed, names):
+    """How the names that a table lists differ from those that are there, or None."""
     return None if listed == names else f"docs/NATIVE.md lacks {sorted(names - listed)}, and has {sorted(listed - names)} besides"
 
 
@@ -240,7 +253,7 @@ def check_mutant(place, mutant, erases):
     status, printed = place.run(*cargo("test", "--tests", "--no-run"), **built)
     if status:
         return mutant.name, f"it does not compile: {printed[-500:]}"
-    status, printed = place.run(*cargo("test", "--tests"), **built)
+    status, printed = place.run(*cargo("test", "--tests"), **built, seconds=MUTANT_SECONDS)
     failed = re.findall(r"^test (\S+) \.\.\. FAILED$|process didn't exit successfully: \S+/(\w+)-|^(stopped after \d+ seconds)$", printed, re.M)
     names = ", ".join(sorted({"".join(found) for found in failed})[:3])
     print(f"{mutant.name}: noticed by {names or 'no test'}", flush=True)
@@ -248,12 +261,20 @@ def check_mutant(place, mutant, erases):
 
 
 def check_mutants(place):
-    return [check_mutant(place, mutant, False) for mutant in HAND_WRITTEN] + [check_mutant(place, mutant, True) for mutant in ERASER]
+    mutants = [(mutant, False) for mutant in HAND_WRITTEN] + [(mutant, True) for mutant in ERASER]
+    return [check_mutant(place, mutant, erases) for mutant, erases in (tenth(mutants) if place.is_tenth else mutants)]
+
+
+def tenth(mutants):
+    """The tenth of some mutants that the hash of the commit chooses, as tools/mutants.sh does."""
+    commit = subprocess.run(["git", "rev-parse", "HEAD"], cwd=TOP, capture_output=True, text=True, check=True).stdout
+    return mutants[int(commit[:8], 16) % 10 :: 10]
 
 
 def main():
     parser = argparse.ArgumentParser(description="Checks the Rust crate in native/.")
     parser.add_argument("--after-gate", action="store_true", help="the proved program has to be there")
+    parser.add_argument("--tenth", action="store_true", help="a tenth of the mutants is tried")
     parser.add_argument("--target", metavar="DIR", help="where cargo builds")
     parser.add_argument("parts", metavar="PART", nargs="*", help=f"what to check: {', '.join(PARTS)}")
     arguments = parser.parse_args()
@@ -266,7 +287,7 @@ def main():
     checks = {"generated": check_generated, "tests": check_tests, "store": check_store, "erased": check_erased, "replay": check_replay,
               "proved": check_proved, "original": check_original, "mutants": check_mutants}
     with tempfile.TemporaryDirectory() as folder:
-        place = Place(folder, arguments.target, arguments.after_gate)
+        place = Place(folder, arguments.target, arguments.after_gate, arguments.tenth)
         return max([report(f"native crate, {part}", checks[part](place)) for part in parts], default=0)
 
 

@@ -49,7 +49,7 @@ import tempfile
 import conditions
 import erasures
 import erasures_of_tests
-from rattle_tokens import Unknown, closing, following, functions_of, is_name, preceding, separated, tokens_of, until
+from rattle_tokens import Unknown, closing, following, functions_of, is_name, preceding, scopes_of, separated, tokens_of, until
 
 ROOT = pathlib.Path(__file__).resolve().parent.parent
 GENERATED = ROOT / "native/src/generated"
@@ -105,7 +105,7 @@ def exported_names(sources):
         module = module_of(path)
         if module in public:
             public |= {module + (name,) for name in re.findall(r"^pub mod (\w+);", text, re.M)}
-            found = re.findall(r"^pub (?:struct|enum|trait|type|fn) (\w+)", text, re.M)
+            found = re.findall(r"^pub (?:struct|enum|trait|type|fn|const) (\w+)", text, re.M)
             for words in re.findall(r"^pub use ([^;]+);", text, re.M):
                 if words.split("::")[0] not in LIBRARY:
                     found += re.findall(r"\w+", words.split("::")[-1])
@@ -216,6 +216,8 @@ class Erasure:
             if not is_hidden:
                 document(tokens, function.at, words, self.example(crate, *path_of(tokens, function)))
         for at in reversed(range(len(tokens))):
+            if is_name(tokens, at, "const") and is_name(tokens, preceding(tokens, at - 1), "pub"):
+                document(tokens, following(tokens, at + 1), [], self.example(crate, *path_of_constant(tokens, at)))
             if is_name(tokens, at, "struct", "enum", "trait", "type") and is_name(tokens, preceding(tokens, at - 1), "pub"):
                 document(tokens, following(tokens, at + 1), [], self.example(crate, tokens[following(tokens, at + 1)].text))
 
@@ -287,6 +289,15 @@ def ghost_clause(tokens, scope, clause):
         if member:
             return f"requires {member.group(1)}"
     return clause
+
+
+def path_of_constant(tokens, at):
+    """The type of the public constant whose `const` is at `at`, if it is one of a type, and its name. None for a function that is `const`."""
+    name = tokens[following(tokens, at + 1)].text
+    around = [scope for scope in scopes_of(tokens) if scope.opened < at < scope.closed]
+    if name == "fn":
+        return (None,)
+    return (re.match(r"impl\s*(?:<.*?>)?\s*([A-Z]\w*)", around[-1].header).group(1), name) if around else (name,)
 
 
 def path_of(tokens, function):

@@ -25,6 +25,16 @@ use crate::support::collections::VecDeque;
 use crate::support::ops::Range;
 
 /// A chunk size in bytes that suits most uses. It is the default.
+///
+/// # Examples
+///
+/// ```
+/// use mortarpink::bitmap::{BitMap, DEFAULT_CHUNK_SIZE};
+///
+/// // The two types are the same.
+/// let bitmap: BitMap = BitMap::<DEFAULT_CHUNK_SIZE>::ones(3);
+/// assert_eq!((bitmap.len(), DEFAULT_CHUNK_SIZE), (3, 8));
+/// ```
 pub const DEFAULT_CHUNK_SIZE: usize = 8;
 
 /// A list of bits that is packed into chunks of `N` bytes. Positions and lengths count bits.
@@ -53,12 +63,41 @@ pub struct BitMap<const N: usize = DEFAULT_CHUNK_SIZE> {
 
 impl<const N: usize> BitMap<N> {
     /// The width of a chunk in bits, `8N`. The value is meaningful only if `8N` fits `u64`, as it does for every bitmap.
+    ///
+    /// # Examples
+    ///
+    /// ```
+    /// use mortarpink::bitmap::BitMap;
+    ///
+    /// // Ten chunks of four bytes.
+    /// assert_eq!(BitMap::<4>::zeroes(10 * BitMap::<4>::CHUNK_SIZE_BITS).len(), 320);
+    /// ```
     pub const CHUNK_SIZE_BITS: u64 = (N as u64).wrapping_mul(8);
 
     /// A chunk whose bits are all false: `N` bytes of 0.
+    ///
+    /// # Examples
+    ///
+    /// ```
+    /// use mortarpink::bitmap::BitMap;
+    ///
+    /// let mut bitmap = BitMap::<4>::new();
+    /// bitmap.push_chunk(&BitMap::<4>::EMPTY_CHUNK);
+    /// assert_eq!(bitmap, BitMap::zeroes(32));
+    /// ```
     pub const EMPTY_CHUNK: [u8; N] = [0; N];
 
     /// A chunk whose bits are all true: `N` bytes of 255.
+    ///
+    /// # Examples
+    ///
+    /// ```
+    /// use mortarpink::bitmap::BitMap;
+    ///
+    /// let mut bitmap = BitMap::<4>::new();
+    /// bitmap.push_chunk(&BitMap::<4>::FULL_CHUNK);
+    /// assert_eq!(bitmap, BitMap::ones(32));
+    /// ```
     pub const FULL_CHUNK: [u8; N] = [u8::MAX; N];
 
     /// Returns an empty bitmap.

@@ -45,6 +45,15 @@ pub struct Prunable<const N: usize> {
 
 impl<const N: usize> Prunable<N> {
     /// The width of a chunk in bits, `8N`. The value is meaningful only if `8N` fits `u64`, as it does for every bitmap.
+    ///
+    /// # Examples
+    ///
+    /// ```
+    /// use mortarpink::bitmap::Prunable;
+    ///
+    /// let bitmap = Prunable::<4>::new_with_pruned_chunks(3).unwrap();
+    /// assert_eq!(bitmap.pruned_bits(), 3 * Prunable::<4>::CHUNK_SIZE_BITS);
+    /// ```
     pub const CHUNK_SIZE_BITS: u64 = (N as u64).wrapping_mul(8);
 
     /// Returns an empty bitmap in which nothing is pruned.
