@@ -25,3 +25,5 @@ pub mod Appended
 pub mod Replaced
 pub mod Truncated
 pub mod BatchDigests
+pub mod StoredLeaves
+pub mod Following

@@ -5,3 +5,4 @@ pub mod StoredBitmap
 pub mod Encoding
 pub mod Range
 pub mod RangeEncoding
+pub mod LeafDigests

@@ -29,6 +29,7 @@
 #![tactic(auto)]
 
 pub mod encoding;
+pub mod follow;
 pub mod hash;
 pub mod laws;
 pub mod node_edits;

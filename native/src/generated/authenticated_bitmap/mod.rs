@@ -30,6 +30,7 @@
 #[allow(unused_imports)]
 use crate::support::prelude::*;
 pub mod encoding;
+pub mod follow;
 pub mod hash;
 pub mod node_edits;
 mod node_source;
