@@ -250,7 +250,8 @@ class InterfaceScript(RandomScript):
     # Steps that the scripts do not have
 
     def extra_steps(self):
-        return [self.search, self.search, self.search, self.count_ones, self.read_past, self.read_past, self.page_of_commits, self.page_of_changes,
+        return [self.search, self.search, self.search, self.count_ones, self.read_bytes, self.read_bytes, self.read_past, self.read_past,
+                self.page_of_commits, self.page_of_changes,
                 self.use_wrong_arguments, self.push_in_one_call, self.set_in_one_call, self.push_bits, self.set_chunk, self.set_range, self.change_length,
                 *[self.read_log, self.recover_log] * (self.handle.log is not None),
                 *[self.clone, self.checkout, self.index, self.save, self.delta, self.apply_delta, self.begin_log, self.begin_log, self.read_log,
@@ -294,6 +295,28 @@ class InterfaceScript(RandomScript):
         start, end = self.position(), self.random.choice([self.position(), LAST])
         counted = {} if bitmap is None else {"count": sum(start <= position < end for position in self.positions(bitmap, 1))}
         self.expect(f"count_ones{ending}", status, *given, start, end, **counted)
+
+    def read_bytes(self):
+        """Reads a range as bytes. A range that is too long for a buffer has one of a wrong size."""
+        number, ending, given = self.commit_or_none()
+        status, bitmap = self.view(number)
+        start, end = self.position(), self.position()
+        if self.random.random() < 0.9:
+            start, end = min(start, end), max(start, end)
+        size = -(-max(end - start, 0) // 8)
+        wrong = min(max(self.random.choice([0, size - 1, size + 1]), 0), 10000)
+        if bitmap is None:
+            return self.expect(f"read_bytes{ending}", status, *given, start, end, min(size, 100))
+        if wrong != size:
+            self.expect(f"read_bytes{ending}", "WRONG_SIZE", *given, start, end, wrong)
+        if size > 10000:
+            return
+        first, length = self.model.first(bitmap), self.model.length(bitmap)
+        if start > end or end > length:
+            return self.expect(f"read_bytes{ending}", "OUT_OF_BOUNDS", *given, start, end, size)
+        if start < first:
+            return self.expect(f"read_bytes{ending}", "PRUNED", *given, start, end, size)
+        self.expect(f"read_bytes{ending}", "DONE", *given, start, end, size, out=bytes_of(bitmap.bits[start - first : end - first]))
 
     def read_past(self):
         """Reads the lengths of a past state, a bit and a chunk."""

@@ -321,6 +321,17 @@ mortarpink_status mortarpink_get(const mortarpink_bitmap *bitmap, uint64_t posit
  * Cost: linear in the width. */
 mortarpink_status mortarpink_chunk(const mortarpink_bitmap *bitmap, uint64_t position, uint8_t *out, size_t len);
 
+/* Fills `out` with the bits from `from` up to `to`, eight in a byte, the lowest first. `to` is excluded. Bit k mod 8
+ * of byte k / 8 is the bit at position `from` + k. The bits of the last byte past `to` are 0.
+ * Errors: returns the first status that applies. `out` is then unchanged.
+ * - MORTARPINK_WRONG_SIZE if the length of `out` is not that of the range in bytes, rounded up, which is 0 if `to`
+ *   is below `from`
+ * - MORTARPINK_OUT_OF_BOUNDS if `to` is below `from`, or above the length
+ * - MORTARPINK_PRUNED if the position `from` is pruned
+ * Cost: linear in the words of the range. */
+mortarpink_status mortarpink_read_bytes(const mortarpink_bitmap *bitmap, uint64_t from, uint64_t to, uint8_t *out,
+                                        size_t len);
+
 /* Writes a page of the set positions from `from` up to `to`, `to` excluded. The positions are in bits, absolute and
  * ascending; no pruned one is among them. *count becomes how many are written, which is at most the length of `out`.
  * The next page begins after the last position of this one. A page that is not full is the last.
@@ -407,6 +418,19 @@ mortarpink_status mortarpink_get_at(const mortarpink_bitmap *bitmap, uint64_t nu
  * Cost: a search of each commit after `number`. */
 mortarpink_status mortarpink_chunk_at(const mortarpink_bitmap *bitmap, uint64_t number, uint64_t position, uint8_t *out,
                                       size_t len);
+
+/* Fills `out` with the bits from `from` up to `to` of the bitmap at commit `number`, eight in a byte, the lowest
+ * first. `to` is excluded. The bytes are as those of mortarpink_read_bytes.
+ * Errors: returns the first status that applies. `out` is then unchanged.
+ * - MORTARPINK_IN_BATCH if there is a batch
+ * - MORTARPINK_NO_SUCH_COMMIT if no commit is kept under `number`
+ * - MORTARPINK_WRONG_SIZE if the length of `out` is not that of the range in bytes, rounded up, which is 0 if `to`
+ *   is below `from`
+ * - MORTARPINK_OUT_OF_BOUNDS if `to` is below `from`, or above the length
+ * - MORTARPINK_PRUNED if the position `from` is pruned
+ * Cost: linear in the words of the range. Each chunk that is read costs a search of each commit after `number`. */
+mortarpink_status mortarpink_read_bytes_at(const mortarpink_bitmap *bitmap, uint64_t number, uint64_t from, uint64_t to,
+                                           uint8_t *out, size_t len);
 
 /* Writes a page of the set positions of the bitmap at commit `number` from `from` up to `to`. The positions are in
  * bits, absolute and ascending. `to` is excluded. *count becomes how many are written. Pages are as those of

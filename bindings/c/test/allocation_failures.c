@@ -488,11 +488,13 @@ static void read_in_place(mortarpink_bitmap *bitmap) {
     size_t count = 0;
     check_done(mortarpink_get_at(bitmap, 1, 1, &bit));
     check_done(mortarpink_chunk_at(bitmap, 1, 1, chunk, width));
+    check_done(mortarpink_read_bytes_at(bitmap, 1, 1, 2, chunk, 1));
     check_done(mortarpink_ones_at(bitmap, 1, 0, UINT64_MAX, numbers, NUMBERS, &count));
     check_done(mortarpink_next_zero_at(bitmap, 1, 0, &number));
     check_done(mortarpink_count_ones_at(bitmap, 1, 0, UINT64_MAX, &number));
     check_done(mortarpink_select_one_at(bitmap, 1, 1, &number));
     check_done(mortarpink_chunk(bitmap, 16 * width, chunk, width));
+    check_done(mortarpink_read_bytes(bitmap, 16 * width, 16 * width + 1, chunk, 1));
     check_done(mortarpink_ones(bitmap, 0, UINT64_MAX, numbers, NUMBERS, &count));
     check_done(mortarpink_prev_one(bitmap, UINT64_MAX, &number));
     check_done(mortarpink_count_ones(bitmap, 0, UINT64_MAX, &number));

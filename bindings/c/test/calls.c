@@ -168,6 +168,7 @@ static void check_edits(mortarpink_bitmap *bitmap, uint32_t width, mortarpink_st
 }
 
 static void check_searches(mortarpink_bitmap *bitmap, mortarpink_status status) {
+    check_unwritten(mortarpink_read_bytes(bitmap, 0, 9, out.bytes, 2), status);
     check_unwritten(mortarpink_ones(bitmap, 0, 9, out.numbers, 8, &out.size), status);
     check_unwritten(mortarpink_next_one(bitmap, 0, &out.number), status);
     check_unwritten(mortarpink_next_zero(bitmap, 0, &out.number), status);
@@ -182,6 +183,8 @@ static void check_past_reads(mortarpink_bitmap *bitmap, uint64_t number, mortarp
     check_unwritten(mortarpink_pruned_chunks_at(bitmap, number, &out.number), status);
     check_unwritten(mortarpink_get_at(bitmap, number, 0, &out.bit), status);
     check_unwritten(mortarpink_chunk_at(bitmap, number, 0, out.bytes, 8), status);
+    check_unwritten(mortarpink_read_bytes_at(bitmap, number, 0, 9, out.bytes, 2), status);
+    check_unwritten(mortarpink_read_bytes_at(bitmap, number, 9, 0, out.bytes, 3), status);
     check_unwritten(mortarpink_ones_at(bitmap, number, 0, 9, out.numbers, 8, &out.size), status);
     check_unwritten(mortarpink_next_one_at(bitmap, number, 0, &out.number), status);
     check_unwritten(mortarpink_next_zero_at(bitmap, number, 0, &out.number), status);
@@ -298,6 +301,8 @@ static void test_pending_searches(uint32_t width) {
     check_done(mortarpink_select_one(&bitmap, 2, &out.number));
     check_equal(out.number, 5);
     check_unwritten(mortarpink_select_one(&bitmap, 3, &out.number), MORTARPINK_NONE);
+    check_value(mortarpink_read_bytes(&bitmap, 1, 6, out.bytes, 1), out.bytes[0], 0x1A);
+    check_unwritten(mortarpink_read_bytes(&bitmap, 1, 7, out.bytes, 1), MORTARPINK_OUT_OF_BOUNDS);
     check_done(mortarpink_abort(&bitmap));
     check_done(mortarpink_next_one(&bitmap, 0, &out.number));
     check_equal(out.number, 0);
@@ -718,6 +723,34 @@ static void check_sample_bits(struct view view, uint32_t width) {
     check_unwritten(read_of(view, chunk, B, out.bytes, 0), MORTARPINK_WRONG_SIZE);
 }
 
+static void check_sample_bytes(struct view view, uint32_t width) {
+    const uint64_t B = 8 * (uint64_t)width, end = 3 * B + 4;
+    const size_t size = 2 * (size_t)width + 1;
+    uint8_t chunks[192];
+    sample_chunks(chunks, width);
+    check_value(read_of(view, read_bytes, B, end, out.bytes, size), memcmp(out.bytes, chunks, size), 0);
+    check_equal(out.bytes[size], 0xA5);
+    check_value(read_of(view, read_bytes, 2 * B - 1, 2 * B + 1, out.bytes, 1), out.bytes[0], 0x03);
+    check_value(read_of(view, read_bytes, B + 1, B + 7, out.bytes, 1), out.bytes[0], 0x01);
+    check_value(read_of(view, read_bytes, 2 * B - 3, 2 * B + 6, out.bytes, 2), out.bytes[0], 0x0C);
+    check_equal(out.bytes[1], 0);
+    check_value(read_of(view, read_bytes, 3 * B - 2, end, out.bytes, 1), out.bytes[0], 0x10);
+    check_value(read_of(view, read_bytes, end - 1, end, out.bytes, 1), out.bytes[0], 0);
+    check_unwritten(read_of(view, read_bytes, B, B, out.bytes, 0), MORTARPINK_DONE);
+    check_unwritten(read_of(view, read_bytes, end, end, out.bytes, 0), MORTARPINK_DONE);
+    check_unwritten(read_of(view, read_bytes, B, B + 8, out.bytes, 0), MORTARPINK_WRONG_SIZE);
+    check_unwritten(read_of(view, read_bytes, B, B + 8, out.bytes, 2), MORTARPINK_WRONG_SIZE);
+    check_unwritten(read_of(view, read_bytes, B, B, out.bytes, 1), MORTARPINK_WRONG_SIZE);
+    check_unwritten(read_of(view, read_bytes, B + 1, B, out.bytes, 1), MORTARPINK_WRONG_SIZE);
+    check_unwritten(read_of(view, read_bytes, 0, UINT64_MAX, out.bytes, size), MORTARPINK_WRONG_SIZE);
+    check_unwritten(read_of(view, read_bytes, B + 1, B, out.bytes, 0), MORTARPINK_OUT_OF_BOUNDS);
+    check_unwritten(read_of(view, read_bytes, B, end + 1, out.bytes, size), MORTARPINK_OUT_OF_BOUNDS);
+    check_unwritten(read_of(view, read_bytes, end + 1, end + 1, out.bytes, 0), MORTARPINK_OUT_OF_BOUNDS);
+    check_unwritten(read_of(view, read_bytes, UINT64_MAX, UINT64_MAX, out.bytes, 0), MORTARPINK_OUT_OF_BOUNDS);
+    check_unwritten(read_of(view, read_bytes, B - 1, B, out.bytes, 1), MORTARPINK_PRUNED);
+    check_unwritten(read_of(view, read_bytes, 0, 0, out.bytes, 0), MORTARPINK_PRUNED);
+}
+
 static void check_sample_searches(struct view view, uint64_t B) {
     check_number(read_of(view, next_one, 0, &out.number), B + 1);
     check_number(read_of(view, next_one, B + 1, &out.number), B + 1);
@@ -799,6 +832,7 @@ static void check_sample_encoding(struct view view, uint32_t width) {
 
 static void check_sample(struct view view, uint32_t width) {
     check_sample_bits(view, width);
+    check_sample_bytes(view, width);
     check_sample_searches(view, 8 * (uint64_t)width);
     check_sample_counts(view, 8 * (uint64_t)width);
     check_sample_pages(view, 8 * (uint64_t)width);
@@ -1774,6 +1808,11 @@ static void check_longest(struct view view, uint32_t width) {
     check_page(read_of(view, ones, 0, most, out.numbers, 8, &out.size), last, 7);
     check_page(read_of(view, ones, most - 1, most, out.numbers, 8, &out.size), last + 6, 1);
     check_page(read_of(view, ones, most, most, out.numbers, 8, &out.size), last, 0);
+    check_value(read_of(view, read_bytes, most - 7, most, out.bytes, 1), out.bytes[0], 0x7F);
+    check_value(read_of(view, read_bytes, most - 1, most, out.bytes, 1), out.bytes[0], 0x01);
+    check_unwritten(read_of(view, read_bytes, most, most, out.bytes, 0), MORTARPINK_DONE);
+    check_unwritten(read_of(view, read_bytes, most, most - 1, out.bytes, 0), MORTARPINK_OUT_OF_BOUNDS);
+    check_unwritten(read_of(view, read_bytes, 0, 9, out.bytes, 2), MORTARPINK_PRUNED);
     check_number(read_of(view, next_one, 0, &out.number), most - 7);
     check_number(read_of(view, next_one, most - 1, &out.number), most - 1);
     check_none(read_of(view, next_one, most, &out.number));

@@ -47,6 +47,7 @@ static inline void read_visible(const mortarpink_bitmap *bitmap, uint32_t width,
     READ(mortarpink_pruned_chunks(bitmap, &out->number));
     READ(mortarpink_get(bitmap, position, &out->bit));
     READ(mortarpink_chunk(bitmap, position, out->bytes, width));
+    READ(mortarpink_read_bytes(bitmap, position, position + 500, out->bytes, 63));
 }
 
 /* Reads the current bitmap from a position on. */
@@ -70,6 +71,7 @@ static inline void read_past(const mortarpink_bitmap *bitmap, uint32_t width, ui
     READ(mortarpink_pruned_chunks_at(bitmap, number, &out->number));
     READ(mortarpink_get_at(bitmap, number, position, &out->bit));
     READ(mortarpink_chunk_at(bitmap, number, position, out->bytes, width));
+    READ(mortarpink_read_bytes_at(bitmap, number, position, position + 100, out->bytes, 13));
     READ(mortarpink_ones_at(bitmap, number, position, UINT64_MAX, out->numbers, READ_NUMBERS, &out->size));
     READ(mortarpink_next_one_at(bitmap, number, position, &out->number));
     READ(mortarpink_next_zero_at(bitmap, number, position, &out->number));

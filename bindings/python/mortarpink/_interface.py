@@ -85,6 +85,7 @@ FUNCTIONS: dict[str, tuple[Any, ...]] = {
     "pruned_chunks": (HANDLE, OUT_U64),
     "get": (HANDLE, U64, OUT_U8),
     "chunk": (HANDLE, U64, OUT_U8, SIZE),
+    "read_bytes": (HANDLE, U64, U64, OUT_U8, SIZE),
     "ones": (HANDLE, U64, U64, OUT_U64, SIZE, OUT_SIZE),
     "next_one": (HANDLE, U64, OUT_U64),
     "next_zero": (HANDLE, U64, OUT_U64),
@@ -97,6 +98,7 @@ FUNCTIONS: dict[str, tuple[Any, ...]] = {
     "pruned_chunks_at": (HANDLE, U64, OUT_U64),
     "get_at": (HANDLE, U64, U64, OUT_U8),
     "chunk_at": (HANDLE, U64, U64, OUT_U8, SIZE),
+    "read_bytes_at": (HANDLE, U64, U64, U64, OUT_U8, SIZE),
     "ones_at": (HANDLE, U64, U64, U64, OUT_U64, SIZE, OUT_SIZE),
     "next_one_at": (HANDLE, U64, U64, OUT_U64),
     "next_zero_at": (HANDLE, U64, U64, OUT_U64),
@@ -130,10 +132,10 @@ FUNCTIONS: dict[str, tuple[Any, ...]] = {
 
 # The functions of these whose handle is `const` in C: they write neither the handle nor the bitmap.
 READS = frozenset(
-    """clone checkout len pruned_chunks get chunk ones next_one next_zero prev_one prev_zero count_ones select_one
-    encode len_at pruned_chunks_at get_at chunk_at ones_at next_one_at next_zero_at prev_one_at prev_zero_at
-    count_ones_at select_one_at encode_at commits exists latest earliest changed_chunks entries save delta
-    log_bytes log_position log_digest""".split()
+    """clone checkout len pruned_chunks get chunk read_bytes ones next_one next_zero prev_one prev_zero count_ones
+    select_one encode len_at pruned_chunks_at get_at chunk_at read_bytes_at ones_at next_one_at next_zero_at
+    prev_one_at prev_zero_at count_ones_at select_one_at encode_at commits exists latest earliest changed_chunks
+    entries save delta log_bytes log_position log_digest""".split()
 )
 
 # The types of the arguments of each other function, and that of its result.

@@ -3,6 +3,7 @@ pub mod Examples
 pub mod Handles
 pub mod Histories
 pub mod Kept
+pub mod Packed
 pub mod Pushes
 pub mod Ranges
 pub mod Recoveries

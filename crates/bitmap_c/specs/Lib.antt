@@ -4,6 +4,7 @@ pub mod Handles
 pub mod Lends
 pub mod Logged
 pub mod Making
+pub mod Packed
 pub mod Pages
 pub mod Reads
 pub mod Recovered

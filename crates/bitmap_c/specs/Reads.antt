@@ -1,5 +1,5 @@
 -- Reads in place. A read is a value, or the status that says why there is none. A chunk has N bytes.
-use Rattle.std.specs.Prelude.{◌≡◌, ℕ, ◌*◌, ◌/◌, ◌==◌, List, Option, Some, None, Result, Ok, Err, nat_le, nat_lt, if◌then◌else◌}
+use Rattle.std.specs.Prelude.{◌≡◌, ℕ, ◌*◌, ◌/◌, ◌==◌, ◌||◌, List, Option, Some, None, Result, Ok, Err, nat_le, nat_lt, if◌then◌else◌}
 use Rattle.std.specs.Option.{ok_or}
 use Rattle.std.specs.Result.{result_unwrap_or}
 use Rattle.bitmap_bytes.specs.Chunk.{bit_value, chunk_from}
@@ -11,6 +11,7 @@ use Rattle.bitmap_session.specs.Machine.{Machine, is_dirty, shown}
 use Rattle.bitmap_c.specs.declared.any.AnySession.{AnySession}
 use Rattle.bitmap_c.specs.declared.queries.Query.{Query}
 use Rattle.bitmap_c.specs.declared.queries.Query.TheVariants.{Len, PrunedChunks, NextOne, NextZero, PrevOne, PrevZero, CountOnes, SelectOne}
+use Rattle.bitmap_c.specs.Packed.{byte_count, packed}
 use Rattle.bitmap_c.specs.Widths.{machine, width}
 
 -- the status of a read: 0 if there is a value
@@ -70,6 +71,16 @@ bit_read N b position = at_position N b position (Ok (bit_value (b.bit position)
 abbrev pub chunk_read : ℕ → Meaning → ℕ → ℕ → Result (List ℕ) ℕ
 chunk_read N b position size =
     if size == N then at_position N b position (Ok (chunk_from N b.bit (position / (8 * N)))) else Err 18
+
+-- the read, but status 2 if the range ends before it begins or past the length, and else status 3 if it begins before the retained bits
+abbrev pub in_range : {A : Type 0} → ℕ → Meaning → ℕ → ℕ → Result A ℕ → Result A ℕ
+in_range N b from to read =
+    if nat_lt to from || nat_lt b.len to then Err 2 else (if nat_lt from (8 * N * b.pruned) then Err 3 else read)
+
+-- the bytes of the bits of a range, but status 18 if the size is not their number
+abbrev pub bytes_read : ℕ → Meaning → ℕ → ℕ → ℕ → Result (List ℕ) ℕ
+bytes_read N b from to size =
+    if size == byte_count from to then in_range N b from to (Ok (packed b.bit from to)) else Err 18
 
 -- what a query reads
 abbrev pub queried : Query → ℕ → Meaning → Result ℕ ℕ

@@ -44,6 +44,7 @@ macro_rules! in_handle {
 
 mod any;
 mod bulk;
+mod bytes;
 mod commits;
 mod edits;
 mod handle;

@@ -3,10 +3,11 @@
 ghost use Rattle.std.specs.Prelude.{◌≡◌, Ok, length};
 ghost use Rattle.bitmap_core.specs.Searches.{next_one, next_zero, ones_count, prev_one, prev_zero, select_one};
 ghost use Rattle.bitmap_c.specs.Pages.{ReturnsPage, ones_read};
-ghost use Rattle.bitmap_c.specs.Reads.{Returns, bit_read, chunk_read, found, queried, read_commit, session_commit};
+ghost use Rattle.bitmap_c.specs.Reads.{Returns, bit_read, bytes_read, chunk_read, found, queried, read_commit, session_commit};
 ghost use Rattle.bitmap_c.specs.Widths.{machine, width};
 
 use crate::any::AnySession;
+use crate::bytes::read_bytes;
 use crate::handle::Handle;
 use crate::pages::write_ones;
 use crate::queries::{Query, number_read};
@@ -103,6 +104,35 @@ fn any_chunk(any: &AnySession, number: u64, position: u64, out: &mut [u8]) -> u3
         (λ N b. chunk_read N b position (length out.old))) }
 {
     at_width!(any, session => chunk_of(session, number, position, out))
+}
+
+// Fills `out` with the bits of a range of the bitmap at a commit.
+fn bytes_of<const N: usize>(
+    session: &Session<N>,
+    number: u64,
+    from: u64,
+    to: u64,
+    out: &mut [u8],
+) -> u32
+    ensures { Returns result out.old out.new
+        (session_commit N session.now number (λ N b. bytes_read N b from to (length out.old))) }
+{
+    if session.current().is_none() {
+        return IN_BATCH;
+    }
+    let Some(bitmap) = session.at(number) else {
+        return NO_SUCH_COMMIT;
+    };
+    read_bytes(&bitmap, from, to, out)
+}
+
+// Does the same for a session of any width.
+fn any_bytes(any: &AnySession, number: u64, from: u64, to: u64, out: &mut [u8]) -> u32
+    ensures { Returns result out.old out.new
+        (session_commit (width any.now) (machine any.now) number
+        (λ N b. bytes_read N b from to (length out.old))) }
+{
+    at_width!(any, session => bytes_of(session, number, from, to, out))
 }
 
 // Writes a page of the set positions of a range of the bitmap at a commit.
@@ -263,6 +293,45 @@ pub extern "C" fn mortarpink_chunk_at(
         (read_commit bitmap.old.value number (λ N b. chunk_read N b position (length out.old))) }
 {
     in_handle!(bitmap, any => any_chunk(any, number, position, out))
+}
+
+/// Fills `out` with the bits from `from` up to `to` of the bitmap at commit `number`, eight in a byte, the lowest first.
+///
+/// Positions are in bits, and absolute. `to` is excluded. The bytes are as those of `mortarpink_read_bytes`.
+///
+/// # Errors
+///
+/// Returns the first status that applies. `out` is then unchanged.
+///
+/// | Status | If |
+/// |---|---|
+/// | `IN_BATCH` | there is a batch |
+/// | `NO_SUCH_COMMIT` | no commit is kept under `number` |
+/// | `WRONG_SIZE` | the length of `out` is not that of the range in bytes, rounded up, which is 0 if `to` is below `from` |
+/// | `OUT_OF_BOUNDS` | `to` is below `from`, or above the length |
+/// | `PRUNED` | the position `from` is pruned |
+///
+/// # Memory
+///
+/// Does not allocate.
+///
+/// # Complexity
+///
+/// Linear in the words of the range. Each chunk that is read costs a search of each commit after `number`.
+#[unsafe(no_mangle)]
+pub extern "C" fn mortarpink_read_bytes_at(
+    bitmap: &mut Handle,
+    number: u64,
+    from: u64,
+    to: u64,
+    out: &mut [u8],
+) -> u32
+    ensures same { bitmap.new.value ≡ bitmap.old.value }
+    ensures read { Returns result out.old out.new
+        (read_commit bitmap.old.value number
+        (λ N b. bytes_read N b from to (length out.old))) }
+{
+    in_handle!(bitmap, any => any_bytes(any, number, from, to, out))
 }
 
 /// Writes a page of the set positions of the bitmap at commit `number` from `from` up to `to`.

@@ -2,13 +2,17 @@
 
 ghost use Rattle.std.specs.Prelude.{◌≡◌, length};
 ghost use Rattle.bitmap_c.specs.Calls.{Calls, CallsChunk, ServesAny, ServesAnyChunk};
+ghost use Rattle.bitmap_c.specs.Reads.{Returns, bytes_read, read_shown, session_shown};
 ghost use Rattle.bitmap_c.specs.Reports.{ReportsBit, ReportsBytes, ReportsChunk, ReportsNumber};
+ghost use Rattle.bitmap_c.specs.Widths.{machine, width};
 
 use crate::any::AnySession;
+use crate::bytes::read_bytes;
 use crate::handle::Handle;
 use crate::run::{run_chunk, run_encode, run_encode_at, run_get, run_len, run_pruned_chunks};
 use crate::status::{EMPTY_HANDLE, WRONG_SIZE};
 use bitmap_session::command::Command;
+use bitmap_session::session::Session;
 
 #[tactic(auto, unfolding(crate::specs::Calls::ServesAny))]
 fn len(any: &AnySession, len: &mut u64) -> u32
@@ -125,6 +129,62 @@ pub extern "C" fn mortarpink_chunk(bitmap: &mut Handle, position: u64, out: &mut
         ((result ≡ WRONG_SIZE) × (out.new ≡ out.old)) bitmap.new.value }
 {
     in_handle!(bitmap, any => chunk(any, position, out))
+}
+
+// Fills `out` with the bits of a range of the bitmap that a session shows.
+fn bytes_of<const N: usize>(session: &Session<N>, from: u64, to: u64, out: &mut [u8]) -> u32
+    ensures { Returns result out.old out.new
+        (session_shown N session.now (λ N b. bytes_read N b from to (length out.old))) }
+{
+    match session.pending() {
+        Some(bitmap) => read_bytes(bitmap, from, to, out),
+        None => read_bytes(session.current().unwrap(), from, to, out),
+    }
+}
+
+// Does the same for a session of any width.
+fn bytes(any: &AnySession, from: u64, to: u64, out: &mut [u8]) -> u32
+    ensures { Returns result out.old out.new
+        (session_shown (width any.now) (machine any.now)
+        (λ N b. bytes_read N b from to (length out.old))) }
+{
+    at_width!(any, session => bytes_of(session, from, to, out))
+}
+
+/// Fills `out` with the bits from `from` up to `to`, eight in a byte, the lowest first.
+///
+/// Positions are in bits, and absolute. `to` is excluded. Bit k mod 8 of byte k / 8 is the bit at position `from` + k. The bits of the
+/// last byte past `to` are 0.
+///
+/// # Errors
+///
+/// Returns the first status that applies. `out` is then unchanged.
+///
+/// | Status | If |
+/// |---|---|
+/// | `WRONG_SIZE` | the length of `out` is not that of the range in bytes, rounded up, which is 0 if `to` is below `from` |
+/// | `OUT_OF_BOUNDS` | `to` is below `from`, or above the length |
+/// | `PRUNED` | the position `from` is pruned |
+///
+/// # Memory
+///
+/// Does not allocate.
+///
+/// # Complexity
+///
+/// Linear in the words of the range.
+#[unsafe(no_mangle)]
+pub extern "C" fn mortarpink_read_bytes(
+    bitmap: &mut Handle,
+    from: u64,
+    to: u64,
+    out: &mut [u8],
+) -> u32
+    ensures same { bitmap.new.value ≡ bitmap.old.value }
+    ensures read { Returns result out.old out.new
+        (read_shown bitmap.old.value (λ N b. bytes_read N b from to (length out.old))) }
+{
+    in_handle!(bitmap, any => bytes(any, from, to, out))
 }
 
 #[tactic(auto, unfolding(crate::specs::Calls::ServesAny))]

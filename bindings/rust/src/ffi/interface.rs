@@ -75,6 +75,7 @@ unsafe extern "C" {
     pub fn mortarpink_pruned_chunks(bitmap: *const Handle, chunks: *mut u64) -> Status;
     pub fn mortarpink_get(bitmap: *const Handle, position: u64, bit: *mut u8) -> Status;
     pub fn mortarpink_chunk(bitmap: *const Handle, position: u64, out: *mut u8, len: usize) -> Status;
+    pub fn mortarpink_read_bytes(bitmap: *const Handle, from: u64, to: u64, out: *mut u8, len: usize) -> Status;
     pub fn mortarpink_ones(bitmap: *const Handle, from: u64, to: u64, out: *mut u64, len: usize, count: *mut usize) -> Status;
     pub fn mortarpink_next_one(bitmap: *const Handle, from: u64, position: *mut u64) -> Status;
     pub fn mortarpink_next_zero(bitmap: *const Handle, from: u64, position: *mut u64) -> Status;
@@ -87,6 +88,7 @@ unsafe extern "C" {
     pub fn mortarpink_pruned_chunks_at(bitmap: *const Handle, number: u64, chunks: *mut u64) -> Status;
     pub fn mortarpink_get_at(bitmap: *const Handle, number: u64, position: u64, bit: *mut u8) -> Status;
     pub fn mortarpink_chunk_at(bitmap: *const Handle, number: u64, position: u64, out: *mut u8, len: usize) -> Status;
+    pub fn mortarpink_read_bytes_at(bitmap: *const Handle, number: u64, from: u64, to: u64, out: *mut u8, len: usize) -> Status;
     pub fn mortarpink_ones_at(bitmap: *const Handle, number: u64, from: u64, to: u64, out: *mut u64, len: usize, count: *mut usize) -> Status;
     pub fn mortarpink_next_one_at(bitmap: *const Handle, number: u64, from: u64, position: *mut u64) -> Status;
     pub fn mortarpink_next_zero_at(bitmap: *const Handle, number: u64, from: u64, position: *mut u64) -> Status;

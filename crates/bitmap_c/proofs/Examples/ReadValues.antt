@@ -1,12 +1,13 @@
 -- Reads in place of three bits 0, 1, 1 at the positions 16 to 18, after two pruned chunks of one byte.
-use Rattle.std.specs.Prelude.{◌≡◌, true, false, [], ◌∷◌, None, Some, Ok, Err}
+use Rattle.std.specs.Prelude.{◌≡◌, true, false, [], ◌∷◌, None, Some, Ok, Err, nat_lt}
 use Rattle.std.proofs.Common.{refl}
 use Rattle.bitmap_core.specs.Meaning.{Meaning, pruned_meaning}
 use Rattle.bitmap_core.specs.PrunedBits.{PrunedBits}
 use Rattle.bitmap_session.specs.Machine.{Machine, first_machine}
 use Rattle.bitmap_c.specs.declared.any.AnySession.TheVariants.{Width1}
 use Rattle.bitmap_c.specs.declared.queries.Query.TheVariants.{Len, PrunedChunks, NextOne, NextZero, PrevOne, PrevZero, CountOnes, SelectOne}
-use Rattle.bitmap_c.specs.Reads.{bit_read, chunk_read, queried, read_commit, read_shown, session_commit, session_shown}
+use Rattle.bitmap_c.specs.Packed.{packed}
+use Rattle.bitmap_c.specs.Reads.{bit_read, bytes_read, chunk_read, queried, read_commit, read_shown, session_commit, session_shown}
 
 abbrev three_bits : PrunedBits
 three_bits = record { pruned = 2; bits = false ∷ true ∷ true ∷ [] }
@@ -37,6 +38,38 @@ wrong_size = refl
 
 pruned_chunk : chunk_read 1 seen 15 1 ≡ Err 3
 pruned_chunk = refl
+
+-- ---- ranges as bytes
+all_bits : bytes_read 1 seen 16 19 1 ≡ Ok (6 ∷ [])
+all_bits = refl
+
+-- the first bit of the range is the lowest
+last_bits : bytes_read 1 seen 17 19 1 ≡ Ok (3 ∷ [])
+last_bits = refl
+
+-- the bit past the range is zero
+first_bits : bytes_read 1 seen 16 18 1 ≡ Ok (2 ∷ [])
+first_bits = refl
+
+no_bits : bytes_read 1 seen 19 19 0 ≡ Ok []
+no_bits = refl
+
+-- the size of the buffer is looked at first, and then the end of the range
+size_of_two_bytes : bytes_read 1 seen 15 20 2 ≡ Err 18
+size_of_two_bytes = refl
+
+past_the_length : bytes_read 1 seen 15 20 1 ≡ Err 2
+past_the_length = refl
+
+end_below_the_start : bytes_read 1 seen 18 17 0 ≡ Err 2
+end_below_the_start = refl
+
+from_a_pruned_bit : bytes_read 1 seen 15 19 1 ≡ Err 3
+from_a_pruned_bit = refl
+
+-- ten bits, of which the last five are set
+ten_bits : packed (λ k. nat_lt 6 k) 2 12 ≡ 224 ∷ 3 ∷ []
+ten_bits = refl
 
 -- ---- queries
 length_read : queried Len 1 seen ≡ Ok 19
