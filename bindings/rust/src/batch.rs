@@ -1,6 +1,7 @@
 use std::fmt;
 use std::ops::RangeBounds;
 
+use crate::packed::Bits;
 use crate::{Bitmap, Chunk, CommitError, Error, Ones, PushBytesError, SetManyError, Width, range};
 
 /// A batch of edits on a bitmap.
@@ -416,6 +417,28 @@ impl Batch<'_> {
         let mut chunk = Chunk::zeroed(self.bitmap.width);
         self.bitmap.session.chunk(None, position, chunk.as_mut_slice())?;
         Ok(chunk)
+    }
+
+    /// Fills `out` with the bits of a range, eight in a byte, the lowest bit first.
+    ///
+    /// # Errors
+    ///
+    /// The errors of [`Bitmap::read_bytes`].
+    pub fn read_bytes(&self, range: impl RangeBounds<u64>, out: &mut [u8]) -> Result<(), Error> {
+        self.bits().read(range, out)
+    }
+
+    /// Returns the bits of a range, eight in a byte, the lowest bit first.
+    ///
+    /// # Errors
+    ///
+    /// The errors of [`Bitmap::packed`].
+    pub fn packed(&self, range: impl RangeBounds<u64>) -> Result<Vec<u8>, Error> {
+        self.bits().packed(range)
+    }
+
+    fn bits(&self) -> Bits<'_> {
+        Bits { session: &self.bitmap.session, at: None, width: self.bitmap.width }
     }
 }
 

@@ -2,6 +2,7 @@ use std::fmt;
 use std::ops::RangeBounds;
 
 use crate::ffi::Session;
+use crate::packed::Bits;
 use crate::{Batch, ChangedChunks, Chunk, Commits, Error, Ones, Version, Width, range};
 
 /// A bitmap with numbered commits.
@@ -11,9 +12,9 @@ use crate::{Batch, ChangedChunks, Chunk, Commits, Error, Ones, Version, Width, r
 ///
 /// # Memory
 ///
-/// Reads do not allocate, except for [`to_bytes`](Bitmap::to_bytes), [`save`](Bitmap::save),
-/// [`delta`](Bitmap::delta), [`log_bytes`](Bitmap::log_bytes), [`try_clone`](Bitmap::try_clone) and
-/// [`checkout`](Bitmap::checkout).
+/// Reads do not allocate, except for [`packed`](Bitmap::packed), [`to_bytes`](Bitmap::to_bytes),
+/// [`save`](Bitmap::save), [`delta`](Bitmap::delta), [`log_bytes`](Bitmap::log_bytes),
+/// [`try_clone`](Bitmap::try_clone) and [`checkout`](Bitmap::checkout).
 ///
 /// # Threads
 ///
@@ -356,6 +357,73 @@ impl Bitmap {
         let mut chunk = Chunk::zeroed(self.width);
         self.settled().chunk(None, position, chunk.as_mut_slice())?;
         Ok(chunk)
+    }
+
+    /// Fills `out` with the bits of a range, eight in a byte, the lowest bit first.
+    ///
+    /// Bit `k % 8` of byte `k / 8` is bit `k` of the range. The bits of the last byte past the range are
+    /// 0. An end that the range leaves out is that of the retained positions.
+    ///
+    /// # Errors
+    ///
+    /// `out` is unchanged after an error.
+    ///
+    /// - [`Error::WrongSize`] if the length of `out` is not that of the range in bytes, rounded up.
+    /// - [`Error::OutOfBounds`] if the range ends before it begins, or past the length.
+    /// - [`Error::Pruned`] if the range begins at a pruned position.
+    ///
+    /// # Examples
+    ///
+    /// ```
+    /// use mortarpink_proved::{Bitmap, Error, Width};
+    ///
+    /// let mut bitmap = Bitmap::new(Width::Bytes8)?;
+    /// let mut batch = bitmap.begin();
+    /// batch.push_bytes(&[0b1010_0110, 0b0000_1111])?;
+    /// batch.commit(1)?;
+    ///
+    /// let mut bytes = [0; 1];
+    /// bitmap.read_bytes(5..13, &mut bytes)?;
+    /// assert_eq!(bytes, [0b0111_1101]);
+    /// assert_eq!(bitmap.read_bytes(5..14, &mut bytes), Err(Error::WrongSize));
+    /// # Ok::<(), Error>(())
+    /// ```
+    pub fn read_bytes(&self, range: impl RangeBounds<u64>, out: &mut [u8]) -> Result<(), Error> {
+        self.bits().read(range, out)
+    }
+
+    /// Returns the bits of a range, eight in a byte, the lowest bit first.
+    ///
+    /// # Errors
+    ///
+    /// [`Error::NoMemory`] if the allocation fails, and otherwise the errors of
+    /// [`read_bytes`](Bitmap::read_bytes).
+    ///
+    /// # Memory
+    ///
+    /// Allocates the bytes.
+    ///
+    /// # Examples
+    ///
+    /// ```
+    /// use mortarpink_proved::{Bitmap, Error, Width};
+    ///
+    /// let mut bitmap = Bitmap::new(Width::Bytes8)?;
+    /// let mut batch = bitmap.begin();
+    /// batch.push_bytes(&[0b1010_0110, 0b0000_1111])?;
+    /// batch.commit(1)?;
+    ///
+    /// assert_eq!(bitmap.packed(..)?, [0b1010_0110, 0b0000_1111]);
+    /// assert_eq!(bitmap.packed(5..10)?, [0b0001_1101]);
+    /// assert_eq!(bitmap.packed(10..17), Err(Error::OutOfBounds));
+    /// # Ok::<(), Error>(())
+    /// ```
+    pub fn packed(&self, range: impl RangeBounds<u64>) -> Result<Vec<u8>, Error> {
+        self.bits().packed(range)
+    }
+
+    fn bits(&self) -> Bits<'_> {
+        Bits { session: self.settled(), at: None, width: self.width }
     }
 
     /// Returns an iterator over the set retained positions of a range, ascending.

@@ -42,7 +42,7 @@ pub enum Error {
     NoSuchCommit,
     /// An allocation failed.
     NoMemory,
-    /// The chunk has the wrong size.
+    /// The chunk or the buffer has the wrong size.
     WrongSize,
     /// The bytes do not begin as a history, a log or a delta of this width does.
     WrongHeader,
@@ -84,7 +84,7 @@ impl fmt::Display for Error {
             Error::Invalid => "bytes are not an encoding",
             Error::NoSuchCommit => "no commit is kept under the number",
             Error::NoMemory => "memory allocation failed",
-            Error::WrongSize => "chunk has the wrong size",
+            Error::WrongSize => "chunk or buffer has the wrong size",
             Error::WrongHeader => {
                 "bytes do not begin as a history, a log or a delta of this width does"
             }

@@ -390,6 +390,25 @@ impl Session {
         check(read!(at, mortarpink_chunk | mortarpink_chunk_at, handle, position, start, len))
     }
 
+    /// Fills a buffer with the bits of a range, eight in a byte.
+    pub fn read_bytes(
+        &self,
+        at: Option<u64>,
+        (from, to): (u64, u64),
+        out: &mut [u8],
+    ) -> Result<(), Error> {
+        let (handle, start, len) = (self.handle.get(), out.as_mut_ptr(), out.len());
+        check(read!(
+            at,
+            mortarpink_read_bytes | mortarpink_read_bytes_at,
+            handle,
+            from,
+            to,
+            start,
+            len
+        ))
+    }
+
     /// Fills a page with set positions, and returns how many there are.
     pub fn ones(&self, at: Option<u64>, (from, to): (u64, u64), page: &mut [u64]) -> usize {
         let (start, len) = (page.as_mut_ptr(), page.len());

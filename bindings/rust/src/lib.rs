@@ -51,6 +51,7 @@
 //! | [`Batch::commit`], [`Batch::try_commit`] | amortized linear in the chunks that the batch edited, pruned or removed |
 //! | [`Batch::abort`] | linear in the chunks that the batch edited or pruned |
 //! | [`Bitmap::get`], [`Bitmap::chunk`], [`Bitmap::len`], [`Bitmap::latest`], [`Bitmap::earliest`] | constant |
+//! | [`Bitmap::read_bytes`], [`Bitmap::packed`] | linear in the bytes of the range |
 //! | searches and counts of a [`Bitmap`] | linear in the chunks that are read |
 //! | [`Bitmap::commit_exists`], [`Bitmap::at`] | logarithmic in the commits |
 //! | [`Bitmap::rewind_to`] | per chunk that the dropped commits changed, logarithmic in their number |
@@ -87,6 +88,7 @@ mod error;
 #[allow(unsafe_code)]
 mod ffi;
 mod log;
+mod packed;
 mod pages;
 mod range;
 mod version;

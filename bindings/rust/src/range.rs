@@ -49,6 +49,20 @@ pub fn edited(
     Ok((from, to))
 }
 
+/// Returns the first position of a range to read, and the one after its last position. An end that
+/// the range leaves out is that of the retained positions.
+///
+/// Fails if the range has position `u64::MAX`, at which no bitmap has a bit, or begins after it.
+pub fn read(
+    range: impl RangeBounds<u64>,
+    (first_retained, len): (u64, u64),
+) -> Result<(u64, u64), Error> {
+    match range.start_bound() {
+        Bound::Excluded(&u64::MAX) => Err(Error::OutOfBounds),
+        _ => edited(range, (first_retained, len)),
+    }
+}
+
 #[cfg(test)]
 mod tests {
     use super::*;
@@ -78,6 +92,16 @@ mod tests {
         assert_eq!(edited(9..=u64::MAX, (8, u64::MAX)), Err(Error::OutOfBounds));
         assert_eq!(edited(9..u64::MAX, (8, u64::MAX)), Ok((9, u64::MAX)));
         assert_eq!(edited((Bound::Excluded(u64::MAX), Bound::Unbounded), (8, 20)), Ok((0, 0)));
+    }
+
+    #[test]
+    fn a_range_to_read_has_the_ends_of_one_to_edit() {
+        assert_eq!(read(.., (8, 20)), Ok((8, 20)));
+        assert_eq!(read(9..=11, (8, 20)), Ok((9, 12)));
+        assert_eq!(read(11..9, (8, 20)), Ok((11, 9)));
+        assert_eq!(read(9..=u64::MAX, (8, u64::MAX)), Err(Error::OutOfBounds));
+        let past_the_end = (Bound::Excluded(u64::MAX), Bound::Unbounded);
+        assert_eq!(read(past_the_end, (8, 20)), Err(Error::OutOfBounds));
     }
 
     #[test]

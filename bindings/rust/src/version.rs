@@ -2,6 +2,7 @@ use std::fmt;
 use std::ops::RangeBounds;
 
 use crate::ffi::Session;
+use crate::packed::Bits;
 use crate::{Chunk, Error, Ones, Width, range};
 
 /// The bitmap at a commit, read in place.
@@ -11,7 +12,7 @@ use crate::{Chunk, Error, Ones, Width, range};
 ///
 /// # Memory
 ///
-/// Only [`to_bytes`](Version::to_bytes) allocates.
+/// Only [`packed`](Version::packed) and [`to_bytes`](Version::to_bytes) allocate.
 ///
 /// # Complexity
 ///
@@ -98,6 +99,28 @@ impl<'a> Version<'a> {
         let mut chunk = Chunk::zeroed(self.width);
         self.session.chunk(self.at(), position, chunk.as_mut_slice())?;
         Ok(chunk)
+    }
+
+    /// Fills `out` with the bits of a range, eight in a byte, the lowest bit first.
+    ///
+    /// # Errors
+    ///
+    /// The errors of [`Bitmap::read_bytes`](crate::Bitmap::read_bytes).
+    pub fn read_bytes(&self, range: impl RangeBounds<u64>, out: &mut [u8]) -> Result<(), Error> {
+        self.bits().read(range, out)
+    }
+
+    /// Returns the bits of a range, eight in a byte, the lowest bit first.
+    ///
+    /// # Errors
+    ///
+    /// The errors of [`Bitmap::packed`](crate::Bitmap::packed).
+    pub fn packed(&self, range: impl RangeBounds<u64>) -> Result<Vec<u8>, Error> {
+        self.bits().packed(range)
+    }
+
+    fn bits(&self) -> Bits<'_> {
+        Bits { session: self.session, at: self.at(), width: self.width }
     }
 
     /// Returns an iterator over the set retained positions of a range, ascending.

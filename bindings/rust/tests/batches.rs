@@ -26,6 +26,8 @@ fn an_empty_bitmap_has_no_positions() {
         let bitmap = Bitmap::new(width).unwrap();
         assert_eq!(bitmap.get(0), Err(Error::OutOfBounds));
         assert_eq!(bitmap.chunk(0), Err(Error::OutOfBounds));
+        assert_eq!(bitmap.packed(..), Ok(vec![]));
+        assert_eq!(bitmap.packed(0..1), Err(Error::OutOfBounds));
         assert_eq!(bitmap.ones(..).next(), None);
         assert_eq!(bitmap.next_one(0), None);
         assert_eq!(bitmap.next_zero(0), None);
@@ -214,12 +216,13 @@ fn leak(bitmap: &mut Bitmap) {
 
 #[test]
 fn the_next_read_aborts_a_leaked_batch() {
-    let reads: [fn(&Bitmap) -> bool; 22] = [
+    let reads: [fn(&Bitmap) -> bool; 23] = [
         |bitmap| bitmap.len() == 8,
         |bitmap| !bitmap.is_empty(),
         |bitmap| bitmap.pruned_chunks() == 0,
         |bitmap| bitmap.get(8) == Err(Error::OutOfBounds),
         |bitmap| bitmap.chunk(0).unwrap().as_slice() == [3, 0, 0, 0, 0, 0, 0, 0],
+        |bitmap| bitmap.packed(1..8) == Ok(vec![1]),
         |bitmap| bitmap.ones(..).eq([0, 1]),
         |bitmap| bitmap.next_one(2).is_none(),
         |bitmap| bitmap.next_zero(0) == Some(2),
@@ -325,7 +328,7 @@ fn a_failed_commit_aborts_the_batch() {
 }
 
 #[test]
-fn searches_and_counts_are_of_the_pending_bitmap() {
+fn ranges_searches_and_counts_are_of_the_pending_bitmap() {
     for width in WIDTHS {
         let mut bitmap = bitmap_of(width, &[0b1010_0110]);
         let mut batch = bitmap.begin();
@@ -338,6 +341,12 @@ fn searches_and_counts_are_of_the_pending_bitmap() {
         assert_eq!((batch.prev_one(5), batch.prev_one(2)), (Some(2), None));
         assert_eq!((batch.count_ones(..), batch.count_ones(5..=7)), (4, 2));
         assert_eq!((batch.select_one(3), batch.select_one(4)), (Some(8), None));
+        assert_eq!(batch.packed(..), Ok(vec![0b1010_0100, 0b0000_0001]));
+        assert_eq!(batch.packed(7..=9), Ok(vec![0b011]));
+        let mut bytes = [0; 2];
+        assert_eq!(batch.read_bytes(5.., &mut bytes), Ok(()));
+        assert_eq!(bytes, [0b0000_1101, 0]);
+        assert_eq!(batch.packed(7..17), Err(Error::OutOfBounds));
         batch.abort();
         assert!(bitmap.ones(..).eq([1, 2, 5, 7]));
     }

@@ -76,6 +76,13 @@ fn the_last_position_is_below_the_length() {
         assert_eq!(bitmap.get(u64::MAX), Err(Error::OutOfBounds));
         assert_eq!(bitmap.chunk(last).unwrap()[width.bytes() - 1], 0x40);
         assert_eq!(bitmap.chunk(u64::MAX), Err(Error::OutOfBounds));
+        assert_eq!(bitmap.packed(..).unwrap(), bitmap.chunk(last).unwrap().as_slice());
+        assert_eq!(bitmap.packed(last - 5..u64::MAX).unwrap(), [0x20]);
+        assert_eq!(bitmap.packed(last..=last).unwrap(), [1]);
+        assert_eq!(bitmap.packed(u64::MAX..u64::MAX).unwrap(), []);
+        assert_eq!(bitmap.packed(last..=u64::MAX), Err(Error::OutOfBounds));
+        assert_eq!(bitmap.packed(..u64::MAX - width.bits()), Err(Error::OutOfBounds));
+        assert_eq!(bitmap.packed(0..u64::MAX), Err(Error::Pruned));
         assert!(bitmap.ones(..).eq([last]));
         assert!(bitmap.ones(..=last).eq([last]));
         assert!(bitmap.ones(last..u64::MAX).eq([last]));

@@ -35,6 +35,16 @@ impl List {
         (self.first()..self.len()).filter(move |position| self.get(*position) == Ok(bit))
     }
 
+    fn packed(&self, from: u64, to: u64) -> Result<Vec<u8>, Error> {
+        if from > to || to > self.len() {
+            return Err(Error::OutOfBounds);
+        }
+        let first = from.checked_sub(self.first()).ok_or(Error::Pruned)?;
+        let bits = &self.bits[first as usize..(to - self.first()) as usize];
+        let byte = |bits: &[bool]| bits.iter().rev().fold(0, |byte, bit| 2 * byte + u8::from(*bit));
+        Ok(bits.chunks(8).map(byte).collect())
+    }
+
     fn chunk(&self, position: u64) -> Result<Vec<u8>, Error> {
         self.get(position)?;
         let first = position / self.width.bits() * self.width.bits();
@@ -213,6 +223,7 @@ macro_rules! compare {
             assert_eq!(reads.next_zero(from), list.positions(false).find(|zero| *zero >= from));
             assert_eq!(reads.prev_one(to), list.positions(true).rfind(|one| *one < to));
             assert_eq!(reads.prev_zero(to), list.positions(false).rfind(|zero| *zero < to));
+            assert_eq!(reads.packed(from..to), list.packed(from, to));
             assert_eq!(reads.get(from), list.get(from));
             assert_eq!(reads.chunk(to).map(|chunk| chunk.to_vec()), list.chunk(to));
         }

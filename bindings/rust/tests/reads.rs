@@ -29,6 +29,8 @@ trait Reads {
     fn len(&self) -> u64;
     fn get(&self, position: u64) -> Result<bool, Error>;
     fn chunk(&self, position: u64) -> Result<Vec<u8>, Error>;
+    fn packed(&self, range: Bounds) -> Result<Vec<u8>, Error>;
+    fn read_bytes(&self, range: Bounds, out: &mut [u8]) -> Result<(), Error>;
     fn ones(&self, range: Bounds) -> Vec<u64>;
     fn count_ones(&self, range: Bounds) -> u64;
     fn next(&self, from: u64) -> (Option<u64>, Option<u64>);
@@ -50,6 +52,14 @@ macro_rules! reads {
 
             fn chunk(&self, position: u64) -> Result<Vec<u8>, Error> {
                 self.chunk(position).map(|chunk| chunk.to_vec())
+            }
+
+            fn packed(&self, range: Bounds) -> Result<Vec<u8>, Error> {
+                self.packed(range)
+            }
+
+            fn read_bytes(&self, range: Bounds, out: &mut [u8]) -> Result<(), Error> {
+                self.read_bytes(range, out)
             }
 
             fn ones(&self, range: Bounds) -> Vec<u64> {
@@ -107,6 +117,52 @@ fn bits_and_chunks() {
         both(bitmap_of(width, &BYTES), |reads| {
             assert_eq!(reads.chunk(0), Ok(padded.clone()));
             assert_eq!(reads.chunk(23), Ok(padded.clone()));
+        });
+    }
+}
+
+#[test]
+fn ranges_as_bytes() {
+    let all = (Bound::Unbounded, Bound::Unbounded);
+    let ranges: [(Bounds, &[u8]); 11] = [
+        (all, &BYTES),
+        (half_open(0, 24), &BYTES),
+        ((Bound::Included(16), Bound::Unbounded), &[0b1000_0001]),
+        ((Bound::Unbounded, Bound::Excluded(7)), &[0b010_0110]),
+        ((Bound::Excluded(6), Bound::Included(7)), &[0b1]),
+        (half_open(5, 18), &[0b0000_0101, 0b0_1000]),
+        (half_open(7, 16), &[0b0000_0001, 0]),
+        (half_open(15, 24), &[0b0000_0010, 0b1]),
+        (half_open(23, 24), &[1]),
+        (half_open(9, 9), &[]),
+        (half_open(24, 24), &[]),
+    ];
+    let refused = [
+        half_open(0, 25),
+        half_open(25, 25),
+        half_open(8, 7),
+        half_open(0, u64::MAX),
+        (Bound::Included(0), Bound::Included(u64::MAX)),
+        (Bound::Excluded(u64::MAX), Bound::Unbounded),
+    ];
+    for width in WIDTHS {
+        both(bitmap_of(width, &BYTES), |reads| {
+            for (range, expected) in ranges {
+                assert_eq!(reads.packed(range).as_deref(), Ok(expected), "{range:?}");
+                let mut bytes = vec![0xaa; expected.len()];
+                assert_eq!(reads.read_bytes(range, &mut bytes), Ok(()), "{range:?}");
+                assert_eq!(bytes, expected, "{range:?}");
+            }
+            for range in refused {
+                assert_eq!(reads.packed(range), Err(Error::OutOfBounds), "{range:?}");
+            }
+            let mut bytes = [0xaa; 3];
+            for range in [half_open(0, 16), half_open(0, 25), half_open(8, 7)] {
+                assert_eq!(reads.read_bytes(range, &mut bytes), Err(Error::WrongSize));
+            }
+            assert_eq!(reads.read_bytes(half_open(2, 25), &mut bytes), Err(Error::OutOfBounds));
+            assert_eq!(reads.read_bytes(half_open(8, 7), &mut []), Err(Error::OutOfBounds));
+            assert_eq!(bytes, [0xaa; 3]);
         });
     }
 }
@@ -207,6 +263,16 @@ fn reads_after_a_pruned_prefix() {
             assert_eq!(reads.chunk(0), Err(Error::Pruned));
             assert_eq!(reads.get(first), Ok(true));
             assert_eq!(reads.chunk(last).unwrap().len(), width.bytes());
+            let retained = reads.packed((Bound::Unbounded, Bound::Unbounded)).unwrap();
+            assert_eq!(retained, reads.chunk(first).unwrap());
+            let ends = reads.packed(half_open(first + 1, last + 1)).unwrap();
+            assert_eq!((ends.len(), ends.last()), (width.bytes(), Some(&0x40)));
+            assert_eq!(reads.packed(half_open(first - 1, last)), Err(Error::Pruned));
+            assert_eq!(reads.packed(half_open(0, 0)), Err(Error::Pruned));
+            let mut bytes = [0xaa];
+            let pruned = half_open(first - 1, first + 1);
+            assert_eq!(reads.read_bytes(pruned, &mut bytes), Err(Error::Pruned));
+            assert_eq!(bytes, [0xaa]);
             assert_eq!(reads.ones(all), [first, last]);
             assert_eq!(reads.ones(half_open(0, first)), []);
             assert_eq!(reads.count_ones(all), 2);

@@ -184,7 +184,7 @@ fn errors_have_texts() {
         (Error::Invalid, "bytes are not an encoding"),
         (Error::NoSuchCommit, "no commit is kept under the number"),
         (Error::NoMemory, "memory allocation failed"),
-        (Error::WrongSize, "chunk has the wrong size"),
+        (Error::WrongSize, "chunk or buffer has the wrong size"),
         (
             Error::WrongHeader,
             "bytes do not begin as a history, a log or a delta of this width does",
