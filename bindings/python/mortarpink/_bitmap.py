@@ -20,6 +20,7 @@ from ._errors import (
     NonMonotonicCommitError,
     NoSuchCommitError,
     NotInBatchError,
+    OutOfBoundsError,
     PrunedError,
     check,
 )
@@ -28,12 +29,6 @@ from ._session import MAX, Caller, Session, bits_of, bytes_of, nobody, numbers_o
 
 if TYPE_CHECKING:
     from _typeshed import ReadableBuffer, WriteableBuffer
-
-# The number of bytes before the chunks of an encoding.
-HEAD = 16
-
-# An encoding has all retained chunks. It is read in place of single chunks, if at least one chunk of so many is wanted.
-SHARE = 16
 
 K = TypeVar("K", bound="Kept")
 
@@ -103,18 +98,46 @@ class _Bits(Caller):
 
         The range ends at the length at the latest. The bits of the last byte that are past its end are 0.
 
-        Raises PrunedError if the range has a pruned position, or NoMemoryError.
+        Raises PrunedError if the range has a pruned position, or MemoryError.
         """
         start, stop = u64(start), u64(stop)
         with self._session.lock:
             stop = min(stop, self.length)
-            if start >= stop:
-                return b""
-            bits = 8 * self.width
-            first = start // bits
-            chunks = self._chunks(first, -(-stop // bits))
-        value = int.from_bytes(chunks, "little") >> (start - first * bits) & (1 << (stop - start)) - 1
-        return value.to_bytes(-(-(stop - start) // 8), "little")
+            return self.read_bytes(start, stop) if start < stop else b""
+
+    def read_bytes(self, start: int, stop: int) -> bytes:
+        """Returns the bits from `start` to `stop` (excluded), eight in a byte. The bit at `start` is the lowest of the first byte.
+
+        The bits of the last byte that are past the range are 0.
+
+        Raises OutOfBoundsError if `stop` is below `start` or above the length, PrunedError if `start` is pruned, or MemoryError.
+        """
+        start, stop = position_of(start), position_of(stop)
+        with self._session.lock:
+            self._check_range(start, stop)
+            out = bytearray(-(-(stop - start) // 8))
+            self.read_bytes_into(out, start, stop)
+        return bytes(out)
+
+    def read_bytes_into(self, buffer: WriteableBuffer, start: int, stop: int) -> None:
+        """Fills a buffer with the bits from `start` to `stop` (excluded), as `read_bytes` returns them.
+
+        The buffer is contiguous, and has the size of these bytes. Until the call returns, nothing else reads or writes it.
+
+        Raises WrongSizeError if the buffer has another size, OutOfBoundsError if `stop` is below `start` or above the length,
+        PrunedError if `start` is pruned, or TypeError if the buffer cannot be written. The buffer is unchanged then.
+        """
+        start, stop = position_of(start), position_of(stop)
+        size = memoryview(buffer).nbytes
+        first = U8.from_buffer(buffer) if size else U8()
+        self._run("read_bytes", start, stop, byref(first), size)
+
+    def _check_range(self, start: int, stop: int) -> None:
+        """Raises OutOfBoundsError or PrunedError unless the bits of a range can be read, so that no memory is taken for it."""
+        if not start <= stop <= self.length:
+            raise OutOfBoundsError()
+        if start < 8 * self.width * self.pruned_chunks:
+            raise PrunedError()
 
     def bools(self, start: int = 0, stop: int = MAX) -> memoryview:
         """Returns the bits from `start` to `stop` (excluded), one in a byte, as a view whose items are `bool`.
@@ -125,18 +148,6 @@ class _Bits(Caller):
             packed = self.packed(start, stop)
             count = max(min(stop, self.length) - start, 0)
         return memoryview(b"".join(map(BITS.__getitem__, packed))).cast("?")[:count]
-
-    def _chunks(self, first: int, last: int) -> bytes:
-        """Returns the bytes of the chunks from `first` to `last` (excluded), by one call if that takes less. The lock is held."""
-        pruned, bits = self.pruned_chunks, 8 * self.width
-        if first < pruned:
-            raise PrunedError()
-        retained = -(-self.length // bits) - pruned
-        is_in_batch = self._session.owner is not None
-        if is_in_batch or (last - first) * SHARE < retained:
-            return b"".join(self.chunk(bits * chunk) for chunk in range(first, last))
-        start = HEAD + (first - pruned) * self.width
-        return self._encoding("encode")[start : start + (last - first) * self.width]
 
     def get(self, position: int) -> bool:
         """Returns the bit at a position.

@@ -193,7 +193,7 @@ class NoSuchWidthError(Error, ValueError, status=_interface.NO_SUCH_WIDTH):
 
 
 class WrongSizeError(Error, ValueError, status=_interface.WRONG_SIZE):
-    """The chunk has the wrong size."""
+    """The chunk or the buffer has the wrong size."""
 
 
 class StoreError(Error):

@@ -292,7 +292,7 @@ class Blocks(unittest.TestCase):
             lambda: ended.push(True), lambda: ended.push_byte(1), lambda: ended.push_bytes(b"1"), lambda: ended.push_chunk(b"1"),
             ended.pop, lambda: ended.set(0, True), lambda: ended.prune(0), lambda: ended.commit(9), ended.abort,
             lambda: len(ended), lambda: ended.pruned_chunks, lambda: ended[0], lambda: ended[-1], lambda: ended.chunk(0),
-            lambda: ended[:], ended.packed, ended.bools,
+            lambda: ended[:], ended.packed, ended.bools, lambda: ended.read_bytes(0, 1), lambda: ended.read_bytes_into(bytearray(1), 0, 1),
         )
         with self.bitmap.batch(2) as batch:
             for call in calls:
@@ -320,7 +320,7 @@ class Blocks(unittest.TestCase):
             lambda: bitmap.earliest, lambda: bitmap.entries, lambda: bitmap.changed_chunks(1, 1),
             lambda: bitmap.rewind_to(1), lambda: bitmap.drop_before(1), bitmap.clear,
             lambda: version.length, lambda: version.pruned_chunks, lambda: version[0], lambda: version.chunk(0), version.ones,
-            version.packed, version.bools, lambda: version[:], version.ones_array, lambda: version.ones_into(array.array("Q")),
+            version.packed, version.bools, lambda: version[:], lambda: version.read_bytes(0, 1), version.ones_array, lambda: version.ones_into(array.array("Q")),
             lambda: version.next_one(0), lambda: version.next_zero(0), lambda: version.prev_one(0),
             lambda: version.prev_zero(0), version.count_ones, lambda: version.select_one(0), lambda: bytes(version),
         )

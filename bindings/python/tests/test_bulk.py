@@ -7,7 +7,17 @@ import threading
 import unittest
 from unittest import mock
 
-from mortarpink import Bitmap, ClosedError, NoMemoryError, NoSuchCommitError, PrunedError, WrongModeError
+from mortarpink import (
+    Bitmap,
+    ClosedError,
+    InBatchError,
+    NoSuchCommitError,
+    NotInBatchError,
+    OutOfBoundsError,
+    PrunedError,
+    WrongModeError,
+    WrongSizeError,
+)
 from mortarpink._library import CALLS
 from support import MAX, bitmap_of, failing, with_versions
 
@@ -79,15 +89,66 @@ class Packed(unittest.TestCase):
                     self.assertEqual(list(bits.bools(start, stop)), [digit == "1" for digit in part])
             self.assertEqual((bitmap.packed(), bitmap.packed(MAX), bitmap.packed(9, 8)), (self.packed(digits), b"", b""))
 
-    def test_a_small_part_of_many_chunks(self):
+    def test_no_encoding_is_made(self):
         digits = digits_of(8 * 100)
         bitmap = bitmap_of(digits)
         with failing("encode"), failing("encode_at"):
-            self.assertEqual(bitmap.packed(33, 45), self.packed(digits[33:45]))
-            self.assertEqual(bitmap.at(1).packed(33, 45), self.packed(digits[33:45]))
             for bits in bitmap, bitmap.at(1):
-                self.assertRaises(NoMemoryError, bits.packed)
-        self.assertEqual(bitmap.packed(), self.packed(digits))
+                self.assertEqual((bits.packed(33, 45), bits.packed()), (self.packed(digits[33:45]), self.packed(digits)))
+
+    def test_bytes_of_each_width(self):
+        for width in 1, 8, 32, 64:
+            digits = digits_of(5 * 8 * width + 3, width)
+            bitmap = bitmap_of(digits, width)
+            numbers = random.Random(width)
+            for _ in range(100):
+                start, stop = sorted(numbers.randrange(len(digits) + 1) for _ in range(2))
+                wanted = self.packed(digits[start:stop])
+                for bits in bitmap, bitmap.at(1):
+                    self.assertEqual(bits.read_bytes(start, stop), wanted)
+                    out = bytearray(b"\xaa" * len(wanted))
+                    self.assertIsNone(bits.read_bytes_into(out, start, stop))
+                    self.assertEqual(out, wanted)
+
+    def test_buffers(self):
+        bitmap = bitmap_of("1011" * 16)
+        for out in array.array("B", bytes(8)), array.array("Q", [0]), memoryview(bytearray(16))[8:], (ctypes.c_uint8 * 8)():
+            bitmap.read_bytes_into(out, 0, 64)
+            self.assertEqual(bytes(out), b"\xdd" * 8)
+        bitmap.read_bytes_into(b"", 5, 5)
+        for out in b"12345678", memoryview(bytearray(16))[::2]:
+            self.assertRaises((TypeError, BufferError), bitmap.read_bytes_into, out, 0, 64)
+
+    def test_no_bytes_of_other_ranges(self):
+        bitmap = with_versions()
+        version, length = bitmap.at(3), bitmap.length
+        for start, stop in (16, length + 1), (length + 1, length + 1), (17, 16), (16, MAX), (-1, 16), (16, MAX + 1):
+            self.assertRaises(OutOfBoundsError, bitmap.read_bytes, start, stop)
+        self.assertRaises(OutOfBoundsError, version.read_bytes, 0, version.length + 1)
+        for start, stop in (15, length), (0, 0):
+            self.assertRaises(PrunedError, bitmap.read_bytes, start, stop)
+        out = bytearray(b"\xaa")
+        for error, ends in (WrongSizeError, (16, 16)), (WrongSizeError, (0, MAX)), (OutOfBoundsError, (length, length + 8)), (PrunedError, (10, 17)):
+            self.assertRaises(error, bitmap.read_bytes_into, out, *ends)
+        with bitmap.batch() as batch:
+            self.assertRaises(InBatchError, version.read_bytes, 0, 1)
+            self.assertRaises(InBatchError, version.read_bytes_into, out, 0, 1)
+        self.assertRaises(NotInBatchError, batch.read_bytes, 16, 17)
+        self.assertRaises(NotInBatchError, batch.read_bytes_into, out, 16, 17)
+        bitmap.clear()
+        self.assertRaises(NoSuchCommitError, version.read_bytes, 0, 1)
+        bitmap.close()
+        self.assertRaises(ClosedError, bitmap.read_bytes, 16, 17)
+        self.assertRaises(ClosedError, bitmap.read_bytes_into, out, 16, 17)
+        self.assertEqual(out, b"\xaa")
+
+    def test_bytes_at_the_greatest_positions(self):
+        bitmap = Bitmap(8, 2**58 - 1)
+        with bitmap.batch(1) as batch:
+            batch.push_bits([0, 0, 1] * 21)
+        self.assertEqual(bitmap.length, MAX)
+        self.assertEqual((bitmap.read_bytes(MAX - 3, MAX), bitmap.at(1).read_bytes(MAX, MAX)), (b"\x04", b""))
+        self.assertRaises(PrunedError, bitmap.read_bytes, 0, MAX)
 
     def test_the_views_of_bools(self):
         view = bitmap_of("101").bools()
@@ -100,6 +161,7 @@ class Packed(unittest.TestCase):
             batch[1] = False
             batch.push_byte(0)
             for bits in batch, bitmap:
+                self.assertEqual((bits.read_bytes(1, 9), bits.read_bytes(97, 108)), (b"\xfe", b"\x07\0"))
                 self.assertEqual((bits.packed(0, 8), bits.packed(96), bits.bools(99).tolist()), (b"\xfd", b"\x0f\0", [True] + [False] * 8))
         self.assertRaises(WrongModeError, batch.packed)
 

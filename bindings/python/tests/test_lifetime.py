@@ -31,7 +31,7 @@ class Closing(unittest.TestCase):
             lambda: bitmap.select_one(0), lambda: bytes(bitmap), bitmap.copy, bitmap.batch, lambda: bitmap.at(1), bitmap.commits,
             lambda: bitmap.commit_exists(1), lambda: bitmap.latest, lambda: bitmap.earliest, lambda: bitmap.entries,
             lambda: bitmap.changed_chunks(1, 1), lambda: bitmap.rewind_to(1), lambda: bitmap.drop_before(1), bitmap.clear,
-            bitmap.abort, lambda: bitmap[:], bitmap.packed, bitmap.bools, bitmap.ones_array, lambda: bitmap.ones_into(array.array("Q")),
+            bitmap.abort, lambda: bitmap[:], lambda: bitmap.read_bytes(0, 1), bitmap.packed, bitmap.bools, bitmap.ones_array, lambda: bitmap.ones_into(array.array("Q")),
             lambda: version.length, lambda: version[0], version.ones, lambda: bytes(version),
         )
         for call in calls:
