@@ -17,8 +17,8 @@ usage: check_native.py [--after-gate] [--tenth] [--target DIR] [PART..]    runs 
 - mutants: faults in the parts that are written by hand, and in the eraser, make a test fail. With --tenth a tenth of them is tried, which the hash
   of the commit chooses, so that later commits try the others.
 
-The gate runs all but `original`, and a tenth of the mutants. A machine without cargo leaves out all but the first part, and says so. DIR keeps what cargo builds;
-without it, that is temporary.
+The gate runs all but `original`, and a tenth of the mutants. A machine without cargo leaves out all but the first part, and says so. DIR keeps
+what cargo builds; without it, that is temporary.
 """
 
 import argparse

@@ -19,8 +19,9 @@ def extremes(width):
     """Numbers at which sums and products do not fit 64 bits, and counts that ask for much memory."""
     bits = 8 * width
     most = RESERVED // bits  # so many whole chunks have bits whose number fits
-    least = [0, 1, bits, 2**20, 2**32, 2**40, RESERVED // (8 + width), most - 1, most, most + 1]
-    return [*least, 2**61 - 1, 2**61, 2**63 - 1, 2**63, 2**63 + 1, RESERVED - bits, *range(RESERVED - 24, RESERVED + 1, 8), RESERVED - 7, RESERVED - 1]
+    counts = [0, 1, bits, 2**20, 2**32, 2**40, RESERVED // (8 + width), most - 1, most, most + 1]
+    last = [RESERVED - less for less in (bits, 24, 16, 8, 7, 1, 0)]
+    return [*counts, 2**61 - 1, 2**61, 2**63 - 1, 2**63, 2**63 + 1, *last]
 
 
 # Random inputs
@@ -28,7 +29,8 @@ def extremes(width):
 
 def lengths(chance):
     """Lengths of inputs: short ones, those of the fixed parts and their neighbours, and a few long ones."""
-    return [*chance.sample(range(100), 12), *(size + chance.randint(-1, 1) for size in (32, 48, 58, 88, 90)), *(chance.randrange(5000) for _ in range(4))]
+    near = [size + chance.randint(-1, 1) for size in (32, 48, 58, 88, 90)]
+    return [*chance.sample(range(100), 12), *near, *(chance.randrange(5000) for _ in range(4))]
 
 
 def random_logs(formats, chance):
@@ -153,7 +155,7 @@ class Large(NamedTuple):
 
 
 class LargeInputs:
-    """Makes the inputs of some 256 KiB that take the most memory for their bytes. The bits of the old chunks alternate, and so do those of the new."""
+    """Makes the inputs of some 256 KiB that take the most memory for their bytes. The bits of the old chunks alternate, as do those of the new."""
 
     def __init__(self, formats):
         self.formats = formats
@@ -181,7 +183,7 @@ class LargeInputs:
         listed, held, far = self.listed, self.held, 10 * self.listed
         spread = 17 * (listed // 17)
         rewind = bytes([REWIND]) + be64(1)
-        pairs = ((number, (self.new, self.old)[number % 2]) for number in range(2, 2 + LARGE // (57 + self.formats.width)))
+        pairs = [(number, (self.new, self.old)[number % 2]) for number in range(2, 2 + LARGE // (57 + self.formats.width))]
         bodies = {
             "chunks that are appended": (listed, self.base(0), self.commit(2, listed, 0, range(listed))),
             "chunks that are replaced, and a rewind": (2 * listed, self.base(listed), self.commit(2, listed, 0, range(listed)), rewind),
@@ -190,9 +192,10 @@ class LargeInputs:
             "chunks that are cut off, and a rewind": (held, self.base(held), self.commit(2, 0), rewind),
             "chunks that are appended and pruned, and a rewind": (
                 listed, self.base(0), self.commit(2, listed, 0, range(listed)), self.commit(3, listed, listed), bytes([REWIND]) + be64(2)),
-            "other chunks far away, and a rewind": (2 * listed, self.base(listed), self.commit(2, far + listed, far, range(far, far + listed)), rewind),
+            "other chunks far away, and a rewind": (
+                2 * listed, self.base(listed), self.commit(2, far + listed, far, range(far, far + listed)), rewind),
             "commits without chunks": (1, self.base(1), *(self.commit(number, 1) for number in range(2, 2 + LARGE // 49))),
-            "commits of one chunk": (LARGE // (57 + self.formats.width), self.base(1), *(self.commit(number, 1, 0, [0], data) for number, data in pairs)),
+            "commits of one chunk": (len(pairs), self.base(1), *(self.commit(number, 1, 0, [0], data) for number, data in pairs)),
         }
         for name, (chunks, *entries) in bodies.items():
             yield Large(name, self.history(*entries) + bytes([255]) * 16, chunks)
