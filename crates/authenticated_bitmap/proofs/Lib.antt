@@ -27,3 +27,4 @@ pub mod Truncated
 pub mod BatchDigests
 pub mod StoredLeaves
 pub mod Following
+pub mod Bitmaps

@@ -3,7 +3,6 @@ use Rattle.std.proofs.Common.{◌≡◌, ℕ, zero, ◌+◌, ◌-◌, ◌*◌, �
 use Rattle.std.proofs.lemmas.Bool.{cases_lt, le-ltb, lt-ltb}
 use Rattle.std.proofs.lemmas.List.{drop_more, get_or-append_right, get_or-map, get_or_append_left, length-append, length-map, length-set, length-take, length_push, replicate_more}
 use Rattle.std.proofs.lemmas.List.FromFn.{fill_by_all, get_or-map-range_with_len, get_or-range_with_len, length-map-range_with_len, length-range_with_len}
-use Rattle.std.specs.List.{range_with_len}
 use Rattle.bitmap_core.specs.PrunedBits.{PrunedBits, bit_len, chunk}
 use Rattle.authenticated_bitmap.specs.Tree.{leaf_hash, subtree_hash, tree_hash}
 use Rattle.authenticated_bitmap.specs.Root.{chunk_digests}

@@ -6,12 +6,15 @@
 //! committed, and then the first is finished, which cannot fail. So each kept version of the first
 //! has its tree in the version of the second under the same number.
 
-ghost use Rattle.std.specs.Prelude.{◌++◌, ◌-◌, IfOk, OnOk, ◌≡◌, replicate};
+ghost use Rattle.std.specs.Prelude.{◌≡◌, ◌++◌, ◌-◌, ◌^◌, ◌<◌, ℕ, IfOk, List, OnOk, replicate};
 ghost use Rattle.historical_bitmap.specs.Changes.{changed, chunk_total, listed};
 ghost use Rattle.historical_bitmap.specs.View.{pending_of};
 ghost use Rattle.bitmap_bytes.specs.Chunk.{IsWidth};
-ghost use Rattle.authenticated_bitmap.specs.LeafDigests.{Authenticates, StoresTree, leaves_in, next_leaves, with_leaf, with_leaves, zero_leaf};
+ghost use Rattle.bitmap_core.specs.PrunedBits.{PrunedBits, bit_len};
+ghost use Rattle.authenticated_bitmap.specs.LeafDigests.{Authenticates, StoresTree, bitmap_of, leaves_in, next_leaves, with_leaf, with_leaves, zero_leaf};
+ghost use Rattle.authenticated_bitmap.specs.Root.{IsBitmap, root_of, root_over};
 ghost use Rattle.authenticated_bitmap.specs.StoredBitmap.{IsOnBaseOf};
+ghost use Rattle.authenticated_bitmap.specs.Tree.{tree_hash};
 
 use crate::hash::Digest;
 use crate::node_edits::{append_leaf_in_batch, replace_leaf_in_batch, truncate_leaves_in_batch};
@@ -19,6 +22,18 @@ use crate::tree::leaf_digest;
 use bitmap_core::chunk::chunk_count;
 use historical_bitmap::bitmap::historical::{DirtyBitMap, PreparedBitMap};
 use std::alloc::AllocError;
+
+/// A state of a bitmap that is authenticated by stored digests has a root, and the tree of their
+/// leaves is the tree of that root. So the laws of roots hold of it, and its root can be computed
+/// from the stored digests.
+pub fn stored_digests_have_the_root()
+    ensures bitmap { (H : List ℕ → List ℕ) (n : ℕ) (s t : PrunedBits) → IsWidth n
+        → bit_len n s < 2 ^ 64 → Authenticates H n s t → IsBitmap (bitmap_of n s t) }
+    ensures root { (H : List ℕ → List ℕ) (n : ℕ) (s t : PrunedBits) → IsWidth n
+        → Authenticates H n s t → root_of H (bitmap_of n s t)
+        ≡ root_over H (record { width = n; len = bit_len n s; pruned = s.pruned })
+        (tree_hash H (leaves_in (chunk_total n s) t)) }
+{}
 
 // Appends the digest of a chunk of zero bytes to a tree of `from` leaves, until there are `to`. Returns
 // the number of leaves. After an error, some of them may be appended.

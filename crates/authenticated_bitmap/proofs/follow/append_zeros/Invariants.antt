@@ -1,4 +1,4 @@
-use Rattle.std.proofs.Common.{◌≡◌, ◌-◌, ◌++◌, ◌≤◌, replicate}
+use Rattle.std.proofs.Common.{◌≡◌, ◌-◌, ◌++◌, replicate}
 use Rattle.historical_bitmap.specs.View.{pending_of}
 use Rattle.authenticated_bitmap.specs.LeafDigests.{StoresTree, leaves_in, zero_leaf}
 use Rattle.authenticated_bitmap.specs.StoredBitmap.{IsOnBaseOf}
