@@ -114,8 +114,6 @@ FORMS = [
 WITHOUT_TEST = {
     r"length \(encoded self\) < 2 \^ 64": "an encoding is at most eight or sixteen bytes longer than the memory of the bitmap",
     r"AcceptsBegun .*": "it is the condition of the closure, which is Rust: the calls in it have assertions",
-    r"Authenticates .*": "the Rust crate does not show the function",
-    r"count ≡ chunk_total N .*": "the Rust crate does not show the function",
 }
 
 # The original's messages, by type, function as it is named in the source, and form: one message per assertion of the form.

@@ -22,6 +22,11 @@ leaf_digests count digests = map (λ i. slice_index_or digests (position 0 i) []
 abbrev pub leaves_in : ℕ → PrunedBits → List (List ℕ)
 leaves_in count t = leaf_digests count (digests_of t)
 
+-- a bitmap of width 32 has as many chunks as digests are stored for `count` leaves, and nothing is pruned in it
+pub record HasTreeSize (count : ℕ) (t : PrunedBits) : Type 0 where
+  pub pruned : t.pruned ≡ 0
+  pub len : bit_len 32 t ≡ 256 * nodes count
+
 -- a bitmap of width 32 stores a tree of `count` leaves: nothing is pruned in it, and its chunks are the digests that are stored for the leaves which are found among them
 pub record StoresTree (H : List ℕ → List ℕ) (count : ℕ) (t : PrunedBits) : Type 0 where
   pub pruned : t.pruned ≡ 0

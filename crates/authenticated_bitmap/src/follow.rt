@@ -6,13 +6,14 @@
 //! committed, and then the first is finished, which cannot fail. So each kept version of the first
 //! has its tree in the version of the second under the same number.
 
-ghost use Rattle.std.specs.Prelude.{◌≡◌, ◌++◌, ◌-◌, ◌^◌, ◌<◌, ℕ, IfOk, List, OnOk, replicate};
+ghost use Rattle.std.specs.Prelude.{◌≡◌, ◌++◌, ◌-◌, ◌*◌, ◌^◌, ◌<◌, ℕ, IfOk, List, OnOk, replicate};
 ghost use Rattle.historical_bitmap.specs.Changes.{changed, chunk_total, listed};
 ghost use Rattle.historical_bitmap.specs.View.{pending_of};
 ghost use Rattle.bitmap_bytes.specs.Chunk.{IsWidth};
 ghost use Rattle.bitmap_core.specs.PrunedBits.{PrunedBits, bit_len};
-ghost use Rattle.authenticated_bitmap.specs.LeafDigests.{Authenticates, StoresTree, bitmap_of, leaves_in, next_leaves, with_leaf, with_leaves, zero_leaf};
+ghost use Rattle.authenticated_bitmap.specs.LeafDigests.{Authenticates, HasTreeSize, StoresTree, bitmap_of, leaves_in, next_leaves, with_leaf, with_leaves, zero_leaf};
 ghost use Rattle.authenticated_bitmap.specs.Root.{IsBitmap, root_of, root_over};
+ghost use Rattle.authenticated_bitmap.specs.Stored.{nodes};
 ghost use Rattle.authenticated_bitmap.specs.StoredBitmap.{IsOnBaseOf};
 ghost use Rattle.authenticated_bitmap.specs.Tree.{tree_hash};
 
@@ -44,10 +45,13 @@ fn append_zeros<D: Digest, const N: usize>(
     to: u64,
 ) -> Result<u64, AllocError>
     requires width { IsWidth N }
-    requires tree { StoresTree (D.digest_of hash.now) from (pending_of 32 stored.old) }
-    ensures tree { IfOk result (λ count.
+    requires size { HasTreeSize from (pending_of 32 stored.old) }
+    ensures size { IfOk result (λ count. HasTreeSize count (pending_of 32 stored.new)) }
+    ensures tree { StoresTree (D.digest_of hash.now) from (pending_of 32 stored.old)
+        → IfOk result (λ count.
         StoresTree (D.digest_of hash.now) count (pending_of 32 stored.new)) }
-    ensures leaves { IfOk result (λ count. leaves_in count (pending_of 32 stored.new)
+    ensures leaves { StoresTree (D.digest_of hash.now) from (pending_of 32 stored.old)
+        → IfOk result (λ count. leaves_in count (pending_of 32 stored.new)
         ≡ leaves_in from (pending_of 32 stored.old)
         ++ replicate (to - from) (zero_leaf (D.digest_of hash.now) N)) }
     ensures base { IsOnBaseOf stored.old stored.new }
@@ -71,10 +75,13 @@ fn put_leaf<D: Digest, const N: usize>(
     chunk: usize,
     bytes: &[u8; N],
 ) -> Result<u64, AllocError>
-    requires { StoresTree (D.digest_of hash.now) count (pending_of 32 stored.old) }
-    ensures tree { IfOk result (λ next.
+    requires { HasTreeSize count (pending_of 32 stored.old) }
+    ensures size { IfOk result (λ next. HasTreeSize next (pending_of 32 stored.new)) }
+    ensures tree { StoresTree (D.digest_of hash.now) count (pending_of 32 stored.old)
+        → IfOk result (λ next.
         StoresTree (D.digest_of hash.now) next (pending_of 32 stored.new)) }
-    ensures leaves { IfOk result (λ next. leaves_in next (pending_of 32 stored.new)
+    ensures leaves { StoresTree (D.digest_of hash.now) count (pending_of 32 stored.old)
+        → IfOk result (λ next. leaves_in next (pending_of 32 stored.new)
         ≡ with_leaf (D.digest_of hash.now) (leaves_in count (pending_of 32 stored.old)) (chunk, bytes.now)) }
     ensures base { IsOnBaseOf stored.old stored.new }
 {
@@ -96,10 +103,13 @@ fn put_changed<D: Digest, const N: usize>(
     stored: &mut DirtyBitMap<32>,
     count: u64,
 ) -> Result<u64, AllocError>
-    requires { StoresTree (D.digest_of hash.now) count (pending_of 32 stored.old) }
-    ensures tree { IfOk result (λ next.
+    requires { HasTreeSize count (pending_of 32 stored.old) }
+    ensures size { IfOk result (λ next. HasTreeSize next (pending_of 32 stored.new)) }
+    ensures tree { StoresTree (D.digest_of hash.now) count (pending_of 32 stored.old)
+        → IfOk result (λ next.
         StoresTree (D.digest_of hash.now) next (pending_of 32 stored.new)) }
-    ensures leaves { IfOk result (λ next. let new = pending_of N prepared.now.batch in
+    ensures leaves { StoresTree (D.digest_of hash.now) count (pending_of 32 stored.old)
+        → IfOk result (λ next. let new = pending_of N prepared.now.batch in
         leaves_in next (pending_of 32 stored.new)
         ≡ with_leaves (D.digest_of hash.now) (leaves_in count (pending_of 32 stored.old))
         (listed N new (changed N prepared.now.batch.current new))) }
@@ -117,9 +127,10 @@ fn put_changed<D: Digest, const N: usize>(
 /// state that the commit leaves.
 ///
 /// `count` is the number of chunks of the current bitmap, pruned ones and a partly used last one
-/// too. `stored` has the digests that are stored for the digests of these chunks. The leaf of each
-/// chunk that the new state retains is then the digest of its bytes. The leaf of each pruned chunk
-/// stays as it is. A chunk that the batch both appended and pruned is in no committed state, and has
+/// too. `stored` has [`node_count(count)`](crate::store::node_count) chunks, and nothing is pruned in
+/// it. If they are the digests that are stored for the current bitmap, then after success they are
+/// those that are stored for the new state. The leaf of each chunk that it retains is the digest of
+/// its bytes. The leaf of each pruned chunk stays as it is. A chunk that the batch both appended and pruned is in no committed state, and has
 /// the leaf of a chunk of zero bytes.
 ///
 /// # Errors
@@ -142,12 +153,15 @@ pub fn update_digests<D: Digest, const N: usize>(
     count: u64,
 ) -> Result<(), AllocError>
     requires width { IsWidth N }
-    requires count { count ≡ chunk_total N prepared.now.batch.current }
-    requires current { Authenticates (D.digest_of hash.now) N
-        prepared.now.batch.current (pending_of 32 stored.old) }
-    ensures next { OnOk result (Authenticates (D.digest_of hash.now) N
+    requires pruned { (pending_of 32 stored.old).pruned ≡ 0 }
+    requires count { bit_len 32 (pending_of 32 stored.old) ≡ 256 * nodes count }
+    ensures next { let old = prepared.now.batch.current in count ≡ chunk_total N old
+        → Authenticates (D.digest_of hash.now) N old (pending_of 32 stored.old)
+        → OnOk result (Authenticates (D.digest_of hash.now) N
         (pending_of N prepared.now.batch) (pending_of 32 stored.new)) }
-    ensures leaves { OnOk result (let new = pending_of N prepared.now.batch in
+    ensures leaves { let old = prepared.now.batch.current in count ≡ chunk_total N old
+        → Authenticates (D.digest_of hash.now) N old (pending_of 32 stored.old)
+        → OnOk result (let new = pending_of N prepared.now.batch in
         leaves_in (chunk_total N new) (pending_of 32 stored.new)
         ≡ next_leaves (D.digest_of hash.now) N (leaves_in count (pending_of 32 stored.old)) new) }
     ensures base { IsOnBaseOf stored.old stored.new }

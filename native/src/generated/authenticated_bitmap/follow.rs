@@ -68,9 +68,10 @@ fn put_changed<D: Digest, const N: usize>(
 /// state that the commit leaves.
 ///
 /// `count` is the number of chunks of the current bitmap, pruned ones and a partly used last one
-/// too. `stored` has the digests that are stored for the digests of these chunks. The leaf of each
-/// chunk that the new state retains is then the digest of its bytes. The leaf of each pruned chunk
-/// stays as it is. A chunk that the batch both appended and pruned is in no committed state, and has
+/// too. `stored` has [`node_count(count)`](crate::generated::authenticated_bitmap::store::node_count) chunks, and nothing is pruned in
+/// it. If they are the digests that are stored for the current bitmap, then after success they are
+/// those that are stored for the new state. The leaf of each chunk that it retains is the digest of
+/// its bytes. The leaf of each pruned chunk stays as it is. A chunk that the batch both appended and pruned is in no committed state, and has
 /// the leaf of a chunk of zero bytes.
 ///
 /// # Errors
@@ -87,6 +88,10 @@ fn put_changed<D: Digest, const N: usize>(
 /// 61. It is the same for each chunk that the batch both appended and pruned. A chunk that is
 /// removed takes no hash. The other chunks are not read.
 ///
+/// # Panics
+///
+/// Panics if chunks of `stored` are pruned; or if the number of chunks of `stored` is not `node_count(count)`, or the last is not full.
+///
 /// Does not compile if `N` is 0, or `8N` does not fit `u64`.
 pub fn update_digests<D: Digest, const N: usize>(
     hash: &D,
@@ -96,6 +101,15 @@ pub fn update_digests<D: Digest, const N: usize>(
 ) -> Result<(), AllocError> {
     const { assert!(N > 0, "chunk size must be > 0") };
     const { assert!(N < 1 << 61, "chunk size must be below 2^61") };
+    assert!(stored.pruned_chunks() == 0, "stored has pruned chunks");
+    assert!(
+        count < 1 << 56
+            && stored.len() % 256 == 0
+            && stored.len() / 256 == crate::generated::authenticated_bitmap::store::node_count(count),
+        "{} bits of digests are stored for {} leaves",
+        stored.len(),
+        count
+    );
 
     let after = chunk_count::<N>(prepared.pending_len()) as u64;
     truncate_leaves_in_batch(stored, count, after);
