@@ -11,7 +11,7 @@ import threading
 from statistics import median
 from time import perf_counter
 
-from mortarpink import Bitmap
+from mortarpink import Bitmap, InBatchError
 
 BITS = 1 << 20
 CALLS = 200_000
@@ -96,7 +96,10 @@ def commit_times(bitmap, read):
 
     def read_on():
         while not done.is_set():
-            read()
+            try:
+                read()
+            except InBatchError:  # a version is not read while there is a batch
+                pass
 
     reader = threading.Thread(target=read_on)
     if read:

@@ -62,7 +62,9 @@ use core::{error, fmt};
 
 pub use crate::generated::authenticated_bitmap::encoding::{DecodeError, Proof};
 pub use crate::generated::authenticated_bitmap::hash::Digest;
-pub use crate::generated::authenticated_bitmap::node_edits::{truncate_leaves_in_batch, try_append_leaf_in_batch, try_replace_leaf_in_batch};
+pub use crate::generated::authenticated_bitmap::node_edits::{
+    truncate_leaves_in_batch, try_append_leaf_in_batch, try_replace_leaf_in_batch,
+};
 pub use crate::generated::authenticated_bitmap::range::{try_prove_range, verify_range};
 pub use crate::generated::authenticated_bitmap::range_encoding::RangeProof;
 pub use crate::generated::authenticated_bitmap::root::{root_digest, verify_bit, verify_chunk};
