@@ -647,7 +647,9 @@ class Processes(InFolder):
                 self.assertIn(store.latest - int(said.split()[-1]), (0, 1))
                 last = store.latest
                 self.assertEqual(store.length, 8 * sum(number % 7 * 40 + 1 for number in range(1, last + 1)))
-                self.assertLessEqual(last - store.earliest, 9)
+                # A kill between a commit and the drop after it leaves more commits than usual, but each drop that was acknowledged is made.
+                drops = [number - 3 for number in map(int, said.split()) if number % 5 == 0]
+                self.assertGreaterEqual(store.earliest, max(drops, default=1))
             kills += 1
         self.assertGreater(last, kills)
 

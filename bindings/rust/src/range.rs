@@ -98,7 +98,8 @@ mod tests {
     fn a_range_to_read_has_the_ends_of_one_to_edit() {
         assert_eq!(read(.., (8, 20)), Ok((8, 20)));
         assert_eq!(read(9..=11, (8, 20)), Ok((9, 12)));
-        assert_eq!(read(11..9, (8, 20)), Ok((11, 9)));
+        let (start, end) = (11, 9);
+        assert_eq!(read(start..end, (8, 20)), Ok((11, 9)));
         assert_eq!(read(9..=u64::MAX, (8, u64::MAX)), Err(Error::OutOfBounds));
         let past_the_end = (Bound::Excluded(u64::MAX), Bound::Unbounded);
         assert_eq!(read(past_the_end, (8, 20)), Err(Error::OutOfBounds));
