@@ -1,5 +1,5 @@
 -- The number of set bits of bytes, and whether one is set, by blocks of bytes and a rest.
-use Rattle.std.proofs.Common.{◌≡◌, ℕ, ◌+◌, ◌-◌, ◌*◌, ◌/◌, ◌%◌, ◌^◌, ◌<◌, ◌≤◌, Bool, true, false, not, cond, eqb, List, [], length, get_or, drop, replicate, refl, sym, ap, ◌∙◌, inl, inr, arith}
+use Rattle.std.proofs.Common.{◌≡◌, ℕ, ◌+◌, ◌-◌, ◌*◌, ◌/◌, ◌%◌, ◌<◌, ◌≤◌, Bool, true, false, not, cond, eqb, List, [], length, get_or, drop, replicate, refl, sym, ap, ◌∙◌, inl, inr, arith}
 use Rattle.std.specs.List.{count_by, list_all}
 use Rattle.std.specs.Simd.{first_chunks}
 use Rattle.std.proofs.Math.Nat.{div-add-mod, div-eq_of_lt, mul-add, mul-add-div, mul-add-mod_self_left, mod-mod}
@@ -13,7 +13,7 @@ use Rattle.bitmap_bytes.specs.Bits.{chunks_bit, bits}
 use Rattle.bitmap_bytes.proofs.Bytes.Bits.{bit_of_zero_byte}
 use Rattle.bitmap_bytes.proofs.Chunks.Bits.{chunk_bit-fill, chunk_bit-mod, byte_from_bits}
 use Rattle.bitmap_bytes.proofs.Counting.Ones.{ones_from, ones_from_add, ones_from_same, count-bits}
-use Rattle.bitmap_bytes.proofs.Counting.Places.{count_map, none_bits, ones_from_clear, ones_from_mono, found, rest_zero, some_left}
+use Rattle.bitmap_bytes.proofs.Counting.Places.{none_bits, ones_from_clear, ones_from_mono, found, rest_zero, some_left}
 use Rattle.bitmap_bytes.proofs.Counting.Words.{bytes_bit-drop, count-chunk, none_chunk}
 use Rattle.bitmap_bytes.proofs.Chunks.OfBytes.{chunks_bit-first_chunks}
 
@@ -38,23 +38,6 @@ next_block n j = omega (arith, mul-add (8 * n) j 1)
 
 blocks_within : (n j k : ℕ) → j < k → 8 * n * (j + 1) ≤ 8 * n * k
 blocks_within n j k h = let u : j + 1 + (k - (j + 1)) ≡ k = omega arith in omega (arith, mul-add (8 * n) (j + 1) (k - (j + 1)), ap (λ m. 8 * n * m) u)
-
--- one more block counted
-pub more_block : (n : ℕ) (blocks : List (List ℕ)) (j total more : ℕ) → 0 < n → length (get_or blocks j []) ≡ n → more ≡ count_by (λ b. b) (chunk_bits (length (get_or blocks j [])) (get_or blocks j []))
-    → total ≡ ones_from (chunks_bit n blocks) 0 (8 * n * j) → total + more ≡ ones_from (chunks_bit n blocks) 0 (8 * n * (j + 1))
-more_block n blocks j total more p w e s =
-    let own = e ∙ ap (λ m. count_by (λ b. b) (chunk_bits m (get_or blocks j []))) w ∙ count_map (chunk_bit n (get_or blocks j [])) 0 (8 * n) in
-    let there = ones_from_same (chunk_bit n (get_or blocks j [])) (chunks_bit n blocks) 0 (0 + 8 * n * j) (8 * n) (λ t h.
-    let a : 8 * n * j + t ≡ 0 + 8 * n * j + t = omega arith in
-    let b : 0 + t ≡ t = omega arith in
-    ap (chunk_bit n (get_or blocks j [])) b ∙ sym (block_bit n blocks j t p h) ∙ ap (chunks_bit n blocks) a) in
-    omega (arith, own, there, s, ones_from_add (chunks_bit n blocks) 0 (8 * n * j) (8 * n)) ∙ ap (λ k. ones_from (chunks_bit n blocks) 0 k) (next_block n j)
-
--- if the number of set bits of all blocks fits 64 bits, so does that of some of them
-pub more_block-fits : (n : ℕ) (blocks : List (List ℕ)) (j total more : ℕ) → 0 < n → j < length blocks → length (get_or blocks j []) ≡ n → more ≡ count_by (λ b. b) (chunk_bits (length (get_or blocks j [])) (get_or blocks j []))
-    → total ≡ ones_from (chunks_bit n blocks) 0 (8 * n * j) → count_by (λ b. b) (bits n blocks (8 * n * length blocks)) < 2 ^ 64 → total + more < 2 ^ 64
-more_block-fits n blocks j total more p l w e s f =
-    omega (arith, more_block n blocks j total more p w e s, ones_from_mono (chunks_bit n blocks) (8 * n * (j + 1)) (8 * n * length blocks) (blocks_within n j (length blocks) l), count-bits n blocks (8 * n * length blocks))
 
 -- after a block of zeros there is still no set bit
 pub zero_block : (n : ℕ) (blocks : List (List ℕ)) (j : ℕ) → 0 < n → get_or blocks j [] ≡ replicate n 0 → ones_from (chunks_bit n blocks) 0 (8 * n * j) ≡ 0 → ones_from (chunks_bit n blocks) 0 (8 * n * (j + 1)) ≡ 0

@@ -17,8 +17,8 @@ use crate::support::prelude::*;
 ///
 /// Linear in the words of `bytes`.
 pub fn count_ones(bytes: &[u8]) -> u64 {
-    let (blocks, rest) = bytes.as_chunks::<64>();
-    block_ones(blocks) + end_ones(rest)
+    let (words, rest) = bytes.as_chunks::<8>();
+    word_ones(words) + byte_ones(rest)
 }
 
 /// Returns whether no bit at or above bit `from` and below bit `to` is set. `to` is at most the number of bits of `bytes`.
@@ -55,21 +55,6 @@ fn is_zero(bytes: &[u8]) -> bool {
 fn is_end_zero(bytes: &[u8]) -> bool {
     let (words, rest) = bytes.as_chunks::<8>();
     are_blocks_zero(words) && are_bytes_zero(rest)
-}
-
-// The number of set bits of some blocks. The compiler knows the length of a block, so it unrolls the loop over its eight words.
-fn block_ones(blocks: &[[u8; 64]]) -> u64 {
-    let mut total = 0u64;
-    for block in blocks {
-        total += end_ones(block);
-    }
-    total
-}
-
-// The number of set bits of some bytes: in words, and the rest byte by byte.
-fn end_ones(bytes: &[u8]) -> u64 {
-    let (words, rest) = bytes.as_chunks::<8>();
-    word_ones(words) + byte_ones(rest)
 }
 
 // The number of set bits of some words.
