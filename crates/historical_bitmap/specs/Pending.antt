@@ -1,6 +1,6 @@
 -- The pending edits of a batch, and what each edit makes of them. A chunk has n bytes.
-use Rattle.std.specs.Prelude.{◌≡◌, ℕ, ◌+◌, ◌-◌, ◌*◌, ◌/◌, ◌%◌, ◌<◌, ◌≤◌, max, Bool, true, false, List, [], ◌++◌, length, map, if◌then◌else◌, ◌⊎◌, slice_index_or, nat_lt, nat_eq, Option, Some, None, MatchOption, unwrap_or}
-use Rattle.std.specs.Int.{div_ceil}
+use Rattle.std.specs.Prelude.{◌≡◌, ℕ, ◌+◌, ◌-◌, ◌*◌, ◌/◌, ◌%◌, ◌<◌, ◌≤◌, ◌==◌, max, Bool, true, false, List, [], ◌++◌, length, map, if◌then◌else◌, ◌⊎◌, slice_index_or, nat_lt, nat_eq, Option, Some, None, MatchOption, unwrap_or}
+use Rattle.std.specs.Int.{bit_at, div_ceil}
 use Rattle.std.specs.List.{filter, range_with_len}
 use Rattle.std.specs.List.Sorted.{IsStrictlySortedBy}
 use Rattle.std.specs.Map.{lookup, keys_of}
@@ -104,6 +104,16 @@ pub record IsByteSetIn (n : ℕ) (old new : List (ℕ × List ℕ)) (i k byte : 
 -- the new entries have `first` under i and `second` under i + 1; other keys keep their values
 abbrev pub PutsTwo : {X : Type 0} → List (ℕ × X) → List (ℕ × X) → ℕ → X → X → Type 0
 PutsTwo old new i first second = (q : ℕ) → lookup (nat_eq q) new ≡ (if nat_eq q i then Some first else if nat_eq q (i + 1) then Some second else lookup (nat_eq q) old)
+
+-- the new entries have the bits of `byte` from bit k on in the chunk under i, up to its end, and `next` under i + 1; other keys keep their values
+pub record CrossesByte (n : ℕ) (old new : List (ℕ × List ℕ)) (i k byte : ℕ) (next : List ℕ) : Type 0 where
+  pub chunk : List ℕ
+  pub found : lookup (nat_eq i) old ≡ Some chunk
+  pub bytes : List ℕ
+  pub size : length bytes ≡ n
+  pub kept : (j : ℕ) → j % (8 * n) < k % (8 * n) → chunk_bit n bytes j ≡ chunk_bit n chunk j
+  pub joined : (j : ℕ) → k % (8 * n) ≤ j % (8 * n) → chunk_bit n bytes j ≡ (bit_at byte (j % (8 * n) - k % (8 * n)) == 1)
+  pub edited : PutsTwo old new i bytes next
 
 -- m is l with bit k written in its chunk, and with length `total`
 pub record Writes (n : ℕ) (b : PrunedBits) (l : PendingEdits) (k : ℕ) (value : Bool) (total : ℕ) (m : PendingEdits) : Type 0 where

@@ -25,9 +25,9 @@ use Rattle.bitmap_bytes.proofs.Chunks.Bits.{chunk_bit-mod}
 use Rattle.bitmap_bytes.proofs.Words.Starts.{end_near, next_cases, start_chunk, start_of}
 use Rattle.bitmap_core.proofs.Pruned.Positions.{place as place_of}
 use Rattle.chunk_map.specs.Entries.{Puts}
-use Rattle.historical_bitmap.specs.Pending.{IsByteSetIn, IsClearFrom, IsSetIn, IsWritten, SetsIn}
+use Rattle.historical_bitmap.specs.Pending.{CrossesByte, IsByteSetIn, IsClearFrom, IsSetIn, IsWritten, SetsIn}
 use Rattle.historical_bitmap.specs.Tail.{bit_with_word, chunk_with_word, is_cached_at, IsTail, IsWordOf, IsWordPut, with_chunk, with_word}
-use Rattle.historical_bitmap.proofs.EditedChunks.ReplacedChunk.{lookup_at, lookup_beside, lookup_here, lookup_put, puts_here, replaced_filled, replaced_keys, replaced_same, replaced_sorted, replaces, sets_here}
+use Rattle.historical_bitmap.proofs.EditedChunks.ReplacedChunk.{lookup_at, lookup_beside, lookup_here, lookup_put, puts_here, puts_two_here, replaced_filled, replaced_keys, replaced_same, replaced_sorted, replaces, sets_here}
 use Rattle.historical_bitmap.proofs.Lists.Maps.{not_some, same_entries}
 
 -- ---- places in a chunk
@@ -46,6 +46,14 @@ pub byte_end : (n i k : ℕ) → i ≡ k / (8 * n) → k % (8 * n) + 8 ≤ 8 * n
 byte_end n i k e space =
     let at : 8 * n * i + k % (8 * n) ≡ k = ap (λ (j : ℕ). 8 * n * j + k % (8 * n)) e ∙ place_of (8 * n) k in
     sym (index_is n i (k + 7) (omega (arith, at)) (omega (arith, at, space)))
+
+-- the last bit of a byte that crosses into the next chunk is in that chunk
+pub byte_end_next : (n i k : ℕ) → 0 < n → i ≡ k / (8 * n) → 8 * n < k % (8 * n) + 8 → i + 1 ≡ (k + 7) / (8 * n)
+byte_end_next n i k pos e crosses =
+    let at : 8 * n * i + k % (8 * n) ≡ k = ap (λ (j : ℕ). 8 * n * j + k % (8 * n)) e ∙ place_of (8 * n) k in
+    let next : 8 * n * (i + 1) ≡ 8 * n * i + 8 * n = grind arith in
+    let below : k % (8 * n) < 8 * n = mod_below k (8 * n) (omega (arith, pos)) in
+    sym (index_is n (i + 1) (k + 7) (omega (arith, at, next, crosses)) (omega (arith, at, next, below, pos)))
 
 -- a chunk made from its bits
 from_is : (n : ℕ) (f : ℕ → Bool) (i : ℕ) → chunk_from n f i ≡ map (λ j. byte_of (λ t. f (8 * n * i + (8 * j + t)))) (range_with_len 0 n)
@@ -135,6 +143,31 @@ byte_written n chunk base count word new i k byte pos start end short low high h
       | inr h ↦ out_word n chunk base count new _ h ∙ sym (out_word n chunk base count word _ h)
     ]
 
+-- the bits of a byte up to the end of the chunk are written to the word, which is the last of its chunk
+module _ (n : ℕ) (chunk : List ℕ) (base count word new i k byte : ℕ) (pos : 0 < n) (start : 8 * n * i ≤ base) (end : base + count ≤ 8 * n * i + 8 * n) (short : count ≤ 64) (starts : (base - 8 * n * i) % 8 ≡ 0) (whole : count % 8 ≡ 0) (low : base ≤ k) (high : k < base + count) (crosses : 8 * n < k % (8 * n) + 8) where
+  rest_at : k % (8 * n) ≡ k - 8 * n * i
+  rest_at = rest_is n i k (omega (arith, start, low)) (omega (arith, end, high))
+
+  to_end : base + count ≡ 8 * n * i + 8 * n
+  to_end = omega (arith, rest_at, start, end, starts, whole, low, high, crosses)
+
+  pub crossed_kept : ((t : ℕ) → t < 64 → (t < k - base) ⊎ (k - base + 8 ≤ t) → bit_at new t ≡ bit_at word t) → (j : ℕ) → j % (8 * n) < k % (8 * n) → chunk_bit n (chunk_with_word n chunk base count new i) j ≡ chunk_bit n (chunk_with_word n chunk base count word i) j
+  crossed_kept others j before = bit_from n (bit_with_word n chunk base count new) i j pos ∙ (same ∙ sym (bit_from n (bit_with_word n chunk base count word) i j pos))
+    where
+      same : bit_with_word n chunk base count new (8 * n * i + j % (8 * n)) ≡ bit_with_word n chunk base count word (8 * n * i + j % (8 * n))
+      same = elim (cases_word base count (8 * n * i + j % (8 * n))) [
+        | inl h ↦ in_word n chunk base count new _ h.0 h.1 ∙ (ap (λ b. eqb b 1) (others _ (omega (arith, h, short)) (inl (omega (arith, rest_at, before, h, start, low)))) ∙ sym (in_word n chunk base count word _ h.0 h.1))
+        | inr h ↦ out_word n chunk base count new _ h ∙ sym (out_word n chunk base count word _ h)
+      ]
+
+  pub crossed_joined : ((t : ℕ) → t < 8 → k - base + t < 64 → bit_at new (k - base + t) ≡ bit_at byte t) → (j : ℕ) → k % (8 * n) ≤ j % (8 * n) → chunk_bit n (chunk_with_word n chunk base count new i) j ≡ eqb (bit_at byte (j % (8 * n) - k % (8 * n))) 1
+  crossed_joined here j from =
+      let below : j % (8 * n) < 8 * n = mod_below j (8 * n) (omega (arith, pos)) in
+      let at : 8 * n * i + j % (8 * n) - base ≡ k - base + (j % (8 * n) - k % (8 * n)) = omega (arith, rest_at, from, low, start) in
+      bit_from n (bit_with_word n chunk base count new) i j pos
+      ∙ (in_word n chunk base count new (8 * n * i + j % (8 * n)) (omega (arith, rest_at, from, low, start)) (omega (arith, to_end, below))
+      ∙ ap (λ b. eqb b 1) (ap (bit_at new) at ∙ here (j % (8 * n) - k % (8 * n)) (omega (arith, below, crosses)) (omega (arith, rest_at, from, low, start, to_end, below, short))))
+
 -- the word is put into its chunk
 pub word_put : (n : ℕ) (old new : List ℕ) (base count word i : ℕ) → 0 < n → IsChunk n new → 0 < count → 8 * n * i ≤ base → base + count ≤ 8 * n * i + 8 * n → IsWordPut n old new base count word → new ≡ chunk_with_word n old base count word i
 word_put n old new base count word i pos is some start end put = from_bits_of n new (bit_with_word n old base count word) i is (λ m h.
@@ -195,7 +228,7 @@ cleared_other word t s h u ne =
     grind arith
 
 -- a byte that is written to a word
-module _ (word at byte : ℕ) (fits : at + 8 ≤ 64) (small : byte < 2 ^ 8) where
+module _ (word at byte : ℕ) (fits : at < 64) (small : byte < 2 ^ 8) where
   shifted_low : (x i : ℕ) → i < at → bit_at (x * 2 ^ at % 2 ^ 64) i ≡ 0
   shifted_low x i h =
       let e : x * 2 ^ at ≡ x * 2 ^ at + 0 = omega arith in
@@ -215,12 +248,12 @@ module _ (word at byte : ℕ) (fits : at + 8 ≤ 64) (small : byte < 2 ^ 8) wher
       bit_at_or (bit_and word (2 ^ 64 - 1 - mask)) (byte * 2 ^ at % 2 ^ 64) i
       ∙ ap (λ b. max b (bit_at (byte * 2 ^ at % 2 ^ 64) i)) (bit_at_and word (2 ^ 64 - 1 - mask) i ∙ ap (min (bit_at word i)) (bit_at_not w64 mask i below u))
 
-  pub joined_here : (t : ℕ) → t < 8 → bit_at (bit_or (bit_and word (2 ^ 64 - 1 - 255 * 2 ^ at % 2 ^ 64)) (byte * 2 ^ at % 2 ^ 64)) (at + t) ≡ bit_at byte t
-  joined_here t h =
+  pub joined_here : (t : ℕ) → t < 8 → at + t < 64 → bit_at (bit_or (bit_and word (2 ^ 64 - 1 - 255 * 2 ^ at % 2 ^ 64)) (byte * 2 ^ at % 2 ^ 64)) (at + t) ≡ bit_at byte t
+  joined_here t h u =
       let back : at + t - at ≡ t = omega arith in
-      let ones : bit_at mask (at + t) ≡ 1 = shifted_high 255 (at + t) (omega (arith, fits, h)) (omega arith) ∙ (ap (bit_at 255) back ∙ bit_at_ones 8 t h) in
-      let bits : bit_at (byte * 2 ^ at % 2 ^ 64) (at + t) ≡ bit_at byte t = shifted_high byte (at + t) (omega (arith, fits, h)) (omega arith) ∙ ap (bit_at byte) back in
-      kept (at + t) (omega (arith, fits, h)) ∙ omega (arith, ones, bits)
+      let ones : bit_at mask (at + t) ≡ 1 = shifted_high 255 (at + t) u (omega arith) ∙ (ap (bit_at 255) back ∙ bit_at_ones 8 t h) in
+      let bits : bit_at (byte * 2 ^ at % 2 ^ 64) (at + t) ≡ bit_at byte t = shifted_high byte (at + t) u (omega arith) ∙ ap (bit_at byte) back in
+      kept (at + t) u ∙ omega (arith, ones, bits)
 
   pub joined_others : (i : ℕ) → i < 64 → (i < at) ⊎ (at + 8 ≤ i) → bit_at (bit_or (bit_and word (2 ^ 64 - 1 - 255 * 2 ^ at % 2 ^ 64)) (byte * 2 ^ at % 2 ^ 64)) i ≡ bit_at word i
   joined_others i u (inl l) =
@@ -282,7 +315,7 @@ module _ (n : ℕ) (es : List (ℕ × List ℕ)) (base count word k : ℕ) (widt
 
   -- a byte is written
   pub joined_in : (j new byte : ℕ) (cached : Option ℕ) → j ≡ k / (8 * n) → k + 8 ≤ base + count → MatchOption cached (count ≡ 0) (IsWordOf n es base count)
-      → ((t : ℕ) → t < 8 → bit_at new (k - base + t) ≡ bit_at byte t) → ((t : ℕ) → t < 64 → (t < k - base) ⊎ (k - base + 8 ≤ t) → bit_at new t ≡ bit_at word t)
+      → ((t : ℕ) → t < 8 → k - base + t < 64 → bit_at new (k - base + t) ≡ bit_at byte t) → ((t : ℕ) → t < 64 → (t < k - base) ⊎ (k - base + 8 ≤ t) → bit_at new t ≡ bit_at word t)
       → IsByteSetIn n (with_word n es cached base count word) (with_word n es cached base count new) j k byte
   unfolding stored
   joined_in j new byte None e ends none here others = absurd (omega (arith, none, low, high))
@@ -291,13 +324,43 @@ module _ (n : ℕ) (es : List (ℕ × List ℕ)) (base count word k : ℕ) (widt
     found = found i ok;
     bytes = chunk_with_word n (stored i) base count new i;
     size = from_size n (bit_with_word n (stored i) base count new) i;
-    written = byte_written n (stored i) base count word new i k byte width.positive ok.low ok.high ok.short low ends here others;
+    written = byte_written n (stored i) base count word new i k byte width.positive ok.low ok.high ok.short low ends (λ t h. here t h (omega (arith, h, ok.short, ends, low))) others;
     edited = puts_here es i (chunk_with_word n (stored i) base count word i) (chunk_with_word n (stored i) base count new i) ok.found;
   })
 
   pub some_in : (cached : Option ℕ) → MatchOption cached (count ≡ 0) (IsWordOf n es base count) → lookup (nat_eq (k / (8 * n))) (with_word n es cached base count word) ≡ None → ⊥
   some_in None none e = absurd (omega (arith, none, low, high))
   some_in (Some i) ok e = not_some (chunk_with_word n (stored i) base count word i) (sym (found i ok) ∙ (ap (λ (j : ℕ). lookup (nat_eq j) (with_word n es (Some i) base count word)) (sym (place i ok)) ∙ e))
+
+-- a byte is written that ends in the next chunk, which is inserted
+module _ (n : ℕ) (es fs : List (ℕ × List ℕ)) (base count word k j : ℕ) (next : List ℕ) (width : IsWidth n) (low : base ≤ k) (high : k < base + count) (index : j ≡ k / (8 * n)) (put : Puts es fs (j + 1) (Some next)) where
+  same_at : (i : ℕ) → IsWordOf n es base count i → lookup (nat_eq i) fs ≡ lookup (nat_eq i) es
+  same_at i ok =
+      let at : j ≡ i = index ∙ index_is n i k (omega (arith, ok.low, low)) (omega (arith, ok.high, high)) in
+      put i ∙ rw (ne_eqb i (j + 1) (λ e. absurd (omega (arith, e, at)))) refl
+
+  pub crossed_in : (new byte : ℕ) (cached : Option ℕ) → 8 * n < k % (8 * n) + 8 → MatchOption cached (count ≡ 0) (IsWordOf n es base count)
+      → ((t : ℕ) → t < 8 → k - base + t < 64 → bit_at new (k - base + t) ≡ bit_at byte t) → ((t : ℕ) → t < 64 → (t < k - base) ⊎ (k - base + 8 ≤ t) → bit_at new t ≡ bit_at word t)
+      → CrossesByte n (with_word n es cached base count word) (with_word n fs cached base count new) j k byte next
+  crossed_in new byte None crosses none here others = absurd (omega (arith, none, low, high))
+  crossed_in new byte (Some i) crosses ok here others =
+      let at : j ≡ i = index ∙ index_is n i k (omega (arith, ok.low, low)) (omega (arith, ok.high, high)) in
+      let same = same_at i ok in
+      let some : IsSome (lookup (nat_eq i) fs) = rw same ok.found in
+      let stored : List ℕ = unwrap_or (lookup (nat_eq i) es) [] in
+      let old : List ℕ = chunk_with_word n stored base count word i in
+      let bytes : List ℕ = chunk_with_word n stored base count new i in
+      let after : with_word n fs (Some i) base count new ≡ with_chunk fs i bytes = ap (λ o. with_chunk fs i (chunk_with_word n (unwrap_or o []) base count new i)) same in
+      let puts : Puts es fs (i + 1) (Some next) = subst (λ (q : ℕ). Puts es fs (q + 1) (Some next)) at put in
+      subst (λ (q : ℕ). CrossesByte n (with_word n es (Some i) base count word) (with_word n fs (Some i) base count new) q k byte next) (sym at) (record {
+        chunk = old;
+        found = lookup_here es i old ok.found;
+        bytes = bytes;
+        size = from_size n (bit_with_word n stored base count new) i;
+        kept = crossed_kept n stored base count word new i k byte width.positive ok.low ok.high ok.short ok.starts ok.whole low high crosses others;
+        joined = crossed_joined n stored base count word new i k byte width.positive ok.low ok.high ok.short ok.starts ok.whole low high crosses here;
+        edited = rw after (puts_two_here es fs i old bytes next ok.found some puts);
+      })
 
 -- with a chunk there is one
 pub word_filled : (n : ℕ) (es : List (ℕ × List ℕ)) (cached : Option ℕ) (base count word : ℕ) → 0 < length es → 0 < length (with_word n es cached base count word)
@@ -352,6 +415,14 @@ whole_none n es None base count word i ok none = none
 whole_none n es (Some h) base count word i ok none = elim (cases_eq h i) [
   | inl e ↦ absurd (false≢true (rw (e, none) at ok.word.found))
   | inr ne ↦ whole_beside n es (Some h) base count word i ok (ne_eqb h i ne) ∙ none
+]
+
+-- a chunk that is not there with the word is not among the entries
+pub none_stored : (n : ℕ) (es : List (ℕ × List ℕ)) (cached : Option ℕ) (base count word i : ℕ) → IsTail n es cached base count → lookup (nat_eq i) (with_word n es cached base count word) ≡ None → lookup (nat_eq i) es ≡ None
+none_stored n es None base count word i ok none = none
+none_stored n es (Some h) base count word i ok none = elim (cases_eq h i) [
+  | inl e ↦ absurd (not_some _ (sym (lookup_at es h i _ ok.word.found (eq-eqb h i e)) ∙ none))
+  | inr ne ↦ sym (whole_beside n es (Some h) base count word i ok (ne_eqb h i ne)) ∙ none
 ]
 
 -- the word is written back
@@ -501,6 +572,9 @@ sets_between n first es mid fs gs i k value before after set = (set.0, subst (λ
 
 pub byte_between : (n : ℕ) (es mid fs gs : List (ℕ × List ℕ)) (i k byte : ℕ) → mid ≡ es → gs ≡ fs → IsByteSetIn n mid fs i k byte → IsByteSetIn n es gs i k byte
 byte_between n es mid fs gs i k byte before after set = subst (λ xs. IsByteSetIn n es xs i k byte) (sym after) (subst (λ xs. IsByteSetIn n xs fs i k byte) before set)
+
+pub crossed_between : (n : ℕ) (es fs gs hs : List (ℕ × List ℕ)) (i k byte : ℕ) (next : List ℕ) → gs ≡ fs → hs ≡ gs → CrossesByte n es fs i k byte next → CrossesByte n es hs i k byte next
+crossed_between n es fs gs hs i k byte next first second set = subst (λ xs. CrossesByte n es xs i k byte next) (sym (second ∙ first)) set
 
 -- the bit at a position past which a chunk is zero
 pub zero_from : (n i k : ℕ) (o : Option (List ℕ)) → i ≡ k / (8 * n) → IfSome o (IsClearFrom n i k) → IfSome o (λ chunk. chunk_bit n chunk k ≡ false)

@@ -1,5 +1,5 @@
 -- Entries with another chunk under an index that has one.
-use Rattle.std.proofs.Common.{◌≡◌, ℕ, ◌<◌, Bool, true, false, cond, List, length, Some, refl, sym, ap, ◌∙◌, subst}
+use Rattle.std.proofs.Common.{◌≡◌, ℕ, ◌+◌, ◌<◌, Bool, true, false, cond, List, length, Some, refl, sym, ap, ◌∙◌, subst}
 use mathlib.Core.Logic.{inl, inr}
 use Rattle.std.proofs.lemmas.Bool.{cases_eq, eq-eqb, ne_eqb, eqb-true, eqb-false}
 use Rattle.std.proofs.lemmas.Cmp.{nat_eq_equiv}
@@ -12,7 +12,7 @@ use Rattle.std.specs.List.Sorted.{IsStrictlySortedBy}
 use Rattle.std.specs.Map.{keys_of, lookup}
 use Rattle.std.specs.Ordering.{nat_cmp}
 use Rattle.chunk_map.specs.Entries.{Puts}
-use Rattle.historical_bitmap.specs.Pending.{IsSetIn, IsWritten}
+use Rattle.historical_bitmap.specs.Pending.{IsSetIn, IsWritten, PutsTwo}
 use Rattle.historical_bitmap.specs.Tail.{with_chunk}
 use Rattle.historical_bitmap.proofs.Lists.Maps.{is_at_is}
 use Rattle.historical_bitmap.proofs.History.PastStates.{same_lookup}
@@ -55,6 +55,16 @@ pub puts_here : (es : List (ℕ × List ℕ)) (i : ℕ) (old new : List ℕ) →
 puts_here es i old new some = λ q. lookup_replaced es i q new some ∙ elim (cases_eq q i) [
   | inl e ↦ rw (eq-eqb q i e) refl
   | inr ne ↦ rw (ne_eqb q i ne) (sym (lookup_replaced es i q old some ∙ rw (ne_eqb q i ne) refl))
+]
+
+-- a chunk is replaced twice, and one is inserted at the next index
+pub puts_two_here : (es fs : List (ℕ × List ℕ)) (i : ℕ) (old new next : List ℕ) → IsSome (lookup (nat_eq i) es) → IsSome (lookup (nat_eq i) fs) → Puts es fs (i + 1) (Some next) → PutsTwo (with_chunk es i old) (with_chunk fs i new) i new next
+puts_two_here es fs i old new next some there put = λ q. lookup_replaced fs i q new there ∙ elim (cases_eq q i) [
+  | inl e ↦ rw (eq-eqb q i e) refl
+  | inr ne ↦ rw (ne_eqb q i ne) (put q ∙ elim (cases_eq q (i + 1)) [
+    | inl e ↦ rw (eq-eqb q (i + 1) e) refl
+    | inr far ↦ rw (ne_eqb q (i + 1) far) (sym (lookup_replaced es i q old some ∙ rw (ne_eqb q i ne) refl))
+  ])
 ]
 
 -- a bit of a chunk is written

@@ -3,15 +3,14 @@ use Rattle.std.proofs.Common.{◌≡◌, ℕ, ◌+◌, ◌-◌, ◌*◌, ◌/◌
 use mathlib.Core.Logic.{inl, inr}
 use Rattle.std.proofs.lemmas.Bool.{cases_eq, cases_lt, eq-eqb, ne_eqb, le-leb, lt-leb, lt-ltb, le-ltb}
 use Rattle.std.proofs.lemmas.List.{length-replicate}
-use Rattle.std.proofs.lemmas.List.Elements.{All-head, All-pop, All-tail}
+use Rattle.std.proofs.lemmas.List.Elements.{All-pop}
 use Rattle.std.proofs.lemmas.Map.Keys.{sorted_head, sorted_tail}
-use Rattle.std.specs.BTreeMap.{is_at}
 use Rattle.std.specs.Int.{div_ceil}
-use Rattle.std.specs.List.{All}
 use Rattle.std.specs.List.Sorted.{IsStrictlySortedBy}
 use Rattle.std.specs.Map.{keys_of, lookup}
 use Rattle.std.specs.Option.{option_or}
 use Rattle.std.specs.Ordering.{nat_cmp}
+use Rattle.std.specs.Set.{is_member}
 use Rattle.std.specs.Prelude.{Bool, true, false, cond, ◌&&◌, Option, Some, None, MatchOption, nat_eq, nat_le, nat_lt}
 use Rattle.bitmap_bytes.specs.Chunk.{chunk_bit}
 use Rattle.bitmap_core.specs.PrunedBits.{PrunedBits, bit_at, bit_len, extended, IsRetained, IsRetainedChunk, truncated, unpruned, with_chunk}
@@ -22,7 +21,7 @@ use Rattle.historical_bitmap.specs.History.{AllCanUndo, EntriesRise, first_kept,
 use Rattle.historical_bitmap.specs.Record.{ChunkDiff, ReverseRecord, bit_or_else, bytes_of, kept, kept_bytes}
 use Rattle.historical_bitmap.specs.Rewind.{gathered, Gathers, HasExtent, IsWrittenBack}
 use Rattle.historical_bitmap.proofs.History.InPlace.{found_in_place, IsFoundIn}
-use Rattle.historical_bitmap.proofs.History.PastStates.{same_lookup}
+use Rattle.historical_bitmap.proofs.Lists.Members.{not_key}
 use Rattle.historical_bitmap.proofs.Records.Restores.{has_chunk}
 use Rattle.historical_bitmap.proofs.Records.UndoneInSteps.{bit_beyond_front, none_past, put_one_len, same_from}
 
@@ -157,52 +156,64 @@ chunk_written n b i bytes new pos cut = record {
       ];
 }
 
--- the loop invariant: the chunks that are left, written over now, give all chunks written over old
-pub record WritesOn (n : ℕ) (old : PrunedBits) (all left : List (ℕ × List ℕ)) (now : PrunedBits) : Type 0 where
+-- what is under an index, if that is one of those that are left
+abbrev pub under_left : List ℕ → List (ℕ × List ℕ) → ℕ → Option (List ℕ)
+under_left left all i = cond (is_member nat_eq left i) (lookup (nat_eq i) all) None
+
+-- the loop invariant: the chunks whose indices are left, written over now, give all chunks written over old
+pub record WritesOn (n : ℕ) (old : PrunedBits) (all : List (ℕ × List ℕ)) (left : List ℕ) (now : PrunedBits) : Type 0 where
   pub pruned : now.pruned ≡ old.pruned
   pub len : bit_len n now ≡ bit_len n old
-  pub bits : (k : ℕ) → IsRetained n old k → bit_or_else n (lookup (nat_eq (k / (8 * n))) left) now k ≡ bit_or_else n (lookup (nat_eq (k / (8 * n))) all) old k
-  pub sorted : IsStrictlySortedBy nat_cmp (keys_of left)
-  pub found : All (λ e. lookup (is_at (nat_cmp e.0)) all ≡ Some e.1) left
+  pub bits : (k : ℕ) → IsRetained n old k → bit_or_else n (under_left left all (k / (8 * n))) now k ≡ bit_or_else n (lookup (nat_eq (k / (8 * n))) all) old k
 
--- the chunk of the first entry that is left is retained
-pub first_retained : (n : ℕ) (old : PrunedBits) (all left rest : List (ℕ × List ℕ)) (e : ℕ × List ℕ) (now : PrunedBits) → left ≡ e ∷ rest
-    → ((i : ℕ) → MatchOption (lookup (nat_eq i) all) (Unit {0}) (λ bytes. IsRetainedChunk n old i)) → WritesOn n old all left now → IsRetainedChunk n now e.0
-first_retained n old all left rest e now steps retained before =
-    let here : lookup (nat_eq e.0) all ≡ Some e.1 =
-    sym (same_lookup e.0 all) ∙ All-head (λ e. lookup (is_at (nat_cmp e.0)) all ≡ Some e.1) e rest (subst (All (λ e. lookup (is_at (nat_cmp e.0)) all ≡ Some e.1)) steps before.found) in
-    let there : IsRetainedChunk n old e.0 = subst (λ o. MatchOption o (Unit {0}) (λ bytes. IsRetainedChunk n old e.0)) here (retained e.0) in
-    (omega (arith, there.0, before.pruned), omega (arith, there.1, before.len))
+module _ (n : ℕ) (old : PrunedBits) (all : List (ℕ × List ℕ)) where
+  -- before the first chunk is written, the indices of all entries are left
+  pub none_put : (left : List ℕ) → ((i : ℕ) → is_member nat_eq left i ≡ is_member nat_eq (keys_of all) i) → WritesOn n old all left old
+  none_put left same = record {
+    pruned = refl;
+    len = refl;
+    bits = λ k has. ap (λ o. bit_or_else n o old k) (whole (k / (8 * n)) (is_member nat_eq left (k / (8 * n))) refl);
+  }
+    where
+      whole : (i : ℕ) (t : Bool) → is_member nat_eq left i ≡ t → under_left left all i ≡ lookup (nat_eq i) all
+      whole i true e = ap (λ t. cond t (lookup (nat_eq i) all) None) e
+      whole i false e = ap (λ t. cond t (lookup (nat_eq i) all) None) e ∙ sym (not_key i all (sym (same i) ∙ e))
 
-pub chunk_put : (n : ℕ) (old : PrunedBits) (all left rest : List (ℕ × List ℕ)) (e : ℕ × List ℕ) (now next : PrunedBits) → left ≡ e ∷ rest → IsWrittenBack n now (e ∷ []) next
-    → WritesOn n old all left now → WritesOn n old all rest next
-chunk_put n old all left rest e now next steps step before = record {
-  pruned = step.pruned ∙ before.pruned;
-  len = step.len ∙ before.len;
-  bits = λ k has. one k (rw before.pruned has.0, rw before.len has.1) ∙ (ap (λ es. bit_or_else n (lookup (nat_eq (k / (8 * n))) es) now k) (sym steps) ∙ before.bits k has);
-  sorted = sorted_tail nat_cmp e.0 (keys_of rest) up;
-  found = All-tail (λ e. lookup (is_at (nat_cmp e.0)) all ≡ Some e.1) e rest (subst (All (λ e. lookup (is_at (nat_cmp e.0)) all ≡ Some e.1)) steps before.found);
-}
-  where
-    up : IsStrictlySortedBy nat_cmp (keys_of (e ∷ rest))
-    up = rw steps at before.sorted
+  module _ (i : ℕ) (bytes : List ℕ) (found : lookup (nat_eq i) all ≡ Some bytes) where
+    -- a chunk that is found is retained
+    pub found_retained : (left : List ℕ) (now : PrunedBits) → ((q : ℕ) → MatchOption (lookup (nat_eq q) all) (Unit {0}) (λ bytes. IsRetainedChunk n old q)) → WritesOn n old all left now → IsRetainedChunk n now i
+    found_retained left now retained before =
+        let there : IsRetainedChunk n old i = subst (λ o. MatchOption o (Unit {0}) (λ bytes. IsRetainedChunk n old i)) found (retained i) in
+        (omega (arith, there.0, before.pruned), omega (arith, there.1, before.len))
 
-    one : (k : ℕ) → IsRetained n now k → bit_or_else n (lookup (nat_eq (k / (8 * n))) rest) next k ≡ bit_or_else n (lookup (nat_eq (k / (8 * n))) (e ∷ rest)) now k
-    one k has = elim (cases_eq (k / (8 * n)) e.0) [
-      | inl same ↦
-          let here = rw (eq-eqb (k / (8 * n)) e.0 same) at (step.bits k has) in
-          rw (eq-eqb (k / (8 * n)) e.0 same, none_past (k / (8 * n)) e.0 rest (omega (arith, same)) (sorted_head nat_cmp e.0 (keys_of rest) up)) here
-      | inr ne ↦
-          let here = rw (ne_eqb (k / (8 * n)) e.0 ne) at (step.bits k has) in
-          rw (ne_eqb (k / (8 * n)) e.0 ne) (same_from n (lookup (nat_eq (k / (8 * n))) rest) next now k here)
-    ]
+    pub chunk_put : (left rest : List ℕ) (now next : PrunedBits) → left ≡ i ∷ rest → IsWrittenBack n now ((i, bytes) ∷ []) next → WritesOn n old all left now → WritesOn n old all rest next
+    chunk_put left rest now next steps step before = record {
+      pruned = step.pruned ∙ before.pruned;
+      len = step.len ∙ before.len;
+      bits = λ k has. one k (rw before.pruned has.0, rw before.len has.1) ∙ (ap (λ is. bit_or_else n (under_left is all (k / (8 * n))) now k) (sym steps) ∙ before.bits k has);
+    }
+      where
+        written : (t : Bool) (k : ℕ) → bit_at n next k ≡ chunk_bit n bytes k → bit_or_else n (cond t (Some bytes) None) next k ≡ chunk_bit n bytes k
+        written true k e = refl
+        written false k e = e
 
-pub all_put : (n : ℕ) (old : PrunedBits) (all left : List (ℕ × List ℕ)) (now : PrunedBits) → left ≡ [] → WritesOn n old all left now → IsWrittenBack n old all now
-all_put n old all left now e before = record {
-  pruned = before.pruned;
-  len = before.len;
-  bits = λ k has. ap (λ es. bit_or_else n (lookup (nat_eq (k / (8 * n))) es) now k) (sym e) ∙ before.bits k has;
-}
+        one : (k : ℕ) → IsRetained n now k → bit_or_else n (under_left rest all (k / (8 * n))) next k ≡ bit_or_else n (under_left (i ∷ rest) all (k / (8 * n))) now k
+        one k has = elim (cases_eq (k / (8 * n)) i) [
+          | inl same ↦
+              let here = rw (eq-eqb (k / (8 * n)) i same) at (step.bits k has) in
+              let under : lookup (nat_eq (k / (8 * n))) all ≡ Some bytes = ap (λ q. lookup (nat_eq q) all) same ∙ found in
+              rw (eq-eqb (k / (8 * n)) i same, under) (written (is_member nat_eq rest (k / (8 * n))) k here)
+          | inr ne ↦
+              let here = rw (ne_eqb (k / (8 * n)) i ne) at (step.bits k has) in
+              rw (ne_eqb (k / (8 * n)) i ne) (same_from n (under_left rest all (k / (8 * n))) next now k here)
+        ]
+
+  pub all_put : (left : List ℕ) (now : PrunedBits) → left ≡ [] → WritesOn n old all left now → IsWrittenBack n old all now
+  all_put left now e before = record {
+    pruned = before.pruned;
+    len = before.len;
+    bits = λ k has. ap (λ is. bit_or_else n (under_left is all (k / (8 * n))) now k) (sym e) ∙ before.bits k has;
+  }
 
 -- ---- the bitmap at a past commit
 -- it has at most as many pruned chunks as the current bitmap

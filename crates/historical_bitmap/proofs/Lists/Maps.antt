@@ -11,7 +11,6 @@ use Rattle.std.specs.BTreeMap.{is_at}
 use Rattle.std.specs.Map.{keys_of, lookup}
 use Rattle.std.specs.Ordering.{nat_cmp}
 use Rattle.chunk_map.specs.Entries.{Puts}
-use Rattle.historical_bitmap.proofs.History.PastStates.{same_lookup}
 
 -- the test of a map at a number is equality of numbers
 pub is_at_is : (k q : ℕ) → is_at (nat_cmp k) q ≡ nat_eq q k
@@ -20,10 +19,6 @@ is_at_is k q = elim (cases_order q k) [
   | inr (inl l) ↦ rw (le-ltb k q (omega arith), ne_eqb k q (λ e. absurd (omega arith)), ne_eqb q k (λ e. absurd (omega arith))) refl
   | inr (inr l) ↦ rw (lt-ltb k q l, ne_eqb q k (λ e. absurd (omega arith))) refl
 ]
-
--- the contract of an update, as `Puts`
-pub puts_from : {X : Type 0} (es fs : List (ℕ × X)) (k : ℕ) (o : Option X) → ((q : ℕ) → lookup (is_at (nat_cmp q)) fs ≡ cond (is_at (nat_cmp k) q) o (lookup (is_at (nat_cmp q)) es)) → Puts es fs k o
-puts_from es fs k o h = λ q. sym (same_lookup q fs) ∙ (h q ∙ (ap (λ t. cond t o (lookup (is_at (nat_cmp q)) es)) (is_at_is k q) ∙ ap (λ y. cond (nat_eq q k) o y) (same_lookup q es)))
 
 -- ---- ascending entries
 below : (a b : ℕ) → nat_cmp a b ≡ Less → a < b

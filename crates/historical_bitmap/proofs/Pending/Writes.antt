@@ -23,7 +23,7 @@ use Rattle.bitmap_core.proofs.Pruned.Edits.{bit_truncated}
 use Rattle.chunk_map.specs.Entries.{Puts}
 use Rattle.historical_bitmap.specs.Edits.{from_to}
 use Rattle.historical_bitmap.specs.Record.{bit_or_else}
-use Rattle.historical_bitmap.specs.Pending.{PendingEdits, PendingFits, IsEdited, IsSetIn, IsByteSetIn, PutsTwo, Writes, Pops, HasAppended, Appends, SetsIn, edited_chunk, pending_bits, pending_chunk, run_bits}
+use Rattle.historical_bitmap.specs.Pending.{CrossesByte, PendingEdits, PendingFits, IsEdited, IsSetIn, IsByteSetIn, PutsTwo, Writes, Pops, HasAppended, Appends, SetsIn, edited_chunk, pending_bits, pending_chunk, run_bits}
 use Rattle.historical_bitmap.proofs.Pending.Chunks.{chunk_with_bits}
 use Rattle.historical_bitmap.proofs.Pending.Edits.{pending_at, pending_len}
 
@@ -225,10 +225,10 @@ module _ (n : ℕ) (b : PrunedBits) (l m : PendingEdits) (xs : List Bool) (pos :
       }
 
 -- a byte is written in the chunk of the length
-module _ (n : ℕ) (b : PrunedBits) (l : PendingEdits) (byte : ℕ) (pos : 0 < n) (fits : PendingFits n b l) (space : l.len % (8 * n) + 8 ≤ 8 * n) where
-  byte_bit : (t : ℕ) → t < 8 → get_or (byte_bits byte) t false ≡ eqb (bit_at_byte byte t) 1
-  byte_bit t h = get_or-map-range_with_len (λ t. eqb (bit_at_byte byte t) 1) 0 8 t t false h (omega arith)
+byte_bit : (byte t : ℕ) → t < 8 → get_or (byte_bits byte) t false ≡ eqb (bit_at_byte byte t) 1
+byte_bit byte t h = get_or-map-range_with_len (λ t. eqb (bit_at_byte byte t) 1) 0 8 t t false h (omega arith)
 
+module _ (n : ℕ) (b : PrunedBits) (l : PendingEdits) (byte : ℕ) (pos : 0 < n) (fits : PendingFits n b l) (space : l.len % (8 * n) + 8 ≤ 8 * n) where
   zero_past : (i k : ℕ) (old : List ℕ) → edited_chunk l i ≡ Some old → k / (8 * n) ≡ i → l.len ≤ k → chunk_bit n old k ≡ false
   zero_past i k old found e past = go (edited_chunk l i) found (fits.edited i)
     where
@@ -250,7 +250,7 @@ module _ (n : ℕ) (b : PrunedBits) (l : PendingEdits) (byte : ℕ) (pos : 0 < n
           | inr s ↦ rw (le-ltb k l.len s) (elim (cases_lt k (l.len + 8)) [
             | inl h ↦
                 let t : k % (8 * n) - l.len % (8 * n) ≡ k - l.len = omega (arith, at, len) in
-                w.here k (omega (arith, at, len, s)) (omega (arith, at, len, h)) ∙ (ap (λ t. eqb (bit_at_byte byte t) 1) t ∙ sym (byte_bit (k - l.len) (omega (arith, s, h))))
+                w.here k (omega (arith, at, len, s)) (omega (arith, at, len, h)) ∙ (ap (λ t. eqb (bit_at_byte byte t) 1) t ∙ sym (byte_bit byte (k - l.len) (omega (arith, s, h))))
             | inr h ↦
                 w.others k (inr (omega (arith, at, len, h))) ∙ (zero_past (l.len / (8 * n)) k old found e s ∙ sym (get_or_past (byte_bits byte) (k - l.len) false (omega (arith, h))))
           ])
@@ -260,6 +260,27 @@ module _ (n : ℕ) (b : PrunedBits) (l : PendingEdits) (byte : ℕ) (pos : 0 < n
   pub appends_byte : (m : PendingEdits) → m.len ≡ l.len + 8 → m.pruned ≡ l.pruned → m.captured ≡ l.captured → IsByteSetIn n l.edited m.edited (l.len / (8 * n)) l.len byte → Appends n b l (byte_bits byte) m
   appends_byte m len pruned captured set =
       appends_one n b l m (byte_bits byte) pos (omega arith) len pruned captured set.bytes (omega (arith, space)) (byte_has set.chunk set.bytes set.found set.size set.written) set.edited
+
+-- a byte is written that ends in the chunk after that of the length
+module _ (n : ℕ) (b : PrunedBits) (l : PendingEdits) (byte : ℕ) (pos : 0 < n) (crosses : 8 * n < l.len % (8 * n) + 8) where
+  crossed_has : (m : PendingEdits) (rest : List ℕ) (set : CrossesByte n l.edited m.edited (l.len / (8 * n)) l.len byte rest) → HasAppended n b l (byte_bits byte) (l.len / (8 * n)) set.bytes
+  crossed_has m rest set = record {
+    size = set.size;
+    bits = λ k e.
+        let at : 8 * n * (l.len / (8 * n)) + k % (8 * n) ≡ k = ap (λ y. 8 * n * y + k % (8 * n)) (sym e) ∙ place (8 * n) k in
+        let len = place (8 * n) l.len in
+        let below : k % (8 * n) < 8 * n = mod_below k (8 * n) (omega (arith, pos)) in
+        elim (cases_lt k l.len) [
+          | inl s ↦ set.kept k (omega (arith, at, len, s)) ∙ rw (lt-ltb k l.len s, set.found) refl
+          | inr s ↦
+              let t : k % (8 * n) - l.len % (8 * n) ≡ k - l.len = omega (arith, at, len) in
+              rw (le-ltb k l.len s) (set.joined k (omega (arith, at, len, s)) ∙ (ap (λ t. eqb (bit_at_byte byte t) 1) t ∙ sym (byte_bit byte (k - l.len) (omega (arith, at, len, s, below, crosses)))))
+        ];
+  }
+
+  pub crosses_byte : (m : PendingEdits) (rest : List ℕ) → m.len ≡ l.len + 8 → m.pruned ≡ l.pruned → m.captured ≡ l.captured → length rest ≡ n → ((i : ℕ) → chunk_bit n rest i ≡ bytes_bit (byte ∷ []) (8 * n - l.len % (8 * n) + i % (8 * n))) → CrossesByte n l.edited m.edited (l.len / (8 * n)) l.len byte rest → Appends n b l (byte_bits byte) m
+  crosses_byte m rest len pruned captured size bits set =
+      appends_two n b l m (byte_bits byte) pos (omega arith) len pruned captured set.bytes rest (omega (arith, crosses, mod_below l.len (8 * n) (omega (arith, pos)))) (omega (arith, pos)) (crossed_has m rest set) (rest_has n b l (byte ∷ []) pos rest size bits) set.edited
 
 -- the chunk of the bits of a byte from bit `from` on
 module _ (n byte from i : ℕ) (pos : 0 < n) (within : from < 8) (small : byte < 2 ^ 8) where

@@ -260,17 +260,18 @@ impl<const N: usize> BitMap<N, Clean> {
     /// The current bitmap is changed in place: only the chunks that the dropped commits touched are written.
     ///
     /// # Errors
-    /// `NoSuchCommit` if the number is not kept, as `u64::MAX` never is; else `Memory` if an allocation fails.
-    /// The bitmap is returned unchanged with the error.
+    /// `NoSuchCommit` if the number is not kept, as `u64::MAX` never is; else `Memory` if an allocation fails, or if there are more than
+    /// 2^31 - 1 chunks to restore. The bitmap is returned unchanged with the error.
     ///
     /// # Memory
-    /// Allocates temporarily the old bytes of each chunk that is restored, and the chunks of the bitmap at that commit that were pruned since.
-    /// Allocates the chunks by which the bitmap grows, at either end, if there is no capacity for them. Does not allocate if the number is
-    /// not kept.
+    /// Allocates temporarily a map with the old bytes of each chunk that is restored, with at most one node of 80 bytes per such chunk, and the
+    /// chunks of the bitmap at that commit that were pruned since. Allocates the chunks by which the bitmap grows, at either end, if there is no
+    /// capacity for them. Does not allocate if the number is not kept.
     ///
     /// # Complexity
-    /// A search among the kept commits. Per entry of the reverse records past the number, logarithmic in the restored chunks. Per dropped
-    /// commit, constant. The length of the bitmap does not matter, except that the retained chunks may be moved in memory if the bitmap grows.
+    /// A search among the kept commits. Amortized, per entry of the reverse records past the number: at most two searches among the restored
+    /// chunks, each of which visits at most 16 nodes. Per dropped commit, constant. The length of the bitmap does not matter, except that the
+    /// retained chunks may be moved in memory if the bitmap grows.
     ///
     /// # Examples
     /// ```

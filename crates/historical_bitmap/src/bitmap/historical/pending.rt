@@ -1,6 +1,6 @@
 //! The pending edits of a batch.
 
-ghost use Rattle.std.specs.Prelude.{◌≡◌, ℕ, ◌+◌, ◌-◌, ◌*◌, ◌/◌, ◌%◌, ◌^◌, ◌<◌, ◌≤◌, ◌++◌, ◌∷◌, List, length, map, replicate, true, false, if◌then◌else◌, nat_lt, IfOk, IfSome, MatchOption, None, Some, OnOk, OnErr, IsOk, IsSome, nat_eq, unwrap_or, slice_index, [], vec_len, vec_capacity};
+ghost use Rattle.std.specs.Prelude.{◌≡◌, ℕ, ◌+◌, ◌-◌, ◌*◌, ◌/◌, ◌%◌, ◌^◌, ◌<◌, ◌≤◌, ◌++◌, ◌∷◌, List, length, map, replicate, true, false, if◌then◌else◌, nat_lt, IfOk, IfSome, MatchOption, None, Some, Ok, OnOk, OnErr, IsOk, IsSome, nat_eq, unwrap_or, slice_index, [], vec_len, vec_capacity};
 ghost use Rattle.std.specs.List.{range_with_len};
 ghost use Rattle.std.specs.List.Sorted.{IsStrictlySortedBy};
 ghost use Rattle.std.specs.Map.{keys_of, lookup};
@@ -597,6 +597,32 @@ impl<const N: usize> Dirty<N> {
         true
     }
 
+    // Appends a byte that ends in the next chunk, if its first bits are in the cached word. Returns whether it did.
+    // After an error nothing is changed. Does not allocate, and succeeds, if the byte ends in the last chunk.
+    fn cross_byte(&mut self, current: &Prunable<N>, byte: u8) -> Result<bool, AllocError>
+        requires edits_fit { PendingFits N current.now self.old }
+        requires fits { self.old.len + 8 < 2 ^ 64 }
+        ensures done { result ≡ Ok true → Appends N current.now self.old (byte_bits byte) self.new }
+        ensures other { result ≡ Ok false → self.new ≡ self.old }
+        ensures err { OnErr result (self.new ≡ self.old) }
+        ensures space { self.old.len % (8 * N) + 8 ≤ 8 * N → IsOk result }
+    {
+        let len = self.len();
+        let space = chunk_width::<N>() - len % chunk_width::<N>();
+        if space >= 8 {
+            return Ok(false);
+        }
+        let rest = rest_of_byte(byte, space);
+        known(&rest);
+        let crossed = self
+            .edited
+            .cross_byte(chunk_index::<N>(len), len, byte, rest)?;
+        if crossed {
+            self.len = len + 8;
+        }
+        Ok(crossed)
+    }
+
     // Appends the eight bits of a byte, lowest first, at any length. Does not allocate, and succeeds, if all fall in one edited chunk.
     pub(crate) fn push_byte(&mut self, current: &Prunable<N>, byte: u8) -> Result<(), AllocError>
         requires edits_fit { PendingFits N current.now self.old }
@@ -607,6 +633,10 @@ impl<const N: usize> Dirty<N> {
     {
         let _ = self.len();
         if self.put_byte(byte) {
+            return Ok(());
+        }
+        let crossed = self.cross_byte(current, byte)?;
+        if crossed {
             return Ok(());
         }
         self.append(current, &[byte])

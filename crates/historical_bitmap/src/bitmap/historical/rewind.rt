@@ -17,13 +17,13 @@ use crate::bitmap::historical::edited::cut;
 use crate::bitmap::historical::record::ChunkDiff;
 use bitmap_core::bitmap::Prunable;
 use bitmap_core::chunk::{chunk_count, chunk_width};
+use chunk_map::map::ChunkMap;
 use std::alloc::{AllocError, Global};
-use std::collections::BTreeMap;
 
 // Turns the current bitmap into the one that the last commit up to a number left, of the given length and pruned count.
 //
-// Allocates temporarily the old bytes of each chunk that is restored, and the chunks of the past bitmap pruned since; and the chunks by
-// which the bitmap grows, if there is no capacity for them. If an allocation fails, the bitmap is unchanged.
+// Allocates temporarily a map with the old bytes of each chunk that is restored, and the chunks of the past bitmap pruned since; and the
+// chunks by which the bitmap grows, if there is no capacity for them. If an allocation fails, the bitmap is unchanged.
 pub(crate) fn rewind<const N: usize>(
     current: &mut Prunable<N>,
     commits: &CommitList<N>,
@@ -45,19 +45,19 @@ pub(crate) fn rewind<const N: usize>(
 }
 
 // Returns the old bytes of each chunk from index `first` up to `end`, from the first record past a number that keeps any.
-// Visits the newest record first, so that older bytes replace newer ones.
+// Visits the newest record first, so that older bytes replace newer ones. Allocates for each chunk that it returns, and for no other entry.
 fn gather<const N: usize>(
     alloc: Global,
     commits: &CommitList<N>,
     number: u64,
     first: usize,
     end: usize,
-) -> Result<BTreeMap<usize, [u8; N]>, AllocError>
+) -> Result<ChunkMap<N>, AllocError>
     requires width { IsWidth N }
     requires rise { EntriesRise (past_number number commits.now) }
     ensures { IfOk result (λ chunks. Gathers (first_kept (past_number number commits.now)) first end [] chunks.entries) }
 {
-    let mut chunks = BTreeMap::new(alloc);
+    let mut chunks = ChunkMap::new(alloc);
     let past = commits.past(number);
     let mut position = commits.len();
     while past < position {
@@ -70,7 +70,7 @@ fn gather<const N: usize>(
 
 // Inserts the old bytes in ascending entries of each chunk from index `first` up to `end`. They replace those that are there.
 fn gather_record<const N: usize>(
-    chunks: &mut BTreeMap<usize, [u8; N]>,
+    chunks: &mut ChunkMap<N>,
     entries: &[(usize, ChunkDiff<N>)],
     first: usize,
     end: usize,
@@ -86,7 +86,7 @@ fn gather_record<const N: usize>(
 
 // Inserts the old bytes in the entry of a chunk, if it has any and the index is from `first` up to `end`.
 fn gather_entry<const N: usize>(
-    chunks: &mut BTreeMap<usize, [u8; N]>,
+    chunks: &mut ChunkMap<N>,
     chunk: usize,
     diff: &ChunkDiff<N>,
     first: usize,
@@ -100,8 +100,7 @@ fn gather_entry<const N: usize>(
     let Some(bytes) = diff.old_bytes() else {
         return Ok(());
     };
-    chunks.insert(chunk, *bytes)?;
-    Ok(())
+    chunks.insert(chunk, *bytes)
 }
 
 // Returns chunks of zeros. Allocates once.
@@ -176,14 +175,15 @@ fn widen<const N: usize>(
     Ok(())
 }
 
-// Replaces the bits of chunks, all of which are retained. Does not allocate.
-fn write_back<const N: usize>(current: &mut Prunable<N>, chunks: &BTreeMap<usize, [u8; N]>)
+// Replaces the bits of chunks, all of which are retained, in any order. Does not allocate.
+fn write_back<const N: usize>(current: &mut Prunable<N>, chunks: &ChunkMap<N>)
     requires width { IsWidth N }
     requires retained { (i : ℕ) → MatchOption (lookup (nat_eq i) chunks.now.entries) (Unit {0}) (λ bytes. IsRetainedChunk N current.old i) }
     ensures { IsWrittenBack N current.old chunks.now.entries current.new }
 {
-    for (chunk, bytes) in chunks {
-        write_chunk(current, *chunk, bytes);
+    chunks.order();
+    for place in 0..chunks.len() {
+        write_chunk(current, chunks.index_at(place), chunks.chunk_at(place));
     }
 }
 

@@ -1,6 +1,6 @@
 //! The edited chunks of a batch, with the word that single pushes and pops write to.
 
-ghost use Rattle.std.specs.Prelude.{◌≡◌, ℕ, ◌+◌, ◌-◌, ◌*◌, ◌/◌, ◌%◌, ◌^◌, ◌<◌, ◌≤◌, ◌&&◌, ◌++◌, ◌⊎◌, [], List, length, replicate, Option, Some, None, IfOk, IfSome, OnOk, OnErr, IsOk, IsSome, if◌then◌else◌, nat_eq, nat_le, nat_lt, true, false};
+ghost use Rattle.std.specs.Prelude.{◌≡◌, ℕ, ◌+◌, ◌-◌, ◌*◌, ◌/◌, ◌%◌, ◌^◌, ◌<◌, ◌≤◌, ◌&&◌, ◌++◌, ◌⊎◌, [], List, length, replicate, Option, Some, None, Ok, IfOk, IfSome, OnOk, OnErr, IsOk, IsSome, if◌then◌else◌, nat_eq, nat_le, nat_lt, true, false};
 ghost use Rattle.std.specs.Int.{bit_at, div_ceil};
 ghost use Rattle.std.specs.List.Sorted.{IsStrictlySortedBy};
 ghost use Rattle.std.specs.Map.{keys_of, lookup};
@@ -12,7 +12,7 @@ ghost use Rattle.bitmap_core.specs.PrunedBits.{chunk, truncated};
 ghost use Rattle.chunk_map.specs.Entries.{IsNextMember, Puts};
 ghost use Rattle.historical_bitmap.specs.Edits.{from_to};
 ghost use Rattle.historical_bitmap.specs.Lengths.{JoinsChunks, OpensChunks};
-ghost use Rattle.historical_bitmap.specs.Pending.{CutsChunks, IsByteSetIn, IsClearFrom, IsSetIn, PutsTwo, SetsChunks, SetsIn, members_between};
+ghost use Rattle.historical_bitmap.specs.Pending.{CrossesByte, CutsChunks, IsByteSetIn, IsClearFrom, IsSetIn, PutsTwo, SetsChunks, SetsIn, members_between};
 ghost use Rattle.historical_bitmap.specs.Tail.{IsTail, is_cached_at, with_word};
 
 use crate::bitmap::historical::grown::GrownChunks;
@@ -87,11 +87,11 @@ fn has_byte(base: u64, count: u64, bit: u64) -> bool
     is_within(base, count, bit) && count - (bit - base) >= 8
 }
 
-// Returns a word with the eight bits of a byte from bit `at` on. Its other bits do not change.
+// Returns a word with the eight bits of a byte from bit `at` on, or those of them that the word has. Its other bits do not change.
 #[inline]
 fn with_byte(word: u64, at: u64, byte: u8) -> u64
-    requires { at + 8 ≤ 64 }
-    ensures here { (t : ℕ) → t < 8 → bit_at result (at + t) ≡ bit_at byte t }
+    requires { at < 64 }
+    ensures here { (t : ℕ) → t < 8 → at + t < 64 → bit_at result (at + t) ≡ bit_at byte t }
     ensures others { (t : ℕ) → t < 64 → (t < at) ⊎ (at + 8 ≤ t) → bit_at result t ≡ bit_at word t }
 {
     word & !(255 << at) | (byte as u64) << at
@@ -435,7 +435,8 @@ impl<const N: usize> TailChunks<N> {
         self.join_other(index, bit, byte)
     }
 
-    // As `join_byte`, for a byte that is not in the cached word. Caches the word of its last bit. It is kept out of the way of the others.
+    // As `join_byte`, for a byte that is not in the cached word. Caches its word, or that of its last bit if it is in two.
+    // It is kept out of the way of the others.
     #[inline(never)]
     fn join_other(&mut self, index: usize, bit: u64, byte: u8) -> bool
         requires width { IsWidth N }
@@ -447,11 +448,47 @@ impl<const N: usize> TailChunks<N> {
         ensures none { result ≡ false → lookup (nat_eq index) self.old ≡ None }
     {
         settle(&mut self.chunks, &mut self.tail);
+        let tail = load(&self.chunks, index, bit);
+        if has_byte(tail.base, tail.count, bit) {
+            self.tail = tail;
+            self.tail.word = with_byte(tail.word, bit - tail.base, byte);
+            return true;
+        }
         if !self.chunks.join_byte(index, bit, byte) {
             return false;
         }
         self.tail = load(&self.chunks, index, bit + 7);
         true
+    }
+
+    // Writes the bits of a byte from position `bit` on up to the end of the chunk at the index, if its last word is cached, and inserts
+    // a chunk at the next index, which has none. Returns whether the word is cached. Caches the first word of the next chunk then.
+    #[inline(never)]
+    pub(crate) fn cross_byte(
+        &mut self,
+        index: usize,
+        bit: u64,
+        byte: u8,
+        next: [u8; N],
+    ) -> Result<bool, AllocError>
+        requires width { IsWidth N }
+        requires index { index ≡ bit / (8 * N) }
+        requires crosses { 8 * N < bit % (8 * N) + 8 }
+        requires fits { bit + 8 < 2 ^ 64 }
+        requires last { lookup (nat_eq (index + 1)) self.old ≡ None }
+        ensures written { result ≡ Ok true
+            → CrossesByte N self.old self.new index bit byte next.entry }
+        ensures other { result ≡ Ok false → self.new ≡ self.old }
+        ensures err { OnErr result (self.new ≡ self.old) }
+    {
+        if !is_within(self.tail.base, self.tail.count, bit) {
+            return Ok(false);
+        }
+        self.chunks.open(index + 1, next)?;
+        self.tail.word = with_byte(self.tail.word, bit - self.tail.base, byte);
+        settle(&mut self.chunks, &mut self.tail);
+        self.tail = load(&self.chunks, index + 1, bit + 7);
+        Ok(true)
     }
 
     // Inserts or replaces the chunk at an index. Does not allocate, and succeeds, if there is a chunk.

@@ -383,10 +383,31 @@ impl<const N: usize> Dirty<N> {
         true
     }
 
+    // Appends a byte that ends in the next chunk, if its first bits are in the cached word. Returns whether it did.
+    // After an error nothing is changed. Does not allocate, and succeeds, if the byte ends in the last chunk.
+    fn cross_byte(&mut self, current: &Prunable<N>, byte: u8) -> Result<bool, AllocError> {
+        let len = self.len();
+        let space = chunk_width::<N>() - len % chunk_width::<N>();
+        if space >= 8 {
+            return Ok(false);
+        }
+        let rest = rest_of_byte(byte, space);
+        known(&rest);
+        let crossed = self.edited.cross_byte(chunk_index::<N>(len), len, byte, rest)?;
+        if crossed {
+            self.len = len + 8;
+        }
+        Ok(crossed)
+    }
+
     // Appends the eight bits of a byte, lowest first, at any length. Does not allocate, and succeeds, if all fall in one edited chunk.
     pub(crate) fn try_push_byte(&mut self, current: &Prunable<N>, byte: u8) -> Result<(), AllocError> {
         let _ = self.len();
         if self.put_byte(byte) {
+            return Ok(());
+        }
+        let crossed = self.cross_byte(current, byte)?;
+        if crossed {
             return Ok(());
         }
         self.append(current, &[byte])

@@ -3,19 +3,19 @@
 
 use crate::generated::bitmap_core::bitmap::Prunable;
 use crate::generated::bitmap_core::chunk::{chunk_count, chunk_width};
+use crate::generated::chunk_map::map::ChunkMap;
 use crate::generated::historical_bitmap::bitmap::historical::apply::{grow, shrink_back};
 use crate::generated::historical_bitmap::bitmap::historical::commit_list::CommitList;
 use crate::generated::historical_bitmap::bitmap::historical::edited::cut;
 use crate::generated::historical_bitmap::bitmap::historical::record::ChunkDiff;
 use crate::support::alloc::{AllocError, Global};
-use crate::support::collections::BTreeMap;
 #[allow(unused_imports)]
 use crate::support::prelude::*;
 
 // Turns the current bitmap into the one that the last commit up to a number left, of the given length and pruned count.
 //
-// Allocates temporarily the old bytes of each chunk that is restored, and the chunks of the past bitmap pruned since; and the chunks by
-// which the bitmap grows, if there is no capacity for them. If an allocation fails, the bitmap is unchanged.
+// Allocates temporarily a map with the old bytes of each chunk that is restored, and the chunks of the past bitmap pruned since; and the
+// chunks by which the bitmap grows, if there is no capacity for them. If an allocation fails, the bitmap is unchanged.
 pub(crate) fn rewind<const N: usize>(
     current: &mut Prunable<N>,
     commits: &CommitList<N>,
@@ -32,15 +32,15 @@ pub(crate) fn rewind<const N: usize>(
 }
 
 // Returns the old bytes of each chunk from index `first` up to `end`, from the first record past a number that keeps any.
-// Visits the newest record first, so that older bytes replace newer ones.
+// Visits the newest record first, so that older bytes replace newer ones. Allocates for each chunk that it returns, and for no other entry.
 fn gather<const N: usize>(
     alloc: Global,
     commits: &CommitList<N>,
     number: u64,
     first: usize,
     end: usize,
-) -> Result<BTreeMap<usize, [u8; N]>, AllocError> {
-    let mut chunks = BTreeMap::new_within(alloc);
+) -> Result<ChunkMap<N>, AllocError> {
+    let mut chunks = ChunkMap::new_within(alloc);
     let past = commits.past(number);
     let mut position = commits.len();
     while past < position {
@@ -53,7 +53,7 @@ fn gather<const N: usize>(
 
 // Inserts the old bytes in ascending entries of each chunk from index `first` up to `end`. They replace those that are there.
 fn gather_record<const N: usize>(
-    chunks: &mut BTreeMap<usize, [u8; N]>,
+    chunks: &mut ChunkMap<N>,
     entries: &[(usize, ChunkDiff<N>)],
     first: usize,
     end: usize,
@@ -66,7 +66,7 @@ fn gather_record<const N: usize>(
 
 // Inserts the old bytes in the entry of a chunk, if it has any and the index is from `first` up to `end`.
 fn gather_entry<const N: usize>(
-    chunks: &mut BTreeMap<usize, [u8; N]>,
+    chunks: &mut ChunkMap<N>,
     chunk: usize,
     diff: &ChunkDiff<N>,
     first: usize,
@@ -78,8 +78,7 @@ fn gather_entry<const N: usize>(
     let Some(bytes) = diff.old_bytes() else {
         return Ok(());
     };
-    chunks.try_put(chunk, *bytes)?;
-    Ok(())
+    chunks.try_put(chunk, *bytes)
 }
 
 // Returns chunks of zeros. Allocates once.
@@ -122,10 +121,11 @@ fn widen<const N: usize>(current: &mut Prunable<N>, prefix: &[[u8; N]], len: u64
     Ok(())
 }
 
-// Replaces the bits of chunks, all of which are retained. Does not allocate.
-fn write_back<const N: usize>(current: &mut Prunable<N>, chunks: &BTreeMap<usize, [u8; N]>) {
-    for (chunk, bytes) in chunks {
-        write_chunk(current, *chunk, bytes);
+// Replaces the bits of chunks, all of which are retained, in any order. Does not allocate.
+fn write_back<const N: usize>(current: &mut Prunable<N>, chunks: &ChunkMap<N>) {
+    chunks.order();
+    for place in 0..chunks.len() {
+        write_chunk(current, chunks.index_at(place), chunks.chunk_at(place));
     }
 }
 

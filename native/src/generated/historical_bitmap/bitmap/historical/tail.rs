@@ -56,7 +56,7 @@ fn has_byte(base: u64, count: u64, bit: u64) -> bool {
     is_within(base, count, bit) && count - (bit - base) >= 8
 }
 
-// Returns a word with the eight bits of a byte from bit `at` on. Its other bits do not change.
+// Returns a word with the eight bits of a byte from bit `at` on, or those of them that the word has. Its other bits do not change.
 #[inline]
 fn with_byte(word: u64, at: u64, byte: u8) -> u64 {
     word & !(255 << at) | (byte as u64) << at
@@ -251,15 +251,36 @@ impl<const N: usize> TailChunks<N> {
         self.join_other(index, bit, byte)
     }
 
-    // As `join_byte`, for a byte that is not in the cached word. Caches the word of its last bit. It is kept out of the way of the others.
+    // As `join_byte`, for a byte that is not in the cached word. Caches its word, or that of its last bit if it is in two.
+    // It is kept out of the way of the others.
     #[inline(never)]
     fn join_other(&mut self, index: usize, bit: u64, byte: u8) -> bool {
         settle(&mut self.chunks, &mut self.tail);
+        let tail = load(&self.chunks, index, bit);
+        if has_byte(tail.base, tail.count, bit) {
+            self.tail = tail;
+            self.tail.word = with_byte(tail.word, bit - tail.base, byte);
+            return true;
+        }
         if !self.chunks.join_byte(index, bit, byte) {
             return false;
         }
         self.tail = load(&self.chunks, index, bit + 7);
         true
+    }
+
+    // Writes the bits of a byte from position `bit` on up to the end of the chunk at the index, if its last word is cached, and inserts
+    // a chunk at the next index, which has none. Returns whether the word is cached. Caches the first word of the next chunk then.
+    #[inline(never)]
+    pub(crate) fn cross_byte(&mut self, index: usize, bit: u64, byte: u8, next: [u8; N]) -> Result<bool, AllocError> {
+        if !is_within(self.tail.base, self.tail.count, bit) {
+            return Ok(false);
+        }
+        self.chunks.open(index + 1, next)?;
+        self.tail.word = with_byte(self.tail.word, bit - self.tail.base, byte);
+        settle(&mut self.chunks, &mut self.tail);
+        self.tail = load(&self.chunks, index + 1, bit + 7);
+        Ok(true)
     }
 
     // Inserts or replaces the chunk at an index. Does not allocate, and succeeds, if there is a chunk.

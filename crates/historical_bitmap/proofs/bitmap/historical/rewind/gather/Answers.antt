@@ -1,4 +1,4 @@
-use Rattle.std.proofs.Common.{ℕ, ◌-◌, arith, ◌∙◌}
+use Rattle.std.proofs.Common.{ℕ, ◌-◌, ap, arith, ◌∙◌}
 use Rattle.historical_bitmap.specs.History.{past_number}
 use Rattle.historical_bitmap.specs.Record.{ReverseRecord}
 use Rattle.historical_bitmap.specs.Stored.{entry_values}
@@ -9,7 +9,7 @@ use Rattle.historical_bitmap.proofs.bitmap.historical.rewind.gather.Goals as goa
 pub loop-position-init : goal.loop-position-init
 loop-position-init g c =
     let all = all_between c.past-past.result c.len-position.result c.args.commits.now c.len-position.ensures ∙ c.past-past.ensures.later in
-    record { within = omega arith; left = records_all _ _ c.args.first c.args.end c.new-chunks.result.entries all c.new-chunks.ensures.empty c.requires.rise }
+    record { within = omega arith; left = records_all _ _ c.args.first c.args.end c.new-chunks.result.entries all (ap (λ m. m.entries) c.new-chunks.ensures) c.requires.rise }
 
 pub chunk_diffs-requires : goal.chunk_diffs-requires
 chunk_diffs-requires g c = (omega arith, omega (arith, c.requires.width.fits))

@@ -1,43 +1,32 @@
-use Rattle.std.proofs.Common.{◌≡◌, ℕ, List, ◌*◌, ◌/◌, Some, refl, ap, arith, sym, subst}
-use Rattle.std.specs.BTreeMap.{is_at}
-use Rattle.std.specs.List.{All}
-use Rattle.std.specs.List.Sorted.{IsStrictlySortedBy}
-use Rattle.std.specs.Map.{keys_of, lookup}
-use Rattle.std.specs.Ordering.{nat_cmp}
+use Rattle.std.proofs.Common.{◌+◌, ◌∷◌, drop, ap, arith, sym, ◌∙◌}
+use Rattle.std.proofs.lemmas.List.{drop_all, drop_more}
+use Rattle.std.specs.Map.{lookup}
 use Rattle.std.specs.Prelude.{nat_eq}
-use Rattle.historical_bitmap.specs.Record.{bit_or_else}
-use Rattle.historical_bitmap.proofs.History.Rewound.{chunk_put, first_retained}
+use Rattle.historical_bitmap.proofs.History.Rewound.{all_put, chunk_put, found_retained, none_put}
 use Rattle.historical_bitmap.proofs.bitmap.historical.rewind.write_back.Goals as goal
 
-pub loop-chunk-init : goal.loop-chunk-init
-loop-chunk-init g c =
-    let gives = c.into_iter-chunk-iterator.ensures.into_iter_gives in
-    let all = c.args.chunks.now.entries in (
-      tt,
-      tt,
-      record {
-        pruned = refl;
-        len = refl;
-        bits = λ k has. ap (λ es. bit_or_else g.row.N (lookup (nat_eq (k / (8 * g.row.N))) es) c.args.current.now k) gives.0;
-        sorted = subst (λ (es : List (ℕ × List ℕ)). IsStrictlySortedBy nat_cmp (keys_of es)) (sym gives.0) gives.5;
-        found = subst (All (λ e. lookup (is_at (nat_cmp e.0)) all ≡ Some e.1)) (sym gives.0) gives.6;
-      },
-    )
+pub loop-place-init : goal.loop-place-init
+loop-place-init g c = none_put g.row.N c.args.current.now c.args.chunks.now.entries c.args.chunks.now.indices c.order.ensures.members
 
 pub write_chunk-requires : goal.write_chunk-requires
-write_chunk-requires g c =
-    let first : ℕ × List ℕ = (c.in-Some.chunk.now, c.in-Some.bytes.now) in (
-      omega arith,
-      (
-        omega (arith, c.requires.width.fits),
-        first_retained g.row.N c.args.current.now c.args.chunks.now.entries c.loop-chunk.chunk-iterator c.next.new.self first c.loop-chunk.current c.in-Some.ensures.steps c.requires.retained c.loop-chunk.invariant.2,
-      ),
-    )
+write_chunk-requires g c = (
+  omega arith,
+  (
+    omega (arith, c.requires.width.fits),
+    found_retained g.row.N c.args.current.now c.args.chunks.now.entries c.index_at.result c.chunk_at.result.now (ap (λ i. lookup (nat_eq i) c.args.chunks.now.entries) c.index_at.ensures ∙ c.chunk_at.ensures)
+        (drop c.loop-place.place c.args.chunks.now.indices) c.loop-place.current c.requires.retained c.loop-place.invariant,
+  ),
+)
 
-pub loop-chunk-preserved : goal.loop-chunk-preserved
-loop-chunk-preserved g c =
-    let first : ℕ × List ℕ = (c.in-Some.chunk.now, c.in-Some.bytes.now) in (
-      tt,
-      tt,
-      chunk_put g.row.N c.args.current.now c.args.chunks.now.entries c.loop-chunk.chunk-iterator c.next.new.self first c.loop-chunk.current c.write_chunk.new.current c.in-Some.ensures.steps c.write_chunk.ensures c.loop-chunk.invariant.2,
-    )
+pub loop-place-preserved : goal.loop-place-preserved
+loop-place-preserved g c =
+    let indices = c.args.chunks.now.indices in
+    let place = c.loop-place.place in
+    let steps = drop_more indices place 0 (omega (arith, c.loop-place-test.true, c.len-place-end.ensures.indices)) ∙ ap (λ i. i ∷ drop (place + 1) indices) (sym c.index_at.ensures) in
+    chunk_put g.row.N c.args.current.now c.args.chunks.now.entries c.index_at.result c.chunk_at.result.now (ap (λ i. lookup (nat_eq i) c.args.chunks.now.entries) c.index_at.ensures ∙ c.chunk_at.ensures)
+    (drop place indices) (drop (place + 1) indices) c.loop-place.current c.write_chunk.new.current steps c.write_chunk.ensures c.loop-place.invariant
+
+pub returns : goal.returns
+returns g c =
+    all_put g.row.N c.args.current.now c.args.chunks.now.entries (drop c.loop-place.place c.args.chunks.now.indices) c.loop-place.current
+    (drop_all c.loop-place.place c.args.chunks.now.indices (omega (arith, c.loop-place-test.false, c.len-place-end.ensures.indices))) c.loop-place.invariant

@@ -3,7 +3,7 @@ use Rattle.historical_bitmap.proofs.EditedChunks.CachedWord.{joined_here, joined
 use Rattle.historical_bitmap.proofs.bitmap.historical.tail.with_byte.Goals as goal
 
 pub returns-clause-here : goal.returns-clause-here
-returns-clause-here c = λ t h. joined_here c.args.word c.args.at c.args.byte c.requires (omega arith) t h
+returns-clause-here c = λ t h u. joined_here c.args.word c.args.at c.args.byte c.requires (omega arith) t h u
 
 pub returns-clause-others : goal.returns-clause-others
 returns-clause-others c = λ t u side. joined_others c.args.word c.args.at c.args.byte c.requires (omega arith) t u side

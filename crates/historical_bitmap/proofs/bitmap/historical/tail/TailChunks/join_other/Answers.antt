@@ -1,9 +1,17 @@
-use Rattle.std.proofs.Common.{arith, sym}
-use Rattle.historical_bitmap.proofs.EditedChunks.CachedWord.{byte_between, byte_end}
+use Rattle.std.proofs.Common.{arith, refl, sym, ◌∙◌}
+use Rattle.historical_bitmap.proofs.EditedChunks.CachedWord.{byte_between, byte_end, joined_in}
 use Rattle.historical_bitmap.proofs.bitmap.historical.tail.TailChunks.join_other.Goals as goal
 
 pub load-self-inside-requires : goal.load-self-inside-requires
 load-self-inside-requires g c = (omega (arith, c.requires.fits), (c.requires.width, byte_end g.row.N c.args.index c.args.bit c.requires.index c.requires.space))
+
+pub returns-then-has_byte-clause-written : goal.returns-then-has_byte-clause-written
+returns-then-has_byte-clause-written g c =
+    let t = c.load-tail.result in
+    let h = c.has_byte.ensures c.if-has_byte.true in
+    let byte = c.with_byte-self-inside in
+    let joined = joined_in g.row.N c.settle.new.chunks t.base t.count t.word c.args.bit c.requires.width h.0 (omega (arith, h)) c.args.index byte.result c.args.byte t.cached c.requires.index h.1 c.load-tail.ensures.tail.word byte.ensures.here byte.ensures.others in
+    λ yes. rw (sym c.self.view_is) (byte_between g.row.N _ _ _ _ c.args.index c.args.bit c.args.byte (c.load-tail.ensures.same ∙ c.settle.ensures.value) refl joined)
 
 pub returns-clause-written : goal.returns-clause-written
 returns-clause-written g c =
