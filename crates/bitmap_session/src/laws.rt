@@ -103,11 +103,11 @@ pub fn a_saved_session_is_loaded<const N: usize>(
     ensures refused { IfErr result (λ e. e
         ≡ (if is_dirty session.now.state then InBatch else Memory alloc_error)) }
 {
-    session.fits_a_log();
+    // The prover learns the width from this call.
+    session.has_width();
     let mut bytes = Vec::new(alloc);
     match session.save(&mut bytes) {
         Ok(()) => {
-            let _ = bytes.len();
             let mut from = bytes.as_slice();
             Ok(Session::load(alloc, &mut from, bits, commits))
         }
@@ -191,6 +191,7 @@ pub fn a_logged_session_is_recovered<const N: usize>(
         → bytes.now ≡ taken ++ session.now.log.bytes
         → IfErr result (λ e. e ≡ RecoverMemory alloc_error) }
 {
-    session.session().fits_a_log();
+    // The prover learns the width from this call.
+    session.session().has_width();
     LoggedSession::recover(alloc, bytes)
 }

@@ -1,19 +1,20 @@
 -- The history of a state: what it makes, that it is a log, and how it is written.
 use Rattle.std.proofs.Common.{◌≡◌, ℕ, ◌+◌, ◌-◌, ◌^◌, ◌<◌, ◌≤◌, List, [], ◌∷◌, ◌++◌, drop, length, map, take, refl, sym, ap, subst, ◌∙◌, append_assoc, arith, suc, Option, Some, None}
-use Rattle.std.specs.Prelude.{IfSome, IsSome, slice_get}
+use Rattle.std.specs.Prelude.{⊤, IfSome, IsSome, slice_get}
 use Rattle.std.specs.Iterator.{Drains, Yields, YieldsFirst}
 use Rattle.std.specs.List.{AllByRecursion}
 use Rattle.std.specs.List.Sorted.{IsStrictlySortedBy}
 use Rattle.std.specs.Map.{keys_of}
+use Rattle.std.specs.Option.{option_map}
 use Rattle.std.specs.Ordering.{nat_cmp}
 use Rattle.std.specs.declared.cmp.Ordering.TheVariants.{Less}
 use Rattle.std.proofs.lemmas.Bool.{eq-eqb, lt-leb, ne_eqb}
 use Rattle.std.proofs.lemmas.List.{append-nil, length-append, length-map, map-append, take-append-drop, take_at}
 use Rattle.std.proofs.lemmas.Option.{same_Some}
 use Rattle.bitmap_core.specs.PrunedBits.{PrunedBits, bit_len}
-use Rattle.historical_bitmap.specs.History.{RiseInNumber, kept_under, snapshots, undone}
+use Rattle.historical_bitmap.specs.History.{LatestIsLast, RiseInNumber, kept_under, snapshots, undone}
 use Rattle.historical_bitmap.specs.Record.{ReverseRecord}
-use Rattle.historical_bitmap.specs.View.{commit_error}
+use Rattle.historical_bitmap.specs.View.{View, commit_error, history_of}
 use Rattle.historical_bitmap.proofs.History.PastStates.{below}
 use Rattle.log_frames.specs.Frames.{frame, frames, next, place_after}
 use Rattle.log_frames.specs.Header.{first_place, header}
@@ -23,8 +24,8 @@ use Rattle.commit_log.specs.declared.base.Past.TheVariants.{KeptUnder}
 use Rattle.commit_log.specs.Base.{Base, encode_base, past_count, past_number}
 use Rattle.commit_log.specs.Entries.{Entry, encode_entry}
 use Rattle.commit_log.specs.Entries.Entry.{Commit}
-use Rattle.commit_log.specs.History.{HasLog, IsHistory, PrunesFrom, base_of, commits_from, history_base, history_entries, later_commits, past_without, last_of}
-use Rattle.commit_log.specs.Kept.{Kept, after, after_all, applied, change_to}
+use Rattle.commit_log.specs.History.{HasLog, IsHistory, PrunesFrom, base_of, commits_from, history_base, history_bytes, history_entries, later_commits, past_without, last_of}
+use Rattle.commit_log.specs.Kept.{Kept, after, after_all, applied, change_to, kept_of}
 use Rattle.commit_log.specs.Logs.{GoesOn, IsLog, bodies, log_bytes, state_of}
 use Rattle.commit_log.proofs.Applied.{applied_change}
 use Rattle.commit_log.proofs.Entries.{entry_some}
@@ -63,14 +64,20 @@ commits_make n first before (kept ∷ later) pos =
 at_some : {X : Type 0} (o : Option X) (x : X) (P : X → Type 0) → o ≡ Some x → IfSome o P → P x
 at_some {X = X} o x P e h = subst (λ (p : Option X). IfSome p P) e h
 
+-- the last kept state of a history is the current one, under the last number
+ends_at : (current : PrunedBits) (last : Option ℕ) (first : ℕ × PrunedBits) (later : List (ℕ × PrunedBits)) → IsHistory (record { current = current; history = first ∷ later; last = last })
+    → (last ≡ Some (last_kept first later).0) × (current ≡ (last_kept first later).1)
+ends_at current last first later ends =
+    let place : length (first ∷ later) - 1 ≡ length later = omega arith in
+    let there : slice_get (first ∷ later) (length (first ∷ later) - 1) ≡ Some (last_kept first later) = ap (slice_get (first ∷ later)) place ∙ last_there first later in
+    at_some (slice_get (first ∷ later) (length (first ∷ later) - 1)) (last_kept first later) (λ kept. (last ≡ Some kept.0) × (current ≡ kept.1)) there ends
+
 made_of : (n : ℕ) (current : PrunedBits) (last : Option ℕ) (history : List (ℕ × PrunedBits)) → 0 < n → IsHistory (record { current = current; history = history; last = last })
     → state_of n (history_base (record { current = current; history = history; last = last })) (later_commits n history) ≡ record { current = current; history = history; last = last }
 made_of n current None [] pos ends = refl
 made_of n current (Some number) [] pos ends = refl
 made_of n current last (first ∷ later) pos ends =
-    let place : length (first ∷ later) - 1 ≡ length later = omega arith in
-    let there : slice_get (first ∷ later) (length (first ∷ later) - 1) ≡ Some (last_kept first later) = ap (slice_get (first ∷ later)) place ∙ last_there first later in
-    let is = at_some (slice_get (first ∷ later) (length (first ∷ later) - 1)) (last_kept first later) (λ kept. (last ≡ Some kept.0) × (current ≡ kept.1)) there ends in
+    let is = ends_at current last first later ends in
     commits_make n first (first ∷ []) later pos ∙ (λ i. record { current = sym is.1 i; history = first ∷ later; last = sym is.0 i })
 
 pub history_made : (n : ℕ) (s : Kept) → 0 < n → IsHistory s → state_of n (history_base s) (history_entries n s) ≡ s
@@ -161,7 +168,7 @@ log_of n current last (first ∷ later) pos has =
 pub history_is_log : (n : ℕ) (s : Kept) → 0 < n → HasLog n s → IsLog n (history_base s) (history_entries n s)
 history_is_log n s pos has = log_of n s.current s.last s.history pos has
 
--- ---- a history that is written
+-- ---- kept states under their numbers
 
 all_at : (P : ℕ → Type 0) (before : List (ℕ × PrunedBits)) (kept : ℕ × PrunedBits) (later : List (ℕ × PrunedBits)) → AllByRecursion P (keys_of (before ++ kept ∷ later)) → P kept.0
 all_at P [] kept later h = h.0
@@ -175,10 +182,76 @@ kept_at (b ∷ bs) kept later rise =
     let above : b.0 < kept.0 = below b.0 kept.0 (all_at (λ (k : ℕ). nat_cmp b.0 k ≡ Less) bs kept later rise.0) in
     rw (ne_eqb kept.0 b.0 (λ e. absurd (omega (arith, e, above)))) (kept_at bs kept later rise.1)
 
+found_at : (whole before : List (ℕ × PrunedBits)) (kept : ℕ × PrunedBits) (later : List (ℕ × PrunedBits)) → RiseInNumber whole → whole ≡ before ++ kept ∷ later → kept_under whole kept.0 ≡ Some kept.1
+found_at whole before kept later rise split =
+    ap (λ (xs : List (ℕ × PrunedBits)). kept_under xs kept.0) split ∙ kept_at before kept later (subst RiseInNumber split rise)
+
 neighbours_rise : (before : List (ℕ × PrunedBits)) (a b : ℕ × PrunedBits) (later : List (ℕ × PrunedBits)) → RiseInNumber (before ++ a ∷ b ∷ later) → a.0 < b.0
 unfolding IsStrictlySortedBy
 neighbours_rise [] a b later rise = below a.0 b.0 rise.0.0
 neighbours_rise (x ∷ xs) a b later rise = neighbours_rise xs a b later rise.1
+
+older_kept : (history before later : List (ℕ × PrunedBits)) (a b : ℕ × PrunedBits) → RiseInNumber history → history ≡ before ++ a ∷ b ∷ later → kept_under history a.0 ≡ Some a.1
+older_kept history before later a b rise split = found_at history before a (b ∷ later) rise split
+
+newer_kept : (history before later : List (ℕ × PrunedBits)) (a b : ℕ × PrunedBits) → RiseInNumber history → history ≡ before ++ a ∷ b ∷ later → kept_under history b.0 ≡ Some b.1
+newer_kept history before later a b rise split = found_at history (before ++ a ∷ []) b later rise (split ∙ sym (append_assoc before (a ∷ []) (b ∷ later)))
+
+-- ---- the history of a bitmap is a log
+
+-- of two kept states, the later one has at least as many pruned chunks
+abbrev pub CountsRise : List (ℕ × PrunedBits) → Type 0
+CountsRise history = (from to : ℕ) (old new : PrunedBits) → from ≤ to → kept_under history from ≡ Some old → kept_under history to ≡ Some new → old.pruned ≤ new.pruned
+
+prunes_on : (whole before : List (ℕ × PrunedBits)) (kept : ℕ × PrunedBits) (later : List (ℕ × PrunedBits)) → CountsRise whole → RiseInNumber whole → whole ≡ before ++ kept ∷ later → PrunesFrom kept.1.pruned later
+prunes_on whole before kept [] counts rise split = tt
+prunes_on whole before kept (next ∷ more) counts rise split =
+    let above : kept.0 < next.0 = neighbours_rise before kept next more (subst RiseInNumber split rise) in
+    let parts : whole ≡ (before ++ kept ∷ []) ++ next ∷ more = split ∙ sym (append_assoc before (kept ∷ []) (next ∷ more)) in (
+      counts kept.0 next.0 kept.1 next.1 (omega (arith, above)) (older_kept whole before more kept next rise split) (newer_kept whole before more kept next rise split),
+      prunes_on whole (before ++ kept ∷ []) next more counts rise parts,
+    )
+
+prunes : (history : List (ℕ × PrunedBits)) → CountsRise history → RiseInNumber history → PrunesFrom 0 history
+prunes [] counts rise = tt
+prunes (first ∷ later) counts rise = (omega arith, prunes_on (first ∷ later) [] first later counts rise refl)
+
+-- the numbers rise, so all of them are below what the last one is below
+numbers_below : (bound : ℕ) (first : ℕ × PrunedBits) (later : List (ℕ × PrunedBits)) → RiseInNumber (first ∷ later) → (last_kept first later).0 < bound → AllByRecursion (λ kept. kept.0 < bound) (first ∷ later)
+unfolding IsStrictlySortedBy last_kept
+numbers_below bound first [] rise h = (h, tt)
+numbers_below bound first (kept ∷ later) rise h =
+    let others = numbers_below bound kept later rise.1 h in
+    (omega (arith, below first.0 kept.0 rise.0.0, others.0), others)
+
+unreserved : (current : PrunedBits) (last : Option ℕ) (history : List (ℕ × PrunedBits)) → RiseInNumber history → IsHistory (record { current = current; history = history; last = last }) → IfSome last (λ number. number < 2 ^ 64 - 1)
+    → AllByRecursion (λ kept. kept.0 < 2 ^ 64 - 1) history
+unreserved current last [] rise ends small = tt
+unreserved current last (first ∷ later) rise ends small =
+    numbers_below (2 ^ 64 - 1) first later rise (at_some last (last_kept first later).0 (λ number. number < 2 ^ 64 - 1) (ends_at current last first later ends).0 small)
+
+last_both : (found : Option (ℕ × PrunedBits)) (current : PrunedBits) (last : Option ℕ) → IfSome (option_map (λ e. e.0) found) (λ number. last ≡ Some number) → IfSome found (λ kept. current ≡ kept.1)
+    → IfSome found (λ kept. (last ≡ Some kept.0) × (current ≡ kept.1))
+last_both None current last ends is = tt
+last_both (Some kept) current last ends is = (ends, is)
+
+-- the kept states of a bitmap end at its current one, under its last number
+pub is_history : (n : ℕ) (v : View ⊤) → LatestIsLast (history_of n v) v.last → IsHistory (kept_of n v)
+is_history n v ends = last_both (last_of (history_of n v)) v.current v.last ends (last_is_current n v.commits v.current)
+
+pub has_log : (n : ℕ) (s : Kept) → RiseInNumber s.history → CountsRise s.history → AllByRecursion (λ kept. bit_len n kept.1 < 2 ^ 64) s.history → bit_len n s.current < 2 ^ 64
+    → IsHistory s → IfSome s.last (λ number. number < 2 ^ 64 - 1) → length (history_bytes n s) < 2 ^ 64 → HasLog n s
+has_log n s rise counts lens len ends last small = record {
+  rise = rise;
+  numbers = unreserved s.current s.last s.history rise ends last;
+  last = last;
+  pruned = prunes s.history counts rise;
+  lens = lens;
+  len = len;
+  small = small;
+}
+
+-- ---- a history that is written
 
 -- a part of the commits of a history is written, in frames from a place on: that of the state under `from` is the last one, and the numbers of the others are left
 pub record WritesOn (n : ℕ) (history : List (ℕ × PrunedBits)) (from : ℕ) (numbers : List ℕ) (start : Place) (first out : List ℕ) (place : Place) : Type 0 where
@@ -224,14 +297,6 @@ pub record AreNeighbours (n : ℕ) (history : List (ℕ × PrunedBits)) (from to
   pub rises : from < to
   pub older : kept_under history from ≡ Some old
   pub newer : kept_under history to ≡ Some new
-
-older_kept : (history before later : List (ℕ × PrunedBits)) (a b : ℕ × PrunedBits) → RiseInNumber history → history ≡ before ++ a ∷ b ∷ later → kept_under history a.0 ≡ Some a.1
-older_kept history before later a b rise split = ap (λ (xs : List (ℕ × PrunedBits)). kept_under xs a.0) split ∙ kept_at before a (b ∷ later) (subst RiseInNumber split rise)
-
-newer_kept : (history before later : List (ℕ × PrunedBits)) (a b : ℕ × PrunedBits) → RiseInNumber history → history ≡ before ++ a ∷ b ∷ later → kept_under history b.0 ≡ Some b.1
-newer_kept history before later a b rise split =
-    let other : history ≡ (before ++ a ∷ []) ++ b ∷ later = split ∙ sym (append_assoc before (a ∷ []) (b ∷ later)) in
-    ap (λ (xs : List (ℕ × PrunedBits)). kept_under xs b.0) other ∙ kept_at (before ++ a ∷ []) b later (subst RiseInNumber other rise)
 
 neighbours_of : (n : ℕ) (history : List (ℕ × PrunedBits)) (from to : ℕ) (numbers : List ℕ) (start : Place) (first out : List ℕ) (place : Place) (before : List (ℕ × PrunedBits)) (old : PrunedBits) (later : List (ℕ × PrunedBits)) (done : List Entry)
     → RiseInNumber history → history ≡ before ++ (from, old) ∷ later → to ∷ numbers ≡ keys_of later → later_commits n history ≡ done ++ commits_from n old later
@@ -289,6 +354,61 @@ one_written n history from to numbers start first out more body place after a is
       place_is = f ∙ (λ i. next (a.place_is i) (is i)) ∙ sym (place_after-append start (map encode_entry a.done) (encode_entry entry ∷ [])) ∙ sym (ap (place_after start) all);
     }
 
+-- the length of a kept state fits
+abbrev pub LenFits : ℕ → ℕ × PrunedBits → Type 0
+LenFits n kept = bit_len n kept.1 < 2 ^ 64
+
+-- the lengths of the first of some kept states fit, and the numbers of the others are left
+pub record LensFitOn (n : ℕ) (history : List (ℕ × PrunedBits)) (numbers : List ℕ) : Type 0 where
+  pub before : List (ℕ × PrunedBits)
+  pub later : List (ℕ × PrunedBits)
+  pub split : history ≡ before ++ later
+  pub numbers_are : numbers ≡ keys_of later
+  pub fit : AllByRecursion (LenFits n) before
+
+pub first_len_fits : (n : ℕ) (history : List (ℕ × PrunedBits)) (from : ℕ) (numbers : List ℕ) → keys_of history ≡ from ∷ numbers → IfSome (slice_get history 0) (LenFits n) → LensFitOn n history numbers
+first_len_fits n [] from numbers e fits = absurd cc
+first_len_fits n (kept ∷ later) from numbers e fits =
+    let others : keys_of later ≡ numbers = cc in
+    record { before = kept ∷ []; later = later; split = refl; numbers_are = sym others; fit = (fits, tt) }
+
+all_more : (P : ℕ × PrunedBits → Type 0) (xs : List (ℕ × PrunedBits)) (x : ℕ × PrunedBits) → AllByRecursion P xs → P x → AllByRecursion P (xs ++ x ∷ [])
+all_more P [] x h p = (p, tt)
+all_more P (y ∷ ys) x h p = (h.0, all_more P ys x h.1 p)
+
+more_fits : (n : ℕ) (history before later : List (ℕ × PrunedBits)) (to : ℕ) (numbers : List ℕ) → RiseInNumber history → history ≡ before ++ later → to ∷ numbers ≡ keys_of later
+    → AllByRecursion (LenFits n) before → ((new : PrunedBits) → kept_under history to ≡ Some new → bit_len n new < 2 ^ 64) → LensFitOn n history numbers
+more_fits n history before [] to numbers rise split e fit next = absurd cc
+more_fits n history before (kept ∷ later) to numbers rise split e fit next =
+    let is : kept.0 ≡ to = cc in
+    let others : numbers ≡ keys_of later = cc in
+    let found : kept_under history to ≡ Some kept.1 = ap (kept_under history) (sym is) ∙ found_at history before kept later rise split in
+    record {
+      before = before ++ kept ∷ [];
+      later = later;
+      split = split ∙ sym (append_assoc before (kept ∷ []) later);
+      numbers_are = others;
+      fit = all_more (LenFits n) before kept fit (next kept.1 found);
+    }
+
+-- one length more fits
+pub one_len_fits : (n : ℕ) (history : List (ℕ × PrunedBits)) (to : ℕ) (left numbers : List ℕ) → RiseInNumber history → LensFitOn n history left → left ≡ to ∷ numbers
+    → ((new : PrunedBits) → kept_under history to ≡ Some new → bit_len n new < 2 ^ 64) → LensFitOn n history numbers
+one_len_fits n history to left numbers rise f e next = more_fits n history f.before f.later to numbers rise f.split (sym e ∙ f.numbers_are) f.fit next
+
+all_of : (n : ℕ) (history before later : List (ℕ × PrunedBits)) → history ≡ before ++ later → keys_of later ≡ [] → AllByRecursion (LenFits n) before → AllByRecursion (LenFits n) history
+all_of n history before [] split e fit = subst (λ (xs : List (ℕ × PrunedBits)). AllByRecursion (LenFits n) xs) (sym (split ∙ append-nil before)) fit
+all_of n history before (kept ∷ later) split e fit = absurd cc
+
+-- all lengths fit if no number is left
+pub all_lens_fit : (n : ℕ) (history : List (ℕ × PrunedBits)) (left : List ℕ) → LensFitOn n history left → left ≡ [] → AllByRecursion (LenFits n) history
+all_lens_fit n history left f e = all_of n history f.before f.later f.split (sym f.numbers_are ∙ e) f.fit
+
+-- no length has to fit if no state is kept
+pub none_fit : (n : ℕ) (history : List (ℕ × PrunedBits)) → keys_of history ≡ [] → AllByRecursion (LenFits n) history
+none_fit n [] e = tt
+none_fit n (kept ∷ later) e = absurd cc
+
 -- what begins with some bytes begins with their beginning
 pub begins_on : (x y more all : List ℕ) → take (length x) all ≡ x → x ≡ y ++ more → take (length y) all ≡ y
 begins_on x y more all h e =
@@ -327,6 +447,18 @@ found_first [] number rest e = absurd cc
 found_first (kept ∷ later) number rest e =
     let is : kept.0 ≡ number = cc in
     (kept.1, later, (λ i. (is i, kept.1) ∷ later), rw (eq-eqb number kept.0 (sym is)) refl)
+
+-- the length of the first kept state fits
+pub first_fits : (n : ℕ) (history : List (ℕ × PrunedBits)) (number : ℕ) (rest : List ℕ) (first : PrunedBits) → keys_of history ≡ number ∷ rest → Some first ≡ kept_under history number → bit_len n first < 2 ^ 64
+    → IfSome (slice_get history 0) (LenFits n)
+first_fits n history number rest first e is fits =
+    let found = found_first history number rest e in
+    let same : first ≡ found.0 = same_Some first found.0 (is ∙ found.3) in
+    subst (λ (xs : List (ℕ × PrunedBits)). IfSome (slice_get xs 0) (LenFits n)) (sym found.2) (subst (λ (b : PrunedBits). bit_len n b < 2 ^ 64) same fits)
+
+pub no_first_fits : (n : ℕ) (history : List (ℕ × PrunedBits)) → keys_of history ≡ [] → IfSome (slice_get history 0) (LenFits n)
+no_first_fits n [] e = tt
+no_first_fits n (kept ∷ later) e = absurd cc
 
 -- the first number is kept
 pub first_kept : (history : List (ℕ × PrunedBits)) (number : ℕ) (rest : List ℕ) (found : Option PrunedBits) → keys_of history ≡ number ∷ rest → found ≡ kept_under history number → IsSome found

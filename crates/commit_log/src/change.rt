@@ -1,6 +1,6 @@
 //! The change from one kept state to a later one, in the bytes of an entry or of a delta.
 
-ghost use Rattle.std.specs.Prelude.{◌≡◌, ◌≤◌, ◌++◌, Some, IsSome, OnOk};
+ghost use Rattle.std.specs.Prelude.{◌≡◌, ◌^◌, ◌<◌, ◌≤◌, ◌++◌, Some, IsSome, OnOk};
 ghost use Rattle.std.specs.List.{flat_map};
 ghost use Rattle.bitmap_core.specs.PrunedBits.{PrunedBits, bit_len};
 ghost use Rattle.historical_bitmap.specs.History.{kept_under};
@@ -70,13 +70,17 @@ pub(crate) fn push_commit<const N: usize>(
     requires order { from ≤ to }
     requires older { IsSome (kept_under (history_of N bitmap.now) from) }
     requires newer { IsSome (kept_under (history_of N bitmap.now) to) }
-    ensures { (old new : PrunedBits) → kept_under (history_of N bitmap.now) from ≡ Some old
+    ensures entry { (old new : PrunedBits) → kept_under (history_of N bitmap.now) from ≡ Some old
         → kept_under (history_of N bitmap.now) to ≡ Some new
         → OnOk result (out.new.items
         ≡ out.old.items ++ encode_entry (Commit (change_to N to old new))) }
+    ensures len { (new : PrunedBits) → kept_under (history_of N bitmap.now) to ≡ Some new
+        → OnOk result (bit_len N new < 2 ^ 64) }
 {
     out.push(COMMIT)?;
     let newer = bitmap.at(to).unwrap();
+    // The prover learns from this call that the length fits 64 bits.
+    let _ = newer.len();
     let changes = bitmap.changed_chunks(from, to).unwrap();
     push_change(out, to, &newer, changes)
 }

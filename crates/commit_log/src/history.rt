@@ -1,10 +1,13 @@
 //! The history of a bitmap as bytes: a compacted log, with its kept states and no other entries.
 
-ghost use Rattle.std.specs.Prelude.{◌≡◌, ◌++◌, map, take, length, is_ok, IfOk, OnOk, if◌then◌else◌};
+ghost use Rattle.std.specs.Prelude.{◌≡◌, ◌^◌, ◌<◌, ◌++◌, map, take, length, is_ok, IfOk, IfSome, OnOk, if◌then◌else◌, slice_get};
+ghost use Rattle.std.specs.List.{AllByRecursion};
+ghost use Rattle.bitmap_core.specs.PrunedBits.{bit_len};
+ghost use Rattle.historical_bitmap.specs.View.{history_of};
 ghost use Rattle.log_frames.specs.Frames.{frames, place_after};
 ghost use Rattle.commit_log.specs.Base.{encode_base};
 ghost use Rattle.commit_log.specs.Entries.{encode_entry};
-ghost use Rattle.commit_log.specs.History.{history_base, history_bytes, history_entries, history_place};
+ghost use Rattle.commit_log.specs.History.{HasLog, IsHistory, history_base, history_bytes, history_entries, history_place};
 ghost use Rattle.commit_log.specs.History.{past_without as known_without};
 ghost use Rattle.commit_log.specs.Kept.{kept_of};
 
@@ -30,8 +33,10 @@ fn history_base_bytes<const N: usize>(
     alloc: Global,
     bitmap: &CleanBitMap<N>,
 ) -> Result<Vec<u8>, AllocError>
-    ensures { IfOk result (λ bytes. bytes.items
+    ensures bytes { IfOk result (λ bytes. bytes.items
         ≡ encode_base N (history_base (kept_of N bitmap.now))) }
+    ensures first_len { OnOk result (IfSome (slice_get (history_of N bitmap.now) 0)
+        (λ first. bit_len N first.1 < 2 ^ 64)) }
 {
     let mut numbers = bitmap.commits();
     let Some(number) = numbers.next() else {
@@ -39,6 +44,8 @@ fn history_base_bytes<const N: usize>(
     };
     let count = numbers.count() as u64;
     let first = bitmap.get_at_commit(number)?.unwrap();
+    // The prover learns from this call that the length fits 64 bits.
+    let _ = first.len();
     base_bytes(alloc, &first, Past::KeptUnder { number, count })
 }
 
@@ -48,11 +55,15 @@ fn push_commits<const N: usize>(
     bitmap: &CleanBitMap<N>,
     place: Place,
 ) -> Result<Place, AllocError>
+    requires { IfSome (slice_get (history_of N bitmap.now) 0)
+        (λ first. bit_len N first.1 < 2 ^ 64) }
     ensures bytes { OnOk result (out.new.items ≡ out.old.items
         ++ frames place (map encode_entry (history_entries N (kept_of N bitmap.now)))) }
     ensures after { IfOk result (λ after. after
         ≡ place_after place (map encode_entry (history_entries N (kept_of N bitmap.now)))) }
     ensures begins { take (length out.old.items) out.new.items ≡ out.old.items }
+    ensures lens { OnOk result (AllByRecursion (λ kept. bit_len N kept.1 < 2 ^ 64)
+        (history_of N bitmap.now)) }
 {
     let mut place = place;
     let mut numbers = bitmap.commits();
@@ -78,6 +89,8 @@ fn push_history<const N: usize>(
         ≡ out.old.items ++ history_bytes N (kept_of N bitmap.now)) }
     ensures after { IfOk result (λ after. after ≡ history_place N (kept_of N bitmap.now)) }
     ensures begins { take (length out.old.items) out.new.items ≡ out.old.items }
+    ensures lens { OnOk result (AllByRecursion (λ kept. bit_len N kept.1 < 2 ^ 64)
+        (history_of N bitmap.now)) }
 {
     let base = history_base_bytes(*out.allocator(), bitmap)?;
     let place = push_header(out, N as u64)?;
@@ -89,6 +102,9 @@ fn push_history<const N: usize>(
 ///
 /// A history is a log of the kept states and nothing else: its base is the first kept state, or the current bitmap if no state is kept, and each
 /// further kept state is a commit with the change from the state before it.
+///
+/// What is written is read back whole: `read_history`, with ranges that admit it, and `recover` return a bitmap with the same current bitmap, the
+/// same kept states under the same numbers, and the same last number. Only an allocation that fails prevents this.
 ///
 /// # Errors
 /// Returns `AllocError` if an allocation fails. `out` then has the same bytes as before.
@@ -107,10 +123,21 @@ pub fn write_history<const N: usize>(
     ensures bytes { out.new.items ≡ (if is_ok result
         then out.old.items ++ history_bytes N (kept_of N bitmap.now) else out.old.items) }
     ensures after { IfOk result (λ after. after ≡ history_place N (kept_of N bitmap.now)) }
+    // What is written is a log, which makes the bitmap again.
+    ensures log { OnOk result (HasLog N (kept_of N bitmap.now)) }
+    ensures ends { IsHistory (kept_of N bitmap.now) }
 {
+    // The prover learns from these calls what holds of every history. That the number of its bytes fits 64 bits, it learns from the vector.
+    bitmap.pruned_counts_rise();
+    let _ = bitmap.len();
+    let _ = bitmap.commits();
+    let _ = bitmap.last_number();
     let len = out.len();
     match push_history(out, bitmap) {
-        Ok(place) => Ok(place),
+        Ok(place) => {
+            let _ = out.len();
+            Ok(place)
+        }
         Err(error) => {
             out.truncate(len);
             Err(error)
@@ -121,6 +148,8 @@ pub fn write_history<const N: usize>(
 impl<const N: usize> Log<N> {
     /// Begins a log with the history of a bitmap. The bytes of the history are those that the program writes first.
     ///
+    /// As [`write_history`] says, what is written is read back whole, and so is the log with the entries that are appended to it.
+    ///
     /// # Errors
     /// Returns `AllocError` if an allocation fails.
     ///
@@ -130,10 +159,13 @@ impl<const N: usize> Log<N> {
     /// # Complexity
     /// As [`write_history`].
     pub fn begin(alloc: Global, bitmap: &CleanBitMap<N>) -> Result<Self, AllocError>
-        ensures { IfOk result (λ log. log ≡ record {
+        ensures value { IfOk result (λ log. log ≡ record {
           bytes = history_bytes N (kept_of N bitmap.now);
           place = history_place N (kept_of N bitmap.now);
         }) }
+        // What is written is a log, which makes the bitmap again.
+        ensures log { OnOk result (HasLog N (kept_of N bitmap.now)) }
+        ensures ends { IsHistory (kept_of N bitmap.now) }
     {
         let mut bytes = Vec::new(alloc);
         let place = write_history(bitmap, &mut bytes)?;

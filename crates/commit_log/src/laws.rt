@@ -1,7 +1,7 @@
 //! Laws of changes, deltas and logs: what holds of all of them. A law is the contract of a function whose body makes the calls that the law is
 //! about, or is empty.
 
-ghost use Rattle.std.specs.Prelude.{⊤, ◌≡◌, ℕ, ◌*◌, ◌^◌, ◌<◌, ◌≤◌, ◌++◌, ◌↔◌, Bool, List, [], ◌∷◌, Some, IfErr, IfSome, MatchResult, alloc_error, take};
+ghost use Rattle.std.specs.Prelude.{⊤, ◌≡◌, ℕ, ◌*◌, ◌^◌, ◌<◌, ◌≤◌, ◌++◌, ◌↔◌, Bool, false, List, [], ◌∷◌, Some, IfErr, IfOk, IfSome, MatchResult, alloc_error, take};
 ghost use Rattle.bitmap_bytes.specs.Chunk.{IsWidth};
 ghost use Rattle.bitmap_core.specs.PrunedBits.{PrunedBits};
 ghost use Rattle.log_frames.specs.Frames.{frame, next};
@@ -11,17 +11,25 @@ ghost use Rattle.commit_log.specs.Base.{Base};
 ghost use Rattle.commit_log.specs.Entries.{Change, Entry, encode_entry};
 ghost use Rattle.commit_log.specs.Delta.{Brings, IsStep, committed, delta_between, encode_delta};
 ghost use Rattle.commit_log.specs.declared.deltas.DeltaError.TheVariants.{Memory};
-ghost use Rattle.commit_log.specs.History.{HasLog, IsHistory, history_base, history_bytes, history_entries, last_of};
+ghost use Rattle.commit_log.specs.declared.reading.HistoryError.TheVariants.{Memory as HistoryMemory};
+ghost use Rattle.commit_log.specs.declared.recovery.RecoverError.TheVariants.{Memory as RecoverMemory};
+ghost use Rattle.commit_log.specs.History.{HasLog, IsHistory, history_base, history_bytes, history_entries, history_place, last_of};
 ghost use Rattle.commit_log.specs.Kept.{Kept, after, applied, change_to, kept_of};
 ghost use Rattle.commit_log.specs.ListOfChanges.{IsListOfChanges};
 ghost use Rattle.commit_log.specs.Logs.{IsLog, MayFollow, log_bytes, place_of, state_of};
+ghost use Rattle.commit_log.specs.Reading.{IsWithin, ranges};
 ghost use Rattle.commit_log.specs.Recovered.{IsMadeIn, IsPrefixOf, Recovers};
 ghost use Rattle.historical_bitmap.specs.History.{kept_under};
 ghost use Rattle.historical_bitmap.specs.View.{View, history_of};
 
 use crate::deltas::{DeltaError, apply_delta, delta};
+use crate::history::write_history;
+use crate::log::Log;
+use crate::reading::{HistoryError, read_history};
+use crate::recovery::{RecoverError, Recovered, recover};
+use bitmap_core::bitmap::codec::RangeCfg;
 use historical_bitmap::bitmap::historical::CleanBitMap;
-use std::alloc::Global;
+use std::alloc::{AllocError, Global};
 
 /// The change from a bitmap to another, applied to the first, makes the second.
 pub fn a_change_makes_the_newer_state()
@@ -86,8 +94,9 @@ pub fn a_log_goes_on()
 
 /// The history of a state, read as a log, makes this state again: its current bitmap, its kept states and its last number.
 ///
-/// It is a log if the numbers rise, the pruned counts do not fall, and all fits 64 bits. The last kept state of a historical bitmap is the current
-/// one, so that only the last number has to be that of the last kept state.
+/// It is a log if the numbers rise, the pruned counts do not fall, and all fits 64 bits. By the contract of `write_history` this holds of each
+/// history that is written. The last kept state of a historical bitmap is the current one, so that only the last number has to be that of the last
+/// kept state.
 pub fn a_compacted_log_makes_each_state()
     ensures made { (n : ℕ) (s : Kept) → 0 < n → IsHistory s
         → state_of n (history_base s) (history_entries n s) ≡ s }
@@ -104,6 +113,56 @@ pub fn a_history_has_one_state()
         → IsHistory s → IsHistory t → history_bytes n s ++ rest ≡ history_bytes n t ++ left
         → (s ≡ t) × (rest ≡ left) }
 {}
+
+/// Writes the history of a bitmap, and reads it back.
+///
+/// The bitmap that is read has the same current bitmap, the same kept states under the same numbers, and the same last number. By the clause
+/// `complete` it is read unless an allocation fails, if the ranges admit it.
+///
+/// # Errors
+/// Those of `write_history`, and those of `read_history`.
+pub fn a_written_history_is_read<const N: usize>(
+    alloc: Global,
+    bitmap: &CleanBitMap<N>,
+    bits: &RangeCfg,
+    commits: &RangeCfg,
+) -> Result<Result<CleanBitMap<N>, HistoryError>, AllocError>
+    ensures same { IfOk result (λ read. IfOk read (λ b. kept_of N b ≡ kept_of N bitmap.now)) }
+    ensures complete { IsWithin (ranges bits.now commits.now) (kept_of N bitmap.now)
+        → IfOk result (λ read. IfErr read (λ e. e ≡ HistoryMemory alloc_error)) }
+{
+    // The prover learns the width from this call.
+    let _ = bitmap.len();
+    let mut bytes = Vec::new(alloc);
+    write_history(bitmap, &mut bytes)?;
+    let mut from = bytes.as_slice();
+    Ok(read_history(alloc, &mut from, bits, commits))
+}
+
+/// Begins a log with the history of a bitmap, and recovers it.
+///
+/// The bitmap that is recovered has the same current bitmap, the same kept states under the same numbers, and the same last number. The log goes on
+/// at the same place, and no byte is torn. By the clause `complete` it is recovered unless an allocation fails.
+///
+/// # Errors
+/// Those of `Log::begin`, and those of `recover`.
+pub fn a_begun_log_is_recovered<const N: usize>(
+    alloc: Global,
+    bitmap: &CleanBitMap<N>,
+) -> Result<Result<Recovered<N>, RecoverError>, AllocError>
+    ensures same { IfOk result (λ recovered. IfOk recovered (λ found.
+        (kept_of N found.bitmap ≡ kept_of N bitmap.now)
+        × (found.log.place ≡ history_place N (kept_of N bitmap.now)) × (found.torn ≡ false))) }
+    ensures complete { IfOk result (λ recovered.
+        IfErr recovered (λ e. e ≡ RecoverMemory alloc_error)) }
+{
+    a_compacted_log_makes_each_state();
+    // The prover learns the width from this call.
+    let _ = bitmap.len();
+    let mut log = Log::begin(alloc, bitmap)?;
+    let bytes = log.take();
+    Ok(recover(alloc, &bytes))
+}
 
 /// Writes the delta between two kept states, and applies it to a replica.
 ///

@@ -67,7 +67,8 @@
 //! last number, a count and the encoding of the bitmap. [`base_bytes`] encodes it and [`read_base`] reads it.
 //!
 //! The history of a bitmap is a log too: its base is the first kept state, and it has one commit for each later one. [`write_history`] writes it, and
-//! [`read_history`] reads it.
+//! [`read_history`] reads it. The law [`a_written_history_is_read`] says that what is read is what was written, and the law
+//! [`a_begun_log_is_recovered`] that [`recover`] makes the same of it.
 //!
 //! The chunks of a commit are those that the bitmap retains after it, and that differ from the bitmap before it, ascending. Bits past the length
 //! are zero. So each commit has one encoding: the law [`a_change_has_one_list`] says this.
@@ -115,9 +116,10 @@ pub use entry::{Change, DecodeError, Entry, push_chunk, read_entry};
 pub use error::{ApplyError, EntryError};
 pub use history::write_history;
 pub use laws::{
-    a_change_has_one_list, a_change_makes_the_newer_state, a_compacted_log_makes_each_state,
-    a_delta_makes_the_newer_state, a_history_has_one_state, a_log_goes_on, a_replica_follows,
-    any_prefix_recovers_a_state, only_one_recovery, two_deltas_make_one,
+    a_begun_log_is_recovered, a_change_has_one_list, a_change_makes_the_newer_state,
+    a_compacted_log_makes_each_state, a_delta_makes_the_newer_state, a_history_has_one_state,
+    a_log_goes_on, a_replica_follows, a_written_history_is_read, any_prefix_recovers_a_state,
+    only_one_recovery, two_deltas_make_one,
 };
 pub use log::{Log, clear_logged, commit_logged, drop_before_logged, rewind_logged};
 pub use logged_delta::apply_delta_logged;

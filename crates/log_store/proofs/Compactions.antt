@@ -1,13 +1,9 @@
 -- A log that is replaced by the history of its state: what a crash leaves, and what it is opened to.
-use Rattle.std.proofs.Common.{◌≡◌, inl, inr, ⊎_elim, ℕ, List, [], ◌∷◌, ◌++◌, length, take, Option, Some, None, sym, ap, subst, ◌∙◌, arith}
-use Rattle.std.specs.Prelude.{IfSome}
-use Rattle.std.specs.Option.{option_map}
+use Rattle.std.proofs.Common.{◌≡◌, inl, inr, ⊎_elim, ℕ, List, [], ◌∷◌, ◌++◌, length, take, sym, ap, subst, ◌∙◌, arith}
 use Rattle.std.proofs.lemmas.List.{take_all}
-use Rattle.bitmap_core.specs.PrunedBits.{PrunedBits}
-use Rattle.historical_bitmap.specs.History.{LatestIsLast}
 use Rattle.commit_log.specs.Base.{Base}
 use Rattle.commit_log.specs.Entries.{Entry}
-use Rattle.commit_log.specs.History.{IsHistory, history_base, history_bytes, history_entries, history_place, last_of}
+use Rattle.commit_log.specs.History.{HasLog, IsHistory, history_base, history_bytes, history_entries, history_place}
 use Rattle.commit_log.specs.Kept.{Kept}
 use Rattle.commit_log.specs.Logs.{IsLog, log_bytes, place_of, state_of}
 use Rattle.log_store.specs.Compacted.{IsCompacted, IsCompacting}
@@ -19,14 +15,6 @@ use Rattle.log_store.specs.declared.device.Device.{Ghosts}
 use Rattle.log_store.specs.declared.stored_log.StoredLog.{StoredLog}
 use Rattle.log_store.proofs.Moments.{unchanged, weaker}
 use Rattle.log_store.proofs.Reopening.{whole_log, whole_torn}
-
--- the last kept state is the current one, under the last number
-last_both : (found : Option (ℕ × PrunedBits)) (current : PrunedBits) (last : Option ℕ) → IfSome (option_map (λ e. e.0) found) (λ number. last ≡ Some number) → IfSome found (λ kept. current ≡ kept.1) → IfSome found (λ kept. (last ≡ Some kept.0) × (current ≡ kept.1))
-last_both None current last ends is = tt
-last_both (Some kept) current last ends is = (ends, is)
-
-pub is_history : (s : Kept) → LatestIsLast s.history s.last → IfSome (last_of s.history) (λ kept. s.current ≡ kept.1) → IsHistory s
-is_history s ends is = last_both (last_of s.history) s.current s.last ends is
 
 module _ {D : Type 0} (n : ℕ) (g : Ghosts D) where
   -- a device at rest that has the history of a state
@@ -45,11 +33,11 @@ module _ {D : Type 0} (n : ℕ) (g : Ghosts D) where
   not_compacted base begun kept state s log now h = unchanged g log.device (IsCompacting n base begun kept s) (λ c left. now c h.works left) (λ c left. inl (h.crash c left))
 
   -- while it is
-  pub compacting : (base : Base) (begun : List Entry) (kept : ℕ) (state s : Kept) (old : StoredLog D) (new : D) (bytes : List ℕ) → IsStored n g base begun kept state old → (g.seen old.device ≡ log_bytes n base begun ++ closed ∷ []) → bytes ≡ history_bytes n s ++ closed ∷ []
+  pub compacting : (base : Base) (begun : List Entry) (kept : ℕ) (state s : Kept) (old : StoredLog D) (new : D) (bytes : List ℕ) → HasLog n s → IsHistory s → IsStored n g base begun kept state old → (g.seen old.device ≡ log_bytes n base begun ++ closed ∷ []) → bytes ≡ history_bytes n s ++ closed ∷ []
       → LeavesOnly g old.device new (IsEither (g.seen old.device) bytes) → LeavesOnly g old.device new (IsCompacting n base begun kept s)
-  compacting base begun kept state s old new bytes h seen is calls =
+  compacting base begun kept state s old new bytes has ends h seen is calls =
       weaker g old.device new (IsEither (g.seen old.device) bytes) (IsCompacting n base begun kept s) calls
-      (λ c either. ⊎_elim (λ (was : c ≡ g.seen old.device). inl (whole_torn n base begun kept c h.within (was ∙ seen))) (λ (now : c ≡ bytes). inr (now ∙ is)) either)
+      (λ c either. ⊎_elim (λ (was : c ≡ g.seen old.device). inl (whole_torn n base begun kept c h.within (was ∙ seen))) (λ (now : c ≡ bytes). inr (has, ends, now ∙ is)) either)
 
   -- a log that is opened with all of its entries has the state that they make
   pub opens_same : (base : Base) (entries : List Entry) (kept : ℕ) (state : Kept) (log : StoredLog D) → kept ≡ length entries → OpensTo n g base entries kept state log → state ≡ state_of n base entries

@@ -2,7 +2,7 @@
 use Rattle.std.specs.Prelude.{◌⊎◌, ◌≡◌, ℕ, List, ◌∷◌, [], ◌++◌, length}
 use Rattle.commit_log.specs.Base.{Base}
 use Rattle.commit_log.specs.Entries.{Entry}
-use Rattle.commit_log.specs.History.{history_base, history_bytes, history_entries}
+use Rattle.commit_log.specs.History.{HasLog, IsHistory, history_base, history_bytes, history_entries}
 use Rattle.commit_log.specs.Kept.{Kept}
 use Rattle.log_store.specs.Gate.{closed}
 use Rattle.log_store.specs.Store.{IsStored, IsTornLog}
@@ -13,6 +13,10 @@ use Rattle.log_store.specs.declared.stored_log.StoredLog.{StoredLog}
 abbrev pub IsCompacted : {D : Type 0} → ℕ → Ghosts D → Kept → StoredLog D → Type 0
 IsCompacted n g s log = IsStored n g (history_base s) (history_entries n s) (length (history_entries n s)) s log
 
+-- bytes are the history of a state and a closed gate, and the history is a log that makes the state
+abbrev pub IsReplacement : ℕ → Kept → List ℕ → Type 0
+IsReplacement n s c = HasLog n s × IsHistory s × (c ≡ history_bytes n s ++ closed ∷ [])
+
 -- what a crash leaves while a log is replaced by the history of a state: what it may leave of the log, or the whole history and a closed gate
 abbrev pub IsCompacting : ℕ → Base → List Entry → ℕ → Kept → List ℕ → Type 0
-IsCompacting n base begun kept s c = IsTornLog n base begun kept c ⊎ (c ≡ history_bytes n s ++ closed ∷ [])
+IsCompacting n base begun kept s c = IsTornLog n base begun kept c ⊎ IsReplacement n s c

@@ -3,7 +3,6 @@
 ghost use Rattle.std.specs.Prelude.{◌≡◌, ℕ, List, true, IfErr, IsErrOf, OnOk};
 ghost use Rattle.commit_log.specs.Base.{Base};
 ghost use Rattle.commit_log.specs.Entries.{Entry};
-ghost use Rattle.commit_log.specs.History.{HasLog};
 ghost use Rattle.commit_log.specs.Kept.{kept_of};
 ghost use Rattle.log_store.specs.Compacted.{IsCompacted, IsCompacting};
 ghost use Rattle.log_store.specs.Moments.{LeavesOnly};
@@ -39,7 +38,6 @@ impl<const N: usize, D: Replaceable> Store<N, D> {
         // The log has the history of the bitmap, and is kept.
         ensures compacted { (base : Base) (begun : List Entry) (kept : ℕ)
             → IsStored N D.Device base begun kept (kept_of N self.old.bitmap) self.old.log
-            → HasLog N (kept_of N self.old.bitmap)
             → OnOk result (IsCompacted N D.Device (kept_of N self.old.bitmap) self.new.log) }
         // A crash at any moment of the call leaves the old log or the new one.
         ensures any_moment { (base : Base) (begun : List Entry) (kept : ℕ)
@@ -56,7 +54,6 @@ impl<const N: usize, D: Replaceable> Store<N, D> {
         // The prover learns from these calls that the history makes the bitmap again.
         a_compacted_log_makes_each_state();
         let _ = self.bitmap.len();
-        let _ = self.bitmap.last_number();
         let Ok((bytes, place)) = whole_log(self.alloc, &self.bitmap) else {
             return Err(StoreError::Memory(AllocError));
         };

@@ -5,7 +5,6 @@ ghost use Rattle.std.specs.Prelude.{◌≡◌, ℕ, ◌++◌, [], List, MatchRes
 ghost use Rattle.bitmap_bytes.specs.Chunk.{IsWidth};
 ghost use Rattle.commit_log.specs.Base.{Base};
 ghost use Rattle.commit_log.specs.Entries.{Entry};
-ghost use Rattle.commit_log.specs.History.{HasLog, IsHistory};
 ghost use Rattle.commit_log.specs.Kept.{Kept, kept_of};
 ghost use Rattle.commit_log.specs.Logs.{entries_in};
 ghost use Rattle.commit_log.specs.Recovered.{IsPrefixOf};
@@ -116,7 +115,6 @@ pub fn a_compaction_is_opened<const N: usize, D: Replaceable>(
     requires { IsWidth N }
     ensures { (base : Base) (begun : List Entry) (kept : ℕ) (state : Kept)
         → IsStored N D.Device base begun kept state old.now → old.now.is_read_only ≡ false
-        → HasLog N state → IsHistory state
         → LeavesOnly D.Device old.now.device new.now.device (IsCompacting N base begun kept state)
         → D.Device.left_since new.now.device (D.Device.moment old.now.device) (D.Device.seen device)
         → IsAtRest D.Device device

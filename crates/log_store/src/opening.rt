@@ -4,7 +4,7 @@ ghost use Rattle.std.specs.Prelude.{◌≡◌, ℕ, ◌<◌, [], ◌∷◌, ◌+
 ghost use Rattle.bitmap_bytes.specs.Chunk.{IsWidth};
 ghost use Rattle.commit_log.specs.Base.{Base};
 ghost use Rattle.commit_log.specs.Entries.{Entry};
-ghost use Rattle.commit_log.specs.History.{history_bytes, history_place};
+ghost use Rattle.commit_log.specs.History.{HasLog, IsHistory, history_bytes, history_place};
 ghost use Rattle.commit_log.specs.Kept.{kept_of};
 ghost use Rattle.commit_log.specs.Logs.{IsLog};
 ghost use Rattle.log_store.specs.Device.{IsFailed};
@@ -62,6 +62,9 @@ pub(crate) fn whole_log<const N: usize>(
     ensures bytes { IfOk result (λ log. log.0.items
         ≡ history_bytes N (kept_of N bitmap.now) ++ closed ∷ []) }
     ensures place { IfOk result (λ log. log.1 ≡ history_place N (kept_of N bitmap.now)) }
+    // They are a log, which makes the bitmap again.
+    ensures log { OnOk result (HasLog N (kept_of N bitmap.now)) }
+    ensures ends { IsHistory (kept_of N bitmap.now) }
 {
     let mut log = Log::begin(alloc, bitmap)?;
     let place = place_after(&log);

@@ -178,14 +178,10 @@ impl<const N: usize> Session<N> {
             ≡ (if is_dirty self.now.state then InBatch else SaveMemory alloc_error)) }
     {
         a_compacted_log_makes_each_state();
-        self.fits_a_log();
+        self.has_width();
         match &self.state {
             State::Clean(bitmap) => match Log::begin(alloc, bitmap) {
-                Ok(log) => {
-                    // The prover learns from this call that the number of bytes fits 64 bits.
-                    let _ = log.position();
-                    Ok(log)
-                }
+                Ok(log) => Ok(log),
                 Err(error) => Err(SaveError::Memory(error)),
             },
             State::Dirty(_) => Err(SaveError::InBatch),

@@ -2,17 +2,15 @@
 //!
 //! A history has the current bitmap, the kept bitmaps and the last number of a session. It has no batch.
 
-ghost use Rattle.std.specs.Prelude.{◌≡◌, ℕ, ◌-◌, ◌^◌, ◌<◌, ◌≤◌, ◌++◌, List, [], length, take, if◌then◌else◌, Some, IfOk, IfErr, IsErrOf, MatchResult, OnErr, OnOk, alloc_error};
-ghost use Rattle.std.specs.List.{AllByRecursion};
+ghost use Rattle.std.specs.Prelude.{◌≡◌, ℕ, ◌<◌, ◌≤◌, ◌++◌, List, length, take, if◌then◌else◌, Some, IfOk, IfErr, IsErrOf, MatchResult, OnErr, OnOk, alloc_error};
 ghost use Rattle.std.specs.Option.{option_map};
 ghost use Rattle.bitmap_bytes.specs.Chunk.{IsWidth};
-ghost use Rattle.bitmap_core.specs.PrunedBits.{PrunedBits, bit_len};
-ghost use Rattle.historical_bitmap.specs.View.{history_of};
+ghost use Rattle.bitmap_core.specs.PrunedBits.{PrunedBits};
 ghost use Rattle.commit_log.specs.Delta.{Brings, IsStep, committed, delta_between, delta_of, encode_delta};
 ghost use Rattle.commit_log.specs.declared.deltas.DeltaError.TheVariants.{Memory as DeltaMemory};
 ghost use Rattle.commit_log.specs.declared.reading.HistoryError.TheVariants.{Header, Memory as HistoryMemory};
 ghost use Rattle.commit_log.specs.History.{HasLog, IsHistory, history_bytes};
-ghost use Rattle.commit_log.specs.Kept.{Kept, kept_of};
+ghost use Rattle.commit_log.specs.Kept.{Kept};
 ghost use Rattle.commit_log.specs.Reading.{IsCutOff, IsHistoryError, IsWithin, ranges};
 ghost use Rattle.log_frames.specs.declared.header.HeaderError.TheVariants.{Short};
 ghost use Rattle.bitmap_session.specs.Abstraction.{clean, machine_of};
@@ -22,11 +20,8 @@ ghost use Rattle.bitmap_session.specs.declared.session.saved.ApplyDeltaError.The
 ghost use Rattle.bitmap_session.specs.declared.session.saved.SaveError.TheVariants.{InBatch, Memory};
 
 use crate::session::{Session, State};
-use bitmap_core::bitmap::Readable;
 use bitmap_core::bitmap::codec::RangeCfg;
-use commit_log::{
-    DeltaError, HistoryError, a_compacted_log_makes_each_state, read_history, write_history,
-};
+use commit_log::{DeltaError, HistoryError, read_history, write_history};
 use historical_bitmap::bitmap::historical::CleanBitMap;
 use std::alloc::{AllocError, Global};
 use std::mem;
@@ -84,32 +79,6 @@ fn applied<const N: usize>(state: State<N>, bytes: &[u8]) -> (Result<(), ApplyDe
     }
 }
 
-// States of each kept bitmap that its number is not the reserved one, and that its length fits 64 bits. Does not allocate.
-fn kept_states_fit<const N: usize>(bitmap: &CleanBitMap<N>)
-    ensures { AllByRecursion (λ kept. (kept.0 < 2 ^ 64 - 1) × (bit_len N kept.1 < 2 ^ 64))
-        (history_of N bitmap.now) }
-{
-    let mut numbers = bitmap.commits();
-    while let Some(number) = numbers.next() {
-        let version = bitmap.at(number).unwrap();
-        let _ = version.len();
-    }
-}
-
-// States that the history of a bitmap is a log, if its bytes fit 64 bits. Does not allocate.
-fn history_is_log<const N: usize>(bitmap: &CleanBitMap<N>)
-    ensures log { length (history_bytes N (kept_of N bitmap.now)) < 2 ^ 64
-        → HasLog N (kept_of N bitmap.now) }
-    ensures ends { IsHistory (kept_of N bitmap.now) }
-{
-    kept_states_fit(bitmap);
-    bitmap.pruned_counts_rise();
-    a_compacted_log_makes_each_state();
-    let _ = bitmap.len();
-    let _ = bitmap.commits();
-    let _ = bitmap.last_number();
-}
-
 impl<const N: usize> Session<N> {
     // Makes a session outside a batch of a bitmap.
     pub(crate) fn outside(alloc: Global, bitmap: CleanBitMap<N>) -> Self
@@ -127,7 +96,8 @@ impl<const N: usize> Session<N> {
 
     /// Appends the history of the session to `out`: its current bitmap, its kept commits and its last number.
     ///
-    /// [`Session::load`] reads it back. The bytes are those of `commit_log::write_history`.
+    /// [`Session::load`] with ranges that admit it reads it back, unless an allocation fails. The bytes are those of
+    /// `commit_log::write_history`.
     ///
     /// # Errors
     ///
@@ -144,6 +114,9 @@ impl<const N: usize> Session<N> {
         ensures written { OnOk result (out.new.items
             ≡ out.old.items ++ history_bytes N (kept_part self.now.state)) }
         ensures outside { OnOk result (IsOutside self.now) }
+        // What is written is a log, which makes the session again.
+        ensures log { OnOk result (HasLog N (kept_part self.now.state)) }
+        ensures ends { OnOk result (IsHistory (kept_part self.now.state)) }
         ensures refused { IfErr result (λ e. e
             ≡ (if is_dirty self.now.state then InBatch else Memory alloc_error)) }
         ensures unchanged { OnErr result (out.new.items ≡ out.old.items) }
@@ -295,17 +268,11 @@ impl<const N: usize> Session<N> {
         self.state = state;
         result
     }
-    // States that what the session keeps outside a batch fits a log, if its bytes fit 64 bits. Does not allocate.
-    pub(crate) fn fits_a_log(&self)
-        ensures log { IsOutside self.now
-            → length (history_bytes N (kept_part self.now.state)) < 2 ^ 64
-            → HasLog N (kept_part self.now.state) }
-        ensures ends { IsOutside self.now → IsHistory (kept_part self.now.state) }
-        ensures width { IsWidth N }
+
+    // States that the width of a session is at least 1, and that a chunk has fewer than 2^64 bits. Does not allocate.
+    pub(crate) fn has_width(&self)
+        ensures { IsWidth N }
     {
-        match &self.state {
-            State::Clean(bitmap) => history_is_log(bitmap),
-            State::Dirty(_) => {}
-        }
+        let _ = &self.state;
     }
 }

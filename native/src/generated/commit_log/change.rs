@@ -46,6 +46,8 @@ pub(crate) fn push_change<const N: usize>(
 pub(crate) fn push_commit<const N: usize>(out: &mut Vec<u8>, bitmap: &CleanBitMap<N>, from: u64, to: u64) -> Result<(), AllocError> {
     out.try_push(COMMIT)?;
     let newer = bitmap.at(to).unwrap();
+    // The prover learns from this call that the length fits 64 bits.
+    let _ = newer.len();
     let changes = bitmap.changed_chunks(from, to).unwrap();
     push_change(out, to, &newer, changes)
 }

@@ -26,6 +26,8 @@ fn history_base_bytes<const N: usize>(alloc: Global, bitmap: &CleanBitMap<N>) ->
     };
     let count = numbers.count() as u64;
     let first = bitmap.try_get_at_commit(number)?.unwrap();
+    // The prover learns from this call that the length fits 64 bits.
+    let _ = first.len();
     base_bytes(&first, Past::KeptUnder { number, count })
 }
 
@@ -59,6 +61,9 @@ fn push_history<const N: usize>(out: &mut Vec<u8>, bitmap: &CleanBitMap<N>) -> R
 /// A history is a log of the kept states and nothing else: its base is the first kept state, or the current bitmap if no state is kept, and each
 /// further kept state is a commit with the change from the state before it.
 ///
+/// What is written is read back whole: `read_history`, with ranges that admit it, and `recover` return a bitmap with the same current bitmap, the
+/// same kept states under the same numbers, and the same last number. Only an allocation that fails prevents this.
+///
 /// # Errors
 /// Returns `AllocError` if an allocation fails. `out` then has the same bytes as before.
 ///
@@ -90,10 +95,20 @@ fn push_history<const N: usize>(out: &mut Vec<u8>, bitmap: &CleanBitMap<N>) -> R
 /// assert!(recover::<8>(&bytes).unwrap().bitmap.commits().eq([1, 2]));
 /// # Ok::<(), mortarpink::bitmap::historical::Error>(())
 /// ```
-pub fn write_history<const N: usize>(bitmap: &CleanBitMap<N>, out: &mut Vec<u8>) -> Result<Place, AllocError> {
+pub fn write_history<const N: usize>(bitmap: &CleanBitMap<N>, out: &mut Vec<u8>) -> Result<Place, AllocError>
+// What is written is a log, which makes the bitmap again.
+{
+    // The prover learns from these calls what holds of every history. That the number of its bytes fits 64 bits, it learns from the vector.
+    bitmap.pruned_counts_rise();
+    let _ = bitmap.len();
+    let _ = bitmap.commits();
+    let _ = bitmap.last_number();
     let len = out.len();
     match push_history(out, bitmap) {
-        Ok(place) => Ok(place),
+        Ok(place) => {
+            let _ = out.len();
+            Ok(place)
+        }
         Err(error) => {
             out.truncate(len);
             Err(error)
@@ -103,6 +118,8 @@ pub fn write_history<const N: usize>(bitmap: &CleanBitMap<N>, out: &mut Vec<u8>)
 
 impl<const N: usize> Log<N> {
     /// Begins a log with the history of a bitmap. The bytes of the history are those that the program writes first.
+    ///
+    /// As [`write_history`] says, what is written is read back whole, and so is the log with the entries that are appended to it.
     ///
     /// # Errors
     /// Returns `AllocError` if an allocation fails.
@@ -124,7 +141,9 @@ impl<const N: usize> Log<N> {
     /// assert_eq!(log.bytes().len(), 32 + 24 + 34);
     /// # Ok::<(), mortarpink::AllocError>(())
     /// ```
-    pub fn begin(bitmap: &CleanBitMap<N>) -> Result<Self, AllocError> {
+    pub fn begin(bitmap: &CleanBitMap<N>) -> Result<Self, AllocError>
+// What is written is a log, which makes the bitmap again.
+    {
         let alloc = Global;
 
         let mut bytes = Vec::new_within(alloc);

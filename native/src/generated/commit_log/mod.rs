@@ -29,7 +29,8 @@
 //! last number, a count and the encoding of the bitmap. [`base_bytes`] encodes it and [`read_base`] reads it.
 //!
 //! The history of a bitmap is a log too: its base is the first kept state, and it has one commit for each later one. [`write_history`] writes it, and
-//! [`read_history`] reads it.
+//! [`read_history`] reads it. The law `a_written_history_is_read` says that what is read is what was written, and the law
+//! `a_begun_log_is_recovered` that [`recover`] makes the same of it.
 //!
 //! The chunks of a commit are those that the bitmap retains after it, and that differ from the bitmap before it, ascending. Bits past the length
 //! are zero. So each commit has one encoding: the law `a_change_has_one_list` says this.

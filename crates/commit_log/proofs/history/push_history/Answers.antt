@@ -7,7 +7,7 @@ use Rattle.commit_log.proofs.Histories.{base_some, begins_on}
 use Rattle.commit_log.proofs.history.push_history.Goals as goal
 
 pub push_frame-requires : goal.push_frame-requires
-push_frame-requires g c = base_some g.row.N (history_base (kept_of g.row.N c.args.bitmap.now)) c.in_ok-base.base.items c.deref.result.now c.in_ok-base.ensures c.deref.ensures.value
+push_frame-requires g c = base_some g.row.N (history_base (kept_of g.row.N c.args.bitmap.now)) c.in_ok-base.base.items c.deref.result.now c.in_ok-base.ensures.bytes c.deref.ensures.value
 
 pub returns-clause-begins : goal.returns-clause-begins
 returns-clause-begins g c =
