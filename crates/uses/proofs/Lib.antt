@@ -1,2 +1,3 @@
 mod Digests
 mod Replicas
+mod SentDeltas

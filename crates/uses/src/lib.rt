@@ -23,6 +23,8 @@ mod chunk_digests;
 #[cfg(test)]
 mod chunks_to_send;
 #[cfg(test)]
+mod deltas;
+#[cfg(test)]
 mod epochs;
 #[cfg(test)]
 mod exchange;
