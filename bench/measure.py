@@ -25,6 +25,7 @@ class Call(NamedTuple):
     name: str
     times: int  # how often a run runs it
     units: int = 1  # what it does each time, in the units of its table
+    others: int = 0  # how often the other programs run it, if they take a far shorter time; else 0
 
 
 class Run(NamedTuple):

@@ -9,19 +9,21 @@ from typing import Callable, NamedTuple
 
 import disk
 from measure import Call, costs, counts, own_costs, ratio, run
-from programs import COPIES, FIXED, LMDB, NATIVE, ORIGINAL, OURS, PERSISTENT, ROARING, SQLITE, STORE, WHOLE
+from programs import COPIES, FIXED, LMDB, NATIVE, ORIGINAL, OURS, PERSISTENT, PLAIN, ROARING, SQLITE, STORE, WHOLE
 
 LARGE, SMALL = 64 << 20, 1 << 20  # bytes of dense bitmaps
 HISTORICAL = 1 << 17  # bytes of historical bitmaps, which are 2^20 bits
 WIDTHS = (1, 3, 8, 32)
 COMMITS = (1000, 10_000, 100_000)
 
-# Calls that take about a nanosecond per bit, and calls that work on whole words: how often a run calls them on 64 MB.
+# Calls that take about a nanosecond per bit, calls that work on whole words, and how often a run calls them on 64 MB and on 1 MB.
 SLOW = """push pop get set iter ones_iter zeros_iter to_bools from_bools hash prunable_push prunable_pop push_byte get_bit set_bit""".split()
 FAST = """copy flip_all set_all and or xor equal count_ones is_unset extend_same extend_same_shifted extend_other extend_other_shifted extend_to
     truncate clone write read push_chunk prune unprune next_one next_zero prev_one count_ones_range select_one set_range and_not is_subset
     sparse_ones_iter""".split()
-TIMES = {**dict.fromkeys(SLOW, 1), **dict.fromkeys(FAST, 16)}
+EXTENDS = "extend_same extend_same_shifted extend_other extend_other_shifted".split()
+TIMES = {**dict.fromkeys(SLOW, (1, 8)), **dict.fromkeys(FAST, (16, 1024)), **dict.fromkeys(EXTENDS, (8, 256)), "hash": (4, 64),
+         "sparse_ones_iter": (16, 512)}
 
 # The edits of a batch: what they are, how often an aborted and a committed batch is run, and the edits per batch.
 EDITS = {
@@ -34,16 +36,22 @@ EDITS = {
     "pop": ("pop", 10_000, 900, 1000),
     "mixed": ("sets, pushes, pops and reads at random", 5000, 5000, 1000),
     "slide": ("push 100 chunks, prune as many", 5000, 5000, 100),
-    "nothing": ("no edit", 1_000_000, 200_000, 1),
+    "nothing": ("no edit", 1_000_000, 500_000, 1),
 }
 PAST = [
-    Call("pending_bits", 1_000_000), Call("pending_chunks", 1_000_000), Call("read_oldest", 50), Call("read_middle", 50),
-    Call("read_newest", 20_000), Call("clone_commits", 20), Call("commit_exists", 2_000_000), Call("commit_numbers", 20_000),
+    Call("pending_bits", 1_000_000), Call("pending_chunks", 500_000), Call("read_oldest", 50), Call("read_middle", 50),
+    Call("read_newest", 20_000), Call("clone_commits", 20), Call("commit_exists", 5_000_000), Call("commit_numbers", 50_000),
 ]
 ALONE = [Call("in_place_oldest", 200, 1000), Call("in_place_newest", 2000, 1000), Call("changed_chunks", 2000), Call("compared_chunks", 50)]
-KEPT = [Call("kept_commit", 20_000), Call("kept_window", 100_000), Call("kept_rewind", 100_000), Call("kept_rebuild", 500),
-        Call("kept_get", 2000), Call("kept_scan", 5)]
-INDEXED = [Call("indexed_get", 500_000), Call("indexed_scan", 100)]
+# How often a run calls the calls of a bitmap with many commits: with 1,000 of them, 10,000 and 100,000. `INDEXED` has those of this project alone.
+# commonware-utils lists the set positions of the oldest commit in far shorter time.
+INDEXED = {"indexed_get": (1_000_000, 500_000, 500_000), "indexed_scan": (50, 40, 30)}
+KEPT = {"kept_commit": (20_000, 20_000, 100_000), "kept_window": (200_000, 200_000, 200_000), "kept_rewind": (100_000, 100_000, 100_000),
+        "kept_rebuild": (4000, 500, 50), "kept_get": (20_000, 5000, 1000), "kept_scan": (2, 1, 1), **INDEXED}
+SCANS = {"kept_scan": (200, 100, 10)}
+# The bytes of the bitmaps of the table lengths, and how often a run calls those calls there whose time depends on the length, with 1,000 commits.
+LENGTHS = (1 << 13, HISTORICAL, 1 << 23)
+BY_LENGTH = {"kept_commit": (20_000, 20_000, 100_000), "kept_rebuild": (4000, 4000, 100), "kept_scan": (20, 2, 1), "indexed_scan": (800, 50, 1)}
 # The calls of logs. One with units works on all of so many commits each time. `ENTRIES` prints the mean number of bytes of an entry.
 LOGS = [Call("log_commit", 20_000), Call("plain_commit", 20_000), Call("log_recover", 100, 1000), Call("log_make", 100, 1000),
         Call("log_delta", 2000), Call("log_indexed_delta", 200_000), Call("log_write_history", 10, 1000),
@@ -105,11 +113,12 @@ PAST_GROUPS = {
     "at with an index": "indexed_get indexed_scan",
 }
 BYTES = {"bits": 1 << 20, "far": 16 << 20, "copied": 8 << 20, "words": 32 << 20}
-COPIED = "hash extend_same extend_same_shifted extend_other extend_other_shifted sparse_ones_iter".split()
+COPIED = ["hash", *EXTENDS, "sparse_ones_iter"]
 FAR = ["get_far"]
 BITS = [*(name for name in SLOW if name not in COPIED), "push_new"]
 SHARED = """get get_far set push_new ones_iter sparse_ones_iter count_ones count_ones_range flip_all set_range and or xor and_not is_subset equal
     clone""".split()  # calls of both the Rust crate and fixedbitset
+LOOPS = ["push_new", "get", "get_far"]  # calls that are also loops over a `Vec<u64>`
 COUNTED = 1 << 14  # bytes of the bitmaps whose instructions are counted
 NOT_COUNTED = ("set_all", "clone")  # callgrind counts a fill or a copy of the C library as one instruction per byte
 PENDING = ("pending_bits", "pending_chunks")  # the instructions of other calls of `PAST` are not counted, because their commits take long to make
@@ -131,6 +140,8 @@ STORED = {
 # The names of the calls that tables measure.
 DENSE = [name for names in DENSE_GROUPS.values() for name in names.split()]
 BATCHES = [f"{end}_{edits}" for edits in EDITS for end in ("batch", "commit")]
+# The groups of calls whose ratios to peers the table peers prints; the last one is of all others.
+PEER_GROUPS = {"`count_ones`, `flip_all`": "count_ones flip_all", "`ones_iter`": "ones_iter", "set positions of a sparse bitmap": "sparse_ones_iter"}
 COMPARED = "count_ones flip_all and or xor equal clone get set ones_iter sparse_ones_iter".split()
 
 
@@ -147,11 +158,21 @@ class Session(NamedTuple):
         """The calls that are to be measured."""
         return [call for call in calls if not self.wanted or call.name in self.wanted]
 
+    def named(self, names):
+        """The names of those of some calls that are to be measured."""
+        return [name for name in names if not self.wanted or name in self.wanted]
+
     def costs(self, names, call, width, size, commits=()):
-        """The costs of a call, for those of some programs that are there."""
-        fewer = call._replace(times=max(call.times // self.divisor, 1))
-        found = costs([self.programs[name] for name in names if name in self.programs], fewer, width, size, self.count, commits)
-        return {name: cost._replace(seconds=cost.seconds * call.times / fewer.times) for name, cost in found.items()}
+        """The costs of a call, for those of some programs that are there. If checksums alone are compared, all programs run it as often."""
+        there, found = [self.programs[name] for name in names if name in self.programs], {}
+        parts = {call.times: there}
+        if call.others and self.divisor == 1:
+            parts = {times: [each for each in there if (each.name == OURS) == (times == call.times)] for times in (call.times, call.others)}
+        for times, part in parts.items():
+            fewer = call._replace(times=max(times // self.divisor, 1))
+            for name, cost in costs(part, fewer, width, size, self.count, commits).items():
+                found[name] = cost._replace(seconds=cost.seconds * call.times / fewer.times)
+        return found
 
     def own_costs(self, names, call, width, size, commits=()):
         """The costs of a call, for some programs that measure the time of their calls themselves."""
@@ -183,15 +204,39 @@ def short(value):
     return f"{value:.0f}" if value >= 100 else f"{value:.3g}"
 
 
+def hundredths(value):
+    """A ratio with two digits after the point, or what stands for a missing one."""
+    return "too short" if value is None else f"{value:.2f}"
+
+
 def mean(values):
     """The geometric mean of the values that are there, or None."""
     logs = [log(value) for value in values if value is not None]
     return exp(sum(logs) / len(logs)) if logs else None
 
 
-def dense_calls(names):
-    """Calls of dense and pruned bitmaps, each with how it is run on two sizes."""
-    return [(size, Call(name, TIMES[name] * (LARGE // size), 8 * size)) for name, size in product(names, (LARGE, SMALL))]
+def dense_sizes(widths):
+    """The sizes and widths of dense bitmaps. Large bitmaps are measured at the default width alone."""
+    return [(LARGE, 8), *product([SMALL], widths)]
+
+
+def dense_titles(widths):
+    """The columns of tables of dense bitmaps."""
+    return [f"{width}, {size >> 20} MB" for size, width in dense_sizes(widths)]
+
+
+def dense_call(name, size):
+    """A call of dense or pruned bitmaps of one size."""
+    return Call(name, TIMES[name][0 if size == LARGE else 1], 8 * size)
+
+
+def kept_calls(names, times=KEPT):
+    """The names of calls of a bitmap with many commits, each with the three calls whose numbers of runs are in `times`."""
+    found = {}
+    for name in names:
+        others = SCANS.get(name, (0, 0, 0))
+        found[name] = [Call(name, *each) for each in zip(times[name], (1, 1, 1), others)]
+    return found
 
 
 def batch_calls(session):
@@ -210,21 +255,24 @@ def grouped(groups, kind, ratios):
             yield {"bitmap": kind, "group": group, "measurements": len(values), "ratio": f"{mean(values):.2f}"}
 
 
-def pair(session, program, call, width, size):
-    """The ratio of a program's cost to that of commonware-utils."""
-    found = session.costs([program, ORIGINAL], call, width, size)
-    return ratio(found[program], found[ORIGINAL])
+def pair(session, call, width, size):
+    """The ratio of this project's cost to that of commonware-utils."""
+    found = session.costs([OURS, ORIGINAL], call, width, size)
+    return ratio(found[OURS], found[ORIGINAL])
 
 
-def dense(session, program=OURS):
+def triple(session, call):
+    """These ratios for a call of a historical bitmap with chunks of 32, 8 and 4 bytes."""
+    return [pair(session, call, width, HISTORICAL) for width in (32, 8, 4)]
+
+
+def dense(session):
     """Ratios of dense and pruned bitmaps to commonware-utils."""
     found = {}
-    head("Ratio of times, by width and size", *(f"{width}, {size >> 20} MB" for size in (LARGE, SMALL) for width in WIDTHS))
-    for name in DENSE:
-        calls = [(size, call) for size, call in dense_calls([name]) if session.chosen([call])]
-        if calls:
-            found[name] = [pair(session, program, call, width, size) for size, call in calls for width in WIDTHS]
-            say(f"`{name}`", *map(short, found[name]))
+    head("Ratio of times, by width and size", *dense_titles(WIDTHS))
+    for name in session.named(DENSE):
+        found[name] = [pair(session, dense_call(name, size), width, size) for size, width in dense_sizes(WIDTHS)]
+        say(f"`{name}`", *map(hundredths, found[name]))
     return print_groups(DENSE_GROUPS, "dense and pruned", found)
 
 
@@ -237,18 +285,17 @@ def print_groups(groups, kind, ratios):
     return {"ratios": rows}
 
 
-def batches(session, program=OURS):
+def batches(session):
     """Ratios of historical bitmaps to commonware-utils: batches of edits, and other calls."""
     found = {}
-    head("Edits", *(f"Batch {end}, width {width}" for end in ("aborted", "committed") for width in (32, 8, 4)))
+    head("Ratio of times at the widths 32, 8 and 4, by edits", "Batch aborted", "Batch committed")
     for title, calls in batch_calls(session):
-        for call in session.chosen(calls):
-            found[call.name] = [pair(session, program, call, width, HISTORICAL) for width in (32, 8, 4)]
-        say(title, *(cell for call in calls for cell in (map(short, found[call.name]) if call.name in found else [""] * 3)))
-    head("Other calls", "Width 32", "8", "4")
+        found.update({call.name: triple(session, call) for call in session.chosen(calls)})
+        say(title, *(", ".join(map(hundredths, found.get(call.name, []))) for call in calls))
+    head("Other calls", "Ratio of times at the widths 32, 8 and 4")
     for call in session.chosen(PAST):
-        found[call.name] = [pair(session, program, call, width, HISTORICAL) for width in (32, 8, 4)]
-        say(f"`{call.name}`", *map(short, found[call.name]))
+        found[call.name] = triple(session, call)
+        say(f"`{call.name}`", ", ".join(map(hundredths, found[call.name])))
     return print_groups(BATCH_GROUPS, "historical", found)
 
 
@@ -322,24 +369,34 @@ def native(session):
     return {}
 
 
-def native_peers(session):
-    """Times of the Rust crate in `native` beside fixedbitset, of short runs: nanoseconds per 1,000 bits of the bitmap."""
+def beside(session, peer, names):
+    """Prints the times of a peer, in nanoseconds per 1,000 bits of the bitmap, and the ratios of the Rust crate to it at the widths 8 and 32."""
+    names = [name for name in session.wanted or names if name in names]
     sizes = [(1 << 13, "8 KiB"), (SMALL, "1 MiB"), *([(LARGE, "64 MiB")] if session.large else [])]
-    ratios = {}
-    head("Call", *(f"{title}: {what}" for _, title in sizes for what in (FIXED, "ratio of times at width 8", "32")))
-    for name in session.wanted or SHARED:
+    ratios = []
+    if names:
+        head("Call", *(f"{title}: {what}" for _, title in sizes for what in (peer, "ratio of times at width 8", "32")))
+    for name in names:
         row = []
-        for size, _ in sizes if name in SHARED else []:
+        for size, _ in sizes:
             call = short_call(session, name, size)
-            taken = [session.own_costs([NATIVE, FIXED], call, width, size) for width in (8, 32)]
-            ratios.setdefault(name, []).extend(ratio(each[NATIVE], each[FIXED]) for each in taken)
-            least = min(each[FIXED].seconds for each in taken)
-            row += [short(least * 1e9 / call.times / (8 * size) * 1000), *map(short, ratios[name][-2:])]
-        if row:
-            say(f"`{name}`", *row)
+            taken = [session.own_costs([NATIVE, peer], call, width, size) for width in (8, 32)]
+            found = [ratio(each[NATIVE], each[peer]) for each in taken]
+            least = min(each[peer].seconds for each in taken)
+            row += [short(least * 1e9 / call.times / (8 * size) * 1000), *map(short, found)]
+            ratios += found
+        say(f"`{name}`", *row)
+    return ratios
+
+
+def native_peers(session):
+    """Times of the Rust crate in `native` beside fixedbitset and plain loops, of short runs: nanoseconds per 1,000 bits of the bitmap."""
+    found = {peer: beside(session, peer, names) for peer, names in ((FIXED, SHARED), (PLAIN, LOOPS))}
     head("Calls", "Measurements", "Ratio of times")
-    values = [value for each in ratios.values() for value in each if value is not None]
-    say("all", len(values), short(mean(values)))
+    for peer, ratios in found.items():
+        values = [value for value in ratios if value is not None]
+        if ratios:
+            say(f"all, to {peer}", len(values), short(mean(values)))
     return {}
 
 
@@ -350,25 +407,41 @@ def microseconds(call, cost):
 
 def growth(session):
     """Times by the number of kept commits, of this project and of commonware-utils."""
-    rows = []
+    rows, ratios = [], {}
     head("Microseconds, width 8, 2^20 bits", "Program", *(f"{kept:,} commits" for kept in COMMITS))
-    for call in session.chosen(KEPT + INDEXED):
-        names = [OURS] if call in INDEXED else [OURS, ORIGINAL]
-        found = {kept: session.costs(names, call, 8, HISTORICAL, [kept]) for kept in COMMITS}
-        for name in found[COMMITS[0]]:
-            program = "at with an index" if call in INDEXED else name
-            times = {kept: microseconds(call, found[kept][name]) for kept in COMMITS}
-            say(GROWTH[call.name], program, *times.values())
-            rows += [{"call": GROWTH[call.name], "program": program, "commits": kept, "microseconds": time} for kept, time in times.items()]
+    for name, calls in kept_calls(session.named(KEPT)).items():
+        programs = [OURS] if name in INDEXED else [OURS, ORIGINAL]
+        found = [session.costs(programs, call, 8, HISTORICAL, [kept]) for call, kept in zip(calls, COMMITS)]
+        if ORIGINAL in found[0]:
+            ratios[name] = [ratio(each[OURS], each[ORIGINAL]) for each in found]
+        for program in found[0]:
+            times = [microseconds(call, each[program]) for call, each in zip(calls, found)]
+            rows += grown(GROWTH[name], "at with an index" if name in INDEXED else program, times)
+    print_ratios("Ratio of times to commonware-utils", {GROWTH[name]: each for name, each in ratios.items()}, COMMITS)
     return {"growth": rows}
+
+
+def grown(title, program, times):
+    """The rows of growth.csv for a call and a program, which are printed."""
+    say(title, program, *times)
+    return [{"call": title, "program": program, "commits": kept, "microseconds": time} for kept, time in zip(COMMITS, times)]
+
+
+def print_ratios(title, ratios, commits):
+    """Prints a ratio for each number of commits, by call."""
+    if ratios:
+        head(title, *(f"{kept:,} commits" for kept in commits))
+    for name, values in ratios.items():
+        say(name, *map(hundredths, values))
 
 
 def lengths(session):
     """Times by the length of the bitmap, of this project, with 1,000 commits."""
     head("Microseconds, width 8, 1,000 commits", "2^16 bits", "2^20", "2^26")
-    for call in session.chosen(KEPT + INDEXED):
-        found = [session.costs([OURS], call, 8, size, [1000])[OURS] for size in (1 << 13, 1 << 17, 1 << 23)]
-        say(f"`{call.name}`", *(microseconds(call, cost) for cost in found))
+    times = {name: BY_LENGTH.get(name, (KEPT[name][0],) * len(LENGTHS)) for name in KEPT}
+    for name, calls in kept_calls(session.named(KEPT), times).items():
+        found = [session.costs([OURS], call, 8, size, [1000])[OURS] for call, size in zip(calls, LENGTHS)]
+        say(f"`{name}`", *(microseconds(call, cost) for call, cost in zip(calls, found)))
     return {}
 
 
@@ -386,14 +459,27 @@ def commits(session):
 
 def peers(session):
     """Ratios of dense calls to fixedbitset and CRoaring."""
-    head("Ratio of times, by width and size", "Peer", *(f"{width}, {size >> 20} MB" for size in (LARGE, SMALL) for width in (8, 32)))
-    for name in COMPARED:
-        runs = [(size, call) for size, call in dense_calls([name]) if session.chosen([call])]
+    ratios = {}
+    head("Ratio of times, by width and size", "Peer", *dense_titles((8, 32)))
+    for name in session.named(COMPARED):
         others = [FIXED, ROARING] if name.endswith("ones_iter") else [FIXED]
-        found = [session.costs([OURS, *others], call, width, size) for size, call in runs for width in (8, 32)]
-        for other in others if found else []:
-            say(f"`{name}`", other, *(short(ratio(each[OURS], each[other])) for each in found))
+        found = [session.costs([OURS, *others], dense_call(name, size), width, size) for size, width in dense_sizes((8, 32))]
+        for other in others:
+            ratios[name, other] = [ratio(each[OURS], each[other]) for each in found]
+            say(f"`{name}`", other, *map(hundredths, ratios[name, other]))
+    print_spans(ratios)
     return {}
+
+
+def print_spans(ratios):
+    """Prints the least and the greatest ratio of groups of calls to each peer. `ratios` has a list per call and peer."""
+    head("Calls", "Peer", "Ratio of times")
+    others = [name for name in COMPARED if name not in " ".join(PEER_GROUPS.values()).split()]
+    for title, names in {**PEER_GROUPS, "other dense calls": " ".join(others)}.items():
+        for peer in (FIXED, ROARING):
+            values = [value for name in names.split() for value in ratios.get((name, peer), []) if value is not None]
+            if values:
+                say(title, peer, f"{min(values):.2f} to {max(values):.2f}")
 
 
 def per_unit(call, cost):
@@ -410,11 +496,9 @@ def alone(session):
     """Times of this project alone: per bit of dense and pruned bitmaps, and per edit or read of historical ones.
 
     `copy` copies as many bytes into memory that was used before: no call that writes as many bytes can be faster."""
-    head("Nanoseconds per bit, by width and size", *(f"{width}, {size >> 20} MB" for size in (LARGE, SMALL) for width in WIDTHS))
-    for name in FAST + SLOW:
-        runs = [(size, call) for size, call in dense_calls([name]) if session.chosen([call])]
-        if runs:
-            say(f"`{name}`", *(nanoseconds(session, call, width, size) for size, call in runs for width in WIDTHS))
+    head("Nanoseconds per bit, by width and size", *dense_titles(WIDTHS))
+    for name in session.named(FAST + SLOW):
+        say(f"`{name}`", *(nanoseconds(session, dense_call(name, size), width, size) for size, width in dense_sizes(WIDTHS)))
     head("Nanoseconds per edit, read or call, 2^20 bits", "Width 8", "32")
     batch = [call for _, calls in batch_calls(session) for call in calls]
     for call in session.chosen(batch + PAST + ALONE):
@@ -440,10 +524,9 @@ def logs(session):
     for call in session.chosen(LOGS):
         found[call.name] = log_costs(session, call)
         say(LOGGED[call.name], *(short(per_unit(*found[call.name][kept])) if kept in found[call.name] else "not measured" for kept in COMMITS))
-    head("Ratio of times", *columns)
-    for title, (first, second) in LOG_PAIRS.items():
-        if first in found and second in found:
-            say(title, *(short(ratio(found[first][kept][1], found[second][kept][1])) for kept in COMMITS))
+    pairs = {title: pair for title, pair in LOG_PAIRS.items() if set(pair) <= set(found)}
+    ratios = {title: [ratio(found[first][kept][1], found[second][kept][1]) for kept in COMMITS] for title, (first, second) in pairs.items()}
+    print_ratios("Ratio of times", ratios, COMMITS)
     head("Bytes", *columns)
     for call in session.chosen([ENTRIES]):
         say("entry of a commit of 100 sets", *(session.printed(call, 8, HISTORICAL, [kept]) for kept in COMMITS))
@@ -516,18 +599,19 @@ class Table(NamedTuple):
     calls: list  # the names of the calls that it measures
     needs: list  # the programs that it cannot do without
     takes: list  # the programs that it measures if they are there
+    minutes: int  # about how long it takes with five runs, on a machine that does nothing else, once the programs are built
 
 
 TABLES = {
-    "dense": Table(dense, DENSE, [OURS, ORIGINAL], []),
-    "batches": Table(batches, BATCHES + names_of(PAST), [OURS, ORIGINAL], []),
-    "native": Table(native, [*DENSE, *FAR, *BATCHES, *names_of(PAST + READS)], [NATIVE, ORIGINAL], []),
-    "native-peers": Table(native_peers, SHARED, [NATIVE, FIXED], []),
-    "growth": Table(growth, names_of(KEPT + INDEXED), [OURS], [ORIGINAL]),
-    "lengths": Table(lengths, names_of(KEPT + INDEXED), [OURS], []),
-    "logs": Table(logs, names_of([*LOGS, ENTRIES]), [OURS], []),
-    "commits": Table(commits, list(KEEPS), [OURS, COPIES, ROARING, PERSISTENT], []),
-    "peers": Table(peers, COMPARED, [OURS, FIXED, ROARING], []),
-    "stores": Table(stores, list(disk.WAYS), [STORE, SQLITE, LMDB, WHOLE], []),
-    "alone": Table(alone, FAST + SLOW + BATCHES + names_of(PAST + ALONE), [OURS], []),
+    "dense": Table(dense, DENSE, [OURS, ORIGINAL], [], 9),
+    "batches": Table(batches, BATCHES + names_of(PAST), [OURS, ORIGINAL], [], 3),
+    "native": Table(native, [*DENSE, *FAR, *BATCHES, *names_of(PAST + READS)], [NATIVE, ORIGINAL], [], 3),
+    "native-peers": Table(native_peers, SHARED, [NATIVE, FIXED, PLAIN], [], 1),
+    "growth": Table(growth, list(KEPT), [OURS], [ORIGINAL], 1),
+    "lengths": Table(lengths, list(KEPT), [OURS], [], 1),
+    "logs": Table(logs, names_of([*LOGS, ENTRIES]), [OURS], [], 2),
+    "commits": Table(commits, list(KEEPS), [OURS, COPIES, ROARING, PERSISTENT], [], 1),
+    "peers": Table(peers, COMPARED, [OURS, FIXED, ROARING], [], 2),
+    "stores": Table(stores, list(disk.WAYS), [STORE, SQLITE, LMDB, WHOLE], [], 4),
+    "alone": Table(alone, FAST + SLOW + BATCHES + names_of(PAST + ALONE), [OURS], [], 6),
 }

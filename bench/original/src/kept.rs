@@ -4,7 +4,7 @@
 //!
 //! - `kept_get`, `at_get` and `indexed_get` rebuild the oldest commit once per `READS` bits;
 //! - `kept_scan`, `at_scan` and `indexed_scan` rebuild it each time;
-//! - `kept_rewind` rebuilds the commit to which it would rewind, and keeps the newer ones.
+//! - `kept_rewind` rebuilds the commit to which it would rewind, which is the one before the last, and keeps the last one.
 
 use crate::batches::{committed, count_random, filled};
 use crate::dense::sum_of;
@@ -46,11 +46,11 @@ fn commits_of<const N: usize>(bitmap: &CleanBitMap<N>) -> u64 {
     bitmap.commits().count() as u64
 }
 
-// Commits, and rebuilds the last of the first `count` commits, `times` times. Returns how many commits a rewind would leave.
+// Commits, and rebuilds the commit before, `times` times. Returns how many commits a rewind would leave.
 fn rewind_each<const N: usize>(mut bitmap: CleanBitMap<N>, positions: &mut Positions, count: u64, times: u64) -> Option<u64> {
     for round in 0..times {
         bitmap = commit_one(bitmap, positions, count + round + 1);
-        black_box(bitmap.get_at_commit(count)?);
+        black_box(bitmap.get_at_commit(count + round)?);
     }
     Some(commits_of(&bitmap) - times)
 }
