@@ -282,8 +282,8 @@ def main():
         parser.error(f"the parts are {', '.join(PARTS)}")
     parts = [part for part in PARTS if part in (arguments.parts or PARTS)]
     if not shutil.which("cargo"):
-        print("check_native: cargo is missing, so the Rust crate is compared with the sources, and not built")
         parts = [part for part in parts if part == "generated" and shutil.which("rustfmt")]
+        print(f"check_native: cargo is missing, so the Rust crate is not built, and {'only compared' if parts else 'not compared'} with the sources")
     checks = {"generated": check_generated, "tests": check_tests, "store": check_store, "erased": check_erased, "replay": check_replay,
               "proved": check_proved, "original": check_original, "mutants": check_mutants}
     with tempfile.TemporaryDirectory() as folder:

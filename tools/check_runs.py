@@ -411,10 +411,12 @@ def check_all_failures(folder, pool, count):
 
 
 def main():
-    what, *counts = sys.argv[1:]
-    check_all = {"random": check_all_random, "exhaustive": check_all_batches, "allocation_failures": check_all_failures}[what]
+    what, *counts = sys.argv[1:] or [""]
+    parts = {"random": check_all_random, "exhaustive": check_all_batches, "allocation_failures": check_all_failures}
+    if what not in parts:
+        sys.exit(__doc__)
     with tempfile.TemporaryDirectory() as folder, ProcessPoolExecutor() as pool:
-        cases = check_all(folder, pool, *map(int, counts))
+        cases = parts[what](folder, pool, *map(int, counts))
     return report(what, cases)
 
 

@@ -1217,8 +1217,11 @@ def show(file, width):
 
 
 def main():
-    what, *given = sys.argv[1:]
-    return {"check": check, "random": check_random, "show": show}[what](*given)
+    what, *given = sys.argv[1:] or [""]
+    parts = {"check": check, "random": check_random, "show": show}
+    if what not in parts:
+        sys.exit(__doc__)
+    return parts[what](*given)
 
 
 if __name__ == "__main__":

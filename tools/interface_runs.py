@@ -763,6 +763,8 @@ def all_cases(path, count):
 
 
 def main():
+    if len(sys.argv) != 3:
+        sys.exit(__doc__)
     path, count = sys.argv[1:]
     return report("interface", all_cases(path, int(count)))
 

@@ -2,7 +2,7 @@
 """Compares the pictures in docs/benchmarks with the figures there, and fails if they differ. With --write it writes the pictures.
 
 `NAME.svg` shows the figures of `NAME.csv`. Each row has the date of its figure and the version of this repository that was measured.
-A title says what the figures show, so check it after a change of the figures.
+Titles and axes are computed from the figures.
 The colours have contrast on a white page and on a black one, so no picture has a background of its own.
 """
 
@@ -42,6 +42,9 @@ SERIES = {
 }
 # The calls of growth.csv that read an old version, as the picture of ratios names them. By a call of `at` they are reads in place.
 READS = {"one bit of the oldest": "one bit by", "set positions of the oldest": "all set positions by"}
+# The batches of commits.csv as the title of their picture names them.
+BATCHES = {"1000 sets at random": "random sets", "1000 sets, close together": "close sets", "4096 pushes": "pushes"}
+RANKS = ["first", "second", "third", "last"]
 TIMES = ["10 ns", "0.1 µs", "1 µs", "10 µs", "100 µs", "1 ms", "10 ms", "100 ms", "1 s", "10 s"]
 
 
@@ -100,11 +103,19 @@ def logarithmic(least, most, first, last):
     return lambda value: first + (last - first) * (log10(value) - least) / (most - least)
 
 
-def axis(at, ticks, bottom, name):
-    """A horizontal axis with ticks."""
-    first, last = at(ticks[0]), at(ticks[-1])
+def ticks(rows, column):
+    """The ticks of a linear axis for the figures of a column: at most five, from 0 on, with steps of 100, 200, 400 and so on."""
+    most, step = max(float(row[column]) for row in rows), 100
+    while most > 4 * step:
+        step *= 2
+    return range(0, step * max(ceil(most / step), 1) + 1, step)
+
+
+def axis(at, values, bottom, name):
+    """A horizontal axis with ticks at some values."""
+    first, last = at(values[0]), at(values[-1])
     parts = [line(first, bottom, last, bottom), text((first + last) / 2, bottom + 42, name, "middle")]
-    for tick in ticks:
+    for tick in values:
         parts += [line(at(tick), bottom, at(tick), bottom + 5), text(at(tick), bottom + 20, f"{tick:g}", "middle")]
     return parts
 
@@ -132,19 +143,43 @@ def commit_bars(rows, y, columns):
     return parts, y + 32
 
 
+def listed(names):
+    """Names with a comma or `and` between them."""
+    return " and ".join([part for part in (", ".join(names[:-1]), names[-1]) if part])
+
+
+def ranked(rows):
+    """How many programs are faster than this project in each batch, and its memory divided by the least of the others."""
+    for batch, part in groups(rows, "batch").items():
+        ours = next(row for row in part if row["program"] == "this project")
+        others = [row for row in part if row is not ours]
+        faster = sum(float(row["microseconds"]) < float(ours["microseconds"]) for row in others)
+        yield BATCHES[batch], faster, float(ours["megabytes"]) / min(float(row["megabytes"]) for row in others)
+
+
+def commit_titles(rows):
+    """The title of the picture of commits, and the line below it."""
+    ranks = list(ranked(rows))
+    fastest = [name for name, faster, _ in ranks if not faster]
+    title = f"This project commits {listed(fastest)} fastest of four" if fastest else "Commits of this project and of three other ways"
+    slower = "; ".join(f"{name}: {RANKS[faster]}" for name, faster, _ in ranks if faster).capitalize()
+    memory = [f", with {memory:.2f} times the least memory of the others" for _, faster, memory in ranks if faster]
+    others = "The others are what a user would take instead."
+    return title, f"{others} {slower}{memory[0] if len(memory) == 1 else ''}." if slower else others
+
+
 def commits():
     """The time and the memory of a commit: bars for each program, by batch."""
     rows, parts, y = figures("commits"), [], 88
-    columns = {"microseconds": linear(300, 140, 380), "megabytes": linear(400, 450, 690)}
+    times, memory = ticks(rows, "microseconds"), ticks(rows, "megabytes")
+    columns = {"microseconds": linear(times[-1], 140, 380), "megabytes": linear(memory[-1], 450, 690)}
     for part in groups(rows, "batch").values():
         bars, y = commit_bars(part, y, columns)
         parts += bars
-    parts += axis(columns["microseconds"], range(0, 301, 100), y - 10, "time of one commit, microseconds")
-    parts += axis(columns["megabytes"], range(0, 401, 100), y - 10, "peak memory of 1000 commits, megabytes")
+    parts += axis(columns["microseconds"], times, y - 10, "time of one commit, microseconds")
+    parts += axis(columns["megabytes"], memory, y - 10, "peak memory of 1000 commits, megabytes")
     parts += texts(y + 62, [" ".join(["Chunks of 8 bytes, 2^20 bits.", *measured(rows, "batch")])])
-    title = "This project commits close sets and pushes fastest of four"
-    subtitle = "The others are what a user would take instead. Random sets: second, in less than a fifth of their memory."
-    return picture(y + 76, title, subtitle, rows, parts)
+    return picture(y + 76, *commit_titles(rows), rows, parts)
 
 
 def curve(rows, across, up):
@@ -195,6 +230,11 @@ def times_without_index(rows):
     return min(pairs), max(pairs)
 
 
+def longest(rows, *calls):
+    """The longest time of this project in some calls, in microseconds."""
+    return max((row["microseconds"] for row in rows if row["program"] == "this project" and row["call"] in calls), key=float)
+
+
 def growth():
     """The time of each call against the number of kept commits."""
     rows, parts = figures("growth"), []
@@ -209,8 +249,9 @@ def growth():
         *measured(rows, "program"),
     ]
     title = "Reads in place take {:.0f} to {:.0f} times as long without an index".format(*times_without_index(rows))
-    subtitle = "They read the oldest commit. A commit or a rewind takes less than 1 µs, with up to 100,000 kept commits."
-    return picture(730, title, subtitle, rows, [*parts, *texts(634, notes)])
+    commit, rewind = longest(rows, "one set and commit", "the same, oldest dropped"), longest(rows, "commit, then rewind")
+    subtitle = f"They read the oldest of up to 100,000 commits. A commit takes up to {commit} µs, and with a rewind up to {rewind} µs."
+    return picture(630 + 20 * len(notes), title, subtitle, rows, [*parts, *texts(634, notes)])
 
 
 def read_ratios(commits):
@@ -243,16 +284,19 @@ def ratio_bars(rows, at, y):
 def ratios():
     """The ratio to commonware-utils: a bar for each group of calls, and for reads of an old version."""
     rows, parts, y = [*figures("ratios"), *read_ratios("1000")], [], 100
-    at = logarithmic(-2, 3, 330, 730)
+    values = [float(row["ratio"]) for row in rows]
+    powers = range(floor(log10(min(values))), ceil(log10(max(values))) + 1)
+    at = logarithmic(powers[0], powers[-1], 330, 730)
     for part in groups(rows, "bitmap").values():
         bars, y = ratio_bars(part, at, y)
         parts += bars
     parts += [text(at(1) - 8, 84, "faster", "end"), text(at(1) + 8, 84, "slower"), line(at(1), 72, at(1), y - 10)]
-    parts += axis(at, [10.0**power for power in range(-2, 4)], y - 10, "time divided by that of commonware-utils (logarithmic)")
-    faster = sum(float(row["ratio"]) < 1 for row in rows)
+    parts += axis(at, [10.0**power for power in powers], y - 10, "time divided by that of commonware-utils (logarithmic)")
+    faster = sum(value < 1 for value in values)
     title = f"{faster} of {len(rows)} groups of calls are faster than in commonware-utils"
     subtitle = "Geometric means over calls, widths and sizes. Below 1, this project takes less time."
-    return picture(y + 96, title, subtitle, rows, [*parts, *texts(y + 62, measured(rows, "bitmap"))])
+    notes = measured(rows, "bitmap")
+    return picture(y + 56 + 20 * len(notes), title, subtitle, rows, [*parts, *texts(y + 62, notes)])
 
 
 def main():

@@ -1,6 +1,8 @@
 /* Orders in an append-only log: bit k says whether order k is open. Each day is a commit.
  *
- *     cc example.c $(pkg-config --cflags --libs mortarpink) -o example && ./example */
+ * With the package in ~/mortarpink, in this folder:
+ *
+ *     cc example.c -I ~/mortarpink/include ~/mortarpink/lib/libmortarpink.a -o example && ./example */
 #include <mortarpink.h>
 
 #include <inttypes.h>

@@ -1,7 +1,9 @@
 /* Prints what calls cost on 2^20 bits, each figure the least of several rounds: the nanoseconds per call at widths 8 and 32, and the
  * microseconds per read of an old version at width 8, by the number of kept commits. Each commit sets one bit.
  *
- *     cc -O2 speed.c $(pkg-config --cflags --libs mortarpink) -o speed && ./speed */
+ * With the package in ~/mortarpink, in this folder:
+ *
+ *     cc -O2 speed.c -I ~/mortarpink/include ~/mortarpink/lib/libmortarpink.a -o speed && ./speed */
 #define _POSIX_C_SOURCE 199309L
 #include <mortarpink.h>
 

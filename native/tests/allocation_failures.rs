@@ -130,6 +130,22 @@ fn versions() -> CleanBitMap<4> {
     })
 }
 
+/// Four commits. The last three change bits in many of a hundred chunks, which a rewind gathers in several nodes, and prune.
+fn long_versions() -> CleanBitMap<4> {
+    let first = |batch: &mut DirtyBitMap<4>| {
+        batch.extend_to(3200);
+    };
+    (2..=4).fold(CleanBitMap::new().apply_batch(1, first).unwrap(), |bitmap, number| {
+        let edit = |batch: &mut DirtyBitMap<4>| {
+            for bit in (number * 40..3200).step_by(100) {
+                batch.set_bit(bit, true);
+            }
+            batch.prune_to_bit(number * 40);
+        };
+        bitmap.apply_batch(number, edit).unwrap()
+    })
+}
+
 /// The versions with pending edits.
 fn batch() -> DirtyBitMap<4> {
     let mut batch = versions().into_dirty();
@@ -416,14 +432,18 @@ fn of_indexed_bitmaps() {
 
 #[test]
 fn of_rewinding() {
-    for number in 1..5 {
-        let rewind = |bitmap: CleanBitMap<4>| match bitmap.rewind_to(number) {
+    let rewind_to = |number| {
+        move |bitmap: CleanBitMap<4>| match bitmap.rewind_to(number) {
             Ok(bitmap) => (bitmap, false),
             Err((bitmap, error)) => (bitmap, error == RewindError::Memory(AllocError)),
-        };
-        assert!(each(versions, indexed_image, rewind) > 0);
-        assert!(each(indexed, indexed_image, rewind) > 0);
+        }
+    };
+    for number in 1..5 {
+        assert!(each(versions, indexed_image, rewind_to(number)) > 0);
+        assert!(each(indexed, indexed_image, rewind_to(number)) > 0);
     }
+    // The map of the gathered chunks grows: its chunks, their indices and its nodes.
+    assert!(each(long_versions, clean_image, rewind_to(1)) > 12);
 }
 
 #[test]

@@ -1,6 +1,8 @@
 /* A writer sends deltas to a replica. A replica that was away begins anew with the writer's history.
  *
- *     cc replica.c $(pkg-config --cflags --libs mortarpink) -o replica && ./replica */
+ * With the package in ~/mortarpink, in this folder:
+ *
+ *     cc replica.c -I ~/mortarpink/include ~/mortarpink/lib/libmortarpink.a -o replica && ./replica */
 #include "must.h"
 
 #include <inttypes.h>
@@ -29,7 +31,7 @@ static void commit(mortarpink_bitmap *writer, uint64_t number) {
 
 /* Returns memory for so many bytes. */
 static struct bytes space(size_t size) {
-    struct bytes bytes = {malloc(size), size};
+    struct bytes bytes = {calloc(size, 1), size};
     if (!bytes.at) must(MORTARPINK_NO_MEMORY);
     return bytes;
 }

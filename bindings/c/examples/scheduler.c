@@ -1,6 +1,8 @@
 /* A scheduler gives slots to jobs, and commits once per minute: which slots were taken at an earlier minute?
  *
- *     cc scheduler.c $(pkg-config --cflags --libs mortarpink) -o scheduler && ./scheduler */
+ * With the package in ~/mortarpink, in this folder:
+ *
+ *     cc scheduler.c -I ~/mortarpink/include ~/mortarpink/lib/libmortarpink.a -o scheduler && ./scheduler */
 #include "must.h"
 
 #include <inttypes.h>

@@ -1,6 +1,8 @@
 /* A log of events with a window: old events and old commits are dropped, while a thread counts the events of an old version.
  *
- *     cc -pthread window.c $(pkg-config --cflags --libs mortarpink) -o window && ./window */
+ * With the package in ~/mortarpink, in this folder:
+ *
+ *     cc -pthread window.c -I ~/mortarpink/include ~/mortarpink/lib/libmortarpink.a -o window && ./window */
 #include "must.h"
 
 #include <inttypes.h>
