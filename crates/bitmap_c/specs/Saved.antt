@@ -62,7 +62,7 @@ BeginsWith n kept bytes rest = HasLog n kept × (bytes ≡ history_bytes n kept 
 abbrev pub IsPart : ℕ → Kept → List ℕ → ℕ → Type 0
 IsPart n kept bytes size = HasLog n kept × (size < length (history_bytes n kept)) × (bytes ≡ take size (history_bytes n kept))
 
--- what bytes are read to as a history: a machine with its size, or the first error. The history of a state is read to this state, an admitted one is refused by nothing but out of memory, and one of which a part is missing is cut off
+-- what bytes are read to as a history: a machine with its size, or the first error. The history of a state is read to this state, an admitted one is refused by nothing but out of memory, and one of which a part is missing is refused as cut off or out of memory
 pub record ReadsHistory (n : ℕ) (r : Ranges) (bytes : List ℕ) (read : Result (Machine × ℕ) HistoryError) : Type 0 where
   pub loaded : IfOk read (λ found. IsLoaded n r bytes found.0 found.1)
   pub again : (kept : Kept) (rest : List ℕ) → BeginsWith n kept bytes rest → IsHistory kept
@@ -87,7 +87,7 @@ IsLoadedOrNot n r bytes status old_used used new =
     ⊎ ((new ≡ None) × (used ≡ old_used)
     × ((status ≡ 13) ⊎ ((e : HistoryError) × (status ≡ history_status e) × IsHistoryError n r bytes e)))
 
--- what loading bytes into an empty handle does. The history of a state is loaded as this state, an admitted one is refused by nothing but out of memory, and one of which a part is missing is CUT_OFF
+-- what loading bytes into an empty handle does. The history of a state is loaded as this state, an admitted one is refused by nothing but out of memory, and one of which a part is missing is refused with CUT_OFF or NO_MEMORY
 pub record LoadsBytes (n : ℕ) (r : Ranges) (bytes : List ℕ) (status old_used used : ℕ) (new : Option AnySession) : Type 0 where
   pub outcome : IsLoadedOrNot n r bytes status old_used used new
   pub again : (kept : Kept) (rest : List ℕ) → BeginsWith n kept bytes rest → IsHistory kept

@@ -1,6 +1,7 @@
 //! A map from chunk index to chunk, without hashing.
 //!
-//! [`map::ChunkMap`] holds the edited chunks of a batch. Its indices may come from a stranger: no choice of them makes a call slow.
+//! [`map::ChunkMap`] holds the edited chunks of a batch, or the old chunks that a rewind gathers before it writes them back. Its indices may
+//! come from a stranger: no choice of them makes a call slow.
 #![tactic(auto)]
 
 mod ascending;

@@ -114,6 +114,9 @@ pub(crate) fn count(past: Past) -> u64
 
 /// Returns the encoding of a base.
 ///
+/// The number of `past` should not be `u64::MAX`, which is reserved. A base with this number is encoded like any other, but `read_base`
+/// returns the error `Number` for it.
+///
 /// # Errors
 /// Returns `AllocError` if an allocation fails.
 ///
