@@ -26,7 +26,7 @@ from guide.values import received, versions_from
 from guide.versions import bit_then
 from mortarpink import (
     Bitmap,
-    CutOffError,
+    DamagedError,
     DecodeError,
     EndOfBufferError,
     Error,
@@ -227,8 +227,36 @@ class Replicas(unittest.TestCase):
                     append_version(opened, 9, True)
                     append_entries(opened, file)
                     self.assertEqual(self.states_in(path, width), states(opened))
-                    file.truncate(80)
-                self.assertRaises(CutOffError, open_log, path, width)
+                # A byte of the first frame is changed. The file stays as it is.
+                data = bytearray(path.read_bytes())
+                data[40] ^= 1
+                path.write_bytes(data)
+                with self.assertRaises(DamagedError) as caught:
+                    open_log(path, width)
+                self.assertEqual((caught.exception.position, path.read_bytes()), (32, data))
+                path.unlink()
+
+    def test_a_log_that_begins_again(self):
+        with tempfile.TemporaryDirectory() as folder:
+            path, copy = Path(folder, "versions.log"), Path(folder, "versions.cut")
+            for width in 1, 64:
+                versions, file = open_log(path, width)
+                file.close()
+                begun = versions.log_bytes()
+                for left in 1, 31, 32, len(begun) - 1:
+                    path.write_bytes(begun[:left])
+                    versions, file = open_log(path, width)
+                    with file:
+                        self.assertEqual(copy.read_bytes(), begun[:left])
+                        append_version(versions, 1, True)
+                        append_entries(versions, file)
+                    self.assertEqual(self.states_in(path, width), states(versions))
+
+                    # A copy is not replaced by another one.
+                    path.write_bytes(begun[:1])
+                    self.assertRaises(FileExistsError, open_log, path, width)
+                    self.assertEqual((path.read_bytes(), copy.read_bytes()), (begun[:1], begun[:left]))
+                    copy.unlink()
                 path.unlink()
 
     def test_a_store(self):

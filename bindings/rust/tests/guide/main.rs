@@ -275,9 +275,39 @@ fn logged_versions_are_opened() {
         append_entries(&mut opened, &mut file).unwrap();
         assert_same(&open(width, &path).unwrap().0, &opened);
 
-        file.set_len(80).unwrap();
+        // A byte of the first frame is changed. The file stays as it is.
+        let mut bytes = fs::read(&path).unwrap();
+        bytes[40] ^= 1;
+        fs::write(&path, &bytes).unwrap();
         let error = open(width, &path).unwrap_err().to_string();
-        assert_eq!(error, Error::CutOff.to_string());
+        assert_eq!(error, format!("{}, in the frame at byte 32", Error::Damaged));
+        assert_eq!(fs::read(&path).unwrap(), bytes);
+        fs::remove_file(&path).unwrap();
+    }
+}
+
+#[test]
+fn a_log_whose_first_write_was_cut_off_begins_again() {
+    let path = Path::new(env!("CARGO_TARGET_TMPDIR")).join("begun_again.log");
+    let copy = path.with_extension("cut");
+    let _ = (fs::remove_file(&path), fs::remove_file(&copy));
+    for width in WIDTHS {
+        let begun = open(width, &path).unwrap().0.log_bytes().unwrap();
+        for left in [1, 31, 32, begun.len() - 1] {
+            fs::write(&path, &begun[..left]).unwrap();
+            let (mut versions, mut file) = open(width, &path).unwrap();
+            assert_eq!(fs::read(&copy).unwrap(), begun[..left]);
+            commit(&mut versions, 1, |batch| batch.push(true).unwrap());
+            append_entries(&mut versions, &mut file).unwrap();
+            assert_same(&open(width, &path).unwrap().0, &versions);
+
+            // A copy is not replaced by another one.
+            fs::write(&path, &begun[..1]).unwrap();
+            assert!(open(width, &path).is_err());
+            assert_eq!(fs::read(&path).unwrap(), begun[..1]);
+            assert_eq!(fs::read(&copy).unwrap(), begun[..left]);
+            fs::remove_file(&copy).unwrap();
+        }
         fs::remove_file(&path).unwrap();
     }
 }
