@@ -154,7 +154,7 @@ class Replicas(unittest.TestCase):
     def test_a_replica_that_fails_is_unchanged(self):
         versions = self.versions(1)
         replica = restored(1, bytes(versions.at(1)), 1)
-        for call in "set", "commit":
+        for call in "extend_to", "set_chunk", "prune", "commit":
             with failing(call):
                 self.assertRaises(NoMemoryError, apply_update, replica, update_between(versions, 1, 2))
             self.assertEqual((bytes(replica), replica.latest), (bytes(versions.at(1)), 1))

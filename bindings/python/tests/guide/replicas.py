@@ -15,13 +15,9 @@ def check_update(replica: Bitmap, update: Update) -> None:
 def apply_update(replica: Bitmap, update: Update) -> None:
     """Brings a replica of the older version to the newer one, and commits it. If a call raises, the replica is unchanged."""
     check_update(replica, update)
-    bits = 8 * replica.width
     with replica.batch(commit=update.newer) as batch:
-        while batch.length > update.length:
-            batch.pop()
-        while batch.length < update.length:
-            batch.push(False)
+        batch.truncate(min(update.length, batch.length))
+        batch.extend_to(update.length)
         for index, data in update.chunks.items():
-            for bit in range(min(bits, update.length - index * bits)):
-                batch[index * bits + bit] = data[bit // 8] >> bit % 8 & 1
-        batch.prune(update.pruned_chunks * bits)
+            batch.set_chunk(index, data)
+        batch.prune(8 * replica.width * update.pruned_chunks)
