@@ -46,6 +46,9 @@ LEAKS = ("env", "ASAN_OPTIONS=detect_leaks=1")
 WRAPPED = ("-Wl,--wrap=malloc,--wrap=realloc,--wrap=free",)  # gives the library the memory functions of the program
 C_TESTS = {"calls": "checks", "allocation_failures": "runs", "readonly": "checks", "threads": "checks"}
 
+# What a package has that the checks use.
+PACKAGE = ("include/mortarpink.h", "lib/libmortarpink.a", "lib/libmortarpink.so", "lib/pkgconfig/mortarpink.pc")
+
 # What the libraries may need of the C library.
 NEEDED = {"bcmp", "free", "malloc", "memcmp", "memcpy", "memmove", "memset", "realloc"}
 
@@ -302,7 +305,7 @@ def all_cases(given):
     with tempfile.TemporaryDirectory() as name:
         folder = Path(name)
         options = ["--after-gate"] if given.after_gate else ["--built"] if given.built else []
-        prefix, cases = (Path(given.prefix).resolve(), []) if given.prefix else made_packages(folder, options)
+        prefix, cases = (Path(given.prefix).resolve(), []) if given.prefix is not None else made_packages(folder, options)
         yield from cases
         if prefix:
             yield from library_cases(Place(prefix, folder))
@@ -318,6 +321,10 @@ def main():
     missing = [tool for tool in TOOLS if not shutil.which(tool)]
     if missing and not given.declarations:
         print(f"bindings: this machine has no {', '.join(missing)}", file=sys.stderr)
+        return 1
+    absent = [name for name in PACKAGE if given.prefix is not None and not Path(given.prefix, name).is_file()]
+    if absent:
+        print(f"bindings: no package is installed in {given.prefix!r}, which has no {', '.join(absent)}", file=sys.stderr)
         return 1
     return report("bindings", list(all_cases(given)), "checks")
 
