@@ -1,3 +1,4 @@
 mod Digests
+mod Histories
 mod Replicas
 mod SentDeltas

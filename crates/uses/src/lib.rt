@@ -5,6 +5,8 @@
 #![tactic(auto)]
 
 #[cfg(test)]
+mod all_versions;
+#[cfg(test)]
 mod any_bitmap;
 #[cfg(test)]
 mod appended_version;
