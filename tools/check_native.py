@@ -4,9 +4,11 @@
 usage: check_native.py [--after-gate] [--tenth] [--target DIR] [PART..]    runs the parts, or all: generated, tests, store, erased, replay, proved,
                                                                          original, mutants
 
-- generated: native/src/generated is what erase.py writes. docs/NATIVE.md has the forms of conditions that erase.py knows, and each mutant.
-- tests: the crate's tests, examples and doc tests pass, with checks of overflow and as a release; its examples print what they should.
-  It builds without the feature `std`. Clippy and rustdoc have no warning, and rustfmt has no change.
+- generated: native/src/generated is what erase.py writes. docs/NATIVE.md has the forms of conditions that erase.py knows, and each mutant. The tests
+  that it names for a mutant exist.
+- tests: the crate's tests, examples and doc tests pass, with checks of overflow and as a release; its examples print what they should. Each
+  assertion of its functions fails in tests/panics.rs. It builds without the feature `std`. Clippy and rustdoc have no warning, and rustfmt has no
+  change.
 - store: a program that changes a store is killed again and again, for a minute, and what was acknowledged is there (tools/crash.sh).
 - erased: the repository's own tests, erased, pass on the crate.
 - replay: the program `replay` over the crate prints what the rows say, and what the reference model gives for random scripts and small batches.
@@ -14,8 +16,9 @@ usage: check_native.py [--after-gate] [--tenth] [--target DIR] [PART..]    runs 
   proved program is the one that `rt ci` has just left, and has to be there.
 - original: what is written for commonware-utils compiles with that crate too, passes, and prints the same, if the environment variable
   COMMONWARE_UTILS names the folder of that crate.
-- mutants: faults in the parts that are written by hand, and in the eraser, make a test fail. With --tenth a tenth of them is tried, which the hash
-  of the commit chooses, so that later commits try the others.
+- mutants: wrong changes of the parts that are written by hand, and of the eraser, make a test fail in the file of tests that is to notice them. For
+  each it prints its row of the table in docs/NATIVE.md. With --tenth a tenth of them is tried, which the hash of the commit chooses, so that later
+  commits try the others.
 
 The gate runs all but `original`, and a tenth of the mutants. A machine without cargo leaves out all but the first part, and says so. DIR keeps
 what cargo builds; without it, that is temporary.
@@ -41,10 +44,18 @@ from replay import PROVED, TOP, WIDTHS, report
 NATIVE = TOP / "native"
 JOBS = "2"
 SECONDS = 1200  # the most that one command may take, on a busy machine
-MUTANT_SECONDS = 300  # the most that the tests of a mutant may take: those that do not end have noticed it
+# The most processor time that the tests of a mutant may take is 300 seconds: those that do not end have noticed it.
+LIMITED = ("sh", "-c", 'ulimit -t 300; exec "$@"', "sh")
 PARTS = ("generated", "tests", "store", "erased", "replay", "proved", "original", "mutants")
 CRASH_SECONDS = 60  # how long the program that changes a store is killed again and again
 SCRIPTS = 1000  # random scripts for the comparison with the proved program
+
+# The messages of assertions that no call breaks, by file: a dense bitmap has no pruned chunk and is in memory, and the size of an encoding fits for
+# each width that compiles.
+UNBROKEN = {
+    "src/generated/bitmap_core/bitmap.rs": ("length overflows u64", "chunk count must fit in usize"),
+    "src/generated/bitmap_core/bitmap/readable/dense.rs": ("is pruned",),
+}
 
 # The files of the crate that are written for commonware-utils, in each of which one `use` is changed.
 FOR_ORIGINAL = ("examples/commonware.rs", "tests/commonware.rs")
@@ -67,18 +78,18 @@ class Place:
         self.folder, self.target = Path(folder), Path(target or f"{folder}/target").resolve()
         self.after_gate, self.is_tenth = after_gate, is_tenth
 
-    def run(self, *command, folder=NATIVE, seconds=SECONDS, **environment):
+    def run(self, *command, folder=NATIVE, **environment):
         """Runs a command. Returns its status and all that it prints."""
         variables = {**os.environ, "CARGO_TARGET_DIR": str(self.target), "CARGO_NET_OFFLINE": "true", **environment}
         process = subprocess.Popen(command, cwd=folder, env=variables, stdout=subprocess.PIPE, stderr=subprocess.STDOUT, text=True, errors="replace",
                                    start_new_session=True)
         try:
-            printed, _ = process.communicate(timeout=seconds)
+            printed, _ = process.communicate(timeout=SECONDS)
         except subprocess.TimeoutExpired:
             # The process and what it has started, such as a test that does not end.
             os.killpg(process.pid, signal.SIGKILL)
             printed, _ = process.communicate()
-            printed += f"\nstopped after {seconds} seconds"
+            printed += f"\nstopped after {SECONDS} seconds"
         return process.returncode, printed
 
     def case(self, name, *command, **options):
@@ -98,24 +109,40 @@ def cargo(*words):
 
 
 def check_generated(place):
-    forms = {name for cell in first_cells("Conditions") for name in re.findall(r"`(\w+)`", cell)}
-    mutants = {cell.strip().replace("\\|", "|") for cell in first_cells("The mutants")[2:]}
+    forms = {name for cells in rows("Conditions") for name in re.findall(r"`(\w+)`", cells[0])}
+    mutants = rows("The mutants")[1:]
+    expected = {tuple(row(mutant, [])[:3]) for mutant in [*HAND_WRITTEN, *ERASER]}
     return [
         place.case("generated modules", sys.executable, str(TOP / "tools/erase.py"), "--check"),
         ("table of conditions", table_difference(forms, {form.name for form in FORMS})),
-        ("table of mutants", table_difference(mutants, {mutant.name for mutant in [*HAND_WRITTEN, *ERASER]})),
+        ("table of mutants", table_difference({tuple(cells[:3]) for cells in mutants}, expected)),
+        *(case for cells in mutants for case in named_tests(cells)),
     ]
 
 
-def first_cells(section):
-    """The first cells of the tables in a section of docs/NATIVE.md."""
+def rows(section):
+    """The cells of the rows of the tables in a section of docs/NATIVE.md."""
     text = (TOP / "docs/NATIVE.md").read_text().partition(f"\n## {section}\n")[2].partition("\n## ")[0]
-    return re.findall(r"^\|((?:[^|\\]|\\.)*)\|", text, re.M)
+    return [re.split(r"(?<!\\) \| ", line[2:-2]) for line in text.splitlines() if line.startswith("| ")]
 
 
 def table_difference(listed, names):
     """How the names that a table lists differ from those that are there, or None."""
     return None if listed == names else f"docs/NATIVE.md lacks {sorted(names - listed)}, and has {sorted(listed - names)} besides"
+
+
+def row(mutant, failed):
+    """The cells of a mutant in docs/NATIVE.md, if these tests fail."""
+    file = mutant.file.removeprefix("native/src/").removeprefix("tools/")
+    return [mutant.name.replace("|", "\\|"), f"`{file}`", f"`{mutant.tests}.rs`", ", ".join(f"`{test}`" for test in failed)]
+
+
+def named_tests(cells):
+    """The cases of the tests that a row of the table of mutants names: they are in the file that it names."""
+    file = NATIVE / "tests" / cells[2].strip("`")
+    text = file.read_text() if file.exists() else ""
+    tests = re.findall(r"`(\w+)`", cells[3])
+    return [(f"{cells[0]}: {test}", None if f"fn {test}()" in text or test == file.stem else f"{file.name} has no such test") for test in tests]
 
 
 def check_tests(place):
@@ -131,7 +158,19 @@ def check_tests(place):
         cases.append(place.case("clippy", *cargo("clippy", "--all-targets"), "--", "-D", "warnings"))
     else:
         print("check_native: clippy is not installed")
-    return cases + [check_example(place, file) for file in sorted((NATIVE / "examples").glob("*.printed"))]
+    return cases + check_assertions(place) + [check_example(place, file) for file in sorted((NATIVE / "examples").glob("*.printed"))]
+
+
+def check_assertions(place):
+    """The cases of the assertions in the generated modules: each of them fails in tests/panics.rs, unless no call can break it."""
+    _, printed = place.run(*cargo("test", "--test", "panics", "--", "--nocapture", "--test-threads=1"), RUST_BACKTRACE="0")
+    failed, cases = set(re.findall(r"panicked at (src/\S+\.rs:\d+):", printed)), []
+    for file in sorted((NATIVE / "src/generated").rglob("*.rs")):
+        path = str(file.relative_to(NATIVE))
+        for number, line in enumerate(file.read_text().split("\n"), 1):
+            if re.match(r" *assert!\(", line) and not any(words in line for words in UNBROKEN.get(path, ())):
+                cases.append((f"{path}:{number}", None if f"{path}:{number}" in failed else "no call in tests/panics.rs breaks this condition"))
+    return cases
 
 
 def check_example(place, file):
@@ -238,7 +277,7 @@ def copied(place):
 
 
 def check_mutant(place, mutant, erases):
-    """The case of a mutant: the tests of the crate have to fail, and the crate has to compile."""
+    """The case of a mutant: the crate has to compile, and one of the tests that are to notice it has to fail."""
     copy, path = copied(place), mutant.file
     text = (copy / path).read_text()
     if text.count(mutant.old) != 1:
@@ -249,15 +288,16 @@ def check_mutant(place, mutant, erases):
         if status:
             return mutant.name, f"the eraser stops: {printed[-500:]}"
     # A target of their own: cargo takes what it has built of a copy for the crate, unless a source is newer.
-    built = {"folder": copy / "native", "CARGO_TARGET_DIR": str(place.target / "mutants")}
-    status, printed = place.run(*cargo("test", "--tests", "--no-run"), **built)
+    built = {"folder": copy / "native", "CARGO_TARGET_DIR": str(place.target / "mutants"), "CARGO_PROFILE_DEV_DEBUG": "0"}
+    tests = cargo("test", "--test", mutant.tests)
+    status, printed = place.run(*tests, "--no-run", **built)
     if status:
         return mutant.name, f"it does not compile: {printed[-500:]}"
-    status, printed = place.run(*cargo("test", "--tests"), **built, seconds=MUTANT_SECONDS)
-    failed = re.findall(r"^test (\S+) \.\.\. FAILED$|process didn't exit successfully: \S+/(\w+)-|^(stopped after \d+ seconds)$", printed, re.M)
-    names = ", ".join(sorted({"".join(found) for found in failed})[:3])
-    print(f"{mutant.name}: noticed by {names or 'no test'}", flush=True)
-    return mutant.name, None if status and failed else "no test fails"
+    status, printed = place.run(*LIMITED, *tests, **built)
+    # A file of tests that ends has no list of those that failed.
+    failed = sorted(set(re.findall(r"^test (\S+) \.\.\. FAILED$", printed, re.M)) or set(re.findall(r"exit successfully: \S+/(\w+)-", printed)))[:3]
+    print(f"| {' | '.join(row(mutant, failed))} |", flush=True)
+    return mutant.name, None if status and failed else f"no test of {mutant.tests} fails: {printed[-500:]}"
 
 
 def check_mutants(place):

@@ -15,6 +15,8 @@
 //! | [`leaf_digests`], [`leaf_digest`], [`node_digest`], [`tree_digest`], [`root_digest`] | are the parts of a root, for chunks that are in no bitmap |
 //! | [`node_count`], [`node_position`], [`tree_from_stored`], [`prove_from_stored`], [`prove_range_from_stored`] | compute a tree, audit paths and the digests of a range from digests that are stored, of which they read few |
 //! | [`append_leaf`], [`replace_leaf`], [`truncate_leaves`] | append, replace and remove leaves of a tree whose digests are stored |
+//! | [`append_leaf_in_batch`], [`replace_leaf_in_batch`], [`truncate_leaves_in_batch`] | do the same if the stored digests are the chunks of a batch |
+//! | [`update_digests`] | makes the stored digests in a batch follow a prepared commit of the bitmap whose tree they are |
 //! | [`tree_from_bitmap`], [`prove_from_bitmap`], [`prove_range_from_bitmap`] | do the same with stored digests that are the chunks of a bitmap, such as a past version of one with history |
 //!
 //! ```
@@ -61,6 +63,7 @@ use alloc::vec::Vec;
 use core::{error, fmt};
 
 pub use crate::generated::authenticated_bitmap::encoding::{DecodeError, Proof};
+pub use crate::generated::authenticated_bitmap::follow::update_digests;
 pub use crate::generated::authenticated_bitmap::hash::Digest;
 pub use crate::generated::authenticated_bitmap::node_edits::{
     truncate_leaves_in_batch, try_append_leaf_in_batch, try_replace_leaf_in_batch,
@@ -82,7 +85,15 @@ fn chunk_count<const N: usize>(bitmap: &impl Readable<N>) -> u64 {
 /// Returns the digests of all chunks of a bitmap, by their index: those of `pruned`, and then those of the retained chunks.
 ///
 /// `pruned` has the digests of the pruned chunks, which were kept when these were pruned. It is empty if no chunk is pruned. The bitmap may be a
-/// past version, or a batch. One hash per retained chunk.
+/// past version, or a batch.
+///
+/// # Memory
+///
+/// Allocates 32 bytes per chunk of the bitmap, pruned ones included.
+///
+/// # Complexity
+///
+/// One call of `get_chunk` and one hash per retained chunk.
 ///
 /// # Panics
 ///
@@ -113,6 +124,10 @@ pub fn chunk_digests<D: Digest, const N: usize>(hash: &D, bitmap: &impl Readable
 ///
 /// Returns `AllocError` if the allocation fails.
 ///
+/// # Complexity
+///
+/// Time and memory are those of [`chunk_digests`].
+///
 /// # Panics
 ///
 /// Panics if `pruned` has not one digest per pruned chunk.
@@ -140,9 +155,17 @@ pub fn try_chunk_digests<D: Digest, const N: usize>(
     Ok(digests)
 }
 
-/// Returns the root of a bitmap, from the digests of all its chunks, which [`chunk_digests`] returns. Does not allocate.
+/// Returns the root of a bitmap, from the digests of all its chunks, which [`chunk_digests`] returns.
 ///
-/// It is [`root_digest`] of the width, the length and the pruned chunks of the bitmap, and of [`tree_digest`]. One hash per chunk.
+/// It is [`root_digest`] of the width, the length and the pruned chunks of the bitmap, and of [`tree_digest`].
+///
+/// # Memory
+///
+/// Does not allocate.
+///
+/// # Complexity
+///
+/// One hash per chunk, pruned ones included.
 ///
 /// # Panics
 ///
@@ -166,7 +189,11 @@ pub fn bitmap_root<D: Digest, const N: usize>(hash: &D, bitmap: &impl Readable<N
     root_digest::<D, N>(hash, bitmap.len(), bitmap.pruned_chunks() as u64, &tree_digest(hash, digests))
 }
 
-/// Returns the digest of each leaf, in the order of the leaves. Leaves have `N` bytes. One hash per leaf.
+/// Returns the digest of each leaf, in the order of the leaves. Leaves have `N` bytes.
+///
+/// # Complexity
+///
+/// Time and memory are those of [`try_leaf_digests`].
 ///
 /// # Panics
 ///
@@ -186,7 +213,11 @@ pub fn leaf_digests<D: Digest, const N: usize>(hash: &D, leaves: &[[u8; N]]) -> 
 }
 
 /// Returns the audit path of leaf `i`, from the digests of all leaves: the digests beside the way from the leaf to the root, the leaf's sibling
-/// first. One hash per leaf, less one.
+/// first.
+///
+/// # Complexity
+///
+/// Time and memory are those of [`try_prove`].
 ///
 /// # Panics
 ///
@@ -207,6 +238,10 @@ pub fn prove<D: Digest>(hash: &D, digests: &[[u8; 32]], i: usize) -> Vec<[u8; 32
 
 /// Appends a leaf to a tree of `n` leaves, by its digest: appends the digest, and that of each subtree that the leaf completes, to the stored
 /// digests. There are [`node_count(n)`](node_count) of them before.
+///
+/// # Complexity
+///
+/// Time and memory are those of [`try_append_leaf`].
 ///
 /// # Panics
 ///
@@ -229,6 +264,10 @@ pub fn append_leaf<D: Digest>(hash: &D, stored: &mut Vec<[u8; 32]>, n: u64, dige
 }
 
 /// Appends a leaf to a tree of `n` leaves whose stored digests are the chunks of a batch. It does what [`append_leaf`] does.
+///
+/// # Complexity
+///
+/// Time and memory are those of [`try_append_leaf_in_batch`].
 ///
 /// # Panics
 ///
@@ -260,6 +299,10 @@ pub fn append_leaf_in_batch<D: Digest>(hash: &D, stored: &mut DirtyBitMap<32>, n
 
 /// Replaces leaf `i` of a tree of `n` leaves whose stored digests are the chunks of a batch. It does what [`replace_leaf`] does.
 ///
+/// # Complexity
+///
+/// Time and memory are those of [`try_replace_leaf_in_batch`].
+///
 /// # Panics
 ///
 /// Panics if memory runs out; or if `i` is not below `n`; or if chunks of `stored` are pruned; or if the number of chunks of `stored` is not
@@ -284,6 +327,10 @@ pub fn replace_leaf_in_batch<D: Digest>(hash: &D, stored: &mut DirtyBitMap<32>, 
 
 /// Returns the audit path of leaf `i` of the tree of `n` leaves, from the stored digests. There are [`node_count(n)`](node_count) of them.
 ///
+/// # Complexity
+///
+/// Time and memory are those of [`try_prove_from_stored`].
+///
 /// # Panics
 ///
 /// Panics if memory runs out; or if `n` is above 2^61; or if `i` is not below `n`; or if the number of `stored` is not `node_count(n)`.
@@ -303,6 +350,10 @@ pub fn prove_from_stored<D: Digest>(hash: &D, stored: &[[u8; 32]], n: u64, i: u6
 }
 
 /// Returns the audit path of leaf `i` of the tree of `n` leaves, from a bitmap that has the [`node_count(n)`](node_count) stored digests as chunks.
+///
+/// # Complexity
+///
+/// Time and memory are those of [`try_prove_from_bitmap`].
 ///
 /// # Panics
 ///
@@ -328,7 +379,11 @@ pub fn prove_from_bitmap<D: Digest>(hash: &D, stored: &impl Readable<32>, n: u64
 }
 
 /// Returns the siblings of the `count` chunks from `first` on, from the digests of all chunks: the digests of the largest parts of the tree that
-/// have none of these chunks, from left to right. At most one hash per chunk that is not in the range.
+/// have none of these chunks, from left to right.
+///
+/// # Complexity
+///
+/// Time and memory are those of [`try_prove_range`].
 ///
 /// # Panics
 ///
@@ -352,6 +407,10 @@ pub fn prove_range<D: Digest>(hash: &D, digests: &[[u8; 32]], first: usize, coun
 /// Returns the siblings of the `count` chunks from `first` on in the tree of `n` chunks, from the stored digests, as [`prove_range`] does from those of
 /// all chunks. There are [`node_count(n)`](node_count) of them.
 ///
+/// # Complexity
+///
+/// Time and memory are those of [`try_prove_range_from_stored`].
+///
 /// # Panics
 ///
 /// Panics if memory runs out; or if `n` is above 2^61; or if `count` is 0; or if the range ends after chunk `n - 1`; or if the number of `stored` is
@@ -373,6 +432,10 @@ pub fn prove_range_from_stored<D: Digest>(hash: &D, stored: &[[u8; 32]], n: u64,
 
 /// Returns the siblings of the `count` chunks from `first` on in the tree of `n` chunks, from a bitmap that has the [`node_count(n)`](node_count)
 /// stored digests as chunks.
+///
+/// # Complexity
+///
+/// Time and memory are those of [`try_prove_range_from_bitmap`].
 ///
 /// # Panics
 ///
@@ -403,6 +466,10 @@ impl<const N: usize> Proof<'_, N> {
     ///
     /// A path of more than 64 digests, which no tree has, is written, and is not read again.
     ///
+    /// # Complexity
+    ///
+    /// Time and memory are those of [`try_write`](Self::try_write).
+    ///
     /// # Panics
     ///
     /// Panics if memory runs out.
@@ -425,6 +492,14 @@ impl<const N: usize> Proof<'_, N> {
     ///
     /// Returns `AllocError` if an allocation fails.
     ///
+    /// # Memory
+    ///
+    /// Allocates the bytes of the encoding: 40, `N` for the chunk, and 32 per digest.
+    ///
+    /// # Complexity
+    ///
+    /// Linear in these bytes.
+    ///
     /// ```
     /// use mortarpink::roots::Proof;
     ///
@@ -442,6 +517,10 @@ impl<const N: usize> RangeProof<'_, N> {
     /// Returns the encoding of the proof: 48 bytes for its numbers, `N` per chunk, and 32 per sibling.
     ///
     /// More than 128 siblings, which no range has, are written, and are not read again.
+    ///
+    /// # Complexity
+    ///
+    /// Time and memory are those of [`try_write`](Self::try_write).
     ///
     /// # Panics
     ///
@@ -464,6 +543,14 @@ impl<const N: usize> RangeProof<'_, N> {
     /// # Errors
     ///
     /// Returns `AllocError` if an allocation fails.
+    ///
+    /// # Memory
+    ///
+    /// Allocates the bytes of the encoding: 48, `N` per chunk, and 32 per sibling.
+    ///
+    /// # Complexity
+    ///
+    /// Linear in these bytes.
     ///
     /// ```
     /// use mortarpink::roots::RangeProof;

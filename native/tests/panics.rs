@@ -1,16 +1,19 @@
 //! Each condition of a public call: the call panics, with the message of the original crate if that has one, and changes nothing.
+//!
+//! `tools/check_native.py tests` finds that each assertion of the crate's functions fails here.
 
 #[path = "../examples/sha256/mod.rs"]
 mod sha256;
 
-use mortarpink::bitmap::historical::{CleanBitMap, DirtyBitMap};
+use mortarpink::bitmap::historical::{CleanBitMap, DirtyBitMap, Edit};
 use mortarpink::bitmap::{BitMap, Prunable, Readable};
 use mortarpink::log::frames::{Place, next_frame, push_frame};
 use mortarpink::log::{Past, from_base};
 use mortarpink::roots::{
-    append_leaf, bitmap_root, chunk_digests, node_count, node_position, prove, prove_from_bitmap, prove_from_stored, prove_range,
-    prove_range_from_bitmap, prove_range_from_stored, replace_leaf, tree_from_bitmap, tree_from_stored, truncate_leaves, try_append_leaf,
-    try_chunk_digests, try_prove, try_prove_from_stored, try_prove_range, try_prove_range_from_stored,
+    append_leaf, append_leaf_in_batch, bitmap_root, chunk_digests, node_count, node_position, prove, prove_from_bitmap, prove_from_stored,
+    prove_range, prove_range_from_bitmap, prove_range_from_stored, replace_leaf, replace_leaf_in_batch, tree_from_bitmap, tree_from_stored,
+    truncate_leaves, truncate_leaves_in_batch, try_append_leaf, try_chunk_digests, try_prove, try_prove_from_stored, try_prove_range,
+    try_prove_range_from_stored, update_digests,
 };
 use sha256::Sha256;
 use std::panic::{AssertUnwindSafe, catch_unwind};
@@ -131,6 +134,14 @@ fn of_lengths_near_the_end() {
     assert_eq!(panic_of(|| batch.push_byte(0).len()), "length overflows u64");
     assert_eq!(panic_of(|| batch.push_chunk(&[0]).len()), "length overflows u64");
     assert_eq!(panic_of(|| batch.extend_from_bitmap(&BitMap::ones(1)).len()), "length overflows u64");
+    assert_eq!(panic_of(|| batch.try_push(true).is_ok()), "length overflows u64");
+    assert_eq!(panic_of(|| batch.try_push_byte(0).is_ok()), "length overflows u64");
+    assert_eq!(panic_of(|| batch.try_push_chunk(&[0]).is_ok()), "length overflows u64");
+    assert_eq!(panic_of(|| batch.try_extend_from_bitmap(&BitMap::ones(1)).is_ok()), "length overflows u64");
+    assert_eq!(panic_of(|| batch.try_extend_to(0).unwrap().try_push(true).is_ok()), "length overflows u64");
+    assert_eq!(panic_of(|| batch.try_extend_to(0).unwrap().try_push_byte(0).is_ok()), "length overflows u64");
+    assert_eq!(panic_of(|| batch.try_extend_to(0).unwrap().try_push_chunk(&[0]).is_ok()), "length overflows u64");
+    assert_eq!(panic_of(|| batch.try_extend_to(0).unwrap().try_extend_from_bitmap(&BitMap::ones(1)).is_ok()), "length overflows u64");
     assert_eq!(batch.extend_from_bitmap(&BitMap::new()).len(), u64::MAX);
     let mut empty = Prunable::<1>::new_with_pruned_chunks(usize::MAX / 8).unwrap();
     assert_eq!(panic_of(|| empty.push_byte(0)), "length overflows u64");
@@ -142,8 +153,10 @@ fn of_historical_bitmaps() {
     let bitmap = CleanBitMap::from_bitmap(pruned()).apply_batch(1, |_| ()).unwrap();
     assert_eq!(panic_of(|| bitmap.get_bit(15)), "bit pruned: 15");
     assert_eq!(panic_of(|| bitmap.get_bit(26)), "bit 26 out of bounds (len: 26)");
+    assert_eq!(panic_of(|| *bitmap.get_chunk_containing(15)), "bit pruned: 15");
     assert_eq!(panic_of(|| *bitmap.get_chunk_containing(26)), "bit 26 out of bounds (len: 26)");
     let past = bitmap.at(1).unwrap();
+    assert_eq!(panic_of(|| past.get_chunk(1)), "chunk 1 is pruned (pruned_chunks: 2)");
     assert_eq!(panic_of(|| past.get_bit(15)), "bit pruned: 15");
     assert_eq!(panic_of(|| past.get_bit(26)), "bit 26 out of bounds (len: 26)");
     assert_eq!(panic_of(|| past.get_chunk(4)), "chunk 4 out of bounds (chunks: 4)");
@@ -166,6 +179,8 @@ fn of_batches() {
     assert_eq!(panic_of(|| batch.set_bit(26, true).len()), "cannot set bit 26: out of bounds (len: 26)");
     assert_eq!(panic_of(|| batch.set_range(15..20, true).len()), "range start 15 is pruned");
     assert_eq!(panic_of(|| batch.set_range(16..27, true).len()), "range end 27 out of bounds (len: 26)");
+    assert_eq!(panic_of(|| batch.set_chunk(1, &[0]).len()), "chunk 1 is pruned (pruned_chunks: 2)");
+    assert_eq!(panic_of(|| batch.set_chunk(4, &[0]).len()), "chunk 4 out of bounds (chunks: 4)");
     assert_eq!(panic_of(|| batch.truncate(15)), "bit 15 is pruned");
     assert_eq!(panic_of(|| batch.truncate(27)), "bit 27 out of bounds (len: 26)");
     assert_eq!(panic_of(|| batch.prune_to_bit(27).len()), "cannot prune to bit 27: beyond projected length (26)");
@@ -174,14 +189,34 @@ fn of_batches() {
     }
     assert_eq!(panic_of(|| batch.pop()), "cannot pop from empty bitmap");
     assert_eq!(batch.len(), 16);
+    assert_eq!(panic_of(|| Readable::last_chunk(&batch)), "no bit is retained");
 }
 
+/// The forms of edits that return an error if memory runs out: of a batch, and of an edit that goes before.
 #[test]
 fn of_chained_edits() {
     let mut batch = batch();
-    let edit = batch.try_push(true).unwrap();
-    assert_eq!(panic_of(|| edit.try_set_bit(27, true).is_ok()), "cannot set bit 27: out of bounds (len: 27)");
-    assert!(batch.get_bit(26));
+    assert_eq!(panic_of(|| batch.try_set_bit(15, true).is_ok()), "cannot set bit 15: chunk 1 is pruned (pruned up to chunk 2)");
+    assert_eq!(panic_of(|| batch.try_set_bit(26, true).is_ok()), "cannot set bit 26: out of bounds (len: 26)");
+    assert_eq!(panic_of(|| batch.try_set_range(15..20, true).is_ok()), "range start 15 is pruned");
+    assert_eq!(panic_of(|| batch.try_set_range(16..27, true).is_ok()), "range end 27 out of bounds (len: 26)");
+    assert_eq!(panic_of(|| batch.try_set_chunk(1, &[0]).is_ok()), "chunk 1 is pruned (pruned_chunks: 2)");
+    assert_eq!(panic_of(|| batch.try_set_chunk(4, &[0]).is_ok()), "chunk 4 out of bounds (chunks: 4)");
+    assert_eq!(panic_of(|| batch.try_prune_to_bit(27).is_ok()), "cannot prune to bit 27: beyond projected length (26)");
+    let mut after_push = |edit: fn(Edit<'_, 1>) -> bool| {
+        let pushed = batch.try_push(true).unwrap();
+        let message = panic_of(|| edit(pushed));
+        assert!(batch.pop());
+        message
+    };
+    assert_eq!(after_push(|edit| edit.try_set_bit(15, true).is_ok()), "cannot set bit 15: chunk 1 is pruned (pruned up to chunk 2)");
+    assert_eq!(after_push(|edit| edit.try_set_bit(27, true).is_ok()), "cannot set bit 27: out of bounds (len: 27)");
+    assert_eq!(after_push(|edit| edit.try_set_range(15..20, true).is_ok()), "range start 15 is pruned");
+    assert_eq!(after_push(|edit| edit.try_set_range(16..28, true).is_ok()), "range end 28 out of bounds (len: 27)");
+    assert_eq!(after_push(|edit| edit.try_set_chunk(1, &[0]).is_ok()), "chunk 1 is pruned (pruned_chunks: 2)");
+    assert_eq!(after_push(|edit| edit.try_set_chunk(4, &[0]).is_ok()), "chunk 4 out of bounds (chunks: 4)");
+    assert_eq!(after_push(|edit| edit.try_prune_to_bit(28).is_ok()), "cannot prune to bit 28: beyond projected length (27)");
+    assert!(batch.abort().current() == &pruned());
 }
 
 #[test]
@@ -191,8 +226,14 @@ fn of_the_trait() {
     assert_eq!(panic_of(|| Readable::get_chunk(&dense, 1)), "chunk 1 out of bounds (chunks: 1)");
     assert_eq!(panic_of(|| dense.chunks_around(1).1), "chunk 1 out of bounds (chunks: 1)");
     assert_eq!(panic_of(|| Readable::last_chunk(&BitMap::<1>::new())), "no bit is retained");
+    assert_eq!(panic_of(|| Readable::get_bit(&pruned(), 15)), "bit pruned: 15");
     assert_eq!(panic_of(|| Readable::get_chunk(&pruned(), 1)), "chunk 1 is pruned (pruned_chunks: 2)");
+    assert_eq!(panic_of(|| Readable::get_chunk(&pruned(), 4)), "chunk 4 out of bounds (chunks: 4)");
+    assert_eq!(panic_of(|| pruned().chunks_around(1).1), "chunk 1 is pruned (pruned_chunks: 2)");
+    assert_eq!(panic_of(|| pruned().chunks_around(4).1), "chunk 4 out of bounds (chunks: 4)");
+    assert_eq!(panic_of(|| Readable::last_chunk(&Prunable::<1>::new_with_pruned_chunks(2).unwrap())), "no bit is retained");
     assert_eq!(panic_of(|| Readable::get_chunk(&batch(), 1)), "chunk 1 is pruned (pruned_chunks: 2)");
+    assert_eq!(panic_of(|| Readable::get_chunk(&batch(), 4)), "chunk 4 out of bounds (chunks: 4)");
 }
 
 #[test]
@@ -254,12 +295,44 @@ fn of_stored_digests() {
     );
     assert_eq!(panic_of(|| prove_range_from_stored(&Sha256, &stored, 1, 0, 1)), "3 digests are stored for 1 leaves");
     assert_eq!(panic_of(|| try_prove_range_from_stored(&Sha256, &stored, u64::MAX, 0, 1)), "n 18446744073709551615 is above 2^61");
+}
 
-    // One digest as the chunk of a bitmap, and then that chunk pruned.
+/// One digest as the chunk of a bitmap, and then that chunk pruned.
+#[test]
+fn of_stored_digests_in_bitmaps() {
     let mut chunks = Prunable::<32>::new();
     chunks.push_chunk(&[0; 32]);
+    assert_eq!(panic_of(|| tree_from_bitmap(&Sha256, &chunks, (1 << 61) + 1)), "n 2305843009213693953 is above 2^61");
     assert_eq!(panic_of(|| tree_from_bitmap(&Sha256, &chunks, 2)), "256 bits of digests are stored for 2 leaves");
+    assert_eq!(panic_of(|| prove_from_bitmap(&Sha256, &chunks, (1 << 61) + 1, 0)), "n 2305843009213693953 is above 2^61");
+    assert_eq!(panic_of(|| prove_from_bitmap(&Sha256, &chunks, 1, 1)), "index 1 out of bounds (len: 1)");
+    assert_eq!(panic_of(|| prove_from_bitmap(&Sha256, &chunks, 2, 0)), "256 bits of digests are stored for 2 leaves");
+    assert_eq!(panic_of(|| prove_range_from_bitmap(&Sha256, &chunks, (1 << 61) + 1, 0, 1)), "n 2305843009213693953 is above 2^61");
+    assert_eq!(panic_of(|| prove_range_from_bitmap(&Sha256, &chunks, 1, 0, 0)), "a range has at least one chunk");
+    assert_eq!(panic_of(|| prove_range_from_bitmap(&Sha256, &chunks, 1, 0, 2)), "range of 2 from 0 out of bounds (len: 1)");
+    assert_eq!(panic_of(|| prove_range_from_bitmap(&Sha256, &chunks, 2, 0, 1)), "256 bits of digests are stored for 2 leaves");
     chunks.prune_to_bit(256);
+    assert_eq!(panic_of(|| tree_from_bitmap(&Sha256, &chunks, 1)), "stored has pruned chunks");
     assert_eq!(panic_of(|| prove_from_bitmap(&Sha256, &chunks, 1, 0)), "stored has pruned chunks");
     assert_eq!(panic_of(|| prove_range_from_bitmap(&Sha256, &chunks, 1, 0, 1)), "stored has pruned chunks");
+}
+
+/// The same in a batch.
+#[test]
+fn of_stored_digests_in_batches() {
+    let prepared = CleanBitMap::<1>::new().into_dirty().prepare(1).unwrap();
+    let mut batch = CleanBitMap::<32>::new().into_dirty();
+    batch.push_chunk(&[0; 32]);
+    let counts = "256 bits of digests are stored for 2 leaves";
+    assert_eq!(panic_of(|| append_leaf_in_batch(&Sha256, &mut batch, 2, &[0; 32])), counts);
+    assert_eq!(panic_of(|| replace_leaf_in_batch(&Sha256, &mut batch, 1, 1, &[0; 32])), "index 1 out of bounds (len: 1)");
+    assert_eq!(panic_of(|| replace_leaf_in_batch(&Sha256, &mut batch, 2, 0, &[0; 32])), counts);
+    assert_eq!(panic_of(|| truncate_leaves_in_batch(&mut batch, 2, 1)), counts);
+    assert_eq!(panic_of(|| update_digests(&Sha256, &prepared, &mut batch, 2).is_ok()), counts);
+    batch.prune_to_bit(256);
+    assert_eq!(panic_of(|| append_leaf_in_batch(&Sha256, &mut batch, 1, &[0; 32])), "stored has pruned chunks");
+    assert_eq!(panic_of(|| replace_leaf_in_batch(&Sha256, &mut batch, 1, 0, &[0; 32])), "stored has pruned chunks");
+    assert_eq!(panic_of(|| truncate_leaves_in_batch(&mut batch, 1, 0)), "stored has pruned chunks");
+    assert_eq!(panic_of(|| update_digests(&Sha256, &prepared, &mut batch, 1).is_ok()), "stored has pruned chunks");
+    assert_eq!(batch.len(), 256);
 }

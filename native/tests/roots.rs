@@ -10,7 +10,7 @@ use mortarpink::bitmap::{BitMap, Prunable, Readable};
 use mortarpink::roots::{
     DecodeError, Proof, RangeProof, append_leaf, bitmap_root, chunk_digests, leaf_digest, leaf_digests, node_count, node_digest,
     node_position, prove, prove_from_stored, prove_range, prove_range_from_stored, replace_leaf, root_digest, tree_digest,
-    tree_from_stored, truncate_leaves, verify_bit, verify_chunk, verify_range,
+    tree_from_bitmap, tree_from_stored, truncate_leaves, update_digests, verify_bit, verify_chunk, verify_range,
 };
 use sha256::{Hasher, Sha256};
 use std::collections::HashMap;
@@ -443,6 +443,35 @@ fn a_proof_stays_good_when_chunks_are_pruned() {
         for other in 0..=4 {
             assert_eq!(verify_chunk(&Sha256, &root, 150, other, 2, &chunk, &path), other == pruned);
         }
+    }
+}
+
+/// Each version of a bitmap has its tree in the version of the stored digests under the same number. Commits set bits, append, remove and prune.
+#[test]
+fn stored_digests_follow_the_commits_of_a_bitmap() {
+    let (mut bitmap, mut stored) = (CleanBitMap::<2>::new(), CleanBitMap::<32>::new());
+    let (mut leaves, mut trees) = (Digests::new(), Vec::new());
+    for number in 1..=60u64 {
+        let count = bitmap.current().chunks_len() as u64;
+        let mut batch = bitmap.into_dirty();
+        match number % 5 {
+            0 => batch.truncate(batch.len() - (number % 40).min(batch.len() - 16 * batch.pruned_chunks() as u64)),
+            1 => _ = batch.prune_to_bit(batch.len().saturating_sub(200)),
+            2 => _ = batch.set_range(batch.len().saturating_sub(30)..batch.len(), number % 2 == 0),
+            _ => _ = batch.extend_to(batch.len() + 2 * number).push(true),
+        }
+        let pruned = batch.pruned_chunks();
+        let prepared = batch.prepare(number).unwrap();
+        let mut digests = stored.into_dirty();
+        update_digests(&Sha256, &prepared, &mut digests, count).unwrap();
+        stored = digests.commit(number).unwrap();
+        bitmap = prepared.commit();
+        leaves = chunk_digests(&Sha256, bitmap.current(), &leaves[..pruned]);
+        trees.push((bitmap.current().chunks_len() as u64, tree_digest(&Sha256, &leaves)));
+    }
+    assert!(bitmap.pruned_chunks() > 10 && trees.iter().any(|(count, _)| *count > 60));
+    for (number, (count, tree)) in (1..).zip(trees) {
+        assert_eq!(tree_from_bitmap(&Sha256, &stored.at(number).unwrap(), count), tree, "version {number}");
     }
 }
 
