@@ -69,6 +69,11 @@
 //! receipts is opened as well, such as one that was copied alone or made by [`Log::begin`](crate::log::Log::begin). Then nothing says what was
 //! acknowledged, so that a missing end is not found, and any damage is an error.
 //!
+//! # Memory
+//!
+//! If memory runs out, a call returns `Memory` or `NotApplied`. Only the paths of the files are allocated by `std` when a store is opened or created,
+//! and if there is no memory for them the program aborts.
+//!
 //! # What is assumed
 //!
 //! What a sync has reported as kept is assumed to stay as it is, also while bytes beside it are written. A file that is renamed is assumed to have
@@ -177,7 +182,8 @@ impl<const N: usize> Store<N> {
     /// As [`recover`](crate::log::recover), and temporarily all bytes of the file.
     ///
     /// # Complexity
-    /// As [`recover`](crate::log::recover). A write and a sync, or up to two writes and three syncs if not all bytes were acknowledged.
+    /// As [`recover`](crate::log::recover). A write and a sync. If not all bytes were acknowledged, up to two writes and three syncs, and the file is
+    /// shortened if bytes are cut off.
     ///
     /// # Examples
     ///
@@ -216,6 +222,9 @@ impl<const N: usize> Store<N> {
     /// # Memory
     /// Temporarily the bytes of the log.
     ///
+    /// # Complexity
+    /// Three writes, a rename and four syncs. If there are receipts of a log that is gone, they are removed first, with one more sync.
+    ///
     /// # Examples
     ///
     /// ```
@@ -240,10 +249,10 @@ impl<const N: usize> Store<N> {
     /// [`create`](Store::create) begins a new store then.
     ///
     /// # Memory
-    /// As [`open`](Store::open).
+    /// As [`open`](Store::open) or [`create`](Store::create).
     ///
     /// # Complexity
-    /// As [`open`](Store::open).
+    /// As [`open`](Store::open) or [`create`](Store::create).
     ///
     /// # Examples
     ///
@@ -280,7 +289,7 @@ impl<const N: usize> Store<N> {
     /// As [`open`](Store::open).
     ///
     /// # Complexity
-    /// As [`open`](Store::open).
+    /// As [`recover`](crate::log::recover). Two writes and five syncs, and the file is shortened.
     ///
     /// # Examples
     ///

@@ -14,6 +14,8 @@ use mortarpink::roots::{
     Proof, RangeProof, append_leaf, chunk_digests, leaf_digests, prove, prove_from_stored, prove_range, prove_range_from_stored,
     try_append_leaf, try_chunk_digests, try_leaf_digests, try_prove, try_prove_from_stored, try_prove_range, try_prove_range_from_stored,
 };
+use mortarpink::store::files::{Files, Name};
+use mortarpink::store::{OpenError, Options, Start, Store, StoreError};
 use mortarpink::support::alloc::Global;
 use mortarpink::support::collections::{BTreeMap, DequeWithin, VecDeque};
 use mortarpink::support::iter::CollectWithin;
@@ -24,6 +26,7 @@ use sha256::Sha256;
 use std::alloc::{GlobalAlloc, Layout, System};
 use std::cell::Cell;
 use std::fmt::Debug;
+use std::io;
 use std::sync::LazyLock;
 
 thread_local! {
@@ -186,6 +189,9 @@ fn of_values_that_are_made() {
     let decoded = || BitMap::<4>::decode(&mut bytes.as_slice(), &RangeCfg::any());
     assert_eq!(made(&|| matches!(decoded(), Err(CodecError::OutOfMemory))), 1);
     let (dense, pruned) = (dense(), pruned());
+    let bytes = pruned.encode();
+    let decoded = || Prunable::<4>::decode(&mut bytes.as_slice(), &RangeCfg::any());
+    assert_eq!(made(&|| matches!(decoded(), Err(CodecError::OutOfMemory))), 1);
     assert_eq!(made(&|| dense.try_clone().is_err()), 1);
     assert_eq!(made(&|| dense.try_to_bools().is_err()), 1);
     assert_eq!(made(&|| dense.try_encode().is_err()), 1);
@@ -571,11 +577,74 @@ fn of_calls_that_return_no_error() {
     assert!(panics(&|| drop(Proof { len: 8, pruned: 0, index: 0, chunk: &[1], path: &digests }.write())));
 }
 
+/// Files in memory. To read them returns an error if memory runs out, and what is written is lost.
+#[derive(Debug)]
+struct Fixed(Vec<u8>);
+
+impl Files for Fixed {
+    fn lock(&mut self) -> io::Result<bool> {
+        Ok(true)
+    }
+
+    fn read(&mut self, name: Name) -> io::Result<Option<Vec<u8>>> {
+        let bytes = if name == Name::Log { &self.0[..] } else { &[] };
+        let mut copy = Vec::new();
+        copy.try_reserve_exact(bytes.len())?;
+        copy.extend_from_slice(bytes);
+        Ok(Some(copy))
+    }
+
+    fn create_new(&mut self) -> io::Result<()> {
+        Ok(())
+    }
+
+    fn write_at(&mut self, _name: Name, _at: u64, _bytes: &[u8]) -> io::Result<()> {
+        Ok(())
+    }
+
+    fn cut_to(&mut self, _name: Name, _len: u64) -> io::Result<()> {
+        Ok(())
+    }
+
+    fn sync(&mut self, _name: Name) -> io::Result<()> {
+        Ok(())
+    }
+
+    fn rename_new(&mut self) -> io::Result<()> {
+        Ok(())
+    }
+
+    fn remove_new(&mut self) -> io::Result<()> {
+        Ok(())
+    }
+
+    fn sync_folder(&mut self) -> io::Result<()> {
+        Ok(())
+    }
+}
+
+#[test]
+fn openings_of_stores() {
+    let log = Log::begin(&versions()).unwrap();
+    let torn = [log.bytes(), &[0, 0, 0, 0, 1]].concat();
+    for (start, bytes) in [(Start::Open, &torn[..]), (Start::OpenCut(log.position()), &torn), (Start::Create, &[])] {
+        for count in 0.. {
+            let files = Box::new(Fixed(bytes.to_vec()));
+            let (result, failed) = with_failure(count, || Options::new().indexed(true).start::<4>(files, start));
+            match result {
+                Ok(_) => assert!(!failed && count > 0, "{start:?}"),
+                Err(error) => assert!(failed && matches!(error, OpenError::Memory(_)), "{start:?}, allocation {count}: {error:?}"),
+            }
+            if !failed {
+                break;
+            }
+        }
+    }
+}
+
 /// A store whose changes fail for an allocation has none of the change, or has it when it is opened again.
 #[test]
 fn changes_of_stores() {
-    use mortarpink::store::{Store, StoreError};
-
     type Change = fn(&mut Store<4>) -> Result<(), StoreError>;
     let changes: [Change; 4] = [
         |store| {

@@ -24,8 +24,7 @@ pub enum OpenError {
     /// A store was to be created in a file that has bytes.
     NotEmpty,
 
-    /// The file is no log, or it is damaged: [`RecoverError::Damaged`] has the position and what is damaged there. It is also this error if an
-    /// allocation fails. The file was not written to.
+    /// The file is no log, or it is damaged: [`RecoverError::Damaged`] has the position and what is damaged there. The file was not written to.
     Log(RecoverError),
 
     /// The end of the log is missing: all bytes that there are belong to a log, but more of them were acknowledged. The file was not written to.
@@ -84,6 +83,16 @@ impl error::Error for OpenError {
 impl From<io::Error> for OpenError {
     fn from(error: io::Error) -> OpenError {
         OpenError::Io(error)
+    }
+}
+
+impl From<RecoverError> for OpenError {
+    /// Returns `Memory` if an allocation failed, and `Log` otherwise.
+    fn from(error: RecoverError) -> OpenError {
+        match error {
+            RecoverError::Memory(error) => OpenError::Memory(error),
+            error => OpenError::Log(error),
+        }
     }
 }
 

@@ -8,6 +8,7 @@ use super::{Durability, Store};
 use crate::bitmap::historical::CleanBitMap;
 use crate::log::frames::Place;
 use crate::log::{Damage, Log, RecoverError, Recovered, recover};
+use crate::support::alloc::AllocError;
 use std::boxed::Box;
 use std::io::{self, ErrorKind};
 use std::path::Path;
@@ -253,8 +254,8 @@ impl Options {
         if !files.lock()? {
             return Err(OpenError::Locked);
         }
-        let receipts = Receipts::read(&files.read(Name::Receipts)?.unwrap_or_default());
-        let bytes = files.read(Name::Log)?;
+        let receipts = Receipts::read(&read(&mut *files, Name::Receipts)?.unwrap_or_default());
+        let bytes = read(&mut *files, Name::Log)?;
         let log = StoredLog::new(files, receipts, self.durability);
         let has_bytes = bytes.as_ref().is_some_and(|bytes| !bytes.is_empty());
         match start {
@@ -289,7 +290,7 @@ impl Options {
 
     fn open_cut_in<const N: usize>(&self, mut log: StoredLog, bytes: &[u8], at: u64) -> Result<Store<N>, OpenError> {
         let good = usize::try_from(at).ok().and_then(|at| bytes.get(..at)).ok_or(OpenError::NotAnEnd)?;
-        let found = recover::<N>(good).map_err(OpenError::Log)?;
+        let found = recover::<N>(good)?;
         if found.log.position() != at {
             return Err(OpenError::NotAnEnd);
         }
@@ -305,6 +306,14 @@ impl Options {
     fn store<const N: usize>(&self, bitmap: CleanBitMap<N>, log: StoredLog, cut_bytes: u64) -> Store<N> {
         Store { bitmap: Some(bitmap), log, cut_bytes, compacts: self.compacts, next_test: 0 }
     }
+}
+
+/// Returns all bytes of a file, or `None` if there is no such file.
+fn read(files: &mut dyn Files, name: Name) -> Result<Option<Vec<u8>>, OpenError> {
+    files.read(name).map_err(|error| match error.kind() {
+        ErrorKind::OutOfMemory => OpenError::Memory(AllocError),
+        _ => OpenError::Io(error),
+    })
 }
 
 /// Returns the bytes of a log, or an error if there is no file.
@@ -334,7 +343,7 @@ fn recover_good<const N: usize>(bytes: &[u8]) -> Result<(Recovered<N>, Option<Re
 ///
 /// A frame that is damaged is left out only if it is known that it was not acknowledged.
 fn find<const N: usize>(bytes: &[u8], receipts: &Receipts) -> Result<(Recovered<N>, Option<Place>), OpenError> {
-    let (found, damage) = recover_good::<N>(bytes).map_err(OpenError::Log)?;
+    let (found, damage) = recover_good::<N>(bytes)?;
     let good = found.log.position();
     match (receipts.acknowledged(&bytes[..good as usize]), damage) {
         (Acknowledged::UpTo(place), None) => Ok((found, Some(place))),
