@@ -194,6 +194,57 @@ fn a_crash_leaves_a_store_that_is_created_whole_or_not() {
     assert_eq!(found.len(), 2);
 }
 
+/// Each call takes as many writes, syncs and other calls of the disk as its documentation says.
+#[test]
+fn calls_take_the_writes_and_syncs_that_are_documented() {
+    for (durability, of_a_change, of_a_sync) in [(Durability::Synced, 4, 0), (Durability::Buffered, 1, 3)] {
+        let disk = Disk::default();
+        let mut store = create(&disk, durability).unwrap();
+        // A new file, three writes, a rename and four syncs.
+        assert_eq!(disk.calls(), 9);
+        let calls_of = |store: &mut Store<8>, step| {
+            let before = disk.calls();
+            take(store, step).unwrap();
+            disk.calls() - before
+        };
+        for step in [Commit { number: 1, chunks: 40 }, Commit { number: 2, chunks: 0 }, Rewind(1), DropBefore(1), Clear] {
+            assert_eq!(calls_of(&mut store, step), of_a_change, "{step:?}");
+        }
+        assert_eq!(calls_of(&mut store, Sync), of_a_sync);
+        assert_eq!(calls_of(&mut store, Sync), 0);
+        take(&mut store, Commit { number: 3, chunks: 1 }).unwrap();
+        assert_eq!(calls_of(&mut store, Compact), 9 + of_a_sync);
+        assert_eq!(calls_of(&mut store, Compact), 9);
+    }
+}
+
+/// The same of the calls that open a store.
+#[test]
+fn opening_takes_the_writes_and_syncs_that_are_documented() {
+    let disk = Disk::default();
+    let mut store = create(&disk, Durability::Buffered).unwrap();
+    let base = store.position();
+    take(&mut store, Commit { number: 1, chunks: 1 }).unwrap();
+    let calls_of = |start: Start, disk: Disk| {
+        let before = disk.calls();
+        drop(Options::new().start::<8>(disk.files(), start).unwrap());
+        disk.calls() - before
+    };
+    // The commit was not acknowledged: two writes and three syncs.
+    assert_eq!(calls_of(Start::Open, disk.after_kill()), 5);
+    // All bytes were acknowledged: a write and a sync.
+    store.sync().unwrap();
+    drop(store);
+    assert_eq!(calls_of(Start::Open, disk.after_kill()), 2);
+    // Two writes, five syncs, and a cut.
+    assert_eq!(calls_of(Start::OpenCut(base), disk.after_kill()), 8);
+    // The end of the bytes is cut off: one cut more. The receipts of a log that is gone are removed: a cut and a sync more.
+    let (log, receipts) = (disk.bytes(Name::Log).unwrap(), disk.bytes(Name::Receipts).unwrap());
+    let torn = [&log[..], &[0, 0, 0, 0, 1]].concat();
+    assert_eq!(calls_of(Start::Open, Disk::with(&[(Name::Log, &torn), (Name::Receipts, &receipts)])), 6);
+    assert_eq!(calls_of(Start::Create, Disk::with(&[(Name::Receipts, &receipts)])), 9 + 2);
+}
+
 /// An entry of which a crash has left some blocks is cut off if it was not acknowledged. Without a receipt it is an error.
 #[test]
 fn an_entry_without_some_of_its_blocks_is_cut_off() {
