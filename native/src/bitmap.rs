@@ -8,6 +8,7 @@
 //! | [`historical::CleanBitMap<N>`](historical::CleanBitMap) | a `Prunable` that keeps commits, which are versions of it under numbers |
 //! | [`historical::DirtyBitMap<N>`](historical::DirtyBitMap) | the same in a batch of edits, before it is committed |
 //! | [`historical::PreparedBitMap<N>`](historical::PreparedBitMap) | a batch whose commit has all its memory, and cannot fail any more |
+//! | [`historical::AtCommit<N>`](historical::AtCommit) | the bitmap at a kept commit, read in place |
 //!
 //! `N` is the width: the number of bytes per chunk. Positions and lengths count bits. Bit 0 of a byte is its lowest.
 //!
@@ -85,7 +86,12 @@ pub mod codec {
     //! 4. `Invalid`: a bit past the length is set.
     //! 5. `OutOfMemory`: the allocation of the chunks fails.
     //!
-    //! Decoding a `Prunable` first tests the number of pruned chunks: eight bytes are there, and the number of pruned bits fits `u64`.
-    //! Before it allocates, it tests whether the length fits `u64`.
+    //! Decoding a `Prunable` returns one of these first:
+    //!
+    //! 1. `EndOfBuffer`: there are fewer than eight bytes for the number of pruned chunks.
+    //! 2. `Invalid`: the number of pruned bits does not fit `u64`.
+    //!
+    //! Then come the errors 1 to 4 of a `BitMap`, for the retained bits. Then comes `Invalid` if the length, with the pruned bits, does not fit
+    //! `u64`, and `OutOfMemory` at last.
     pub use crate::generated::bitmap_core::bitmap::codec::{CodecError, EncodeSize, RangeCfg};
 }

@@ -31,9 +31,9 @@
 //!
 //! # Memory
 //!
-//! A call that may allocate panics if memory runs out, as those of Rust's collections abort. Its form `try_..` returns an [`AllocError`]
-//! instead, and leaves the value unchanged. [`TryClone`] has the copies that return an error. The calls of [`log`] and of `store` have one
-//! form, which returns its errors.
+//! A call that may allocate panics if memory runs out. (Rust's own collections abort the program then.) Its form `try_..` returns an
+//! [`AllocError`] instead, and leaves the value unchanged, unless its documentation says otherwise, as those of [`roots`] that edit a batch do.
+//! [`TryClone`] has the copies that return an error. The calls of [`log`] and of `store` have one form, which returns its errors.
 //!
 //! # Features
 //!

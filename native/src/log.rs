@@ -1,7 +1,8 @@
 //! The log of a historical bitmap: its commits, rewinds and drops as bytes, from which its state is made again after a restart.
 //!
 //! A log is bytes that only grow. A program changes the bitmap by calls that also append the change to a [`Log`], and writes the bytes of the `Log`
-//! to a file when it wants to. After a crash, any prefix of the file reads as the state after the last change that is whole in it.
+//! to a file when it wants to. After a crash, any prefix of the file reads as the state after the last change that is whole in it. Only a prefix that
+//! has not the whole [base](#parts-of-a-log), the first part of a log, is an error.
 //!
 //! | Calls | What they do |
 //! |---|---|
@@ -42,8 +43,9 @@
 //!
 //! # Parts of a log
 //!
-//! A log is a list of [`frames`], each of which has a length, a body and a digest. The body of the first frame is a *base*: the bitmap that the
-//! log begins with. The body of each later one is an [`Entry`]: a commit as the chunks that it changed, a rewind, or commits that were dropped.
+//! A log is a header and a list of [`frames`], each of which has a length, a body and a digest. The body of the first frame is a *base*: the bitmap
+//! that the log begins with, at its oldest kept commit. The body of each later one is an [`Entry`]: a commit as the chunks that it changed, a
+//! rewind, or commits that were dropped.
 //! [`base_bytes`], [`read_base`] and [`from_base`] are for bases, and [`read_entry`], [`push_chunk`], [`check_change`] and [`apply_change`] for entries.
 //! `docs/FORMATS.md` of the repository describes the bytes.
 

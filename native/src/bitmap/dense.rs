@@ -12,7 +12,7 @@ use core::ops::{BitAnd, BitAndAssign, BitOr, BitOrAssign, BitXor, BitXorAssign, 
 
 /// Constructors. `N` has to be at least 1, and `8N` has to fit `u64`: otherwise they do not compile.
 impl<const N: usize> BitMap<N> {
-    /// Returns an empty bitmap. Does not allocate.
+    /// Returns an empty bitmap. Does not allocate; constant time.
     ///
     /// ```
     /// use mortarpink::bitmap::BitMap;
@@ -30,6 +30,10 @@ impl<const N: usize> BitMap<N> {
     }
 
     /// Returns an empty bitmap with capacity for the chunks of `size` bits.
+    ///
+    /// # Complexity
+    ///
+    /// Time and memory are those of [`try_with_capacity`](Self::try_with_capacity).
     ///
     /// # Panics
     ///
@@ -52,6 +56,14 @@ impl<const N: usize> BitMap<N> {
     ///
     /// Returns `AllocError` if the allocation fails.
     ///
+    /// # Memory
+    ///
+    /// Allocates at most once, space for the chunks of `size` bits.
+    ///
+    /// # Complexity
+    ///
+    /// Constant.
+    ///
     /// ```
     /// use mortarpink::bitmap::BitMap;
     ///
@@ -63,6 +75,10 @@ impl<const N: usize> BitMap<N> {
     }
 
     /// Returns a bitmap of `size` bits that are all false.
+    ///
+    /// # Complexity
+    ///
+    /// Time and memory are those of [`try_zeroes`](Self::try_zeroes).
     ///
     /// # Panics
     ///
@@ -84,6 +100,14 @@ impl<const N: usize> BitMap<N> {
     ///
     /// Returns `AllocError` if the allocation fails.
     ///
+    /// # Memory
+    ///
+    /// Allocates at most once, space for the chunks of `size` bits.
+    ///
+    /// # Complexity
+    ///
+    /// Linear in the chunks of `size` bits.
+    ///
     /// ```
     /// use mortarpink::bitmap::BitMap;
     ///
@@ -94,6 +118,10 @@ impl<const N: usize> BitMap<N> {
     }
 
     /// Returns a bitmap of `size` bits that are all true.
+    ///
+    /// # Complexity
+    ///
+    /// Time and memory are those of [`try_ones`](Self::try_ones).
     ///
     /// # Panics
     ///
@@ -115,6 +143,14 @@ impl<const N: usize> BitMap<N> {
     ///
     /// Returns `AllocError` if the allocation fails.
     ///
+    /// # Memory
+    ///
+    /// Allocates at most once, space for the chunks of `size` bits.
+    ///
+    /// # Complexity
+    ///
+    /// Linear in the chunks of `size` bits.
+    ///
     /// ```
     /// use mortarpink::bitmap::BitMap;
     ///
@@ -129,6 +165,14 @@ impl<const N: usize> BitMap<N> {
     /// # Errors
     ///
     /// Returns `AllocError` if the allocation fails.
+    ///
+    /// # Memory
+    ///
+    /// Allocates at most once, space for the chunks of the bits.
+    ///
+    /// # Complexity
+    ///
+    /// Linear in the bits.
     ///
     /// ```
     /// use mortarpink::bitmap::BitMap;
@@ -145,6 +189,10 @@ impl<const N: usize> BitMap<N> {
 /// Edits that may allocate. Each has a form `try_..` that returns an error if memory runs out, and leaves the bitmap unchanged then.
 impl<const N: usize> BitMap<N> {
     /// Appends a bit.
+    ///
+    /// # Complexity
+    ///
+    /// Time and memory are those of [`try_push`](Self::try_push).
     ///
     /// # Panics
     ///
@@ -164,6 +212,10 @@ impl<const N: usize> BitMap<N> {
 
     /// Appends the `8N` bits of a chunk.
     ///
+    /// # Complexity
+    ///
+    /// Time and memory are those of [`try_push_chunk`](Self::try_push_chunk).
+    ///
     /// # Panics
     ///
     /// Panics if memory runs out, if the length is not a multiple of `8N`, or if the new length does not fit `u64`.
@@ -182,6 +234,10 @@ impl<const N: usize> BitMap<N> {
 
     /// Appends false bits up to a length of `new_len` bits. If the bitmap has as many or more, it is unchanged.
     ///
+    /// # Complexity
+    ///
+    /// Time and memory are those of [`try_extend_to`](Self::try_extend_to).
+    ///
     /// # Panics
     ///
     /// Panics if memory runs out.
@@ -198,6 +254,10 @@ impl<const N: usize> BitMap<N> {
     }
 
     /// Appends the bits of another bitmap, in order. Its chunks may have another width.
+    ///
+    /// # Complexity
+    ///
+    /// Time and memory are those of [`try_extend_from_bitmap`](Self::try_extend_from_bitmap).
     ///
     /// # Panics
     ///
@@ -216,6 +276,10 @@ impl<const N: usize> BitMap<N> {
 
     /// Sets the bit at each position in `range` to `value`. If the range is empty or ends before it starts, nothing changes.
     /// Does not allocate.
+    ///
+    /// # Complexity
+    ///
+    /// Linear in the bytes of the range. Whole chunks are written at once.
     ///
     /// # Panics
     ///
@@ -237,6 +301,10 @@ impl<const N: usize> BitMap<N> {
 impl<const N: usize> BitMap<N> {
     /// Returns the bits in order, one boolean per bit.
     ///
+    /// # Complexity
+    ///
+    /// Time and memory are those of [`try_to_bools`](Self::try_to_bools).
+    ///
     /// # Panics
     ///
     /// Panics if memory runs out.
@@ -252,6 +320,10 @@ impl<const N: usize> BitMap<N> {
     }
 
     /// Returns the encoding of the bitmap: the length in eight bytes, most significant first, and then the chunks.
+    ///
+    /// # Complexity
+    ///
+    /// Time and memory are those of [`try_encode`](Self::try_encode).
     ///
     /// # Panics
     ///
@@ -273,6 +345,14 @@ impl<const N: usize> BitMap<N> {
     ///
     /// Returns `AllocError` if the allocation fails.
     ///
+    /// # Memory
+    ///
+    /// Allocates once, space for the encoding.
+    ///
+    /// # Complexity
+    ///
+    /// Linear in the bytes of the encoding.
+    ///
     /// ```
     /// use mortarpink::bitmap::BitMap;
     ///
@@ -286,6 +366,10 @@ impl<const N: usize> BitMap<N> {
     }
 
     /// Appends the encoding of the bitmap, as `encode` returns it, to some bytes.
+    ///
+    /// # Complexity
+    ///
+    /// Time and memory are those of [`try_encode_into`](Self::try_encode_into).
     ///
     /// # Panics
     ///
@@ -308,6 +392,14 @@ impl<const N: usize> BitMap<N> {
     ///
     /// Returns `AllocError` if the allocation fails. `out` is then unchanged.
     ///
+    /// # Memory
+    ///
+    /// Allocates at most once, and only if `out` has no capacity for the encoding.
+    ///
+    /// # Complexity
+    ///
+    /// Linear in the bytes of the encoding. Amortized, since the bytes in `out` may be moved.
+    ///
     /// ```
     /// use mortarpink::bitmap::BitMap;
     ///
@@ -320,7 +412,7 @@ impl<const N: usize> BitMap<N> {
         self.write(out)
     }
 
-    /// Returns the size of the encoding in bytes.
+    /// Returns the size of the encoding in bytes. Does not allocate; constant time.
     ///
     /// ```
     /// use mortarpink::bitmap::BitMap;
@@ -337,6 +429,14 @@ impl<const N: usize> BitMap<N> {
     /// # Errors
     ///
     /// Returns the first error that applies. The module `codec` has their order. `from` is then unchanged.
+    ///
+    /// # Memory
+    ///
+    /// Allocates at most once, space for the chunks, and only if no other error applies.
+    ///
+    /// # Complexity
+    ///
+    /// Linear in the bytes of the encoding.
     ///
     /// ```
     /// use mortarpink::bitmap::BitMap;
@@ -446,7 +546,7 @@ macro_rules! operators {
 
             #[doc = concat!("Returns ", $words)]
             ///
-            /// Panics if the lengths differ, or if memory runs out.
+            /// Allocates the new bitmap, and takes time linear in its chunks. Panics if the lengths differ, or if memory runs out.
             fn $function(self, other: &BitMap<N>) -> BitMap<N> {
                 assert!(self.len() == other.len(), "BitMap lengths don't match: {} vs {}", self.len(), other.len());
                 expect_memory(fallible::$operator::$function(self, other))
@@ -456,7 +556,7 @@ macro_rules! operators {
         impl<const N: usize> $assigning<&BitMap<N>> for BitMap<N> {
             #[doc = concat!("Keeps ", $words)]
             ///
-            /// Panics if the lengths differ. Does not allocate.
+            /// Does not allocate, and takes time linear in the chunks. Panics if the lengths differ.
             fn $assign(&mut self, other: &BitMap<N>) {
                 self.$in_place(other);
             }
@@ -474,7 +574,7 @@ operators! {
 impl<const N: usize> Not for BitMap<N> {
     type Output = BitMap<N>;
 
-    /// Returns the bitmap with each bit flipped. Does not allocate.
+    /// Returns the bitmap with each bit flipped. Does not allocate, and takes time linear in the chunks.
     fn not(mut self) -> BitMap<N> {
         self.flip_all();
         self

@@ -11,7 +11,7 @@ use core::ops::Range;
 
 /// Constructors. `N` has to be at least 1, and `8N` has to fit `u64`: otherwise they do not compile.
 impl<const N: usize> Prunable<N> {
-    /// Returns an empty bitmap without pruned chunks. Does not allocate.
+    /// Returns an empty bitmap without pruned chunks. Does not allocate; constant time.
     ///
     /// ```
     /// use mortarpink::bitmap::Prunable;
@@ -23,7 +23,7 @@ impl<const N: usize> Prunable<N> {
         Prunable::new_within(Global)
     }
 
-    /// Returns a bitmap with `pruned_chunks` pruned chunks and no retained bit. Does not allocate.
+    /// Returns a bitmap with `pruned_chunks` pruned chunks and no retained bit. Does not allocate; constant time.
     ///
     /// # Errors
     ///
@@ -42,7 +42,7 @@ impl<const N: usize> Prunable<N> {
 
 /// Edits. Those that may allocate have a form `try_..` that returns an error if memory runs out, and leaves the bitmap unchanged then.
 impl<const N: usize> Prunable<N> {
-    /// Sets the bit at the absolute position `bit` to `value`. Does not allocate.
+    /// Sets the bit at the absolute position `bit` to `value`. Does not allocate; constant time.
     ///
     /// # Panics
     ///
@@ -64,6 +64,10 @@ impl<const N: usize> Prunable<N> {
     /// Sets the bit at each position in `range` to `value`. If the range is empty or ends before it starts, nothing changes.
     /// Does not allocate.
     ///
+    /// # Complexity
+    ///
+    /// Linear in the bytes of the range. Whole chunks are written at once.
+    ///
     /// # Panics
     ///
     /// Panics if the range starts below the first position that is not pruned, or ends after the length.
@@ -81,6 +85,10 @@ impl<const N: usize> Prunable<N> {
     }
 
     /// Appends a bit.
+    ///
+    /// # Complexity
+    ///
+    /// Time and memory are those of [`try_push`](Self::try_push).
     ///
     /// # Panics
     ///
@@ -100,6 +108,10 @@ impl<const N: usize> Prunable<N> {
 
     /// Appends the eight bits of a byte, lowest first.
     ///
+    /// # Complexity
+    ///
+    /// Time and memory are those of [`try_push_byte`](Self::try_push_byte).
+    ///
     /// # Panics
     ///
     /// Panics if memory runs out, if the length is not a multiple of 8, or if the new length does not fit `u64`.
@@ -116,6 +128,10 @@ impl<const N: usize> Prunable<N> {
     }
 
     /// Appends the `8N` bits of a chunk.
+    ///
+    /// # Complexity
+    ///
+    /// Time and memory are those of [`try_push_chunk`](Self::try_push_chunk).
     ///
     /// # Panics
     ///
@@ -134,6 +150,10 @@ impl<const N: usize> Prunable<N> {
 
     /// Appends false bits up to a length of `new_len` bits, pruned ones included. If the bitmap has as many or more, it is unchanged.
     ///
+    /// # Complexity
+    ///
+    /// Time and memory are those of [`try_extend_to`](Self::try_extend_to).
+    ///
     /// # Panics
     ///
     /// Panics if memory runs out.
@@ -150,6 +170,10 @@ impl<const N: usize> Prunable<N> {
     }
 
     /// Appends the bits of a dense bitmap, in order. Its chunks may have another width.
+    ///
+    /// # Complexity
+    ///
+    /// Time and memory are those of [`try_extend_from_bitmap`](Self::try_extend_from_bitmap).
     ///
     /// # Panics
     ///
@@ -168,6 +192,10 @@ impl<const N: usize> Prunable<N> {
 
     /// Drops the chunks before the one of position `bit`. Changes nothing if they are already pruned. Does not allocate.
     ///
+    /// # Complexity
+    ///
+    /// Linear in the chunks that are dropped. The retained chunks are not moved in memory.
+    ///
     /// # Panics
     ///
     /// Panics if `bit` is above the length.
@@ -185,6 +213,10 @@ impl<const N: usize> Prunable<N> {
     }
 
     /// Puts pruned chunks back: inserts them, in order, directly before the retained bits. The position of each bit stays the same.
+    ///
+    /// # Complexity
+    ///
+    /// Time and memory are those of [`try_unprune`](Self::try_unprune).
     ///
     /// # Panics
     ///
@@ -207,6 +239,10 @@ impl<const N: usize> Prunable<N> {
     /// Returns the encoding of the bitmap: the number of pruned chunks in eight bytes, most significant first, and then the retained bits
     /// as those of a dense bitmap.
     ///
+    /// # Complexity
+    ///
+    /// Time and memory are those of [`try_encode`](Self::try_encode).
+    ///
     /// # Panics
     ///
     /// Panics if memory runs out.
@@ -228,6 +264,14 @@ impl<const N: usize> Prunable<N> {
     ///
     /// Returns `AllocError` if the allocation fails.
     ///
+    /// # Memory
+    ///
+    /// Allocates once, space for the encoding.
+    ///
+    /// # Complexity
+    ///
+    /// Linear in the bytes of the encoding.
+    ///
     /// ```
     /// use mortarpink::bitmap::Prunable;
     ///
@@ -241,6 +285,10 @@ impl<const N: usize> Prunable<N> {
     }
 
     /// Appends the encoding of the bitmap, as `encode` returns it, to some bytes.
+    ///
+    /// # Complexity
+    ///
+    /// Time and memory are those of [`try_encode_into`](Self::try_encode_into).
     ///
     /// # Panics
     ///
@@ -263,6 +311,14 @@ impl<const N: usize> Prunable<N> {
     ///
     /// Returns `AllocError` if the allocation fails. `out` is then unchanged.
     ///
+    /// # Memory
+    ///
+    /// Allocates at most once, and only if `out` has no capacity for the encoding.
+    ///
+    /// # Complexity
+    ///
+    /// Linear in the bytes of the encoding. Amortized, since the bytes in `out` may be moved.
+    ///
     /// ```
     /// use mortarpink::bitmap::Prunable;
     ///
@@ -275,7 +331,7 @@ impl<const N: usize> Prunable<N> {
         self.write(out)
     }
 
-    /// Returns the size of the encoding in bytes.
+    /// Returns the size of the encoding in bytes. Does not allocate; constant time.
     ///
     /// ```
     /// use mortarpink::bitmap::Prunable;
@@ -292,6 +348,14 @@ impl<const N: usize> Prunable<N> {
     /// # Errors
     ///
     /// Returns the first error that applies. The module `codec` has their order. `from` is then unchanged.
+    ///
+    /// # Memory
+    ///
+    /// Allocates at most once, space for the chunks, and only if no other error applies.
+    ///
+    /// # Complexity
+    ///
+    /// Linear in the bytes of the encoding.
     ///
     /// ```
     /// use mortarpink::bitmap::Prunable;
@@ -320,7 +384,8 @@ impl<const N: usize> Default for Prunable<N> {
 }
 
 impl<const N: usize> PartialEq for Prunable<N> {
-    /// Whether both have the same length, the same number of pruned chunks, and the same retained bits.
+    /// Returns whether both have the same length, the same number of pruned chunks, and the same retained bits. Takes time at most linear in the
+    /// retained chunks.
     fn eq(&self, other: &Self) -> bool {
         let (first, end) = (self.pruned_chunks(), self.chunks_len());
         self.len() == other.len()

@@ -13,7 +13,7 @@ use core::{error, fmt};
 
 /// Constructors. `N` has to be at least 1, and `8N` has to fit `u64`: otherwise they do not compile.
 impl<const N: usize> BitMap<N, Clean> {
-    /// Returns an empty bitmap: no bits, no pruned chunks and no commits. Does not allocate.
+    /// Returns an empty bitmap: no bits, no pruned chunks and no commits. Does not allocate; constant time.
     ///
     /// ```
     /// use mortarpink::bitmap::historical::CleanBitMap;
@@ -26,7 +26,7 @@ impl<const N: usize> BitMap<N, Clean> {
         CleanBitMap::new_within(Global)
     }
 
-    /// Returns a bitmap with `pruned_chunks` pruned chunks, no retained bit and no commits. Does not allocate.
+    /// Returns a bitmap with `pruned_chunks` pruned chunks, no retained bit and no commits. Does not allocate; constant time.
     ///
     /// # Errors
     ///
@@ -41,7 +41,8 @@ impl<const N: usize> BitMap<N, Clean> {
         CleanBitMap::new_with_pruned_chunks_within(Global, pruned_chunks)
     }
 
-    /// Makes a historical bitmap of a bitmap, which becomes the current one. There are no commits. Does not allocate.
+    /// Makes a historical bitmap of a bitmap, which becomes the current one. There are no commits. Does not allocate; constant
+    /// time.
     ///
     /// ```
     /// use mortarpink::bitmap::Prunable;
@@ -65,6 +66,10 @@ impl<const N: usize> BitMap<N, Clean> {
     ///
     /// Returns the error of the commit. The bitmap is dropped then; `try_apply_batch` returns it.
     ///
+    /// # Complexity
+    ///
+    /// Time and memory are those of [`try_apply_batch`](Self::try_apply_batch).
+    ///
     /// # Panics
     ///
     /// Panics if memory runs out.
@@ -87,6 +92,10 @@ impl<const N: usize> BitMap<N, Clean> {
 
     /// Returns the bitmap as it was at a commit, as a bitmap of its own, or `None` if the commit is not kept.
     /// `at` reads a past state without a copy.
+    ///
+    /// # Complexity
+    ///
+    /// Time and memory are those of [`try_get_at_commit`](Self::try_get_at_commit).
     ///
     /// # Panics
     ///
@@ -114,6 +123,10 @@ impl<const N: usize> BitMap<N, Clean> {
 impl<const N: usize> BitMap<N, Dirty<N>> {
     /// Sets the bit at the absolute position `bit` to `value`.
     ///
+    /// # Complexity
+    ///
+    /// Time and memory are those of [`try_set_bit`](Self::try_set_bit).
+    ///
     /// # Panics
     ///
     /// Panics if memory runs out, or if `bit` is pruned or not below the pending length.
@@ -132,6 +145,10 @@ impl<const N: usize> BitMap<N, Dirty<N>> {
     }
 
     /// Sets the bit at each position in `range` to `value`. If the range is empty or ends before it starts, nothing changes.
+    ///
+    /// # Complexity
+    ///
+    /// Time and memory are those of [`try_set_range`](Self::try_set_range).
     ///
     /// # Panics
     ///
@@ -152,6 +169,10 @@ impl<const N: usize> BitMap<N, Dirty<N>> {
 
     /// Replaces the chunk at an absolute index by these bytes. Bits past the pending length are ignored.
     ///
+    /// # Complexity
+    ///
+    /// Time and memory are those of [`try_set_chunk`](Self::try_set_chunk).
+    ///
     /// # Panics
     ///
     /// Panics if memory runs out, if the chunk is pruned, or if it begins at or after the pending length.
@@ -169,6 +190,10 @@ impl<const N: usize> BitMap<N, Dirty<N>> {
     }
 
     /// Appends a bit.
+    ///
+    /// # Complexity
+    ///
+    /// Time and memory are those of [`try_push`](Self::try_push).
     ///
     /// # Panics
     ///
@@ -189,6 +214,10 @@ impl<const N: usize> BitMap<N, Dirty<N>> {
 
     /// Appends the eight bits of a byte, lowest first, at any length.
     ///
+    /// # Complexity
+    ///
+    /// Time and memory are those of [`try_push_byte`](Self::try_push_byte).
+    ///
     /// # Panics
     ///
     /// Panics if memory runs out, or if the new length does not fit `u64`.
@@ -206,6 +235,10 @@ impl<const N: usize> BitMap<N, Dirty<N>> {
     }
 
     /// Appends the `8N` bits of a chunk, at any length.
+    ///
+    /// # Complexity
+    ///
+    /// Time and memory are those of [`try_push_chunk`](Self::try_push_chunk).
     ///
     /// # Panics
     ///
@@ -225,6 +258,10 @@ impl<const N: usize> BitMap<N, Dirty<N>> {
 
     /// Appends zeros up to a length of `new_len` bits, pruned bits included. If the pending bitmap has that length or more, nothing changes.
     ///
+    /// # Complexity
+    ///
+    /// Time and memory are those of [`try_extend_to`](Self::try_extend_to).
+    ///
     /// # Panics
     ///
     /// Panics if memory runs out.
@@ -242,6 +279,10 @@ impl<const N: usize> BitMap<N, Dirty<N>> {
     }
 
     /// Appends the bits of a dense bitmap, in order, at any length.
+    ///
+    /// # Complexity
+    ///
+    /// Time and memory are those of [`try_extend_from_bitmap`](Self::try_extend_from_bitmap).
     ///
     /// # Panics
     ///
@@ -261,6 +302,10 @@ impl<const N: usize> BitMap<N, Dirty<N>> {
     }
 
     /// Drops the chunks before the one of the absolute position `bit`. Changes nothing if they are already pruned.
+    ///
+    /// # Complexity
+    ///
+    /// Time and memory are those of [`try_prune_to_bit`](Self::try_prune_to_bit).
     ///
     /// # Panics
     ///
@@ -284,6 +329,10 @@ impl<const N: usize> BitMap<N, Dirty<N>> {
     ///
     /// Returns `ReservedCommitNumber` if the number is `u64::MAX`, and `NonMonotonicCommit` if it is not above the last number.
     /// The batch is dropped then; `try_commit` returns it.
+    ///
+    /// # Complexity
+    ///
+    /// Time and memory are those of [`try_commit`](Self::try_commit).
     ///
     /// # Panics
     ///
@@ -313,6 +362,10 @@ impl<const N: usize> BitMap<N, Dirty<N>> {
     /// # Errors
     ///
     /// Those of `commit`. The batch is dropped then; `try_prepare` returns it.
+    ///
+    /// # Complexity
+    ///
+    /// Time and memory are those of [`try_prepare`](Self::try_prepare).
     ///
     /// # Panics
     ///
@@ -354,6 +407,10 @@ impl<const N: usize> BitMap<N, Dirty<N>> {
 /// The second step of a commit, which cannot fail.
 impl<const N: usize> PreparedBitMap<N> {
     /// Finishes the commit: the result is that of [`DirtyBitMap::commit`] for the batch and the number. Does not allocate.
+    ///
+    /// # Complexity
+    ///
+    /// At most that of [`DirtyBitMap::commit`].
     ///
     /// ```
     /// use mortarpink::bitmap::historical::CleanBitMap;
