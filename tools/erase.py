@@ -4,7 +4,7 @@
     tools/erase.py               writes native/src/generated
     tools/erase.py --check       compares native/src/generated with what it would write, and writes nothing; fails at the first difference
     tools/erase.py --tests DIR   writes a Rust crate to DIR, outside the repository: the tests, the laws and `replay`, over the crate in `native`
-    tools/erase.py --list        prints the conditions of public functions with their assertions, as a table
+    tools/erase.py --list        prints the conditions of public functions with the names of their forms, as a table
 
 It needs rustfmt. It parses no types and no expressions: each rewrite is local to a few tokens, and a form that none knows stops it with file
 and line. Text that is not for proofs is Rust's own, and is not touched: integers, slices, closures, patterns, loops, generics and traits mean
@@ -467,7 +467,7 @@ def main():
     parser = argparse.ArgumentParser(description="Makes Rust of the Rattle sources.")
     parser.add_argument("--check", action="store_true", help="compare, and write nothing")
     parser.add_argument("--tests", metavar="DIR", type=pathlib.Path, help="write the crate of the tests and of replay to a folder")
-    parser.add_argument("--list", action="store_true", help="print the conditions and their assertions")
+    parser.add_argument("--list", action="store_true", help="print the conditions and the names of their forms")
     arguments, erasure = parser.parse_args(), Erasure()
     check_crates()
     if arguments.tests:
