@@ -35,6 +35,6 @@ tools/allocation_failures.sh --built | tee "$output"
 scenarios conformance 40
 scenarios conformance_authenticated 6
 scenarios conformance_history 30
-scenarios conformance_log 11
-scenarios conformance_session 11
+scenarios conformance_log 16
+scenarios conformance_session 6
 tools/check_frees.py

@@ -3,6 +3,8 @@
 //! A tool runs each test many times, and makes another allocation fail in each run. A test ends early if its set-up fails.
 //! After a failed call the test shows that what it was given is unchanged and can be used. As a plain test, no allocation fails.
 
+mod logged_sessions;
+
 use crate::checked_calls::is_log;
 use crate::checks::{equal, expect};
 use crate::states::{

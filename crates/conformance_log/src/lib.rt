@@ -1,4 +1,4 @@
-//! Tests of logs, histories and deltas, through the public calls of `commit_log` alone.
+//! Tests of logs, histories and deltas, through the public calls of `commit_log` and of sessions with a log.
 #![tactic(auto)]
 
 #[cfg(test)]
@@ -7,6 +7,8 @@ mod allocation_failures;
 mod checked_calls;
 #[cfg(test)]
 mod checks;
+#[cfg(test)]
+mod logged_sessions;
 #[cfg(test)]
 mod states;
 #[cfg(test)]

@@ -2,8 +2,6 @@
 //!
 //! A tool runs each test many times, and makes another allocation fail in each run. As a plain test, no allocation fails.
 
-mod logged;
-
 use crate::checks::{equal, expect};
 use bitmap_core::bitmap::Readable;
 use bitmap_core::bitmap::codec::{CodecError, RangeCfg};

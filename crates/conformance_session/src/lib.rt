@@ -20,8 +20,6 @@ mod kept;
 #[cfg(test)]
 mod lists;
 #[cfg(test)]
-mod logged;
-#[cfg(test)]
 mod methods;
 #[cfg(test)]
 mod read;
