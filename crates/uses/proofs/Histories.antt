@@ -1,5 +1,5 @@
 -- A reader that admits each number which fits 64 bits admits each history that is a log.
-use Rattle.std.proofs.Common.{◌≡◌, ℕ, ◌*◌, ◌^◌, ◌<◌, true, List, [], ◌∷◌, length, arith}
+use Rattle.std.proofs.Common.{◌≡◌, ℕ, ◌^◌, ◌<◌, true, List, [], ◌∷◌, length, arith}
 use Rattle.std.specs.List.{AllByRecursion}
 use Rattle.bitmap_core.specs.PrunedBits.{PrunedBits, bit_len}
 use Rattle.commit_log.specs.History.{HasLog}
