@@ -72,8 +72,8 @@ HAND_WRITTEN = [
     Mutant("a damaged receipt counts as none", "store_crashes", f"{STORE}/receipts.rs",
            "=> first.number == 1,\n            _ => false,\n", "=> first.number == 1,\n            _ => self.whole()[0].is_some(),\n"),
     Mutant("a log that is gone is begun again", "store_crashes", f"{STORE}/receipts.rs", "            [Block::Empty, _] => true,\n            _ => false,\n", "            _ => true,\n"),
-    Mutant("a file of another program is removed", "store", f"{STORE}/opening.rs", "        let bytes = files.read(Name::Log)?;\n",
-           "        files.remove_new()?;\n        let bytes = files.read(Name::Log)?;\n"),
+    Mutant("a file of another program is removed", "store", f"{STORE}/opening.rs", "        let bytes = read(&mut *files, Name::Log)?;\n",
+           "        files.remove_new()?;\n        let bytes = read(&mut *files, Name::Log)?;\n"),
     Mutant("both receipts are in one block", "store_crashes", f"{STORE}/receipts.rs", "(self.number % 2) as usize", "(self.number / u64::MAX) as usize"),
     Mutant("a receipt of the same log compacted stays", "store_crashes", f"{STORE}/receipts.rs", "before.place == acknowledged)", "before.place == acknowledged && last.place != acknowledged)"),
     Mutant("a log that was not replaced is not known", "store_crashes", f"{STORE}/receipts.rs", "before.filter(|_| last.kind == Kind::Begun)", "before.filter(|_| last.kind == Kind::Kept)"),
@@ -98,12 +98,12 @@ def rewriting(old, new):
 
 
 ERASER = [
-    Mutant("the eraser drops a statement", "wrapped", *rewriting(r"deque::clear_tail\([^;]*;", "")),
+    Mutant("the eraser drops a statement", "api", *rewriting(r"deque::clear_tail\([^;]*;", "")),
     Mutant("the eraser drops statements that bind nothing", "wrapped", *rewriting(r"\n\s*drop\([^;]*;", "")),
     # The chunks of a dense bitmap are always stored in one part, so only those of a bitmap with a pruned prefix show this.
     Mutant("the eraser exchanges two names", "wrapped", *rewriting(r"let \(front, back\) = slices\(chunks\)", "let (back, front) = slices(chunks)")),
     Mutant("the eraser exchanges two calls", "prepared", *rewriting(r"(restore_extent\(current[^;]*;)\s*(write_back\([^;]*;)", r"\2 \1")),
-    Mutant("the eraser turns a comparison", "commonware", *rewriting(r"if len < n \{", "if len <= n.wrapping_sub(2) {")),
+    Mutant("the eraser turns a comparison", "store", *rewriting(r"if len < n \{", "if len <= n.wrapping_sub(2) {")),
     Mutant("the eraser writes no assertion of retained positions", "panics", "tools/conditions.py", 'Form("retained", r"IsRetained N self (\\w+)", [',
            'Form("retained", r"IsRetained N self (\\w+)", 0 * ['),
     Mutant("the eraser writes no assertion of ranges", "panics", "tools/conditions.py", '[("range.end <= self.len()",', '0 * [("range.end <= self.len()",'),
