@@ -42,21 +42,9 @@ pub fn load(alloc: Global, bytes: &[u8]) -> Result<Option<CleanBitMap<8>>, Histo
 #[cfg(test)]
 mod tests {
     use super::*;
-    use crate::appended_version::append_version;
-    use crate::checks::{equal, ok};
+    use crate::checks::{equal, ok, with_bit};
     use crate::old_version::count_in_version;
     use std::process::Abort;
-
-    // Appends a bit and commits.
-    fn with_bit(
-        rt: &impl Abort,
-        versions: CleanBitMap<8>,
-        bit: bool,
-        number: u64,
-    ) -> CleanBitMap<8> {
-        assert!(rt; versions.len() < 1000);
-        ok(rt, append_version(versions, number, bit))
-    }
 
     // Returns the bitmap that is loaded.
     fn loaded(rt: &impl Abort, alloc: Global, bytes: &[u8]) -> CleanBitMap<8> {

@@ -1,7 +1,9 @@
-//! Assertions. Each is proved once here, and not again at each place that uses it.
+//! Assertions, and a step that several tests make. Each is proved once here, and not again at each place that uses it.
 
 ghost use Rattle.std.specs.Prelude.{◌≡◌, Ok};
 
+use crate::appended_version::append_version;
+use historical_bitmap::bitmap::historical::CleanBitMap;
 use std::fmt::Debug;
 use std::process::Abort;
 
@@ -18,4 +20,15 @@ pub fn ok<T, E: Drop>(rt: &impl Abort, returned: Result<T, E>) -> T
 /// Fails the test unless two values are equal, and prints both.
 pub fn equal<T: PartialEq + Debug + Drop>(rt: &impl Abort, left: T, right: T) {
     assert_eq!(rt; left, right);
+}
+
+/// Appends a bit and commits, and fails the test if that fails or if there are 1,000 bits already.
+pub fn with_bit(
+    rt: &impl Abort,
+    versions: CleanBitMap<8>,
+    bit: bool,
+    number: u64,
+) -> CleanBitMap<8> {
+    assert!(rt; versions.len() < 1000);
+    ok(rt, append_version(versions, number, bit))
 }

@@ -47,21 +47,9 @@ pub fn follow(replica: CleanBitMap<8>, bytes: &[u8]) -> (CleanBitMap<8>, Result<
 #[cfg(test)]
 mod tests {
     use super::*;
-    use crate::appended_version::append_version;
-    use crate::checks::{equal, ok};
+    use crate::checks::{equal, ok, with_bit};
     use historical_bitmap::bitmap::Readable;
     use std::process::Abort;
-
-    // Appends a bit and commits.
-    fn with_bit(
-        rt: &impl Abort,
-        versions: CleanBitMap<8>,
-        bit: bool,
-        number: u64,
-    ) -> CleanBitMap<8> {
-        assert!(rt; versions.len() < 1000);
-        ok(rt, append_version(versions, number, bit))
-    }
 
     // Returns a delta that there is.
     fn sent(rt: &impl Abort, found: Option<Vec<u8>>) -> Vec<u8> {
