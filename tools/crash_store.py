@@ -248,7 +248,7 @@ def check_second(folder, counts):
     first = b"".join(iter(lambda: os.read(writer.stdout.fileno(), 1), b"\n")).decode()
     writer.send_signal(signal.SIGSTOP)
     second = run_of(start(tested.path, 1), SECONDS)
-    if second.status != 1 or second.lines or "Device(Failed(None))" not in second.error:
+    if second.status != 1 or second.lines or "File(Locked)" not in second.error:
         raise Wrong(f"the second program ended with {second.status}: {second.error}")
     tested.follow([first, *run_of(writer, 0).lines])
     tested.compare()

@@ -15,8 +15,8 @@ const CLOSED: u8 = 165;
 // Bytes that a disk may have where a file has grown.
 const STALE: [u8; 3] = [0, 255, CLOSED];
 
-// Returns the bytes of the run, and their number after the creation of the store and after each call, without the closed gate.
-fn bytes_of_run(rt: &impl Abort, alloc: Global) -> (Vec<u8>, Vec<usize>) {
+/// Returns the bytes of the run, and their number after the creation of the store and after each call, without the closed gate.
+pub fn bytes_of_run(rt: &impl Abort, alloc: Global) -> (Vec<u8>, Vec<usize>) {
     let empty = FailingDevice::reliable(Vec::new(alloc));
     let mut store = ok(rt, Store::create(alloc, empty));
     let mut ends = Vec::new(alloc);
@@ -33,8 +33,8 @@ fn bytes_of_run(rt: &impl Abort, alloc: Global) -> (Vec<u8>, Vec<usize>) {
     (bytes, ends)
 }
 
-// Returns how many calls of the run are whole in some first bytes, at whose end the last one is `end`.
-fn whole_calls(ends: &[usize], count: usize) -> (usize, usize) {
+/// Returns how many calls of the run are whole in some first bytes, at whose end the last one is `end`.
+pub fn whole_calls(ends: &[usize], count: usize) -> (usize, usize) {
     let mut calls = 0;
     let mut last = 0;
     for (index, end) in ends.iter().enumerate() {
@@ -74,8 +74,8 @@ fn opened_after_each_byte(rt: HostRuntime) {
     }
 }
 
-// Returns what a crash may leave of an entry behind a closed gate: every other block of seven bytes is stale, and `count` bytes are left.
-fn torn(
+/// Returns what a crash may leave of an entry behind a closed gate: every other block of seven bytes is stale, and `count` bytes are left.
+pub fn torn(
     rt: &impl Abort,
     alloc: Global,
     entry: &[u8],
@@ -93,8 +93,8 @@ fn torn(
     left
 }
 
-// Opens what a crash left in the first phase of a call, and expects the store before it.
-fn check_torn(rt: &impl Abort, alloc: Global, log: &[u8], left: &[u8], calls: usize) {
+/// Opens what a crash left in the first phase of a call, and expects the store before it.
+pub fn check_torn(rt: &impl Abort, alloc: Global, log: &[u8], left: &[u8], calls: usize) {
     let closed = closed_at(rt, alloc, log, log.len());
     let mut bytes = copy(rt, alloc, &closed);
     ok(rt, bytes.extend_from_slice(left));
@@ -146,26 +146,33 @@ fn base_is_needed(rt: HostRuntime) {
     }
 }
 
-// A changed byte before the end is damage. It is not cut off, and the bytes are left as they are.
+// Opens bytes of which one has other bits. They are not cut off, and the error says where the damage is, or before that.
+fn check_damage(rt: &impl Abort, alloc: Global, bytes: &[u8], index: usize, flipped: u8) {
+    let mut changed = copy(rt, alloc, bytes);
+    expect(rt, index < changed.len());
+    changed[index] ^= flipped;
+    let expected = copy(rt, alloc, &changed);
+    let device = MemoryDevice::new(alloc, changed);
+    let Err((device, error)) = Store::<1, MemoryDevice>::open(alloc, device) else {
+        panic!(rt; "{index}")
+    };
+    expect(rt, device.bytes() == expected.as_slice());
+    let OpenError::Log(RecoverError::Damaged { at, .. }) = error else {
+        panic!(rt; "{index}")
+    };
+    expect(rt, at <= index as u64);
+}
+
+// A changed bit before the end is damage, and so is a changed byte.
 #[test]
 fn damage_is_left(rt: HostRuntime) {
     let alloc = rt.alloc();
     let (bytes, ends) = bytes_of_run(&rt, alloc);
     expect(&rt, !ends.is_empty());
     for index in ends[0]..bytes.len().saturating_sub(1) {
-        let mut changed = copy(&rt, alloc, &bytes);
-        expect(&rt, index < changed.len());
-        changed[index] ^= 0x10;
-        let expected = copy(&rt, alloc, &changed);
-        let device = MemoryDevice::new(alloc, changed);
-        let Err((device, error)) = Store::<1, MemoryDevice>::open(alloc, device) else {
-            panic!(rt; "{index}")
-        };
-        expect(&rt, device.bytes() == expected.as_slice());
-        let OpenError::Log(RecoverError::Damaged { at, .. }) = error else {
-            panic!(rt; "{index}")
-        };
-        expect(&rt, at <= index as u64);
+        for flipped in [1, 2, 4, 8, 16, 32, 64, 128, 255] {
+            check_damage(&rt, alloc, &bytes, index, flipped);
+        }
     }
 }
 

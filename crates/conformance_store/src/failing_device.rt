@@ -13,9 +13,9 @@ pub struct FailingDevice {
     bytes: Vec<u8>,
     // How many of the last bytes are not synced.
     unsynced: usize,
-    // How many appends, syncs and bytes set succeed before the one that fails, or `None` if none fails from now on.
+    // How many appends, syncs, cuts and bytes set succeed before the one that fails, or `None` if none fails from now on.
     left: Option<usize>,
-    // How many bytes an append that fails appends, and whether a byte is set by a call that fails.
+    // How many bytes an append that fails appends, and whether a cut or a byte that fails is made.
     torn: usize,
 }
 
@@ -30,11 +30,16 @@ impl FailingDevice {
         }
     }
 
-    /// Returns an empty device, of which the append, sync or byte set after the first `successes` fails. An append that fails appends at most `torn`
-    /// bytes, and a byte is not set by the call that fails if `torn` is 0.
+    /// Returns an empty device, of which the append, sync, cut or byte set after the first `successes` fails. An append that fails appends at most
+    /// `torn` bytes. A cut or a byte that fails is made all the same, unless `torn` is 0.
     pub fn new(alloc: Global, successes: usize, torn: usize) -> FailingDevice {
+        FailingDevice::with_bytes(Vec::new(alloc), successes, torn)
+    }
+
+    /// Returns a device that fails in the same way and has bytes, all of which are synced.
+    pub fn with_bytes(bytes: Vec<u8>, successes: usize, torn: usize) -> FailingDevice {
         FailingDevice {
-            bytes: Vec::new(alloc),
+            bytes,
             unsynced: 0,
             left: Some(successes),
             torn,
@@ -113,7 +118,13 @@ impl Device for FailingDevice {
     }
 
     fn cut_to(&mut self, len: u64) -> Result<(), DeviceError> {
-        self.bytes.truncate(len as usize);
+        let fails = self.fails();
+        if !fails || self.torn > 0 {
+            self.bytes.truncate(len as usize);
+        }
+        if fails {
+            return Err(DeviceError::Failed(None));
+        }
         Ok(())
     }
 

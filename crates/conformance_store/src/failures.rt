@@ -1,9 +1,10 @@
-//! Devices of which an append, a sync or the setting of a byte fails.
+//! Devices of which an append, a sync, a cut or the setting of a byte fails.
 
 use crate::checks::{expect, ok};
+use crate::crashes::{bytes_of_run, whole_calls};
 use crate::failing_device::FailingDevice;
 use crate::run::{CALLS, TestStore, call, copy, is_after};
-use log_store::{DeviceError, MemoryDevice, Store, StoreError};
+use log_store::{DeviceError, MemoryDevice, OpenError, Store, StoreError};
 use std::alloc::Global;
 use std::process::Abort;
 
@@ -17,6 +18,9 @@ const CREATE_CALLS: usize = 6;
 const CALL_CALLS: usize = 4;
 
 const DEVICE_CALLS: usize = CREATE_CALLS + CALL_CALLS * CALLS;
+
+// No opening of a store makes more calls of the device that can fail.
+const OPEN_CALLS: usize = 8;
 
 // Each further call is refused, and the bitmap is that after the calls that succeeded.
 fn expect_read_only(rt: &impl Abort, store: TestStore, count: usize) -> TestStore {
@@ -73,5 +77,57 @@ fn read_only_after_a_failure(rt: HostRuntime) {
         for torn in TORN {
             check_failure(&rt, rt.alloc(), successes, torn);
         }
+    }
+}
+
+// Opens bytes on a device that fails, and returns whether the store is opened. If not, what is left of the bytes is opened after the same calls.
+fn opens(
+    rt: &impl Abort,
+    alloc: Global,
+    bytes: &[u8],
+    calls: usize,
+    successes: usize,
+    torn: usize,
+) -> bool {
+    let device = FailingDevice::with_bytes(copy(rt, alloc, bytes), successes, torn);
+    match Store::<1, FailingDevice>::open(alloc, device) {
+        Ok(store) => {
+            expect(rt, is_after(store.bitmap(), calls));
+            true
+        }
+        Err((device, error)) => {
+            expect(
+                rt,
+                matches!(error, OpenError::Device(DeviceError::Failed(None))),
+            );
+            let left = copy(rt, alloc, device.bytes());
+            let opened = ok(rt, Store::open(alloc, MemoryDevice::new(alloc, left)));
+            expect(rt, is_after(opened.bitmap(), calls));
+            false
+        }
+    }
+}
+
+// Opens bytes on devices of which each call fails in turn. The first one is made, and the last one is not.
+fn check_opening(rt: &impl Abort, alloc: Global, bytes: &[u8], calls: usize) {
+    for torn in [0, 1] {
+        expect(rt, !opens(rt, alloc, bytes, calls, 0, torn));
+        for successes in 1..OPEN_CALLS {
+            let _ = opens(rt, alloc, bytes, calls, successes, torn);
+        }
+        expect(rt, opens(rt, alloc, bytes, calls, OPEN_CALLS, torn));
+    }
+}
+
+// A device that fails while a torn tail is cut off loses none of the calls before it.
+#[test]
+fn failed_openings_lose_nothing(rt: HostRuntime) {
+    let alloc = rt.alloc();
+    let (bytes, ends) = bytes_of_run(&rt, alloc);
+    expect(&rt, !ends.is_empty());
+    for count in ends[0]..bytes.len() {
+        let (calls, _) = whole_calls(&ends, count);
+        expect(&rt, count <= bytes.len());
+        check_opening(&rt, alloc, &bytes[..count], calls);
     }
 }

@@ -2,7 +2,7 @@
 
 use crate::checks::{expect, ok};
 use crate::run::push_digits;
-use log_store::{FileDevice, Store};
+use log_store::{BufferedStore, FileDevice, FileError, Store};
 use std::path::PathBuf;
 use std::process::Abort;
 use std::{env, fs};
@@ -28,6 +28,14 @@ fn commit<'a>(rt: &impl Abort, store: FileStore<'a>, number: u64, digits: &[u8])
     }
 }
 
+// Opens a file that a store has open.
+fn expect_locked(abort: &impl Abort, rt: &HostRuntime, path: &str) {
+    expect(
+        abort,
+        FileDevice::open(rt, path).err() == Some(FileError::Locked),
+    );
+}
+
 // Opens the store of a file.
 fn open<'a>(abort: &impl Abort, rt: &'a HostRuntime, path: &str) -> FileStore<'a> {
     let device = ok(abort, FileDevice::open(rt, path));
@@ -41,7 +49,7 @@ fn kept_in_a_file(rt: HostRuntime) {
     let _ = fs::remove_file(&rt, path.as_str());
     let device = ok(&rt, FileDevice::create(&rt, path.as_str()));
     expect(&rt, FileDevice::create(&rt, path.as_str()).is_err());
-    expect(&rt, FileDevice::open(&rt, path.as_str()).is_err());
+    expect_locked(&rt, &rt, path.as_str());
     let store = ok(&rt, FileStore::create(rt.alloc(), device));
     let store = commit(&rt, store, 1, b"101");
     let store = commit(&rt, store, 5, b"11010011");
@@ -55,6 +63,44 @@ fn kept_in_a_file(rt: HostRuntime) {
     let store = open(&rt, &rt, path.as_str());
     expect(&rt, has_bits(store.bitmap().current(), 0, b"101"));
     expect(&rt, store.bitmap().last_number() == Some(1));
+    drop(store);
+    ok(&rt, fs::remove_file(&rt, path.as_str()));
+}
+
+// Commits the bitmap with these bits appended. The commit waits.
+fn wait<'a>(
+    rt: &impl Abort,
+    store: BufferedStore<1, FileDevice<'a>>,
+    number: u64,
+    digits: &[u8],
+) -> BufferedStore<1, FileDevice<'a>> {
+    let mut batch = store.into_batch();
+    push_digits(rt, &mut batch.batch, digits);
+    match batch.commit(number) {
+        Ok(store) => store,
+        Err(_) => panic!(rt; "{number}"),
+    }
+}
+
+// What waits is in the file once it is synced, and not before.
+#[test]
+fn synced_in_a_file(rt: HostRuntime) {
+    let path = path_of(&rt, &rt, "mortarpink_synced_in_a_file");
+    let _ = fs::remove_file(&rt, path.as_str());
+    let device = ok(&rt, FileDevice::create(&rt, path.as_str()));
+    let store = ok(&rt, FileStore::create(rt.alloc(), device)).into_buffered();
+    let before = ok(&rt, fs::read(&rt, path.as_str())).len();
+    let store = wait(&rt, store, 1, b"101");
+    let mut store = wait(&rt, store, 5, b"11010011");
+    expect(&rt, ok(&rt, fs::read(&rt, path.as_str())).len() == before);
+    let waiting = store.waiting_bytes();
+    ok(&rt, store.sync());
+    let after = ok(&rt, fs::read(&rt, path.as_str())).len();
+    expect(&rt, after.checked_sub(before) == Some(waiting));
+    drop(wait(&rt, store, 6, b"1"));
+    let store = open(&rt, &rt, path.as_str());
+    expect(&rt, has_bits(store.bitmap().current(), 0, b"10111010011"));
+    expect(&rt, store.bitmap().last_number() == Some(5));
     drop(store);
     ok(&rt, fs::remove_file(&rt, path.as_str()));
 }
@@ -106,7 +152,7 @@ fn compacted_in_a_file(rt: HostRuntime) {
     ok(&rt, store.compact());
     expect(&rt, ok(&rt, fs::read(&rt, path.as_str())).len() < before);
     expect(&rt, !ok(&rt, fs::exists(&rt, beside.as_str())));
-    expect(&rt, FileDevice::open(&rt, path.as_str()).is_err());
+    expect_locked(&rt, &rt, path.as_str());
     drop(commit(&rt, store, 3, b"0"));
     let store = open(&rt, &rt, path.as_str());
     expect(&rt, has_bits(store.bitmap().current(), 0, b"1010"));

@@ -2,6 +2,8 @@
 #![tactic(auto)]
 
 #[cfg(test)]
+mod buffered;
+#[cfg(test)]
 mod checks;
 #[cfg(test)]
 mod crashes;

@@ -1,4 +1,5 @@
 pub mod AtRest
+pub mod BufferedLogs
 pub mod Compactions
 pub mod Creating
 pub mod FramesRead
@@ -12,3 +13,4 @@ pub mod Replaced
 pub mod Stored
 pub mod Synced
 pub mod Tears
+pub mod WaitingFrames

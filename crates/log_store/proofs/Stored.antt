@@ -1,15 +1,13 @@
--- A log on a device after an entry is appended to it, or after the append has failed.
-use Rattle.std.proofs.Common.{◌≡◌, inl, inr, ℕ, ◌+◌, ◌^◌, ◌<◌, ◌≤◌, Bool, true, false, List, [], ◌∷◌, ◌++◌, length, take, refl, sym, ap, subst, ◌∙◌, arith, append_assoc, length-append}
+-- A log on a device after entries are appended to it, or after the append has failed.
+use Rattle.std.proofs.Common.{◌≡◌, inl, inr, ℕ, ◌+◌, ◌^◌, ◌<◌, ◌≤◌, Bool, true, false, List, [], ◌∷◌, ◌++◌, length, map, take, refl, sym, ap, subst, ◌∙◌, arith, append_assoc, length-append}
 use Rattle.std.proofs.lemmas.Bool.{false≢true}
 use Rattle.std.proofs.lemmas.List.{append-nil, take-append-le, take_all, take_at}
-use Rattle.commit_log.specs.Accepted.{Accepts}
 use Rattle.commit_log.specs.Base.{Base}
-use Rattle.commit_log.specs.Entries.{Entry, FitsEntry, encode_entry}
-use Rattle.commit_log.specs.Kept.{Kept, after}
-use Rattle.commit_log.specs.Logs.{MayFollow, log_bytes, place_of, state_of}
-use Rattle.commit_log.proofs.Appended.{IsLog-push, log_bytes-push, place_of-push, state_of-push}
-use Rattle.log_frames.specs.Frames.{frame, next}
-use Rattle.log_frames.specs.declared.frame.Place.{Place}
+use Rattle.commit_log.specs.Entries.{Entry, encode_entry}
+use Rattle.commit_log.specs.Kept.{Kept}
+use Rattle.commit_log.specs.Logs.{LogView, log_bytes, place_of, state_of}
+use Rattle.log_frames.specs.Frames.{frames}
+use Rattle.log_store.specs.Buffered.{IsWaiting}
 use Rattle.log_store.specs.Gate.{IsGated, IsUnfinished, closed}
 use Rattle.log_store.specs.Moments.{IsAtRest, LeavesOnly}
 use Rattle.log_store.specs.Store.{Becomes, IsTornLog, IsStored, Keeps}
@@ -18,6 +16,7 @@ use Rattle.log_store.specs.declared.stored_log.StoredLog.{StoredLog}
 use Rattle.log_store.proofs.FramesRead.{closed_unfinished}
 use Rattle.log_store.proofs.Moments.{joined, unchanged, weaker}
 use Rattle.log_store.proofs.Reopening.{whole_torn}
+use Rattle.log_store.proofs.WaitingFrames.{log_bytes-append, waits_none}
 
 -- what a bool is decides
 not_both : (b : Bool) → b ≡ true → b ≡ false → ⊥
@@ -28,7 +27,7 @@ taken : (begun further : List Entry) (kept : ℕ) → kept ≤ length begun → 
 taken begun further kept le = take-append-le kept begun further le
 
 -- all entries of a log
-all : (begun : List Entry) (kept : ℕ) → kept ≡ length begun → take kept begun ≡ begun
+pub all : (begun : List Entry) (kept : ℕ) → kept ≡ length begun → take kept begun ≡ begun
 all begun kept is = take_all kept begun (omega (arith, is))
 
 -- what a crash leaves of a log of which fewer entries are asked for
@@ -61,81 +60,72 @@ module _ {D : Type 0} (n : ℕ) (g : Ghosts D) (base : Base) where
         any_moment = subst (λ (es : List Entry). LeavesOnly g log.device log.device (IsTornLog n base es kept)) (sym same) (unchanged g log.device (IsTornLog n base begun kept) (λ c left. now c h.works left) h.crash);
       }
 
-  -- the bytes of a log with an entry more
-  pub pushed : (begun : List Entry) (kept : ℕ) (state : Kept) (e : Entry) (old : StoredLog D) (first : ℕ) (rest : List ℕ) → IsStored n g base begun kept state old → old.is_read_only ≡ false
-      → first ∷ rest ≡ frame old.place (encode_entry e) ++ closed ∷ [] → log_bytes n base begun ++ first ∷ rest ≡ log_bytes n base (begun ++ e ∷ []) ++ closed ∷ []
-  pushed begun kept state e old first rest h writes is =
-      let w = h.written writes in
+  -- the bytes of a log with the waiting entries
+  with_frames : (begun more : List Entry) (made : Kept) (held : LogView) (first : ℕ) (rest : List ℕ) → IsWaiting n base begun more made held → first ∷ rest ≡ held.bytes ++ closed ∷ []
+      → log_bytes n base begun ++ first ∷ rest ≡ log_bytes n base (begun ++ more) ++ closed ∷ []
+  with_frames begun more made held first rest w is =
       let log : List ℕ = log_bytes n base begun in
-      ap (λ (x : List ℕ). log ++ x) (is ∙ ap (λ (p : Place). frame p (encode_entry e) ++ closed ∷ []) w.1.place)
-      ∙ sym (append_assoc log (frame (place_of n base begun) (encode_entry e)) (closed ∷ []))
-      ∙ ap (λ (x : List ℕ). x ++ closed ∷ []) (sym (log_bytes-push n base begun e))
+      let behind : List ℕ = frames (place_of n base begun) (map encode_entry more) in
+      ap (λ (x : List ℕ). log ++ x) (is ∙ ap (λ (x : List ℕ). x ++ closed ∷ []) w.bytes)
+      ∙ sym (append_assoc log behind (closed ∷ []))
+      ∙ ap (λ (x : List ℕ). x ++ closed ∷ []) (sym (log_bytes-append n base begun more))
 
-  -- during an append of an entry's frame behind the gate
-  pub during : (begun : List Entry) (kept : ℕ) (state : Kept) (e : Entry) (old : StoredLog D) (new : D) (first : ℕ) (rest : List ℕ) → IsStored n g base begun kept state old → old.is_read_only ≡ false
-      → first ∷ rest ≡ frame old.place (encode_entry e) ++ closed ∷ [] → length rest + 1 < 2 ^ 56 → LeavesOnly g old.device new (IsGated (log_bytes n base begun) first rest) → LeavesOnly g old.device new (IsTornLog n base (begun ++ e ∷ []) kept)
-  during begun kept state e old new first rest h writes is few calls =
-      weaker g old.device new (IsGated (log_bytes n base begun) first rest) (IsTornLog n base (begun ++ e ∷ []) kept) calls gated
+  -- during an append of the frames of entries behind the gate
+  during : (begun more : List Entry) (kept : ℕ) (state made : Kept) (held : LogView) (old : StoredLog D) (new : D) (first : ℕ) (rest : List ℕ) → IsStored n g base begun kept state old → IsWaiting n base begun more made held
+      → first ∷ rest ≡ held.bytes ++ closed ∷ [] → LeavesOnly g old.device new (IsGated (log_bytes n base begun) first rest) → LeavesOnly g old.device new (IsTornLog n base (begun ++ more) kept)
+  during begun more kept state made held old new first rest h w is calls =
+      weaker g old.device new (IsGated (log_bytes n base begun) first rest) (IsTornLog n base (begun ++ more) kept) calls gated
     where
-      -- the closed gate and any bytes behind it, or the whole frame
-      gated : (c : List ℕ) → IsGated (log_bytes n base begun) first rest c → IsTornLog n base (begun ++ e ∷ []) kept c
+      few : length rest + 1 < 2 ^ 56
+      few = omega (arith, w.few, ap length is, length-append held.bytes (closed ∷ []))
+
+      -- the closed gate and any bytes behind it, or all frames
+      gated : (c : List ℕ) → IsGated (log_bytes n base begun) first rest c → IsTornLog n base (begun ++ more) kept c
       gated c (inl shut) =
-          let before : take (length begun) (begun ++ e ∷ []) ≡ begun = take_at begun (e ∷ []) (length begun) refl in
+          let before : take (length begun) (begun ++ more) ≡ begun = take_at begun more (length begun) refl in
           record {
             count = length begun;
             least_is = h.within;
-            within = omega (arith, length-append begun (e ∷ []));
+            within = omega (arith, length-append begun more);
             rest = closed ∷ shut.0;
             is = shut.1 ∙ ap (λ (es : List Entry). log_bytes n base es ++ closed ∷ shut.0) (sym before);
-            unfinished = closed_unfinished (place_of n base (take (length begun) (begun ++ e ∷ []))) shut.0 (omega (arith, shut.2, few));
+            unfinished = closed_unfinished (place_of n base (take (length begun) (begun ++ more))) shut.0 (omega (arith, shut.2, few));
           }
-      gated c (inr whole) = whole_torn n base (begun ++ e ∷ []) kept c (omega (arith, h.within, length-append begun (e ∷ []))) (whole ∙ pushed begun kept state e old first rest h writes is)
+      gated c (inr whole) = whole_torn n base (begun ++ more) kept c (omega (arith, h.within, length-append begun more)) (whole ∙ with_frames begun more made held first rest w is)
 
-  -- the entry may follow
-  follows : (begun : List Entry) (kept : ℕ) (state : Kept) (e : Entry) (old : StoredLog D) → IsStored n g base begun kept state old → old.is_read_only ≡ false
-      → FitsEntry n e → length (encode_entry e) < 2 ^ 64 → Accepts n state e → MayFollow n (state_of n base begun) e
-  follows begun kept state e old h writes fits small accepted =
-      let is : state ≡ state_of n base begun = h.state_is ∙ ap (state_of n base) (all begun kept (h.written writes).0) in
-      record { fits = fits; small = small; accepted = subst (λ (s : Kept). Accepts n s e) is accepted }
-
-  -- the entry was appended
-  pub kept_entry : (begun : List Entry) (kept : ℕ) (state : Kept) (e : Entry) (old new : StoredLog D) (first : ℕ) (rest : List ℕ) → IsStored n g base begun kept state old → old.is_read_only ≡ false
-      → FitsEntry n e → length (encode_entry e) < 2 ^ 64 → Accepts n state e → first ∷ rest ≡ frame old.place (encode_entry e) ++ closed ∷ [] → length rest + 1 < 2 ^ 56
-      → LeavesOnly g old.device new.device (IsGated (log_bytes n base begun) first rest) → IsAtRest g new.device → g.seen new.device ≡ log_bytes n base begun ++ first ∷ rest
-      → new.place ≡ next old.place (encode_entry e) → Keeps n g base begun kept old e (after n state e) new
-  kept_entry begun kept state e old new first rest h writes fits small accepted is few calls at_rest seen place =
-      let w = h.written writes in
-      let more : List Entry = begun ++ e ∷ [] in
-      let size : kept + 1 ≡ length more = omega (arith, w.0, length-append begun (e ∷ [])) in
-      let every : take (kept + 1) more ≡ more = all more (kept + 1) size in
-      let bytes_are : g.seen new.device ≡ log_bytes n base more ++ closed ∷ [] = seen ∙ pushed begun kept state e old first rest h writes is in
-      let made : after n state e ≡ state_of n base more =
-      ap (λ (s : Kept). after n s e) (h.state_is ∙ ap (state_of n base) (all begun kept w.0)) ∙ sym (state_of-push n base begun e) in
+  -- the entries were appended
+  pub kept_entries : (begun more : List Entry) (kept : ℕ) (state made : Kept) (held : LogView) (old new : StoredLog D) (first : ℕ) (rest : List ℕ) → IsStored n g base begun kept state old → old.is_read_only ≡ false
+      → IsWaiting n base begun more made held → first ∷ rest ≡ held.bytes ++ closed ∷ [] → LeavesOnly g old.device new.device (IsGated (log_bytes n base begun) first rest) → IsAtRest g new.device
+      → g.seen new.device ≡ log_bytes n base begun ++ first ∷ rest → new.place ≡ held.place → Becomes n g base begun kept old more (kept + length more) made new
+  kept_entries begun more kept state made held old new first rest h writes w is calls at_rest seen place =
+      let entries : List Entry = begun ++ more in
+      let size : kept + length more ≡ length entries = omega (arith, (h.written writes).0, length-append begun more) in
+      let every : take (kept + length more) entries ≡ entries = all entries (kept + length more) size in
+      let bytes_are : g.seen new.device ≡ log_bytes n base entries ++ closed ∷ [] = seen ∙ with_frames begun more made held first rest w is in
       record {
         stored = record {
-          log_is = IsLog-push n base begun e h.log_is (follows begun kept state e old h writes fits small accepted);
+          log_is = w.log_is;
           within = omega (arith, size);
-          state_is = made ∙ ap (state_of n base) (sym every);
+          state_is = w.state_is ∙ ap (state_of n base) (sym every);
           works = at_rest.works;
-          crash = λ c left. whole_torn n base more (kept + 1) c (omega (arith, size)) (at_rest.only c left ∙ bytes_are);
-          written = λ now. (size, record { rest = at_rest; bytes = bytes_are; place = place ∙ ap (λ (p : Place). next p (encode_entry e)) w.1.place ∙ sym (place_of-push n base begun e) });
+          crash = λ c left. whole_torn n base entries (kept + length more) c (omega (arith, size)) (at_rest.only c left ∙ bytes_are);
+          written = λ now. (size, record { rest = at_rest; bytes = bytes_are; place = place ∙ w.place });
         };
         rises = omega arith;
-        any_moment = during begun kept state e old new.device first rest h writes is few calls;
+        any_moment = during begun more kept state made held old new.device first rest h w is calls;
       }
 
   -- the append failed, and nothing more is written
-  pub begun_entry : (begun : List Entry) (kept : ℕ) (state : Kept) (e : Entry) (old new : StoredLog D) (first : ℕ) (rest : List ℕ) → IsStored n g base begun kept state old → old.is_read_only ≡ false
-      → FitsEntry n e → length (encode_entry e) < 2 ^ 64 → Accepts n state e → first ∷ rest ≡ frame old.place (encode_entry e) ++ closed ∷ [] → length rest + 1 < 2 ^ 56
-      → LeavesOnly g old.device new.device (IsGated (log_bytes n base begun) first rest) → g.behaves new.device
-      → ((c : List ℕ) → g.may_leave new.device c → g.left_since new.device (g.moment old.device) c) → new.is_read_only ≡ true → Becomes n g base begun kept old (e ∷ []) kept state new
-  begun_entry begun kept state e old new first rest h writes fits small accepted is few calls works now shut =
-      let moments = during begun kept state e old new.device first rest h writes is few calls in
+  pub begun_entries : (begun more : List Entry) (kept : ℕ) (state made : Kept) (held : LogView) (old new : StoredLog D) (first : ℕ) (rest : List ℕ) → IsStored n g base begun kept state old → IsWaiting n base begun more made held
+      → first ∷ rest ≡ held.bytes ++ closed ∷ [] → LeavesOnly g old.device new.device (IsGated (log_bytes n base begun) first rest) → g.behaves new.device
+      → ((c : List ℕ) → g.may_leave new.device c → g.left_since new.device (g.moment old.device) c) → new.is_read_only ≡ true → Becomes n g base begun kept old more kept state new
+  begun_entries begun more kept state made held old new first rest h w is calls works now shut =
+      let moments = during begun more kept state made held old new.device first rest h w is calls in
       record {
         stored = record {
-          log_is = IsLog-push n base begun e h.log_is (follows begun kept state e old h writes fits small accepted);
-          within = omega (arith, h.within, length-append begun (e ∷ []));
-          state_is = h.state_is ∙ ap (state_of n base) (sym (taken begun (e ∷ []) kept h.within));
+          log_is = w.log_is;
+          within = omega (arith, h.within, length-append begun more);
+          state_is = h.state_is ∙ ap (state_of n base) (sym (taken begun more kept h.within));
           works = works;
           crash = λ c left. moments.each c (now c left);
           written = λ f. absurd (not_both new.is_read_only shut f);
@@ -143,6 +133,12 @@ module _ {D : Type 0} (n : ℕ) (g : Ghosts D) (base : Base) where
         rises = omega arith;
         any_moment = moments;
       }
+
+  -- no entry waits after a log that is written to
+  pub stored_none : (begun : List Entry) (kept : ℕ) (state : Kept) (log : StoredLog D) (held : LogView) → IsStored n g base begun kept state log → log.is_read_only ≡ false → held.bytes ≡ [] → held.place ≡ log.place → IsWaiting n base begun [] state held
+  stored_none begun kept state log held h writes none place =
+      let w = h.written writes in
+      waits_none n base begun state held h.log_is (h.state_is ∙ ap (state_of n base) (all begun kept w.0)) none (place ∙ w.1.place)
 
   -- the entry was appended, and was not applied: nothing more is written
   pub unapplied : (begun : List Entry) (kept : ℕ) (state made : Kept) (e : Entry) (old mid new : StoredLog D) → IsStored n g base begun kept state old → Keeps n g base begun kept old e made mid

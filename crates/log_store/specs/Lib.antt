@@ -1,3 +1,4 @@
+pub mod Buffered
 pub mod Compacted
 pub mod Device
 pub mod Gate

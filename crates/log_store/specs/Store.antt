@@ -1,5 +1,6 @@
 -- A log on a device: its entries that were begun, those of them that are kept, and what a crash leaves of it. A chunk has n bytes.
-use Rattle.std.specs.Prelude.{◌≡◌, ◌⊎◌, ℕ, ◌+◌, ◌<◌, ◌≤◌, true, false, List, [], ◌∷◌, ◌++◌, length, take}
+use Rattle.std.specs.Prelude.{◌≡◌, ◌⊎◌, ℕ, ◌+◌, ◌<◌, ◌≤◌, true, false, List, [], ◌∷◌, ◌++◌, length, take, Option, Some, None, alloc_error}
+use Rattle.historical_bitmap.specs.declared.bitmap.historical.error.Error.{Error as CommitError}
 use Rattle.commit_log.specs.Base.{Base}
 use Rattle.commit_log.specs.Entries.{Entry}
 use Rattle.commit_log.specs.Kept.{Kept}
@@ -46,10 +47,28 @@ pub record Becomes {D : Type 0} (n : ℕ) (g : Ghosts D) (base : Base) (begun : 
 abbrev pub Keeps : {D : Type 0} → ℕ → Ghosts D → Base → List Entry → ℕ → StoredLog D → Entry → Kept → StoredLog D → Type 0
 Keeps n g base begun kept old e state new = Becomes n g base begun kept old (e ∷ []) (kept + 1) state new
 
--- a call that failed has begun to append an entry or has not, and the state is as it was
+-- a call that failed has begun to append these entries or has not, and the state is as it was
+abbrev pub FailsToAppend : {D : Type 0} → ℕ → Ghosts D → Base → List Entry → ℕ → StoredLog D → List Entry → Kept → StoredLog D → Type 0
+FailsToAppend n g base begun kept old entries state new =
+    Becomes n g base begun kept old [] kept state new ⊎ Becomes n g base begun kept old entries kept state new
+
+-- the same of one entry
 abbrev pub Fails : {D : Type 0} → ℕ → Ghosts D → Base → List Entry → ℕ → StoredLog D → Entry → Kept → StoredLog D → Type 0
-Fails n g base begun kept old e state new =
-    Becomes n g base begun kept old [] kept state new ⊎ Becomes n g base begun kept old (e ∷ []) kept state new
+Fails n g base begun kept old e state new = FailsToAppend n g base begun kept old (e ∷ []) state new
+
+-- the error of a commit that is refused: that of its number, or else an allocation failed
+abbrev pub commit_refusal : Option CommitError → StoreError
+commit_refusal (Some why) = Number why
+commit_refusal None = Memory alloc_error
+
+-- an error of a call that appends entries which the bitmap has accepted
+abbrev pub IsAppendError : StoreError → Type 0
+IsAppendError ReadOnly = Unit {0}
+IsAppendError (Number e) = ⊥
+IsAppendError NoSuchCommit = ⊥
+IsAppendError (Memory e) = Unit {0}
+IsAppendError (Device e) = Unit {0}
+IsAppendError (NotApplied e) = ⊥
 
 -- what an error leaves of a log: it is as it was if nothing was written, and read-only if something was; the device is not blamed for what it did not do
 abbrev pub LeavesLog : {D : Type 0} → Ghosts D → StoredLog D → StoreError → StoredLog D → Type 0

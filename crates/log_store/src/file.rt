@@ -5,10 +5,44 @@ ghost use Rattle.std.specs.Prelude.{[]};
 use crate::device::{Device, DeviceError};
 use crate::replacing::Replaceable;
 use std::alloc::{AllocError, Global};
-use std::fs::{File, OpenOptions};
+use std::fs::{File, OpenOptions, TryLockError};
 use std::os::unix::fs::{FileExt, MetadataExt};
 use std::path::PathBuf;
 use std::{fs, io};
+use thiserror::Error as ErrorDerive;
+
+/// Why a file was not created or opened as a device.
+#[derive(Clone, Copy, Debug, PartialEq, Eq, ErrorDerive)]
+pub enum FileError {
+    /// Another device has locked the file: a store has it open, in this process or in another one.
+    #[error("another store has the file open")]
+    Locked,
+
+    /// An allocation failed, or the operating system reported an error.
+    #[error("{0}")]
+    Device(DeviceError),
+}
+
+impl From<DeviceError> for FileError {
+    fn from(error: DeviceError) -> FileError {
+        FileError::Device(error)
+    }
+}
+
+impl From<io::Error> for FileError {
+    fn from(error: io::Error) -> FileError {
+        FileError::Device(DeviceError::from(error))
+    }
+}
+
+impl From<TryLockError> for FileError {
+    fn from(error: TryLockError) -> FileError {
+        match error {
+            TryLockError::WouldBlock => FileError::Locked,
+            TryLockError::Error(error) => FileError::from(error),
+        }
+    }
+}
 
 /// A file of the operating system, which is locked while the device exists.
 ///
@@ -72,9 +106,8 @@ fn check_path(rt: &HostRuntime, path: &str, file: &File) -> Result<(), DeviceErr
 }
 
 impl<'a> FileDevice<'a> {
-    // Locks the file that has the path, and returns it as a device.
-    fn locked(rt: &'a HostRuntime, path: &str, file: File) -> Result<Self, DeviceError> {
-        lock(&file)?;
+    // Returns a locked file as a device, if the path leads to it.
+    fn with_path(rt: &'a HostRuntime, path: &str, file: File) -> Result<Self, DeviceError> {
         check_path(rt, path, &file)?;
         let path = String::from_str(rt.alloc(), path)?;
         let len = file.metadata()?.len();
@@ -87,14 +120,23 @@ impl<'a> FileDevice<'a> {
         })
     }
 
+    // Locks the file that has the path, and returns it as a device.
+    fn locked(rt: &'a HostRuntime, path: &str, file: File) -> Result<Self, FileError> {
+        if let Err(error) = file.try_lock() {
+            return Err(FileError::from(error));
+        }
+        Ok(FileDevice::with_path(rt, path, file)?)
+    }
+
     /// Creates an empty file, and returns once its name is kept.
     ///
     /// # Errors
-    /// `Memory` if an allocation fails. `Failed` if there is a file of this name, or if the operating system fails. A file may then be left.
+    /// `Locked` if another device locks the file during the call. `Device` with `Memory` if an allocation fails, and with `Failed` if there is a file
+    /// of this name or if the operating system fails. A file may then be left.
     ///
     /// # Memory
     /// The path. Temporarily also the path of its folder.
-    pub fn create(rt: &'a HostRuntime, path: &str) -> Result<Self, DeviceError> {
+    pub fn create(rt: &'a HostRuntime, path: &str) -> Result<Self, FileError> {
         let device = FileDevice::locked(rt, path, File::create_new(rt, path)?)?;
         sync_folder(rt, path)?;
         Ok(device)
@@ -103,12 +145,12 @@ impl<'a> FileDevice<'a> {
     /// Opens a file, and returns once its bytes are kept: then it is at rest.
     ///
     /// # Errors
-    /// `Memory` if an allocation fails. `Failed` if there is no file of this name, if another device has locked it, if another device replaced it
-    /// during the call, or if the operating system fails.
+    /// `Locked` if another device has locked the file. `Device` with `Memory` if an allocation fails, and with `Failed` if there is no file of this
+    /// name, if another device replaced it during the call, or if the operating system fails.
     ///
     /// # Memory
     /// The path.
-    pub fn open(rt: &'a HostRuntime, path: &str) -> Result<Self, DeviceError> {
+    pub fn open(rt: &'a HostRuntime, path: &str) -> Result<Self, FileError> {
         let file = OpenOptions::new().read(true).write(true).open(rt, path)?;
         let device = FileDevice::locked(rt, path, file)?;
         device.file.sync_all()?;

@@ -1,19 +1,22 @@
 //! Laws of stores: what holds of any sequence of calls, and after a crash at any moment of it. A law is the contract of a function whose body makes
 //! the calls that the law is about, or is empty.
 
-ghost use Rattle.std.specs.Prelude.{◌≡◌, ℕ, ◌++◌, [], List, MatchResult, false};
+ghost use Rattle.std.specs.Prelude.{◌≡◌, ℕ, ◌+◌, ◌++◌, [], List, IfOk, MatchResult, false, length};
 ghost use Rattle.bitmap_bytes.specs.Chunk.{IsWidth};
 ghost use Rattle.commit_log.specs.Base.{Base};
 ghost use Rattle.commit_log.specs.Entries.{Entry};
 ghost use Rattle.commit_log.specs.Kept.{Kept, kept_of};
 ghost use Rattle.commit_log.specs.Logs.{entries_in};
 ghost use Rattle.commit_log.specs.Recovered.{IsPrefixOf};
+ghost use Rattle.log_store.specs.Buffered.{IsBuffered};
 ghost use Rattle.log_store.specs.Compacted.{IsCompacting};
 ghost use Rattle.log_store.specs.Moments.{IsAtRest, LeavesOnly};
 ghost use Rattle.log_store.specs.Opened.{IsOpenedWith, IsPassing, IsTornAfter, OpensTo, RecoversTo};
 ghost use Rattle.log_store.specs.Store.{Becomes, IsStored};
 
+use crate::buffered::BufferedStore;
 use crate::device::Device;
+use crate::error::StoreError;
 use crate::opening::OpenError;
 use crate::replacing::Replaceable;
 use crate::store::Store;
@@ -122,4 +125,61 @@ pub fn a_compaction_is_opened<const N: usize, D: Replaceable>(
 {
     a_compacted_log_makes_each_state();
     Store::open(alloc, device)
+}
+
+/// Opens a device that has what a crash left of a buffered store while entries waited.
+///
+/// The store is opened as it was at the last sync: with the entries that were kept then, and with none that waited. No call but a sync writes
+/// anything, so `new` is the store after any number of other calls.
+///
+/// # Errors
+/// Those of [`Store::open`]. The device or an allocation has then failed.
+pub fn waiting_writes_nothing<const N: usize, D: Device>(
+    alloc: Global,
+    old: &BufferedStore<N, D>,
+    new: &BufferedStore<N, D>,
+    device: D,
+) -> Result<Store<N, D>, (D, OpenError)>
+    requires { IsWidth N }
+    ensures { (base : Base) (begun waiting : List Entry) (kept : ℕ) (state : Kept)
+        → IsBuffered N D.Device base begun kept waiting state old.now.log old.now.waiting
+        → old.now.log.is_read_only ≡ false → new.now.log ≡ old.now.log
+        → D.left_since new.now.log.device (D.moment old.now.log.device) (D.seen device)
+        → IsAtRest D.Device device
+        → MatchResult result (λ store. IsOpenedWith N D.Device base begun
+        (kept_of N store.bitmap) store.log) (λ e. IsPassing e.1) }
+{
+    Store::open(alloc, device)
+}
+
+/// Syncs a buffered store, and opens a device that has what a crash left at any later moment.
+///
+/// The store is opened as it was at the sync or after some first ones of the entries that were begun later: no entry that waited is lost. The calls
+/// after the sync are any of which the contracts say what they make of a buffered store in which no entry waits.
+///
+/// # Errors
+/// Returns the device with the error of [`BufferedStore::sync`], or those of [`Store::open`]. The device or an allocation has then failed.
+pub fn a_sync_is_opened<const N: usize, D: Device>(
+    alloc: Global,
+    store: &mut BufferedStore<N, D>,
+    new: &StoredLog<D>,
+    device: D,
+) -> Result<Result<Store<N, D>, (D, OpenError)>, (D, StoreError)>
+    requires { IsWidth N }
+    ensures { (base : Base) (begun waiting further : List Entry) (kept now : ℕ) (later : Kept)
+        → IsBuffered N D.Device base begun kept waiting (kept_of N store.old.bitmap)
+        store.old.log store.old.waiting
+        → IfOk result (λ opened. (IsBuffered N D.Device base (begun ++ waiting)
+        (kept + length waiting) [] (kept_of N store.new.bitmap) store.new.log store.new.waiting
+        → Becomes N D.Device base (begun ++ waiting) (kept + length waiting)
+        store.new.log further now later new.now)
+        → D.left_since new.now.device (D.moment store.new.log.device) (D.seen device)
+        → IsAtRest D.Device device → MatchResult opened (λ s. OpensTo N D.Device base
+        ((begun ++ waiting) ++ further) (kept + length waiting) (kept_of N s.bitmap) s.log)
+        (λ e. IsPassing e.1)) }
+{
+    if let Err(error) = store.sync() {
+        return Err((device, error));
+    }
+    Ok(Store::open(alloc, device))
 }

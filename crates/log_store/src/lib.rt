@@ -2,6 +2,7 @@
 #![tactic(auto)]
 
 mod appending;
+mod buffered;
 mod compacting;
 mod cutting;
 mod device;
@@ -19,15 +20,17 @@ mod setting;
 mod store;
 mod stored_log;
 mod unfinished;
+mod waiting;
 
 pub use appending::append_synced;
+pub use buffered::{BufferedBatch, BufferedStore};
 pub use cutting::cut_synced;
 pub use device::{Device, DeviceError};
 pub use error::StoreError;
-pub use file::FileDevice;
+pub use file::{FileDevice, FileError};
 pub use laws::{
     a_compaction_is_opened, a_crash_is_opened, a_crash_keeps_what_is_kept, a_prefix_is_opened,
-    any_prefix_is_a_torn_log, calls_in_a_row,
+    a_sync_is_opened, any_prefix_is_a_torn_log, calls_in_a_row, waiting_writes_nothing,
 };
 pub use memory::MemoryDevice;
 pub use opening::{CreateError, OpenError};

@@ -8,17 +8,17 @@
 //!
 //! The contracts hold while the device behaves as the model that [`Device`] describes.
 
-ghost use Rattle.std.specs.Prelude.{◌≡◌, ◌⊎◌, ℕ, ◌++◌, ◌∷◌, [], List, Some, false, true, IfErr, IfOk, IsErrOf, MatchResult, OnErr, OnOk, alloc_error};
+ghost use Rattle.std.specs.Prelude.{◌≡◌, ℕ, ◌++◌, ◌∷◌, [], List, is_some, true, if◌then◌else◌, IfErr, IfOk, IsErrOf, MatchResult, OnErr, OnOk, alloc_error};
 ghost use Rattle.std.specs.Result.{result_err};
 ghost use Rattle.commit_log.specs.Accepted.{Accepts};
+ghost use Rattle.historical_bitmap.specs.History.{kept_under};
 ghost use Rattle.historical_bitmap.specs.View.{commit_error, history_of, pending_of};
 ghost use Rattle.commit_log.specs.Base.{Base};
 ghost use Rattle.commit_log.specs.Entries.{Entry, FitsEntry, encode_entry};
 ghost use Rattle.commit_log.specs.Entries.Entry.{Clear, DropBefore, Rewind};
 ghost use Rattle.commit_log.specs.Kept.{entry_of_commit, kept_of};
-ghost use Rattle.historical_bitmap.specs.declared.bitmap.historical.error.Error.{Error as CommitError};
-ghost use Rattle.log_store.specs.Store.{Fails, IsStored, Keeps, LeavesLog};
-ghost use Rattle.log_store.specs.declared.error.StoreError.TheVariants.{Memory, NoSuchCommit, Number, ReadOnly};
+ghost use Rattle.log_store.specs.Store.{Fails, IsStored, Keeps, LeavesLog, commit_refusal};
+ghost use Rattle.log_store.specs.declared.error.StoreError.TheVariants.{Memory, NoSuchCommit, ReadOnly};
 
 use crate::device::Device;
 use crate::encoding::{encode_clear, encode_commit, encode_drop, encode_rewind};
@@ -111,14 +111,16 @@ impl<const N: usize, D: Device> Store<N, D> {
 }
 
 // Returns the encoding of the entry of a rewind, which the bitmap accepts.
-fn encode_accepted_rewind<const N: usize>(
+pub(crate) fn encode_accepted_rewind<const N: usize>(
     alloc: Global,
     bitmap: &CleanBitMap<N>,
     number: u64,
 ) -> Result<Vec<u8>, StoreError>
     ensures encoded { IfOk result (λ bytes. bytes.items ≡ encode_entry (Rewind number)) }
     ensures accepted { OnOk result (Accepts N (kept_of N bitmap.now) (Rewind number)) }
-    ensures refused { IfErr result (λ e. (e ≡ Memory alloc_error) ⊎ (e ≡ NoSuchCommit)) }
+    ensures refused { IfErr result (λ e. e
+        ≡ (if is_some (kept_under (history_of N bitmap.now) number) then Memory alloc_error
+        else NoSuchCommit)) }
 {
     if !bitmap.commit_exists(number) {
         return Err(StoreError::NoSuchCommit);
@@ -280,7 +282,7 @@ fn check_number(last: Option<u64>, number: u64) -> Result<(), Error>
 }
 
 // Returns the encoding of the entry of a commit, which the bitmap accepts.
-fn encode_accepted<const N: usize>(
+pub(crate) fn encode_accepted<const N: usize>(
     alloc: Global,
     batch: &DirtyBitMap<N>,
     number: u64,
@@ -290,8 +292,7 @@ fn encode_accepted<const N: usize>(
     ensures fits { OnOk result (FitsEntry N (entry_of_commit N batch.now number)) }
     ensures accepted { OnOk result (Accepts N (kept_of N batch.now)
         (entry_of_commit N batch.now number)) }
-    ensures refused { IfErr result (λ e. e ≡ Memory alloc_error ⊎ (why : CommitError)
-        × (commit_error batch.now.last number ≡ Some why) × (e ≡ Number why)) }
+    ensures refused { IfErr result (λ e. e ≡ commit_refusal (commit_error batch.now.last number)) }
 {
     let _ = batch.len();
     let _ = batch.newly_pruned_chunks();

@@ -1,12 +1,11 @@
-//! Commits whose edits follow from their numbers.
+//! Edits that follow from the number of their commit.
 
-use crate::{Failure, FileStore};
 use bitmap_core::bitmap::Readable;
 use historical_bitmap::bitmap::historical::DirtyBitMap;
 use std::alloc::AllocError;
 
-// Appends chunks and a bit, sets a bit, and prunes. Every eighth commit has an entry of several pages.
-fn edit(batch: &mut DirtyBitMap<8>, number: u64) -> Result<(), AllocError> {
+/// Appends chunks and a bit, sets a bit, and prunes. Every eighth commit has an entry of several pages.
+pub fn edit(batch: &mut DirtyBitMap<8>, number: u64) -> Result<(), AllocError> {
     let chunks = if number % 8 == 0 { 1500 } else { number % 4 };
     for index in 0..chunks {
         if batch.len() < u64::MAX - 64 {
@@ -25,13 +24,4 @@ fn edit(batch: &mut DirtyBitMap<8>, number: u64) -> Result<(), AllocError> {
         batch.try_set_bit(position, true)?;
     }
     batch.try_prune_to_bit(len.saturating_sub(100_000))
-}
-
-/// Makes the commit of a number.
-pub fn commit<'a>(store: FileStore<'a>, number: u64) -> Result<FileStore<'a>, Failure> {
-    let mut batch = store.into_batch();
-    edit(&mut batch.batch, number)?;
-    batch
-        .commit(number)
-        .map_err(|error| Failure::Store(error.1))
 }

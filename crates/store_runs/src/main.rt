@@ -4,22 +4,23 @@
 #![tactic(auto)]
 
 mod changes;
+mod file_store;
 
-use crate::changes::commit;
+use crate::file_store::{FileStore, commit, keep_from, open_or_create};
 use bitmap_core::bitmap::Prunable;
 use bitmap_core::bitmap::codec::Write as WriteBytes;
-use log_store::{CreateError, DeviceError, FileDevice, OpenError, Store, StoreError};
+use log_store::{CreateError, FileError, OpenError, StoreError};
 use std::alloc::AllocError;
 use std::fmt::Write as WriteText;
 use std::io::Write;
 use std::num::ParseIntError;
 use std::process::ExitCode;
-use std::{env, fs, io};
+use std::{env, io};
 use thiserror::Error as ErrorDerive;
 
 // Why the program fails.
 #[derive(Debug, Drop, ErrorDerive)]
-enum Failure {
+pub(crate) enum Failure {
     #[error("usage: store_runs PATH COUNT")]
     Usage,
     #[error("the count is no number: {0}")]
@@ -28,27 +29,14 @@ enum Failure {
     Memory(#[from] AllocError),
     #[error("{0}")]
     System(#[from] io::Error),
-    #[error("{0}")]
-    Device(#[from] DeviceError),
+    #[error("the file was not opened: {0}")]
+    File(#[from] FileError),
     #[error("the store was not created: {0}")]
     Create(CreateError),
     #[error("the store was not opened: {0}")]
     Open(OpenError),
     #[error("{0}")]
     Store(#[from] StoreError),
-}
-
-// A store in a file, whose chunks have eight bytes.
-type FileStore<'a> = Store<8, FileDevice<'a>>;
-
-// Opens the store of a file, or creates the file with an empty one.
-fn open_or_create<'a>(rt: &'a HostRuntime, path: &str) -> Result<FileStore<'a>, Failure> {
-    if fs::exists(rt, path)? {
-        let device = FileDevice::open(rt, path)?;
-        return Store::open(rt.alloc(), device).map_err(|error| Failure::Open(error.1));
-    }
-    let device = FileDevice::create(rt, path)?;
-    Store::create(rt.alloc(), device).map_err(|error| Failure::Create(error.1))
 }
 
 // Prints a line, at once.
@@ -65,9 +53,8 @@ fn run<'a>(rt: &HostRuntime, store: FileStore<'a>, count: u64) -> Result<FileSto
     for _ in 0..count {
         last = last.saturating_add(1);
         if last % 5 == 0 {
-            store.drop_before(last.saturating_sub(3))?;
+            keep_from(&mut store, last.saturating_sub(3))?;
             print_line(rt, "drop", last.saturating_sub(3))?;
-            store.compact()?;
         }
         store = commit(store, last)?;
         print_line(rt, "commit", last)?;

@@ -1,0 +1,9 @@
+use Rattle.std.proofs.Common.{[], ◌∷◌, ◌++◌}
+use Rattle.commit_log.specs.Kept.{entry_of_commit, kept_of}
+use Rattle.log_store.proofs.BufferedLogs.{buffered_more}
+use Rattle.log_store.proofs.buffered.BufferedBatch.commit.Goals as goal
+
+pub returns-in-Ok-clause-waits : goal.returns-in-Ok-clause-waits
+returns-in-Ok-clause-waits g c base begun waiting kept h =
+    let n = g.row.N in
+    buffered_more n g.D.Device base begun waiting (waiting ++ entry_of_commit n c.args.self.batch c.args.number ∷ []) kept (kept_of n c.args.self.batch) (kept_of n c.in-Ok.bitmap) c.args.self.log c.args.self.waiting c.commit_waiting.new.waiting h (c.in-Ok.ensures.waits base begun waiting)
