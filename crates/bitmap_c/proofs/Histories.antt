@@ -1,4 +1,4 @@
--- Histories that are loaded.
+-- Histories that are written and loaded.
 use Rattle.std.proofs.Common.{◌≡◌, ℕ, ◌<◌, ◌≤◌, List, length, take, Option, None, Result, Ok, Err, refl, sym, ap, subst, ◌∙◌, inl, inr, arith}
 use Rattle.std.specs.Prelude.{◌⊎◌, IfSome, alloc_error}
 use Rattle.std.proofs.lemmas.Bool.{cases_lt}
@@ -9,11 +9,27 @@ use Rattle.commit_log.specs.Kept.{Kept}
 use Rattle.commit_log.specs.Reading.{IsCutOff, IsWithin, Ranges}
 use Rattle.commit_log.specs.declared.reading.HistoryError.{HistoryError}
 use Rattle.commit_log.specs.declared.reading.HistoryError.TheVariants.{Header, Memory, Short}
+use Rattle.bitmap_session.specs.Replies.{Refusal}
 use Rattle.bitmap_session.specs.Saved.{kept_part}
+use Rattle.bitmap_session.specs.declared.session.saved.SaveError.{SaveError}
+use Rattle.bitmap_session.specs.declared.session.saved.SaveError.TheVariants.{InBatch, Memory as SaveMemory}
 use Rattle.bitmap_c.specs.declared.any.AnySession.{AnySession}
-use Rattle.bitmap_c.specs.Saved.{IsPart, LoadsBytes, ReadsHistory}
-use Rattle.bitmap_c.specs.Statuses.{history_status}
+use Rattle.bitmap_c.specs.Saved.{IsFound, IsPart, LoadsBytes, ReadsHistory, save_refusal}
+use Rattle.bitmap_c.specs.Statuses.{history_status, refusal_status}
 use Rattle.bitmap_c.specs.Widths.{machine}
+
+-- ---- a history that is not written
+
+-- the status of a refused save is not one with which bytes are found
+pub never_found : (e : SaveError) (refusal : Refusal) (status : ℕ) → refusal ≡ save_refusal e → status ≡ refusal_status refusal → IsFound status → ⊥
+never_found InBatch refusal status same is (inl done) =
+    let no : 1 ≡ 0 = sym (ap (λ r. refusal_status r) same) ∙ (sym is ∙ done) in omega (arith, no)
+never_found InBatch refusal status same is (inr other) =
+    let no : 1 ≡ 18 = sym (ap (λ r. refusal_status r) same) ∙ (sym is ∙ other) in omega (arith, no)
+never_found (SaveMemory e) refusal status same is (inl done) =
+    let no : 13 ≡ 0 = sym (ap (λ r. refusal_status r) same) ∙ (sym is ∙ done) in omega (arith, no)
+never_found (SaveMemory e) refusal status same is (inr other) =
+    let no : 13 ≡ 18 = sym (ap (λ r. refusal_status r) same) ∙ (sym is ∙ other) in omega (arith, no)
 
 -- ---- a history of which a part is missing
 

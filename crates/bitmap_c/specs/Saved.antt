@@ -38,6 +38,10 @@ abbrev pub Found : Option AnySession → (ℕ → Machine → Option (List ℕ))
 Found None found Says Empty = Empty
 Found (Some any) found Says Empty = FoundIn (machine any) (found (width any) (machine any)) Says
 
+-- the status if bytes are found: DONE, or WRONG_SIZE if the buffer does not have their size
+abbrev pub IsFound : ℕ → Type 0
+IsFound status = (status ≡ 0) ⊎ (status ≡ 18)
+
 -- ---- a history that is read
 
 -- the numbers of retained bits, and those of commits, from one number to another, both included

@@ -3,13 +3,13 @@
 ghost use Rattle.std.specs.Prelude.{◌≡◌, None, Some, IfOk, IfSome, is_some};
 ghost use Rattle.bitmap_bytes.specs.Chunk.{IsWidth};
 ghost use Rattle.commit_log.specs.Delta.{delta_of};
-ghost use Rattle.commit_log.specs.History.{history_bytes};
+ghost use Rattle.commit_log.specs.History.{HasLog, IsHistory, history_bytes};
 ghost use Rattle.commit_log.specs.Reading.{ranges};
 ghost use Rattle.bitmap_session.specs.Abstraction.{reason};
-ghost use Rattle.bitmap_session.specs.Saved.{kept_part};
+ghost use Rattle.bitmap_session.specs.Saved.{KeepsStep, kept_part};
 ghost use Rattle.bitmap_c.specs.Logged.{AppliesAnyLogged, CallsApplyLogged, LogsApplied};
 ghost use Rattle.bitmap_c.specs.Reports.{ReportsBytes};
-ghost use Rattle.bitmap_c.specs.Saved.{Applies, Found, FoundIn, Loads, ReadsHistory, as_machine, ranges_between, save_refusal};
+ghost use Rattle.bitmap_c.specs.Saved.{Applies, Found, FoundIn, IsFound, Loads, ReadsHistory, as_machine, ranges_between, save_refusal};
 ghost use Rattle.bitmap_c.specs.Widths.{is_width, log_of, machine, width};
 
 use crate::any::AnySession;
@@ -53,8 +53,10 @@ fn save_of<const N: usize>(
     size: &mut usize,
 ) -> u32
     requires width { IsWidth N }
-    ensures { FoundIn session.now (Some (history_bytes N (kept_part session.now.state)))
+    ensures saved { FoundIn session.now (Some (history_bytes N (kept_part session.now.state)))
         (ReportsBytes result size.old size.new out.old out.new) }
+    ensures log { IsFound result → HasLog N (kept_part session.now.state) }
+    ensures ends { IsFound result → IsHistory (kept_part session.now.state) }
 {
     let mut bytes = Vec::new(alloc);
     match session.save(&mut bytes) {
@@ -65,9 +67,11 @@ fn save_of<const N: usize>(
 
 // Does the same for a session of any width.
 fn save(alloc: Global, any: &AnySession, out: &mut [u8], size: &mut usize) -> u32
-    ensures { FoundIn (machine any.now)
+    ensures saved { FoundIn (machine any.now)
         (Some (history_bytes (width any.now) (kept_part (machine any.now).state)))
         (ReportsBytes result size.old size.new out.old out.new) }
+    ensures log { IsFound result → HasLog (width any.now) (kept_part (machine any.now).state) }
+    ensures ends { IsFound result → IsHistory (kept_part (machine any.now).state) }
 {
     at_width!(any, session => save_of(alloc, session, out, size))
 }
@@ -81,8 +85,9 @@ fn delta_of<const N: usize>(
     size: &mut usize,
 ) -> u32
     requires width { IsWidth N }
-    ensures { FoundIn session.now (delta_of N session.now.state.history from to)
+    ensures delta { FoundIn session.now (delta_of N session.now.state.history from to)
         (ReportsBytes result size.old size.new out.old out.new) }
+    ensures step { KeepsStep N session.now from to }
 {
     match session.delta(from, to) {
         Ok(found) => report_bytes::<N>(&Reply::Bytes(found), out, size),
@@ -92,9 +97,10 @@ fn delta_of<const N: usize>(
 
 // Does the same for a session of any width.
 fn delta(any: &AnySession, from: u64, to: u64, out: &mut [u8], size: &mut usize) -> u32
-    ensures { FoundIn (machine any.now)
+    ensures delta { FoundIn (machine any.now)
         (delta_of (width any.now) (machine any.now).state.history from to)
         (ReportsBytes result size.old size.new out.old out.new) }
+    ensures step { KeepsStep (width any.now) (machine any.now) from to }
 {
     at_width!(any, session => self::delta_of(session, from, to, out, size))
 }
@@ -221,6 +227,11 @@ pub extern "C" fn mortarpink_save(
     ensures saved { Found bitmap.old.value (λ N m. Some (history_bytes N (kept_part m.state)))
         (ReportsBytes result size.old size.new out.old out.new)
         ((result ≡ EMPTY_HANDLE) × (size.new ≡ size.old) × (out.new ≡ out.old)) }
+    // The bytes are a log, which makes the bitmap again.
+    ensures log { IfSome bitmap.old.value (λ any. IsFound result
+        → HasLog (width any) (kept_part (machine any).state)) }
+    ensures ends { IfSome bitmap.old.value (λ any. IsFound result
+        → IsHistory (kept_part (machine any).state)) }
 {
     in_handle!(bitmap, any => save(alloc, any, out, size))
 }
@@ -307,6 +318,8 @@ pub extern "C" fn mortarpink_delta(
     ensures delta { Found bitmap.old.value (λ N m. delta_of N m.state.history from to)
         (ReportsBytes result size.old size.new out.old out.new)
         ((result ≡ EMPTY_HANDLE) × (size.new ≡ size.old) × (out.new ≡ out.old)) }
+    // A bitmap that is equal to the older one accepts the delta.
+    ensures step { IfSome bitmap.old.value (λ any. KeepsStep (width any) (machine any) from to) }
 {
     in_handle!(bitmap, any => delta(any, from, to, out, size))
 }

@@ -1,6 +1,7 @@
 -- What of a session outlives its process, and why a session does not apply a delta.
-use Rattle.std.specs.Prelude.{◌≡◌, ℕ, true, List, [], None, Some, Result, IfErr, MatchResult, OnErr, OnOk, alloc_error}
+use Rattle.std.specs.Prelude.{◌≡◌, ℕ, ◌<◌, true, List, [], None, Some, Result, IfErr, MatchResult, OnErr, OnOk, alloc_error}
 use Rattle.bitmap_core.specs.PrunedBits.{PrunedBits}
+use Rattle.historical_bitmap.specs.History.{kept_under}
 use Rattle.commit_log.specs.Delta.{Brings, IsDeltaError, IsStep, committed, delta_between, encode_delta}
 use Rattle.commit_log.specs.declared.deltas.DeltaError.TheVariants.{Memory}
 use Rattle.commit_log.specs.Kept.{Kept}
@@ -16,6 +17,11 @@ kept_part s = record { current = s.current; history = s.history; last = s.last }
 -- a machine is outside a batch, and has touched no chunk
 abbrev pub IsOutside : Machine → Type 0
 IsOutside m = (m.state.pending ≡ None) × (m.touched ≡ [])
+
+-- outside a batch, the kept bitmap under a number is a step from that under a smaller number, for chunks of n bytes
+abbrev pub KeepsStep : (n : ℕ) → Machine → (from to : ℕ) → Type 0
+KeepsStep n m from to = IsOutside m → (old new : PrunedBits) → from < to
+    → kept_under m.state.history from ≡ Some old → kept_under m.state.history to ≡ Some new → IsStep n from old to new
 
 -- why a session of chunks of n bytes does not apply bytes as a delta: it is in a batch, or outside one the bytes have this error
 abbrev pub IsApplyDeltaError : ℕ → Machine → List ℕ → ApplyDeltaError → Type 0

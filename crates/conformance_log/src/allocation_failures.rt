@@ -4,6 +4,7 @@
 //! After a failed call the test shows that what it was given is unchanged and can be used. As a plain test, no allocation fails.
 
 mod logged_sessions;
+mod sessions;
 
 use crate::checked_calls::is_log;
 use crate::checks::{equal, expect};

@@ -15,7 +15,7 @@ ghost use Rattle.commit_log.specs.Reading.{IsCutOff, IsHistoryError, IsWithin, r
 ghost use Rattle.log_frames.specs.declared.header.HeaderError.TheVariants.{Short};
 ghost use Rattle.bitmap_session.specs.Abstraction.{clean, machine_of};
 ghost use Rattle.bitmap_session.specs.Machine.{is_dirty};
-ghost use Rattle.bitmap_session.specs.Saved.{AppliesDelta, IsApplyDeltaError, IsOutside, kept_part};
+ghost use Rattle.bitmap_session.specs.Saved.{AppliesDelta, IsApplyDeltaError, IsOutside, KeepsStep, kept_part};
 ghost use Rattle.bitmap_session.specs.declared.session.saved.ApplyDeltaError.TheVariants.{Delta};
 ghost use Rattle.bitmap_session.specs.declared.session.saved.SaveError.TheVariants.{InBatch, Memory};
 
@@ -211,6 +211,8 @@ impl<const N: usize> Session<N> {
     pub fn delta(&self, from: u64, to: u64) -> Result<Option<Vec<u8>>, SaveError>
         ensures value { IfOk result (λ found. option_map (λ bytes. bytes.items) found
             ≡ delta_of N self.now.state.history from to) }
+        // A session at the older bitmap accepts it.
+        ensures step { KeepsStep N self.now from to }
         ensures outside { OnOk result (IsOutside self.now) }
         ensures refused { IfErr result (λ e. e
             ≡ (if is_dirty self.now.state then InBatch else Memory alloc_error)) }

@@ -1,10 +1,11 @@
-//! Commands of a session with a log: each makes its change and appends its entry, or does neither.
+//! Commands of a session with a log, and deltas that it applies: each makes its change and appends its entry, or does neither. And its recovery.
 
 use crate::checks::expect;
 use bitmap_session::command::Command;
 use bitmap_session::logged::LoggedSession;
 use bitmap_session::reply::{Refusal, Reply};
-use bitmap_session::session::{LogError, Session};
+use bitmap_session::session::{ApplyDeltaError, LogError, Session};
+use commit_log::{DeltaError, RecoverError};
 use std::alloc::Global;
 use std::process::Abort;
 
@@ -18,7 +19,7 @@ struct Ends {
 }
 
 // The number of a reply, or 0 if it has none.
-fn number(reply: &Reply<1>) -> u64 {
+pub(super) fn number(reply: &Reply<1>) -> u64 {
     match reply {
         Reply::Number(number) => *number,
         _ => 0,
@@ -26,7 +27,7 @@ fn number(reply: &Reply<1>) -> u64 {
 }
 
 // The latest commit of a reply, if it has one.
-fn latest(reply: &Reply<1>) -> Option<u64> {
+pub(super) fn latest(reply: &Reply<1>) -> Option<u64> {
     match reply {
         Reply::Maybe(found) => *found,
         _ => None,
@@ -54,7 +55,7 @@ fn is_out_of_memory(reply: &Result<Reply<1>, LogError>) -> bool {
 }
 
 // A session with a log, after the bits 101 are committed as 1, or `None` if an allocation fails.
-fn one_commit(alloc: Global) -> Option<LoggedSession<1>> {
+pub(super) fn one_commit(alloc: Global) -> Option<LoggedSession<1>> {
     let Ok(mut session) = LoggedSession::begin(alloc, Session::new(alloc)) else {
         return None;
     };
@@ -84,7 +85,7 @@ fn batch_after_one(alloc: Global) -> Option<LoggedSession<1>> {
 }
 
 // The same session with that batch committed as 5, or `None` if an allocation fails.
-fn two_commits(alloc: Global) -> Option<LoggedSession<1>> {
+pub(super) fn two_commits(alloc: Global) -> Option<LoggedSession<1>> {
     let mut session = batch_after_one(alloc)?;
     if is_done(&session.serve(&Command::Commit(5))) {
         Some(session)
@@ -200,4 +201,84 @@ fn clear_with_its_entry(rt: HostRuntime) {
         return;
     };
     check_served(&rt, rt.alloc(), &mut session, &Command::Clear, (4, None));
+}
+
+// The history of a session, or `None` if an allocation fails.
+pub(super) fn history_of(alloc: Global, session: &Session<1>) -> Option<Vec<u8>> {
+    let mut bytes = Vec::new(alloc);
+    session.save(&mut bytes).ok()?;
+    Some(bytes)
+}
+
+// The delta from commit 1 to commit 5 of a session, or `None` if an allocation fails.
+pub(super) fn two_commits_delta(alloc: Global) -> Option<Vec<u8>> {
+    let session = two_commits(alloc)?;
+    session.session().delta(1, 5).ok()?
+}
+
+pub(super) fn lacks_memory(applied: &Result<(), ApplyDeltaError>) -> bool {
+    matches!(applied, Err(ApplyDeltaError::Delta(DeltaError::Memory(_))))
+}
+
+// The session keeps what its history says, unless an allocation fails.
+pub(super) fn check_history(rt: &impl Abort, alloc: Global, session: &Session<1>, history: &[u8]) {
+    if let Some(now) = history_of(alloc, session) {
+        expect(rt, now.as_slice() == history);
+    }
+}
+
+// Applies a delta twice at most: after a failed allocation the session is as its copy, and its log as before.
+fn check_applied(
+    rt: &impl Abort,
+    alloc: Global,
+    session: &mut LoggedSession<1>,
+    delta: &[u8],
+    copy: &[u8],
+) {
+    let before = ends_of(session);
+    if lacks_memory(&session.apply_delta(delta)) {
+        expect(rt, ends_of(session) == before);
+        check_history(rt, alloc, session.session(), copy);
+        if lacks_memory(&session.apply_delta(delta)) {
+            expect(rt, ends_of(session) == before);
+            return;
+        }
+    }
+    let now = ends_of(session);
+    expect(rt, before.position < now.position);
+    expect(rt, (now.len, now.latest) == (4, Some(5)));
+    check_recovered(rt, alloc, session);
+}
+
+#[test]
+fn delta_with_its_entry(rt: HostRuntime) {
+    let Some(delta) = two_commits_delta(rt.alloc()) else {
+        return;
+    };
+    let Some(mut session) = one_commit(rt.alloc()) else {
+        return;
+    };
+    let Some(copy) = history_of(rt.alloc(), session.session()) else {
+        return;
+    };
+    check_applied(&rt, rt.alloc(), &mut session, &delta, &copy);
+}
+
+// A failed recovery is out of memory, and not damage.
+#[test]
+fn session_recovered(rt: HostRuntime) {
+    let Some(session) = two_commits(rt.alloc()) else {
+        return;
+    };
+    for _ in 0..2 {
+        match LoggedSession::<1>::recover(rt.alloc(), session.bytes()) {
+            Ok(found) => {
+                expect(
+                    &rt,
+                    !found.torn && ends_of(&found.session) == ends_of(&session),
+                );
+            }
+            Err(why) => expect(&rt, matches!(why, RecoverError::Memory(_))),
+        }
+    }
 }
