@@ -8,8 +8,8 @@ usage: check_bindings.py                  builds the library and installs it twi
        check_bindings.py --declarations   checks the declarations alone
 
 - The declarations in C, Rust and Python are those that tools/interface.py makes of the Rattle sources, and it notices each change of these.
-- The libraries export the declared functions and nothing else, and need only the memory functions of the C library.
-- Two packages of one build are the same byte for byte.
+- The libraries export the declared functions and nothing else, and need only the memory functions of the C library. The shared one is stripped.
+- Two packages of one build are the same byte for byte. A package has the header, the README, the changelog, the licence and an example.
 - The header compiles as C99 and as C++11 without a warning. The C examples print what they should, with the static and with the shared library.
 - The C tests pass with sanitizers, under valgrind, and with failing allocations. The tests of the Rust crate and of the Python package pass.
   The examples of the Rust crate print what they should.
@@ -46,8 +46,9 @@ LEAKS = ("env", "ASAN_OPTIONS=detect_leaks=1")
 WRAPPED = ("-Wl,--wrap=malloc,--wrap=realloc,--wrap=free",)  # gives the library the memory functions of the program
 C_TESTS = {"calls": "checks", "allocation_failures": "runs", "readonly": "checks", "threads": "checks"}
 
-# What a package has that the checks use.
-PACKAGE = ("include/mortarpink.h", "lib/libmortarpink.a", "lib/libmortarpink.so", "lib/pkgconfig/mortarpink.pc")
+# What a package has: what the checks use, and what comes with it.
+USED = ("include/mortarpink.h", "lib/libmortarpink.a", "lib/libmortarpink.so", "lib/pkgconfig/mortarpink.pc")
+DOCUMENTS = ("share/licenses/mortarpink/LICENSE", *(f"share/doc/mortarpink/{name}" for name in ("README.md", "CHANGELOG.md", "example.c", "example.stdout")))
 
 # What the libraries may need of the C library.
 NEEDED = {"bcmp", "free", "malloc", "memcmp", "memcpy", "memmove", "memset", "realloc"}
@@ -171,6 +172,11 @@ def symbol_cases(place):
         yield f"the functions of {file.name}", None if found == wanted else difference
         needed = {name for name, kind in symbols("--undefined-only", *words, file).items() if kind == "U"}
         yield f"the needs of {file.name}", f"it needs {sorted(needed - NEEDED)}" if needed - NEEDED else None
+    status, printed = run(["nm", place.shared])
+    is_stripped = status == 0 and printed.rstrip().endswith("no symbols")
+    yield f"no symbols in {place.shared.name} but those for its users", None if is_stripped else f"nm lists some:\n{printed[-300:]}"
+    missing = [name for name in (*USED, *DOCUMENTS) if not (place.prefix / name).is_file()]
+    yield "the files of the package", f"missing: {missing}" if missing else None
 
 
 def header_cases(place):
@@ -322,7 +328,7 @@ def main():
     if missing and not given.declarations:
         print(f"bindings: this machine has no {', '.join(missing)}", file=sys.stderr)
         return 1
-    absent = [name for name in PACKAGE if given.prefix is not None and not Path(given.prefix, name).is_file()]
+    absent = [name for name in USED if given.prefix is not None and not Path(given.prefix, name).is_file()]
     if absent:
         print(f"bindings: no package is installed in {given.prefix!r}, which has no {', '.join(absent)}", file=sys.stderr)
         return 1

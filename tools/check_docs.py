@@ -1,7 +1,7 @@
 #!/usr/bin/env python3
 """Checks the documents and doc comments.
 
-- Each Rattle example is in the crate `uses`, word for word and with its imports, so that it is proved and tested.
+- Each Rattle example is in the crate `uses` or in `store_runs`, word for word and with its imports, so that it is proved and tested.
 - Each example in C, Rust or Python is in a tested file of `bindings`, or in an example of `native`.
 - Each relative link of a document leads to a file, and to a heading if it names one.
 - Each file that a document names exists.
@@ -15,7 +15,7 @@ from pathlib import Path
 from typing import NamedTuple
 
 TOP = Path(__file__).resolve().parent.parent
-USES = TOP / "crates/uses"
+USES = [TOP / "crates/uses", TOP / "crates/store_runs"]
 DOCUMENTS = [
     "README.md", "CONTRIBUTING.md", "docs/GUIDE.md", "docs/TRUST.md", "docs/ARCHITECTURE.md", "docs/DECISIONS.md", "docs/DIFFERENCES.md",
     "docs/SCRIPT.md", "docs/FORMATS.md", "docs/BENCHMARKS.md", "bench/README.md",
@@ -102,7 +102,7 @@ def agreeing(example, lines, start):
 def example_errors(example, callers):
     if not any(line.startswith("use ") for line in example.lines):
         return [f"{example.place}: the example does not show its imports"]
-    return difference(example, callers, "crates/uses/src")
+    return difference(example, callers, "crates/uses/src or crates/store_runs/src")
 
 
 def foreign_errors():
@@ -196,8 +196,8 @@ def known_labels():
 
 
 def main():
-    texts = [path for path in sources(TOP / "crates") if USES not in path.parents] + documents()
-    callers = [lines_of(path) for path in sources(USES / "src")]
+    texts = [path for path in sources(TOP / "crates") if not any(crate in path.parents for crate in USES)] + documents()
+    callers = [lines_of(path) for crate in USES for path in sources(crate / "src")]
     all_examples = [example for path in texts for example in rattle_examples(path)]
     all_links = [(path, link) for path in linked_pages() for link in links(path)]
     files = [str(path.relative_to(TOP)) for path in TOP.rglob("*") if path.is_file() and "out" not in path.relative_to(TOP).parts]

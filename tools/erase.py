@@ -69,12 +69,13 @@ IN_ONE_MODULE = {"authenticated_bitmap"}
 # The crates that become modules of the test crate, and those that are in neither crate.
 TESTS = [
     "bitmap_session", "test_support", "conformance", "conformance_authenticated", "conformance_history", "conformance_log", "conformance_session",
-    "uses", "replay",
+    "conformance_versions", "uses", "replay",
 ]
 LEFT_OUT = ["bench", "bitmap_c", "conformance_store", "log_runs", "log_store", "store_runs"]
 
 # The lints that are off in the generated modules: some items are for proofs alone, and the layout and the idioms are those of Rattle.
-ALLOWED = ["dead_code", "unused_imports", "unused_variables", "clippy::style", "clippy::complexity", "clippy::perf"]
+ALLOWED = ["dead_code", "unused_imports", "unused_variables", "clippy::style", "clippy::complexity", "clippy::perf",
+           "clippy::manual_unwrap_or_default"]
 
 # The modules that are left out of the Rust crate, and that are modules of the test crate.
 LAWS = "laws"

@@ -17,6 +17,7 @@ METHODS = {
     "extend_from_bitmap": "try_extend_from_bitmap",
     "extend_from_slice": "try_extend_from_slice",
     "extend_to": "try_extend_to",
+    "gathered": "try_gathered",
     "get_at_commit": "try_get_at_commit",
     "insert": "try_put",
     "prepare": "try_prepare",

@@ -4,10 +4,10 @@
 usage: interface_runs.py LIBRARY COUNT   COUNT random scripts on the shared library LIBRARY, at each of its four widths in turn. Prints how many calls
                                          there are, and fails if a function never succeeds or a status is never returned: 2000 scripts suffice
 
-The scripts are those of tools/check_runs.py, with fixed seeds. After each step come reads of the bitmap, of a past one and of the commits, whose
-values are computed from the model's lists, edits of many bits at once, and calls with wrong arguments. Histories, deltas and logs are compared with those
-of tools/formats.py, also if their bytes are changed. At the end of a script the library has freed all its blocks. They are counted by
-tools/fail_allocations.c, which tools/check_frees.py preloads.
+The scripts are those of tools/check_runs.py, with fixed seeds. Half of them begin with an index of the kept commits, and each may add or drop one
+later. After each step come reads of the bitmap, of a past one and of the commits, whose values are computed from the model's lists, edits of many bits
+at once, and calls with wrong arguments. Histories, deltas and logs are compared with those of tools/formats.py, also if their bytes are changed. At the
+end of a script the library has freed all its blocks. They are counted by tools/fail_allocations.c, which tools/check_frees.py preloads.
 """
 
 import re
@@ -116,9 +116,10 @@ def ends_of(text):
 class InterfaceScript(RandomScript):
     """A random script, each line of which runs on the model and on the library."""
 
-    def __init__(self, library, seed, width):
+    def __init__(self, library, seed, width, begins_indexed=False):
         super().__init__(seed, width)
         self.library, self.calls, self.spare, self.formats = library, Counter(), None, Formats(width)
+        self.begins_indexed = begins_indexed
         self.handle, self.recent = Handle(), deque(maxlen=10)
 
     def expect(self, name, status, *given, **written):
@@ -692,6 +693,8 @@ class InterfaceScript(RandomScript):
         """Takes so many random steps from a new bitmap to a freed one."""
         self.use_empty_handle()
         self.expect("new", "DONE", self.model.width)
+        if self.begins_indexed:
+            self.expect("index", "DONE", 1)
         self.steps(count)
         self.read_all()
         self.check_spare()
@@ -705,8 +708,8 @@ def loaded(path):
 
 def check_script(path, number):
     """Runs a random script: the counts of its calls, the blocks that it makes and those that are left, and its case."""
-    width = WIDTHS[number % len(WIDTHS)]
-    script, before = InterfaceScript(loaded(path), number, width), blocks_now()
+    width, begins_indexed = WIDTHS[number % len(WIDTHS)], number // len(WIDTHS) % 2 == 1
+    script, before = InterfaceScript(loaded(path), number, width, begins_indexed), blocks_now()
     try:
         script.run(20 + number % 80)
         failure = None

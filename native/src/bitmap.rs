@@ -41,7 +41,7 @@ pub mod historical {
     //!
     //! [`CleanBitMap::into_dirty`] turns a bitmap into a batch. A batch is edited, and then committed under a number, or aborted.
     //! [`DirtyBitMap::prepare`] commits it in two steps, of which the second one cannot fail.
-    //! The bitmap at a kept commit is read in place by `at`, copied by `get_at_commit`, or made current again by `rewind_to`.
+    //! The bitmap at a kept commit is read in place by `at` or `gathered`, copied by `get_at_commit`, or made current again by `rewind_to`.
     //!
     //! ```
     //! use mortarpink::bitmap::Readable;
@@ -65,8 +65,8 @@ pub mod historical {
     //! # Ok::<(), mortarpink::bitmap::historical::Error>(())
     //! ```
     pub use crate::generated::historical_bitmap::bitmap::historical::{
-        ApplyError, AtCommit, BitMap, ChangedChunks, Clean, CleanBitMap, CommitNumbers, Commits, Dirty, DirtyBitMap, Edit, Error, Lent,
-        PendingChanges, PreparedBitMap, PreparedChanges, RewindError, State,
+        ApplyError, AtCommit, BitMap, ChangedChunks, Clean, CleanBitMap, CommitNumbers, Commits, Dirty, DirtyBitMap, Edit, Error, Gathered,
+        Lent, PendingChanges, PreparedBitMap, PreparedChanges, RewindError, State,
     };
 }
 

@@ -17,7 +17,7 @@ use mortarpink::roots::{
 use mortarpink::store::files::{Files, Name};
 use mortarpink::store::{OpenError, Options, Start, Store, StoreError};
 use mortarpink::support::alloc::Global;
-use mortarpink::support::collections::{BTreeMap, DequeWithin, VecDeque};
+use mortarpink::support::collections::{DequeWithin, VecDeque};
 use mortarpink::support::iter::CollectWithin;
 use mortarpink::support::ops::{BitAnd, BitOr, BitXor, Sub};
 use mortarpink::support::vec::VecWithin;
@@ -244,31 +244,6 @@ fn of_the_support() {
     assert_eq!(each_edit(deque, VecDeque::clone, |_| VecDeque::<u64>::with_capacity_within(Global, 1).map(drop)), 1);
 }
 
-/// A map of some keys, and what is in it.
-fn map_of(keys: impl Iterator<Item = u64>) -> BTreeMap<u64, u64> {
-    let mut map = BTreeMap::new_within(Global);
-    for key in keys {
-        map.try_put(key, key).unwrap();
-    }
-    map
-}
-
-fn map_image(map: &BTreeMap<u64, u64>) -> Vec<(u64, u64)> {
-    map.into_iter().map(|(key, value)| (*key, *value)).collect()
-}
-
-/// The list of blocks and a block are allocated, or one of them, as the keys come.
-#[test]
-fn of_maps() {
-    assert_eq!(each_edit(|| map_of(0..0), map_image, |map| map.try_put(1, 1).map(drop)), 2);
-    assert_eq!(each_edit(|| map_of(0..1), map_image, |map| map.try_put(1, 1).map(drop)), 1, "the block grows");
-    assert_eq!(each_edit(|| map_of(0..64), map_image, |map| map.try_put(64, 1).map(drop)), 1, "a block is added at the end");
-    assert_eq!(each_edit(|| map_of((0..64).map(|k| 2 * k)), map_image, |map| map.try_put(9, 1).map(drop)), 1, "a block is divided");
-    assert_eq!(each_edit(|| map_of(0..256), map_image, |map| map.try_put(256, 1).map(drop)), 2, "so is the list");
-    assert_eq!(each_edit(|| map_of(0..100), map_image, |map| map.try_put(7, 1).map(drop)), 0, "the key is there");
-    assert_eq!(each_edit(|| map_of(0..100), map_image, |map| map.try_clone().map(drop)), 3);
-}
-
 #[test]
 fn of_pruned_bitmaps() {
     let full = || {
@@ -313,6 +288,18 @@ fn of_edits_of_a_batch() {
         let failed = each_edit(|| versions().into_dirty(), batch_image, edit);
         assert!(failed > 0, "{name} allocates in a batch without edits");
         each_edit(batch, batch_image, edit);
+    }
+}
+
+/// A length that no memory has space for is an error at once, and leaves nothing.
+#[test]
+fn of_lengths_past_all_memory() {
+    for start in [batch, || versions().into_dirty()] {
+        let mut batch = start();
+        let before = batch_image(&batch);
+        assert!(batch.try_extend_to(1 << 60).is_err());
+        assert!(batch.try_extend_to(u64::MAX).is_err());
+        assert_eq!(batch_image(&batch), before);
     }
 }
 
@@ -458,12 +445,17 @@ fn of_past_states_and_copies() {
         let is_error = bitmap.try_get_at_commit(1).is_err();
         (bitmap, is_error)
     };
+    let gather = |bitmap: CleanBitMap<4>| {
+        let is_error = bitmap.try_gathered(1).is_err();
+        (bitmap, is_error)
+    };
     let copy = |bitmap: CleanBitMap<4>| {
         let is_error = bitmap.try_clone().is_err();
         (bitmap, is_error)
     };
     for make in [versions, indexed] {
         assert!(each(make, clean_image, read) > 0);
+        assert!(each(make, clean_image, gather) > 0);
         assert!(each(make, clean_image, copy) > 0);
     }
     assert!(each(indexed, clean_image, copy) > each(versions, clean_image, copy));

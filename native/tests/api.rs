@@ -2,8 +2,8 @@
 
 use mortarpink::bitmap::codec::{CodecError, EncodeSize, RangeCfg};
 use mortarpink::bitmap::historical::{
-    ApplyError, AtCommit, ChangedChunks, CleanBitMap, Commits, DirtyBitMap, Edit, Error, PendingChanges, PreparedBitMap, PreparedChanges,
-    RewindError,
+    ApplyError, AtCommit, ChangedChunks, CleanBitMap, Commits, DirtyBitMap, Edit, Error, Gathered, PendingChanges, PreparedBitMap,
+    PreparedChanges, RewindError,
 };
 use mortarpink::bitmap::{BitMap, DEFAULT_CHUNK_SIZE, Iterator as Bits, OnesIter, Prunable, Readable, prunable};
 use mortarpink::{AllocError, TryClone, log, roots};
@@ -32,6 +32,7 @@ fn all_types_have_the_usual_traits() {
     is_usual::<CleanBitMap<8>>();
     is_usual::<DirtyBitMap<8>>();
     is_usual::<AtCommit<'_, 8>>();
+    is_usual::<Gathered<'_, 8>>();
     is_usual::<Commits<'_, 8>>();
     is_usual::<ChangedChunks<'_, 8>>();
     is_usual::<PendingChanges<'_, 8>>();
@@ -196,6 +197,32 @@ fn numbers_of_commits_rise() {
     let (bitmap, error) = bitmap.rewind_to(4).unwrap_err();
     assert_eq!((bitmap.latest_commit(), error), (Some(5), RewindError::NoSuchCommit));
     assert_eq!(error.to_string(), "no commit is kept under that number");
+}
+
+/// Each commit changes the chunk that the one before it appended, and few commits are kept. So the index has few chunks at a time, and its
+/// trie is made anew now and then.
+#[test]
+fn an_index_follows_chunks_that_move_on() {
+    let byte_at = |bitmap: &CleanBitMap<1>, number: u64, chunk: u64| bitmap.at(number).unwrap().get_chunk(chunk as usize)[0];
+    let bitmap = CleanBitMap::<1>::new().apply_batch(0, |batch| {
+        batch.push_byte(0);
+    });
+    let mut bitmap = bitmap.unwrap().indexed().map_err(|(_, error)| error).unwrap();
+    for number in 1..=1000 {
+        bitmap = bitmap
+            .apply_batch(number, |batch| {
+                batch.set_chunk(number as usize - 1, &[1]).push_byte(0);
+            })
+            .unwrap();
+        bitmap.prune_commits_before(number.saturating_sub(3));
+        for kept in bitmap.commits() {
+            let whole = bitmap.get_at_commit(kept).unwrap();
+            assert!((kept.saturating_sub(20)..=kept).all(|chunk| byte_at(&bitmap, kept, chunk) == whole.get_chunk(chunk as usize)[0]));
+            assert!(byte_at(&bitmap, kept, kept) == 0 && kept.checked_sub(1).is_none_or(|last| byte_at(&bitmap, kept, last) == 1));
+        }
+    }
+    let bitmap = bitmap.rewind_to(998).map_err(|(_, error)| error).unwrap();
+    assert_eq!((byte_at(&bitmap, 997, 996), byte_at(&bitmap, 997, 997), byte_at(&bitmap, 998, 997)), (1, 0, 1));
 }
 
 /// Numbers are listed from both ends, also after the list of commits has wrapped around in memory.

@@ -161,11 +161,23 @@ fn of_historical_bitmaps() {
     assert_eq!(panic_of(|| past.get_bit(26)), "bit 26 out of bounds (len: 26)");
     assert_eq!(panic_of(|| past.get_chunk(4)), "chunk 4 out of bounds (chunks: 4)");
     assert_eq!(panic_of(|| past.retained_bytes(usize::MAX)), "chunk 18446744073709551615 starts past u64::MAX");
+    let gathered = bitmap.gathered(1).unwrap();
+    assert_eq!(panic_of(|| gathered.get_chunk(1)), "chunk 1 is pruned (pruned_chunks: 2)");
+    assert_eq!(panic_of(|| gathered.get_chunk(4)), "chunk 4 out of bounds (chunks: 4)");
+    assert_eq!(panic_of(|| gathered.chunks_around(1).1), "chunk 1 is pruned (pruned_chunks: 2)");
+    assert_eq!(panic_of(|| gathered.chunks_around(4).1), "chunk 4 out of bounds (chunks: 4)");
+    let either = bitmap.at_for(1, 0).unwrap();
+    assert_eq!(panic_of(|| either.get_chunk(1)), "chunk 1 is pruned (pruned_chunks: 2)");
+    assert_eq!(panic_of(|| either.get_chunk(4)), "chunk 4 out of bounds (chunks: 4)");
+    assert_eq!(panic_of(|| either.chunks_around(1).1), "chunk 1 is pruned (pruned_chunks: 2)");
+    assert_eq!(panic_of(|| either.chunks_around(4).1), "chunk 4 out of bounds (chunks: 4)");
     let later = Prunable::new_with_pruned_chunks(3).unwrap();
     assert_eq!(panic_of(|| bitmap.clone().commit_replaced(2, later).is_ok()), "3 pruned chunks are less than the length (26 bits)");
     assert!(bitmap.clone().commit_replaced(2, Prunable::new_with_pruned_chunks(4).unwrap()).is_ok());
     let empty = CleanBitMap::<1>::new().apply_batch(1, |_| ()).unwrap();
     assert_eq!(panic_of(|| empty.at(1).unwrap().last_chunk()), "no bit is retained");
+    assert_eq!(panic_of(|| empty.gathered(1).unwrap().last_chunk()), "no bit is retained");
+    assert_eq!(panic_of(|| empty.at_for(1, 0).unwrap().last_chunk()), "no bit is retained");
 }
 
 #[test]

@@ -1,11 +1,10 @@
 //! The parts of Rattle's standard library over Rust's: what each call leaves, also if a deque is stored in two parts.
 
 use mortarpink::support::alloc::{AllocError, Global};
-use mortarpink::support::collections::{BTreeMap, DequeWithin, VecDeque};
+use mortarpink::support::collections::{DequeWithin, VecDeque};
 use mortarpink::support::iter::CollectWithin;
 use mortarpink::support::vec::VecWithin;
 use mortarpink::{TryClone, support::ops};
-use std::ops::Bound;
 
 const TOO_MANY: usize = usize::MAX / 2;
 
@@ -85,57 +84,6 @@ fn copies_are_equal() {
     assert_eq!([[1u8, 2], [3, 4]].try_clone(), Ok([[1, 2], [3, 4]]));
     assert_eq!((1u64, true).try_clone(), Ok((1, true)));
     assert_eq!((Some(vec![1u8]), None::<u64>).try_clone(), Ok((Some(vec![1]), None)));
-}
-
-/// The entries of a map between two bounds.
-fn entries(map: &BTreeMap<u64, u64>, bounds: (Bound<u64>, Bound<u64>)) -> Vec<(u64, u64)> {
-    map.range(bounds).map(|(key, value)| (*key, *value)).collect()
-}
-
-#[test]
-fn a_map_returns_the_value_that_it_replaces() {
-    let mut map = BTreeMap::new_within(Global);
-    assert_eq!(map.try_put(1, 'a'), Ok(None));
-    assert_eq!(map.try_put(1, 'b'), Ok(Some('a')));
-    assert_eq!(map.try_put(0, 'c'), Ok(None));
-    assert_eq!(format!("{map:?}"), "{0: 'c', 1: 'b'}");
-    assert_eq!((map.remove(&1), map.remove(&1), map.remove(&2)), (Some('b'), None, None));
-    map.clear();
-    assert_eq!(map.into_iter().count(), 0);
-}
-
-/// Keys that are inserted and removed in some order: the map does what the map of `std` does.
-fn check_map(steps: impl Iterator<Item = (bool, u64)>) {
-    let (mut map, mut expected) = (BTreeMap::new_within(Global), std::collections::BTreeMap::new());
-    for (value, (inserts, key)) in (0..).zip(steps) {
-        if inserts {
-            assert_eq!(map.try_put(key, value), Ok(expected.insert(key, value)));
-        } else {
-            assert_eq!(map.remove(&key), expected.remove(&key));
-        }
-        if value % 37 == 0 {
-            assert!(map.into_iter().eq(&expected));
-            let starts = [Bound::Unbounded, Bound::Included(key), Bound::Excluded(key)];
-            let ends = [Bound::Unbounded, Bound::Included(key + 90), Bound::Excluded(key + 90)];
-            for bounds in starts.into_iter().flat_map(|start| ends.map(|end| (start, end))) {
-                let same: Vec<(u64, u64)> = expected.range(bounds).map(|(key, value)| (*key, *value)).collect();
-                assert_eq!(entries(&map, bounds), same, "{bounds:?}");
-            }
-        }
-    }
-    assert!(map.try_clone().unwrap().into_iter().eq(&expected));
-}
-
-#[test]
-fn maps_are_those_of_std() {
-    let places = |k: u64| k * 7919 % 1009;
-    check_map((0..1000).map(|k| (true, k)));
-    check_map((0..1000).rev().map(|k| (true, k)));
-    check_map((0..1009).map(|k| (true, places(k))).chain((0..1009).map(|k| (false, k))));
-    check_map((0..1009).map(|k| (true, k)).chain((0..1009).rev().map(|k| (false, places(k)))));
-    check_map((0..5000).map(|k| (k % 3 != 0, places(k * k))));
-    // The entries slide, as those of an index do if the oldest commits are dropped.
-    check_map((0..3000).map(|k| (k % 2 == 0, (k / 2 * 10 + k % 10) % 700)));
 }
 
 #[test]

@@ -10,7 +10,7 @@ use crate::any::AnySession;
 use crate::bytes::read_bytes;
 use crate::handle::Handle;
 use crate::pages::write_ones;
-use crate::queries::{Query, number_read};
+use crate::queries::{Query, bits_read, number_read};
 use crate::status::{
     DONE, EMPTY_HANDLE, IN_BATCH, NO_SUCH_COMMIT, NONE, OUT_OF_BOUNDS, PRUNED, WRONG_SIZE,
 };
@@ -25,7 +25,7 @@ fn number_of<const N: usize>(session: &Session<N>, number: u64, query: Query, ou
     if session.current().is_none() {
         return IN_BATCH;
     }
-    let Some(bitmap) = session.at(number) else {
+    let Some(bitmap) = session.at_for(number, bits_read(query)) else {
         return NO_SUCH_COMMIT;
     };
     let Some(value) = number_read(&bitmap, query) else {
@@ -120,7 +120,7 @@ fn bytes_of<const N: usize>(
     if session.current().is_none() {
         return IN_BATCH;
     }
-    let Some(bitmap) = session.at(number) else {
+    let Some(bitmap) = session.at_for(number, to.saturating_sub(from)) else {
         return NO_SUCH_COMMIT;
     };
     read_bytes(&bitmap, from, to, out)
@@ -150,7 +150,9 @@ fn ones_of<const N: usize>(
     if session.current().is_none() {
         return IN_BATCH;
     }
-    let Some(bitmap) = session.at(number) else {
+    // A page of ones has at least as many bits.
+    let bits = to.saturating_sub(from).min(out.len() as u64);
+    let Some(bitmap) = session.at_for(number, bits) else {
         return NO_SUCH_COMMIT;
     };
     *count = write_ones(&bitmap, from, to, out);
@@ -313,11 +315,14 @@ pub extern "C" fn mortarpink_chunk_at(
 ///
 /// # Memory
 ///
-/// Does not allocate.
+/// Allocates at most the bytes of the chunks that later commits changed, with their indices, and frees them. If that fails, it reads
+/// without them.
 ///
 /// # Complexity
 ///
-/// Linear in the words of the range. Each chunk that is read costs a search of each commit after `number`.
+/// Linear in the words of the range. Each chunk that is read costs a search of each commit after `number`, or, with
+/// an index, one search. If the range has many chunks, the chunks that these commits changed are gathered first where that costs less: in
+/// one pass over the changes of these commits, and then each changed chunk costs one search.
 #[unsafe(no_mangle)]
 pub extern "C" fn mortarpink_read_bytes_at(
     bitmap: &mut Handle,
@@ -345,11 +350,14 @@ pub extern "C" fn mortarpink_read_bytes_at(
 ///
 /// # Memory
 ///
-/// Does not allocate.
+/// Allocates at most the bytes of the chunks that later commits changed, with their indices, and frees them. If that fails, it reads
+/// without them.
 ///
 /// # Complexity
 ///
-/// Linear in the chunks that are read. Each chunk that is read costs a search of each commit after `number`.
+/// Linear in the chunks that are read. Each chunk that is read costs a search of each commit after `number`, or, with
+/// an index, one search. If the range and `out` have room for the positions of many chunks, the chunks that these commits changed are gathered first where that costs less: in
+/// one pass over the changes of these commits, and then each changed chunk costs one search.
 #[unsafe(no_mangle)]
 pub extern "C" fn mortarpink_ones_at(
     bitmap: &mut Handle,
@@ -496,11 +504,14 @@ pub extern "C" fn mortarpink_prev_zero_at(
 ///
 /// # Memory
 ///
-/// Does not allocate.
+/// Allocates at most the bytes of the chunks that later commits changed, with their indices, and frees them. If that fails, it reads
+/// without them.
 ///
 /// # Complexity
 ///
-/// Linear in the chunks of the range. Each chunk that is read costs a search of each commit after `number`.
+/// Linear in the chunks of the range. Each chunk that is read costs a search of each commit after `number`, or, with
+/// an index, one search. If the range has many chunks, the chunks that these commits changed are gathered first where that costs less: in
+/// one pass over the changes of these commits, and then each changed chunk costs one search.
 #[unsafe(no_mangle)]
 pub extern "C" fn mortarpink_count_ones_at(
     bitmap: &mut Handle,
@@ -527,11 +538,14 @@ pub extern "C" fn mortarpink_count_ones_at(
 ///
 /// # Memory
 ///
-/// Does not allocate.
+/// Allocates at most the bytes of the chunks that later commits changed, with their indices, and frees them. If that fails, it reads
+/// without them.
 ///
 /// # Complexity
 ///
-/// Linear in the retained chunks up to that of the position. Each chunk that is read costs a search of each commit after `number`.
+/// Linear in the retained chunks up to that of the position. Each chunk that is read costs a search of each commit after `number`, or, with
+/// an index, one search. If `k` bits fill many chunks, the chunks that these commits changed are gathered first where that costs less: in
+/// one pass over the changes of these commits, and then each changed chunk costs one search.
 #[unsafe(no_mangle)]
 pub extern "C" fn mortarpink_select_one_at(
     bitmap: &mut Handle,

@@ -26,6 +26,15 @@ pub enum Query {
     SelectOne(u64),
 }
 
+/// Returns how many bits a query reads, as far as the query says: 0 for a search, which ends at the first bit that it finds.
+pub fn bits_read(query: Query) -> u64 {
+    match query {
+        Query::CountOnes(from, to) => to.saturating_sub(from),
+        Query::SelectOne(k) => k,
+        _ => 0,
+    }
+}
+
 /// Returns the number that a query reads, or `None` if a search finds nothing.
 ///
 /// # Memory

@@ -27,7 +27,7 @@ pub use crate::session::saved::{ApplyDeltaError, SaveError};
 use bitmap_core::bitmap::Prunable;
 use bitmap_core::bitmap::codec::{CodecError, RangeCfg, Read};
 use historical_bitmap::bitmap::historical::{
-    AtCommit, ChangedChunks, CleanBitMap, Commits, DirtyBitMap,
+    AtCommit, ChangedChunks, CleanBitMap, Commits, DirtyBitMap, PastBitMap,
 };
 use std::alloc::{AllocError, Global};
 use std::marker::Model;
@@ -497,6 +497,25 @@ impl<const N: usize> Session<N> {
     {
         match &self.state {
             State::Clean(bitmap) => bitmap.at(number),
+            State::Dirty(_) => None,
+        }
+    }
+
+    /// Returns the bitmap at commit `number`, to be read in place, for reads of about `bits` bits, or `None` if that commit is not kept or
+    /// in a batch.
+    ///
+    /// # Memory
+    ///
+    /// As `at_for` of `CleanBitMap`.
+    ///
+    /// # Complexity
+    ///
+    /// As `at_for` of `CleanBitMap`.
+    pub fn at_for(&self, number: u64, bits: u64) -> Option<PastBitMap<'_, N>>
+        ensures { result ≡ if is_dirty self.now.state then None else kept_under self.now.state.history number }
+    {
+        match &self.state {
+            State::Clean(bitmap) => bitmap.at_for(number, bits),
             State::Dirty(_) => None,
         }
     }

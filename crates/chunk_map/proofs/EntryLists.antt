@@ -1,4 +1,4 @@
--- Entries of indices and chunks that are in another order.
+-- Entries of indices and values that are in another order.
 use Rattle.std.proofs.Common.{◌≡◌, ◌≢◌, ℕ, zero, suc, ◌+◌, ◌-◌, ◌<◌, cond, Bool, true, false, List, [], ◌∷◌, ◌++◌, length, slice_index, slice_index_or, slice_set, Option, Some, None, MatchOption, arith, refl, sym, ap, ◌∙◌, subst}
 use mathlib.Core.Logic.{inl, inr, ◌⊎◌}
 use Rattle.std.proofs.lemmas.Bool.{cases_eq, cases_lt, cases_order, eq-eqb, false≢true, ne_eqb, lt-ltb, le-ltb}
@@ -96,14 +96,14 @@ length_insert (e ∷ es) k v h = elim (cases_order k e.0) [
 ]
 
 -- ---- entries of indices and chunks
-pub entries_sorted : (ks : List ℕ) (cs : List (List ℕ)) → IsStrictlySortedBy nat_cmp (keys_of (entries_of ks cs))
+pub entries_sorted : {X : Type 0} (ks : List ℕ) (cs : List X) → IsStrictlySortedBy nat_cmp (keys_of (entries_of ks cs))
 unfolding IsStrictlySortedBy
 entries_sorted [] cs = tt
 entries_sorted (k ∷ ks) [] = tt
 entries_sorted (k ∷ ks) (c ∷ cs) = sorted_insert (entries_of ks cs) k c (entries_sorted ks cs)
 
 -- an index at no place has no entry
-pub entry_absent : (ks : List ℕ) (cs : List (List ℕ)) (q : ℕ) → IsAbsent ks q → lookup (nat_eq q) (entries_of ks cs) ≡ None
+pub entry_absent : {X : Type 0} (ks : List ℕ) (cs : List X) (q : ℕ) → IsAbsent ks q → lookup (nat_eq q) (entries_of ks cs) ≡ None
 entry_absent [] cs q h = refl
 entry_absent (k ∷ ks) [] q h = refl
 entry_absent (k ∷ ks) (c ∷ cs) q h = insert_other (entries_of ks cs) k c q (λ e. h 0 (omega arith) (sym e)) ∙ entry_absent ks cs q (λ place w. h (suc place) (omega (arith, w)))
@@ -112,7 +112,7 @@ apart_tail : (k : ℕ) (ks : List ℕ) → AreApart (k ∷ ks) → AreApart ks
 apart_tail k ks a p q hp hq e = let f = a (suc p) (suc q) (omega (arith, hp)) (omega (arith, hq)) e in omega (arith, f)
 
 -- an index at a place has the chunk at that place
-pub entry_at : (ks : List ℕ) (cs : List (List ℕ)) (p : ℕ) (d : List ℕ) → AreApart ks → length cs ≡ length ks → p < length ks → lookup (nat_eq (slice_index ks p)) (entries_of ks cs) ≡ Some (slice_index_or cs p d)
+pub entry_at : {X : Type 0} (ks : List ℕ) (cs : List X) (p : ℕ) (d : X) → AreApart ks → length cs ≡ length ks → p < length ks → lookup (nat_eq (slice_index ks p)) (entries_of ks cs) ≡ Some (slice_index_or cs p d)
 entry_at [] cs p d a s h = absurd (omega (arith, h))
 entry_at (k ∷ ks) [] p d a s h = absurd (omega (arith, s))
 entry_at (k ∷ ks) (c ∷ cs) zero d a s h = insert_this (entries_of ks cs) k c
@@ -120,7 +120,7 @@ entry_at (k ∷ ks) (c ∷ cs) (suc p) d a s h =
     insert_other (entries_of ks cs) k c (slice_index ks p) (λ e. let f = a (suc p) 0 h (omega arith) e in absurd (omega (arith, f)))
     ∙ entry_at ks cs p d (apart_tail k ks a) (omega (arith, s)) (omega (arith, h))
 
-pub entries_length : (ks : List ℕ) (cs : List (List ℕ)) → AreApart ks → length cs ≡ length ks → length (entries_of ks cs) ≡ length ks
+pub entries_length : {X : Type 0} (ks : List ℕ) (cs : List X) → AreApart ks → length cs ≡ length ks → length (entries_of ks cs) ≡ length ks
 entries_length [] cs a s = refl
 entries_length (k ∷ ks) [] a s = absurd (omega (arith, s))
 entries_length (k ∷ ks) (c ∷ cs) a s =
@@ -143,26 +143,26 @@ place_or_none (k ∷ ks) q = elim (cases_eq k q) [
     absent k ks q ne h (suc place) w e = h place (omega (arith, w)) e
 
 -- an index that has an entry is at a place
-pub place_of : (ks : List ℕ) (cs : List (List ℕ)) (q : ℕ) → IsSome (lookup (nat_eq q) (entries_of ks cs)) → (p : ℕ) × IsAt ks q p
+pub place_of : {X : Type 0} (ks : List ℕ) (cs : List X) (q : ℕ) → IsSome (lookup (nat_eq q) (entries_of ks cs)) → (p : ℕ) × IsAt ks q p
 place_of ks cs q some = elim (place_or_none ks q) [
   | inl f ↦ f
   | inr h ↦ absurd (false≢true (rw (entry_absent ks cs q h) at some))
 ]
 
 -- what is found at an index that is at a place
-pub found_at : (ks : List ℕ) (cs : List (List ℕ)) (q p : ℕ) (d : List ℕ) → AreApart ks → length cs ≡ length ks → IsAt ks q p → lookup (nat_eq q) (entries_of ks cs) ≡ Some (slice_index_or cs p d)
+pub found_at : {X : Type 0} (ks : List ℕ) (cs : List X) (q p : ℕ) (d : X) → AreApart ks → length cs ≡ length ks → IsAt ks q p → lookup (nat_eq q) (entries_of ks cs) ≡ Some (slice_index_or cs p d)
 found_at ks cs q p d a s f = subst (λ x. lookup (nat_eq x) (entries_of ks cs) ≡ Some (slice_index_or cs p d)) f.is (entry_at ks cs p d a s f.within)
 
 -- a chunk replaced
-pub puts_set : (ks : List ℕ) (cs : List (List ℕ)) (p : ℕ) (c : List ℕ) → AreApart ks → length cs ≡ length ks → p < length ks → Puts (entries_of ks cs) (entries_of ks (slice_set cs p c)) (slice_index ks p) (Some c)
+pub puts_set : {X : Type 0} (ks : List ℕ) (cs : List X) (p : ℕ) (c : X) → AreApart ks → length cs ≡ length ks → p < length ks → Puts (entries_of ks cs) (entries_of ks (slice_set cs p c)) (slice_index ks p) (Some c)
 puts_set ks cs p c a s h q =
     let size : length (slice_set cs p c) ≡ length ks = length-set cs p c ∙ s in
     elim (cases_eq q (slice_index ks p)) [
-      | inl e ↦ rw (eq-eqb q (slice_index ks p) e, e) (entry_at ks (slice_set cs p c) p [] a size h ∙ ap Some (get_or-set_same cs p c [] (omega (arith, h, s))))
+      | inl e ↦ rw (eq-eqb q (slice_index ks p) e, e) (entry_at ks (slice_set cs p c) p c a size h ∙ ap Some (get_or-set_same cs p c c (omega (arith, h, s))))
       | inr ne ↦ rw (ne_eqb q (slice_index ks p) ne) (elim (place_or_none ks q) [
         | inl f ↦
             let other : f.0 ≢ p = λ e. ne (sym f.1.is ∙ ap (slice_index ks) e) in
-            found_at ks (slice_set cs p c) q f.0 [] a size f.1 ∙ ap Some (get_or-set_other cs p f.0 c [] other) ∙ sym (found_at ks cs q f.0 [] a s f.1)
+            found_at ks (slice_set cs p c) q f.0 c a size f.1 ∙ ap Some (get_or-set_other cs p f.0 c c other) ∙ sym (found_at ks cs q f.0 c a s f.1)
         | inr g ↦ entry_absent ks (slice_set cs p c) q g ∙ sym (entry_absent ks cs q g)
       ])
     ]
@@ -176,17 +176,17 @@ absent_push ks k q ne h place w e = elim (cases_lt place (length ks)) [
 ]
 
 -- an index and its chunk added
-pub puts_push : (ks : List ℕ) (cs : List (List ℕ)) (k : ℕ) (c : List ℕ) → AreApart ks → AreApart (ks ++ k ∷ []) → length cs ≡ length ks → Puts (entries_of ks cs) (entries_of (ks ++ k ∷ []) (cs ++ c ∷ [])) k (Some c)
+pub puts_push : {X : Type 0} (ks : List ℕ) (cs : List X) (k : ℕ) (c : X) → AreApart ks → AreApart (ks ++ k ∷ []) → length cs ≡ length ks → Puts (entries_of ks cs) (entries_of (ks ++ k ∷ []) (cs ++ c ∷ [])) k (Some c)
 puts_push ks cs k c was a s q =
     let size : length (cs ++ c ∷ []) ≡ length (ks ++ k ∷ []) = length_push cs c ∙ ap (λ n. n + 1) s ∙ sym (length_push ks k) in
     elim (cases_eq q k) [
-      | inl e ↦ rw (eq-eqb q k e, e) (found_at (ks ++ k ∷ []) (cs ++ c ∷ []) k (length ks) [] a size (record { within = let n = length_push ks k in omega (arith, n); is = get_or_push ks k 0 (length ks) refl }) ∙ ap Some (get_or_push cs c [] (length ks) s))
+      | inl e ↦ rw (eq-eqb q k e, e) (found_at (ks ++ k ∷ []) (cs ++ c ∷ []) k (length ks) c a size (record { within = let n = length_push ks k in omega (arith, n); is = get_or_push ks k 0 (length ks) refl }) ∙ ap Some (get_or_push cs c c (length ks) s))
       | inr ne ↦ rw (ne_eqb q k ne) (elim (place_or_none ks q) [
         | inl f ↦
             let w = f.1.within in
-            found_at (ks ++ k ∷ []) (cs ++ c ∷ []) q f.0 [] a size (record { within = let n = length_push ks k in omega (arith, n, w); is = get_or_append_left ks (k ∷ []) 0 f.0 w ∙ f.1.is })
-            ∙ ap Some (get_or_append_left cs (c ∷ []) [] f.0 (omega (arith, w, s)))
-            ∙ sym (found_at ks cs q f.0 [] was s f.1)
+            found_at (ks ++ k ∷ []) (cs ++ c ∷ []) q f.0 c a size (record { within = let n = length_push ks k in omega (arith, n, w); is = get_or_append_left ks (k ∷ []) 0 f.0 w ∙ f.1.is })
+            ∙ ap Some (get_or_append_left cs (c ∷ []) c f.0 (omega (arith, w, s)))
+            ∙ sym (found_at ks cs q f.0 c was s f.1)
         | inr g ↦ entry_absent (ks ++ k ∷ []) (cs ++ c ∷ []) q (absent_push ks k q ne g) ∙ sym (entry_absent ks cs q g)
       ])
     ]
@@ -272,16 +272,16 @@ paired_add n ks new_ks cs new_cs k c p h e f = record {
 }
 
 -- ---- a place removed
-length_without : {X : Type 0} (xs : List X) (p : ℕ) (d : X) → length (without_place xs p d) ≡ length xs - 1
+pub length_without : {X : Type 0} (xs : List X) (p : ℕ) (d : X) → length (without_place xs p d) ≡ length xs - 1
 length_without xs p d = length-take-le (length xs - 1) (slice_set xs p (slice_index_or xs (length xs - 1) d)) (rw (length-set xs p (slice_index_or xs (length xs - 1) d)) (omega arith))
 
-without_this : {X : Type 0} (xs : List X) (p : ℕ) (d e : X) → p < length xs - 1 → slice_index_or (without_place xs p d) p e ≡ slice_index_or xs (length xs - 1) e
+pub without_this : {X : Type 0} (xs : List X) (p : ℕ) (d e : X) → p < length xs - 1 → slice_index_or (without_place xs p d) p e ≡ slice_index_or xs (length xs - 1) e
 without_this xs p d e h =
     get_or-take (length xs - 1) (slice_set xs p (slice_index_or xs (length xs - 1) d)) p e h
     ∙ get_or-set_same xs p (slice_index_or xs (length xs - 1) d) e (omega (arith, h))
     ∙ get_or_default xs (length xs - 1) d e (omega (arith, h))
 
-without_other : {X : Type 0} (xs : List X) (p q : ℕ) (d e : X) → q < length xs - 1 → q ≢ p → slice_index_or (without_place xs p d) q e ≡ slice_index_or xs q e
+pub without_other : {X : Type 0} (xs : List X) (p q : ℕ) (d e : X) → q < length xs - 1 → q ≢ p → slice_index_or (without_place xs p d) q e ≡ slice_index_or xs q e
 without_other xs p q d e h ne =
     get_or-take (length xs - 1) (slice_set xs p (slice_index_or xs (length xs - 1) d)) q e h
     ∙ get_or-set_other xs p q (slice_index_or xs (length xs - 1) d) e ne
@@ -327,7 +327,7 @@ gone_without ks p hp a q h e =
 absent_without : (ks : List ℕ) (p q : ℕ) → IsAbsent ks q → IsAbsent (without_place ks p 0) q
 absent_without ks p q h place w e = let f = was_at ks p place w in h f.0 f.1 (sym f.2 ∙ e)
 
-pub puts_without : (ks : List ℕ) (cs : List (List ℕ)) (p : ℕ) (d : List ℕ) → AreApart ks → length cs ≡ length ks → p < length ks → Puts (entries_of ks cs) (entries_of (without_place ks p 0) (without_place cs p d)) (slice_index ks p) None
+pub puts_without : {X : Type 0} (ks : List ℕ) (cs : List X) (p : ℕ) (d : X) → AreApart ks → length cs ≡ length ks → p < length ks → Puts (entries_of ks cs) (entries_of (without_place ks p 0) (without_place cs p d)) (slice_index ks p) None
 puts_without ks cs p d a s h q =
     let n = length_without ks p 0 in
     let apart = apart_without ks p h a in
@@ -338,17 +338,17 @@ puts_without ks cs p d a s h q =
         | inl f ↦
             let w = f.1.within in
             let other : f.0 ≢ p = λ e. ne (sym f.1.is ∙ ap (slice_index ks) e) in
-            sym (found_at ks cs q f.0 [] a s f.1 ∙ sym (elim (cases_eq f.0 (length ks - 1)) [
+            sym (found_at ks cs q f.0 d a s f.1 ∙ sym (elim (cases_eq f.0 (length ks - 1)) [
               | inl last ↦
                   let under : p < length ks - 1 = omega (arith, last, other, w, h) in
                   let here : IsAt (without_place ks p 0) q p = record { within = omega (arith, under, n); is = without_this ks p 0 0 under ∙ ap (slice_index ks) (sym last) ∙ f.1.is } in
-                  found_at (without_place ks p 0) (without_place cs p d) q p [] apart size here
-                  ∙ ap Some (without_this cs p d [] (omega (arith, under, s)) ∙ ap (λ i. slice_index_or cs i []) (let e : length cs - 1 ≡ f.0 = omega (arith, s, last) in e))
+                  found_at (without_place ks p 0) (without_place cs p d) q p d apart size here
+                  ∙ ap Some (without_this cs p d d (omega (arith, under, s)) ∙ ap (λ i. slice_index_or cs i d) (let e : length cs - 1 ≡ f.0 = omega (arith, s, last) in e))
               | inr not ↦
                   let under : f.0 < length ks - 1 = omega (arith, not, w) in
                   let here : IsAt (without_place ks p 0) q f.0 = record { within = omega (arith, under, n); is = without_other ks p f.0 0 0 under other ∙ f.1.is } in
-                  found_at (without_place ks p 0) (without_place cs p d) q f.0 [] apart size here
-                  ∙ ap Some (without_other cs p f.0 d [] (omega (arith, under, s)) other)
+                  found_at (without_place ks p 0) (without_place cs p d) q f.0 d apart size here
+                  ∙ ap Some (without_other cs p f.0 d d (omega (arith, under, s)) other)
             ]))
         | inr g ↦ entry_absent (without_place ks p 0) (without_place cs p d) q (absent_without ks p q g) ∙ sym (entry_absent ks cs q g)
       ])

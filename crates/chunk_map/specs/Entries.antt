@@ -11,11 +11,11 @@ pub record ChunkEntries : Type 0 where
   pub entries : List (ℕ × List ℕ)
   pub indices : List ℕ
 
--- the entries of some indices and their chunks, ascending by index
-abbrev pub entries_of : List ℕ → List (List ℕ) → List (ℕ × List ℕ)
-entries_of [] chunks = []
+-- the entries of some indices and their values, ascending by index
+abbrev pub entries_of : {X : Type 0} → List ℕ → List X → List (ℕ × X)
+entries_of [] values = []
 entries_of (index ∷ indices) [] = []
-entries_of (index ∷ indices) (chunk ∷ chunks) = insert_entry nat_cmp (entries_of indices chunks) index chunk
+entries_of (index ∷ indices) (value ∷ values) = insert_entry nat_cmp (entries_of indices values) index value
 
 -- a chunk of n bytes for each index, and distinct indices
 pub record IsPaired (n : ℕ) (indices : List ℕ) (chunks : List (List ℕ)) : Type 0 where

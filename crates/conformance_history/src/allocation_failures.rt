@@ -648,6 +648,40 @@ fn past_state_read(rt: HostRuntime) {
     expect(&rt, map.commits().eq([1, 2].iter().copied()));
 }
 
+// A failed gathering of a past state leaves the bitmap unchanged.
+#[test]
+fn past_state_gathered(rt: HostRuntime) {
+    let Some(map) = committed(&rt, rt.alloc()) else {
+        return;
+    };
+    if let Ok(old) = map.gathered(1) {
+        expect(
+            &rt,
+            old.is_some_and(|old| has_bits(&old, 0, b"1011001001110101")),
+        );
+    }
+    expect(&rt, has_bits(map.current(), 1, b"0111010111110000"));
+    expect(&rt, map.commits().eq([1, 2].iter().copied()));
+}
+
+// If the chunks that later commits changed cannot be gathered, a past state is read without that.
+#[test]
+fn past_state_read_for_many_bits(rt: HostRuntime) {
+    let Some(map) = committed(&rt, rt.alloc()) else {
+        return;
+    };
+    let Ok(map) = map.indexed() else {
+        return;
+    };
+    expect(
+        &rt,
+        map.at_for(1, 16)
+            .is_some_and(|old| has_bits(&old, 0, b"1011001001110101")),
+    );
+    expect(&rt, has_bits(map.current(), 1, b"0111010111110000"));
+    expect(&rt, map.commits().eq([1, 2].iter().copied()));
+}
+
 // `committed` after it is rewound to 1. A batch on it cannot be committed at 1 again, and can be edited.
 fn check_rewound(rt: &impl Abort, map: CleanBitMap<1>) {
     expect(rt, has_bits(map.current(), 0, b"1011001001110101"));

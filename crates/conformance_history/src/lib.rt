@@ -18,10 +18,6 @@ mod chunks;
 #[cfg(test)]
 mod ends;
 #[cfg(test)]
-mod in_place;
-#[cfg(test)]
-mod indexed;
-#[cfg(test)]
 mod lengths;
 #[cfg(test)]
 mod long_batches;

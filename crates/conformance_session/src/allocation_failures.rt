@@ -110,10 +110,12 @@ fn prune_of_two_chunks(rt: HostRuntime) {
     expect(&rt, is_first_commit(first, committed));
 }
 
-// Commits 192 zeros as 1, and then one of them replaced as 2. Returns whether each command is done.
+// Commits 256 zeros as 1, and then one of them replaced as 2. Returns whether each command is done.
 fn commit_zeros(session: &mut Session<4>, replies: &mut Vec<Reply<4>>) -> bool {
     let commands = [
         Command::Begin,
+        Command::PushChunk([0; 4]),
+        Command::PushChunk([0; 4]),
         Command::PushChunk([0; 4]),
         Command::PushChunk([0; 4]),
         Command::PushChunk([0; 4]),
@@ -129,9 +131,9 @@ fn commit_zeros(session: &mut Session<4>, replies: &mut Vec<Reply<4>>) -> bool {
         && replies.iter().all(|reply| matches!(reply, Reply::Done))
 }
 
-// An `OnesAt` of all chunks makes a bitmap of its own. If that fails, the chunks are read in place, and the reply is the same.
+// An `OnesAt` of all chunks gathers those that later commits changed. If that fails, it searches for each chunk, and the reply is the same.
 #[test]
-fn past_positions_without_a_bitmap(rt: HostRuntime) {
+fn past_positions_without_gathered_chunks(rt: HostRuntime) {
     let mut session = Session::<4>::new(rt.alloc());
     let mut replies = Vec::new(rt.alloc());
     if !commit_zeros(&mut session, &mut replies) {

@@ -6,6 +6,7 @@
 -- Ends: commits dropped one by one, from the first on.
 -- InPlace: a past state read in place.
 -- Rewound: a rewind in place.
+-- Gathered: a past state read in place, with the changed chunks gathered.
 -- AddedCommit: the invariant, the history and the costs after a commit.
 -- Replaced: the record of a commit of a whole new bitmap.
 pub mod PastStates
@@ -15,5 +16,6 @@ pub mod Positions
 pub mod Ends
 pub mod InPlace
 pub mod Rewound
+pub mod Gathered
 pub mod AddedCommit
 pub mod Replaced

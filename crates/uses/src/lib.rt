@@ -86,3 +86,5 @@ mod two_bits;
 mod version_store;
 #[cfg(test)]
 mod versions;
+#[cfg(test)]
+mod whole_version;

@@ -2,8 +2,8 @@
 
 use crate::bitmap::Prunable;
 use crate::bitmap::historical::{
-    ApplyError, BitMap, ChangedChunks, Clean, CleanBitMap, CommitNumbers, Dirty, DirtyBitMap, Error, PendingChanges, PreparedBitMap,
-    PreparedChanges, State,
+    ApplyError, BitMap, ChangedChunks, Clean, CleanBitMap, CommitNumbers, Dirty, DirtyBitMap, Error, Gathered, PendingChanges,
+    PreparedBitMap, PreparedChanges, State,
 };
 use crate::support::alloc::{Global, expect_memory, out_of_memory};
 use crate::support::clone::TryClone;
@@ -90,8 +90,38 @@ impl<const N: usize> BitMap<N, Clean> {
         batch.commit(commit_number)
     }
 
+    /// Returns the bitmap as it was at a commit, to be read in place, with the chunks that later commits changed gathered beforehand,
+    /// or `None` if the commit is not kept. It is for a pass over many chunks, for each of which `at` searches in each later record.
+    ///
+    /// # Complexity
+    ///
+    /// Time and memory are those of [`try_gathered`](Self::try_gathered).
+    ///
+    /// # Panics
+    ///
+    /// Panics if memory runs out.
+    ///
+    /// ```
+    /// use mortarpink::bitmap::Readable;
+    /// use mortarpink::bitmap::historical::CleanBitMap;
+    ///
+    /// let bitmap = CleanBitMap::<4>::new().apply_batch(1, |batch| {
+    ///     batch.push(true);
+    /// })?;
+    /// let bitmap = bitmap.apply_batch(2, |batch| {
+    ///     batch.set_bit(0, false);
+    /// })?;
+    /// assert_eq!(bitmap.gathered(1).unwrap().count_ones_range(0..1), 1);
+    /// assert!(bitmap.gathered(3).is_none());
+    /// # Ok::<(), mortarpink::bitmap::historical::Error>(())
+    /// ```
+    #[must_use]
+    pub fn gathered(&self, commit_number: u64) -> Option<Gathered<'_, N>> {
+        expect_memory(self.try_gathered(commit_number))
+    }
+
     /// Returns the bitmap as it was at a commit, as a bitmap of its own, or `None` if the commit is not kept.
-    /// `at` reads a past state without a copy.
+    /// `at` and `gathered` read a past state without a copy.
     ///
     /// # Complexity
     ///

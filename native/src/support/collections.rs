@@ -1,7 +1,6 @@
-//! Deques, and maps, which are the support's own.
+//! Deques.
 
 use super::alloc::{AllocError, Global};
-pub use super::map::BTreeMap;
 pub use alloc::collections::{VecDeque, vec_deque};
 
 /// The calls of Rattle's deques that take the allocator, or that return an error if it fails. After an error the deque is unchanged.

@@ -9,7 +9,6 @@ pub mod clone;
 pub mod collections;
 pub mod hash;
 pub mod iter;
-pub mod map;
 pub mod ops;
 pub mod vec;
 

@@ -17,8 +17,7 @@ use crate::session::State;
 use crate::session::shown::check_position;
 use bitmap_core::bitmap::codec::Write;
 use bitmap_core::bitmap::{Prunable, Readable};
-use bitmap_core::chunk::{chunk_count, chunk_index};
-use historical_bitmap::bitmap::historical::{AtCommit, CleanBitMap};
+use historical_bitmap::bitmap::historical::CleanBitMap;
 use std::alloc::{AllocError, Global};
 
 fn start<const N: usize>(
@@ -134,35 +133,7 @@ pub fn at<const N: usize>(bitmap: &CleanBitMap<N>, number: u64) -> Reply<N>
     }
 }
 
-// How many bits are copied in about the time of one search for a chunk in a reverse record.
-const BITS_PER_SEARCH: u64 = 512;
-
-// How many chunks are searched for in a reverse record in about the time in which the record is undone.
-const CHUNKS_PER_RECORD: u64 = 4;
-
-// Returns whether it costs less to read a range of the bitmap at a commit in place than in a bitmap of its own.
-//
-// In place, each chunk of the range is searched for in each later record, at most. For a bitmap of its own, the retained bits are copied,
-// and each later record is undone. Since numbers ascend, at most `latest - number` commits are later.
-fn is_cheaper_in_place<const N: usize>(
-    bitmap: &CleanBitMap<N>,
-    version: &AtCommit<'_, N>,
-    number: u64,
-    from: u64,
-    to: u64,
-) -> bool {
-    let retained = bitmap.len().saturating_sub(bitmap.current().pruned_bits());
-    let start = chunk_index::<N>(from.max(version.pruned_bits())) as u64;
-    let end = chunk_count::<N>(to.min(version.len())) as u64;
-    let latest = bitmap.latest_commit().unwrap_or(number);
-    let later = latest.saturating_sub(number);
-    let more = end.saturating_sub(start).saturating_sub(CHUNKS_PER_RECORD);
-    more.saturating_mul(later) <= retained / BITS_PER_SEARCH
-}
-
 // Returns the set positions in a range of the bitmap at a commit, or `None` if the commit is not kept.
-//
-// The bitmap is read in place if that costs less, or if a bitmap of its own cannot be allocated.
 fn kept_positions<const N: usize>(
     bitmap: &CleanBitMap<N>,
     alloc: Global,
@@ -173,14 +144,9 @@ fn kept_positions<const N: usize>(
     ensures ok { IfOk result (λ found. option_map (λ v. v.items) found ≡ option_map (ones_of N from to) (kept_under (history_of N bitmap.now) number)) }
     ensures absent { kept_under (history_of N bitmap.now) number ≡ None → result ≡ Ok None }
 {
-    let Some(version) = bitmap.at(number) else {
+    let Some(version) = bitmap.at_for(number, to.saturating_sub(from)) else {
         return Ok(None);
     };
-    if !is_cheaper_in_place(bitmap, &version, number, from, to)
-        && let Ok(Some(copy)) = bitmap.get_at_commit(number)
-    {
-        return Ok(Some(set_positions(&copy, alloc, from, to)?));
-    }
     Ok(Some(set_positions(&version, alloc, from, to)?))
 }
 

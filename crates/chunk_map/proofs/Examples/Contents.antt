@@ -13,10 +13,10 @@ abbrev indices : List ℕ
 indices = 5 ∷ 2 ∷ []
 
 -- ---- entries
-ascending : entries_of indices ((1 ∷ []) ∷ (7 ∷ []) ∷ []) ≡ (2, 7 ∷ []) ∷ (5, 1 ∷ []) ∷ []
+ascending : entries_of {X = List ℕ} indices ((1 ∷ []) ∷ (7 ∷ []) ∷ []) ≡ (2, 7 ∷ []) ∷ (5, 1 ∷ []) ∷ []
 ascending = refl
 
-no_chunks : entries_of [] [] ≡ []
+no_chunks : entries_of {X = List ℕ} [] [] ≡ []
 no_chunks = refl
 
 -- an index that is there twice is not paired with two chunks

@@ -329,7 +329,40 @@ fn number_not_kept(rt: HostRuntime) {
             number,
             map.get_at_commit(number).is_ok_and(|old| old.is_none()),
         );
+        let Ok(gathered) = map.gathered(number) else {
+            expect(&rt, false);
+            return;
+        };
+        expect_at(&rt, number, gathered.is_none());
+        expect_at(&rt, number, map.at_for(number, 64).is_none());
     }
+}
+
+// No commit is past the latest one, so nothing is gathered.
+#[test]
+fn latest_state_gathered(rt: HostRuntime) {
+    let Some(map) = committed(&rt, rt.alloc()) else {
+        return;
+    };
+    let Ok(Some(then)) = map.gathered(2) else {
+        expect(&rt, false);
+        return;
+    };
+    expect(&rt, has_bits(&then, 1, b"0111010111110000"));
+    expect(&rt, then.count_ones_range(0..u64::MAX) == 9);
+}
+
+// So few bits are read in place.
+#[test]
+fn past_state_read_for_few_bits(rt: HostRuntime) {
+    let Some(map) = committed(&rt, rt.alloc()) else {
+        return;
+    };
+    expect(
+        &rt,
+        map.at_for(1, 16)
+            .is_some_and(|old| has_bits(&old, 0, b"1011001001110101")),
+    );
 }
 
 #[test]

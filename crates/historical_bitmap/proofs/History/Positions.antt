@@ -52,7 +52,7 @@ module _ {X : Type 0} (es : List (ℕ × X)) (i : ℕ) (e : ℕ × X) (within : 
 
 -- ---- look-ups
 -- a number at a position is found
-number_found : {X : Type 0} (es : List (ℕ × X)) (i m : ℕ) → i < length es → get_or (keys_of es) i 0 ≡ m → is_some (kept_under es m) ≡ true
+pub number_found : {X : Type 0} (es : List (ℕ × X)) (i m : ℕ) → i < length es → get_or (keys_of es) i 0 ≡ m → is_some (kept_under es m) ≡ true
 number_found [] i m l e = absurd (omega (arith, l))
 number_found (x ∷ xs) zero m l e = rw (eq-eqb m x.0 (sym e)) refl
 number_found (x ∷ xs) (suc i) m l e = elim (cases_eq m x.0) [

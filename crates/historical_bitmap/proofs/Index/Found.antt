@@ -59,11 +59,11 @@ next_first n k i (c ∷ cs) r bytes rise past there has none = elim (cases_order
 
 -- ---- with an index
 -- a commit without bytes at its place for the chunk keeps nothing of it
-unplaced : (places : List ((ℕ × ℕ) × List ℕ)) (cs : List (ℕ × ReverseRecord)) (i m : ℕ) (r : ReverseRecord) → IsIndexOf places cs → bytes_at places i m ≡ None → kept_under cs m ≡ Some r → kept r i ≡ None
+unplaced : (places : List (ℕ × List (ℕ × List ℕ))) (cs : List (ℕ × ReverseRecord)) (i m : ℕ) (r : ReverseRecord) → IsIndexOf places cs → bytes_at places i m ≡ None → kept_under cs m ≡ Some r → kept r i ≡ None
 unplaced places cs i m r index none found = sym (index i m ∙ ap (λ o. kept_in o i) found) ∙ none
 
 -- the next bytes of a chunk in the index are those in the first later record that keeps any
-pub next_found : (places : List ((ℕ × ℕ) × List ℕ)) (cs : List (ℕ × ReverseRecord)) (n i : ℕ) (next : Option (List ℕ)) → RiseInNumber cs → IsIndexOf places cs → IsNextKept places i n next
+pub next_found : (places : List (ℕ × List (ℕ × List ℕ))) (cs : List (ℕ × ReverseRecord)) (n i : ℕ) (next : Option (List ℕ)) → RiseInNumber cs → IsIndexOf places cs → IsNextKept places i n next
     → next ≡ first_kept (past_number n cs) i
 next_found places cs n i None rise index none = sym (none_first n i cs rise (λ m r l found. unplaced places cs i m r index (none m l) found))
 next_found places cs n i (Some bytes) rise index (k, past, has, before) = of_record (kept_under cs k) refl

@@ -38,6 +38,7 @@
 
 mod apply;
 mod at;
+mod at_for;
 mod batch;
 mod changes;
 mod clean;
@@ -47,9 +48,12 @@ mod dirty;
 mod edit;
 mod edited;
 pub mod error;
+mod gathered;
 mod grown;
 mod index;
 mod joined;
+mod kept_bytes;
+mod kept_row;
 mod lengths;
 mod opened;
 mod pending;
@@ -68,11 +72,13 @@ mod whole_chunks;
 mod word;
 
 pub use crate::bitmap::historical::at::AtCommit;
+pub use crate::bitmap::historical::at_for::PastBitMap;
 pub use crate::bitmap::historical::changes::ChangedChunks;
 use crate::bitmap::historical::commit_list::CommitList;
 pub use crate::bitmap::historical::commits::{CommitNumbers, Commits};
 pub use crate::bitmap::historical::edit::{Edit, Lent};
 pub use crate::bitmap::historical::error::{ApplyError, Error, RewindError};
+pub use crate::bitmap::historical::gathered::Gathered;
 pub use crate::bitmap::historical::pending::Dirty;
 pub use crate::bitmap::historical::pending_changes::PendingChanges;
 pub use crate::bitmap::historical::prepared::PreparedBitMap;

@@ -93,6 +93,28 @@ fn put_changed<D: Digest, const N: usize>(
 /// Panics if chunks of `stored` are pruned; or if the number of chunks of `stored` is not `node_count(count)`, or the last is not full.
 ///
 /// Does not compile if `N` is 0, or `8N` does not fit `u64`.
+///
+/// # Examples
+///
+/// ```
+/// use mortarpink::bitmap::historical::{CleanBitMap, Error};
+/// use mortarpink::roots::{chunk_digests, tree_digest, tree_from_bitmap, update_digests};
+/// # mod sha256 { include!(concat!(env!("CARGO_MANIFEST_DIR"), "/examples/sha256/mod.rs")); }
+/// # use sha256::Sha256;
+///
+/// let mut batch = CleanBitMap::<2>::new().into_dirty();
+/// batch.push_chunk(&[1, 2]).push(true);
+/// let prepared = batch.prepare(1)?;
+///
+/// // The bitmap had no chunk, so no digest is stored for it yet.
+/// let mut digests = CleanBitMap::<32>::new().into_dirty();
+/// update_digests(&Sha256, &prepared, &mut digests, 0)?;
+/// let (digests, bitmap) = (digests.commit(1)?, prepared.commit());
+///
+/// let leaves = chunk_digests(&Sha256, bitmap.current(), &[]);
+/// assert_eq!(tree_from_bitmap(&Sha256, digests.current(), 2), tree_digest(&Sha256, &leaves));
+/// # Ok::<(), Error>(())
+/// ```
 pub fn update_digests<D: Digest, const N: usize>(
     hash: &D,
     prepared: &PreparedBitMap<N>,

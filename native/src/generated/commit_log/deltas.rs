@@ -300,7 +300,9 @@ pub(crate) fn read_accepted<'a, const N: usize>(bitmap: &CleanBitMap<N>, bytes: 
 /// | `Memory` | an allocation fails |
 ///
 /// # Memory
-/// Does not allocate before the delta is accepted. Then it allocates what `apply_change` does.
+/// Does not allocate before the delta is accepted. Then it allocates what `apply_change` does: at most 8 bytes per byte of the delta, and 64 bytes
+/// per chunk that the delta lists, cuts off or prunes, beside a few kilobytes. The bytes of a chunk that is cut off or pruned count as bytes of the
+/// delta. This is measured and not proved, because contracts do not speak of the sizes of allocations.
 ///
 /// # Complexity
 /// Linear in the bytes, and then that of `apply_change`.

@@ -215,7 +215,9 @@ fn read_all<'a, const N: usize>(
 /// If an allocation fails, the error is `Memory`, and what comes later in the bytes is not looked at.
 ///
 /// # Memory
-/// Allocates what the base and the commits take in the bitmap. A commit whose number of retained bits is not admitted is not applied.
+/// Allocates at most 8 bytes per byte that is read and 64 bytes per chunk in these bytes, in the base or in the list of a commit, beside a few
+/// kilobytes. So it is at most `8 + 64/N` bytes per byte that is read. This holds also if an error is returned. It is measured and not proved,
+/// because contracts do not speak of the sizes of allocations. A commit whose number of retained bits is not admitted is not applied.
 ///
 /// # Complexity
 /// Linear in the bytes of the history, and in what the commits take in the bitmap: `apply_change` says what this is.

@@ -1,6 +1,6 @@
 //! Past states that are read in place, without a bitmap of their own.
 
-ghost use Rattle.std.specs.Prelude.{◌≡◌, ◌-◌, ◌^◌, drop, [], IfErr, IfOk, IsOk, None, option_copied, option_map, slice_get};
+ghost use Rattle.std.specs.Prelude.{◌≡◌, ℕ, ◌-◌, ◌^◌, drop, [], IfErr, IfOk, IsOk, None, option_copied, option_map, slice_get};
 ghost use Rattle.bitmap_bytes.specs.Chunk.{IsWidth};
 ghost use Rattle.bitmap_core.specs.Meaning.{pruned_meaning, ShowsChunk};
 ghost use Rattle.bitmap_core.specs.PrunedBits.{IsRetainedChunk};
@@ -8,7 +8,6 @@ ghost use Rattle.historical_bitmap.specs.History.{EntriesRise, first_kept as fir
 ghost use Rattle.historical_bitmap.specs.View.{history_of};
 
 use crate::bitmap::historical::commit_list::CommitList;
-use crate::bitmap::historical::index::next_kept;
 use crate::bitmap::historical::record::CommitDiff;
 use crate::bitmap::historical::{BitMap, Clean, CleanBitMap};
 use bitmap_core::bitmap::Readable;
@@ -22,12 +21,14 @@ use std::marker::Model;
 ///
 /// # Complexity
 /// `len` and `pruned_chunks`: constant.
-/// A read of a chunk if the bitmap is indexed: one search, logarithmic in the entries of the index, however many commits are kept.
+/// A read of a chunk if the bitmap is indexed: a search that visits at most 16 nodes of a trie, and then one that is logarithmic in the
+/// kept commits that changed the chunk, however many other commits are kept.
 /// Else: one binary search per reverse record past the commit, until one keeps the chunk.
 ///
-/// To read a few bits, this is cheaper than `get_at_commit`. To read many bits of a state with many commits after it, an index helps
-/// (`CleanBitMap::indexed`), or `get_at_commit`: it costs a copy of the current bitmap and one pass over the later records, and then each
-/// read takes constant time.
+/// To read a few bits, this is cheaper than the other ways. To read many bits of a state with many
+/// commits after it, an index helps (`CleanBitMap::indexed`), or `CleanBitMap::gathered`: it makes one
+/// pass over the later records first, and then each chunk costs at most one search. `get_at_commit`
+/// also copies the current bitmap, and then each read takes constant time.
 #[derive(Drop)]
 pub struct AtCommit<'a, const N: usize> {
     of: &'a BitMap<N, Clean>,
@@ -50,15 +51,15 @@ impl<'a, const N: usize> Model for AtCommit<'a, N> {
     ghost invariant = { λ a. IsLeftBy N a.number a.of.now.commits a.of.now.current a.len a.pruned × (drop a.past a.of.now.commits ≡ past_number a.number a.of.now.commits) };
 }
 
-// Returns the first reverse record past a number.
-fn first_past<const N: usize>(commits: &CommitList<N>, number: u64) -> Option<&CommitDiff<N>>
-    ensures { option_copied result ≡ option_map (λ commit. commit.1) (slice_get (past_number number commits.now) 0) }
+// Returns the first reverse record from a position on.
+fn first_record<const N: usize>(commits: &CommitList<N>, first: usize) -> Option<&CommitDiff<N>>
+    ensures { option_copied result
+        ≡ option_map (λ commit. commit.1) (slice_get (drop first commits.now) 0) }
 {
-    let position = commits.past(number);
-    if position == commits.len() {
+    if first >= commits.len() {
         return None;
     }
-    let (_, record) = commits.commit(position);
+    let (_, record) = commits.commit(first);
     Some(record)
 }
 
@@ -80,7 +81,7 @@ fn first_kept<const N: usize>(
     None
 }
 
-// Returns the old bytes of a chunk from the first record past a number that keeps any: by one search in the index, if there is one.
+// Returns the old bytes of a chunk from the first record past a number that keeps any: by a search in the index, if there is one.
 // The first commit past the number is at position `past`.
 fn kept_past<const N: usize>(
     commits: &CommitList<N>,
@@ -95,16 +96,16 @@ fn kept_past<const N: usize>(
     ensures { option_copied result ≡ first_kept_of (past_number number commits.now) chunk }
 {
     match commits.index() {
-        Some(places) => next_kept(places, chunk, number),
+        Some(rows) => rows.next_past(chunk, number),
         None => first_kept(commits, past, chunk),
     }
 }
 
 impl<const N: usize> BitMap<N, Clean> {
-    /// Adds an index of the kept commits, with which `at` reads a chunk of any of them by one search, however many are kept.
+    /// Adds an index of the kept commits, with which `at` finds a chunk of any of them without a search in each later reverse record.
     ///
     /// The bitmap is indexed from then on: commits, `rewind_to`, `prune_commits_before` and `clear_history` keep the index up to date,
-    /// and a clone has a copy of it. So a commit of an indexed bitmap also allocates the index's entries for it, and fails as a whole
+    /// and a clone has a copy of it. So a commit of an indexed bitmap also allocates space in the index for it, and fails as a whole
     /// if that fails. Nothing else that a call returns depends on the index: an indexed bitmap equals the same one without.
     /// If the bitmap is indexed already, it is returned as it is.
     ///
@@ -114,12 +115,13 @@ impl<const N: usize> BitMap<N, Clean> {
     ///
     /// # Memory
     ///
-    /// Allocates the index: a sorted map with one entry per chunk whose old bytes a kept reverse record has, with these bytes.
-    /// Chunks that a commit added have no old bytes. Does not allocate if no commit is kept.
+    /// Allocates the index: one entry per chunk whose old bytes a kept reverse record has, with these bytes and the number of the commit.
+    /// The entries of a chunk are in a row of its own, and a trie has one key per row. Chunks that a commit added have no old bytes.
+    /// Does not allocate if no commit is kept.
     ///
     /// # Complexity
     ///
-    /// Per kept commit, constant; per entry of the kept reverse records, logarithmic in the entries of the index.
+    /// Per kept commit, constant; per entry of the kept reverse records, a search that visits at most 16 nodes. Amortized.
     pub fn indexed(mut self) -> Result<CleanBitMap<N>, (CleanBitMap<N>, AllocError)>
         ensures ok { IfOk result (λ b. b ≡ self.entry) }
         ensures unchanged { IfErr result (λ e. e.0 ≡ self.entry) }
@@ -191,21 +193,25 @@ impl<const N: usize> BitMap<N, Clean> {
         if !self.commit_exists(number) {
             return None;
         }
-        let (len, pruned) = self.extent_at(number);
+        let past = self.commits.past(number);
+        let (len, pruned) = self.extent_before(past);
         Some(AtCommit {
             of: self,
             number,
-            past: self.commits.past(number),
+            past,
             len,
             pruned,
         })
     }
 
-    // Returns the length and the number of pruned chunks that the last commit up to a number left.
-    pub(crate) fn extent_at(&self, number: u64) -> (u64, usize)
-        ensures { IsLeftBy N number self.now.commits self.now.current result.0 result.1 }
+    // Returns the length and the number of pruned chunks that the commits before position `past`
+    // left. If that is the position of the first commit past a number, they are those that the last
+    // commit up to the number left.
+    pub(crate) fn extent_before(&self, past: usize) -> (u64, usize)
+        ensures { (number : ℕ) → drop past self.now.commits ≡ past_number number self.now.commits
+            → IsLeftBy N number self.now.commits self.now.current result.0 result.1 }
     {
-        match first_past(&self.commits, number) {
+        match first_record(&self.commits, past) {
             Some(record) => (record.len(), record.pruned_chunks()),
             None => (self.current.len(), self.current.pruned_chunks()),
         }

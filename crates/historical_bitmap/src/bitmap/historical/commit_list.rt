@@ -14,8 +14,9 @@ ghost use Rattle.historical_bitmap.specs.History.{earliest, EntriesRise, from_nu
 ghost use Rattle.historical_bitmap.specs.Index.{IsIndexOf};
 
 use crate::bitmap::historical::index::{
-    Places, index_last, places_of, unindex_all, unindex_first, unindex_from,
+    index_last, index_of, unindex_all, unindex_first, unindex_from,
 };
+use crate::bitmap::historical::kept_bytes::KeptBytes;
 use crate::bitmap::historical::record::CommitDiff;
 use std::alloc::{AllocError, Global};
 use std::collections::VecDeque;
@@ -28,7 +29,7 @@ use std::marker::Model;
 pub(crate) struct CommitList<const N: usize> {
     commits: VecDeque<(u64, CommitDiff<N>)>,
     // The index of the commits, if they are indexed.
-    index: Option<Places<N>>,
+    index: Option<KeptBytes<N>>,
 }
 
 impl<const N: usize> Model for CommitList<N> {
@@ -186,8 +187,8 @@ impl<const N: usize> CommitList<N> {
     }
 
     // Returns the index of the commits, or `None` if they are not indexed.
-    pub(crate) fn index(&self) -> Option<&Places<N>>
-        ensures { IfSome result (λ places. IsIndexOf places.now.entries self.now) }
+    pub(crate) fn index(&self) -> Option<&KeptBytes<N>>
+        ensures { IfSome result (λ rows. IsIndexOf rows.now self.now) }
     {
         self.index.as_ref()
     }
@@ -199,7 +200,7 @@ impl<const N: usize> CommitList<N> {
         ensures none { self.old ≡ [] → IsOk result }
     {
         if self.index.is_none() {
-            self.index = Some(places_of(alloc, &self.commits)?);
+            self.index = Some(index_of(alloc, &self.commits)?);
         }
         Ok(())
     }
@@ -260,7 +261,7 @@ impl<const N: usize> Clone for CommitList<N> {
     ghost is_clone = { λ a b. b ≡ a };
 
     // Returns an equal list, with a copy of the index, if there is one.
-    // Allocates for the commits, their entries and the entries of the index, and fails if that fails.
+    // Allocates for the commits, their entries and the index, and fails if that fails.
     fn clone(&self) -> Result<Self, AllocError> {
         Ok(CommitList {
             commits: self.commits.clone()?,

@@ -176,6 +176,16 @@ impl<const N: usize> GrownChunks<N> {
         Ok(())
     }
 
+    // Allocates space for `count` chunks from an index on, if they would go into the run. Nothing is changed, also after an error.
+    pub(crate) fn reserve(&mut self, index: usize, count: usize) -> Result<(), AllocError>
+        ensures { self.new ≡ self.old }
+    {
+        if is_next(self.from, self.run.len(), index) {
+            self.run.reserve(count)?;
+        }
+        Ok(())
+    }
+
     // As `push_bit`, for a chunk that need not be in the run.
     #[inline(never)]
     fn push_other(

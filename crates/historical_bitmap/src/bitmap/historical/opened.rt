@@ -35,6 +35,10 @@ fn open_each<const N: usize>(
     ensures err { OnErr result (chunks.new ≡ chunks.old) }
     ensures none { past ≤ first → IsOk result }
 {
+    if first < past {
+        // A length that no memory has space for fails here, before any chunk is written.
+        chunks.reserve(first, past - first)?;
+    }
     for index in first..past {
         if chunks
             .open(index, first_chunk(current, len, index))

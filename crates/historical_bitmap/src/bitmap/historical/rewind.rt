@@ -1,13 +1,13 @@
 //! Rewinding in place: the current bitmap becomes the bitmap at a past commit, in time that depends on the entries of the later records.
 
-ghost use Rattle.std.specs.Prelude.{◌≡◌, ℕ, ◌-◌, ◌*◌, ◌≤◌, ◌∷◌, [], IfOk, MatchOption, OnOk, OnErr, length, nat_eq};
+ghost use Rattle.std.specs.Prelude.{◌≡◌, ℕ, ◌-◌, ◌*◌, ◌≤◌, ◌∷◌, [], drop, IfOk, IsOk, MatchOption, OnOk, OnErr, length, nat_eq};
 ghost use Rattle.std.specs.List.Sorted.{IsStrictlySortedBy};
 ghost use Rattle.std.specs.Map.{keys_of, lookup};
 ghost use Rattle.std.specs.Ordering.{nat_cmp};
 ghost use Rattle.bitmap_bytes.specs.Chunk.{IsWidth};
 ghost use Rattle.bitmap_core.specs.PrunedBits.{bit_len, IsRetainedChunk};
 ghost use Rattle.historical_bitmap.specs.History.{AllCanUndo, EntriesRise, first_kept, IsLeftBy, left_by, past_number};
-ghost use Rattle.historical_bitmap.specs.Record.{bytes_of, kept};
+ghost use Rattle.historical_bitmap.specs.Record.{bytes_of};
 ghost use Rattle.historical_bitmap.specs.Rewind.{Gathers, HasExtent, IsWrittenBack};
 ghost use Rattle.historical_bitmap.specs.Stored.{diff_value, entry_values};
 
@@ -38,27 +38,30 @@ pub(crate) fn rewind<const N: usize>(
     ensures err { OnErr result (current.new ≡ current.old) }
 {
     let _ = current.len();
-    let chunks = gather(alloc, commits, number, pruned, chunk_count::<N>(len))?;
+    let past = commits.past(number);
+    let chunks = gather(alloc, commits, past, pruned, chunk_count::<N>(len))?;
     restore_extent(current, pruned, len, alloc)?;
     write_back(current, &chunks);
     Ok(())
 }
 
-// Returns the old bytes of each chunk from index `first` up to `end`, from the first record past a number that keeps any.
-// Visits the newest record first, so that older bytes replace newer ones. Allocates for each chunk that it returns, and for no other entry.
-fn gather<const N: usize>(
+// Returns the old bytes of each chunk from index `first` up to `end`, from the first record from
+// position `past` on that keeps any. Visits the newest record first, so that older bytes replace
+// newer ones. Allocates for each chunk that it returns, and for no other entry.
+pub(crate) fn gather<const N: usize>(
     alloc: Global,
     commits: &CommitList<N>,
-    number: u64,
+    past: usize,
     first: usize,
     end: usize,
 ) -> Result<ChunkMap<N>, AllocError>
     requires width { IsWidth N }
-    requires rise { EntriesRise (past_number number commits.now) }
-    ensures { IfOk result (λ chunks. Gathers (first_kept (past_number number commits.now)) first end [] chunks.entries) }
+    requires rise { EntriesRise (drop past commits.now) }
+    ensures ok { IfOk result (λ chunks.
+        Gathers (first_kept (drop past commits.now)) first end [] chunks.entries) }
+    ensures none { drop past commits.now ≡ [] → IsOk result }
 {
     let mut chunks = ChunkMap::new(alloc);
-    let past = commits.past(number);
     let mut position = commits.len();
     while past < position {
         position -= 1;

@@ -4,9 +4,8 @@
 //! A commit is appended after all others, and removed at either end. So the commits are in a queue, and a number is found by binary search.
 //! A list may have an index of its commits by chunk. No clause speaks of it, but it is always that of the commits.
 
-use crate::generated::historical_bitmap::bitmap::historical::index::{
-    Places, index_last, places_of, unindex_all, unindex_first, unindex_from,
-};
+use crate::generated::historical_bitmap::bitmap::historical::index::{index_last, index_of, unindex_all, unindex_first, unindex_from};
+use crate::generated::historical_bitmap::bitmap::historical::kept_bytes::KeptBytes;
 use crate::generated::historical_bitmap::bitmap::historical::record::CommitDiff;
 use crate::support::alloc::{AllocError, Global};
 use crate::support::collections::VecDeque;
@@ -19,7 +18,7 @@ use crate::support::prelude::*;
 pub(crate) struct CommitList<const N: usize> {
     commits: VecDeque<(u64, CommitDiff<N>)>,
     // The index of the commits, if they are indexed.
-    index: Option<Places<N>>,
+    index: Option<KeptBytes<N>>,
 }
 
 // Returns the position of the first number past one, or the count of the commits if there is none, by binary search.
@@ -127,14 +126,14 @@ impl<const N: usize> CommitList<N> {
     }
 
     // Returns the index of the commits, or `None` if they are not indexed.
-    pub(crate) fn index(&self) -> Option<&Places<N>> {
+    pub(crate) fn index(&self) -> Option<&KeptBytes<N>> {
         self.index.as_ref()
     }
 
     // Indexes the commits, if they are not indexed yet. Allocates the index. If an allocation fails, the list is unchanged.
     pub(crate) fn add_index(&mut self, alloc: Global) -> Result<(), AllocError> {
         if self.index.is_none() {
-            self.index = Some(places_of(alloc, &self.commits)?);
+            self.index = Some(index_of(alloc, &self.commits)?);
         }
         Ok(())
     }
@@ -177,7 +176,7 @@ impl<const N: usize> CommitList<N> {
 
 impl<const N: usize> TryClone for CommitList<N> {
     // Returns an equal list, with a copy of the index, if there is one.
-    // Allocates for the commits, their entries and the entries of the index, and fails if that fails.
+    // Allocates for the commits, their entries and the index, and fails if that fails.
     fn try_clone(&self) -> Result<Self, AllocError> {
         Ok(CommitList { commits: self.commits.try_clone()?, index: self.index.try_clone()? })
     }

@@ -378,7 +378,7 @@ impl<const N: usize> BitMap<N, Clean> {
         if !self.commit_exists(number) {
             return Err((self, RewindError::NoSuchCommit));
         }
-        let (len, pruned) = self.extent_at(number);
+        let (len, pruned) = self.extent_before(self.commits.past(number));
         let alloc = self.state.its_allocator();
         let Ok(()) = rewind(&mut self.current, &self.commits, number, len, pruned, alloc) else {
             return Err((self, RewindError::Memory(AllocError)));

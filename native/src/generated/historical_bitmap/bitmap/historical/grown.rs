@@ -98,6 +98,14 @@ impl<const N: usize> GrownChunks<N> {
         Ok(())
     }
 
+    // Allocates space for `count` chunks from an index on, if they would go into the run. Nothing is changed, also after an error.
+    pub(crate) fn try_reserve(&mut self, index: usize, count: usize) -> Result<(), AllocError> {
+        if is_next(self.from, self.run.len(), index) {
+            self.run.try_reserve(count)?;
+        }
+        Ok(())
+    }
+
     // As `push_bit`, for a chunk that need not be in the run.
     #[inline(never)]
     fn push_other(&mut self, current: &Prunable<N>, index: usize, bit: u64, value: bool) -> Result<(), AllocError> {

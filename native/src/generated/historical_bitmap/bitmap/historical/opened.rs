@@ -17,6 +17,10 @@ fn open_each<const N: usize>(
     first: usize,
     past: usize,
 ) -> Result<(), AllocError> {
+    if first < past {
+        // A length that no memory has space for fails here, before any chunk is written.
+        chunks.try_reserve(first, past - first)?;
+    }
     for index in first..past {
         if chunks.open(index, first_chunk(current, len, index)).is_err() {
             chunks.drop_from(first);

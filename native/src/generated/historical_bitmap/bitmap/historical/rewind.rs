@@ -25,23 +25,24 @@ pub(crate) fn rewind<const N: usize>(
     alloc: Global,
 ) -> Result<(), AllocError> {
     let _ = current.len();
-    let chunks = gather(alloc, commits, number, pruned, chunk_count::<N>(len))?;
+    let past = commits.past(number);
+    let chunks = gather(alloc, commits, past, pruned, chunk_count::<N>(len))?;
     restore_extent(current, pruned, len, alloc)?;
     write_back(current, &chunks);
     Ok(())
 }
 
-// Returns the old bytes of each chunk from index `first` up to `end`, from the first record past a number that keeps any.
-// Visits the newest record first, so that older bytes replace newer ones. Allocates for each chunk that it returns, and for no other entry.
-fn gather<const N: usize>(
+// Returns the old bytes of each chunk from index `first` up to `end`, from the first record from
+// position `past` on that keeps any. Visits the newest record first, so that older bytes replace
+// newer ones. Allocates for each chunk that it returns, and for no other entry.
+pub(crate) fn gather<const N: usize>(
     alloc: Global,
     commits: &CommitList<N>,
-    number: u64,
+    past: usize,
     first: usize,
     end: usize,
 ) -> Result<ChunkMap<N>, AllocError> {
     let mut chunks = ChunkMap::new_within(alloc);
-    let past = commits.past(number);
     let mut position = commits.len();
     while past < position {
         position -= 1;

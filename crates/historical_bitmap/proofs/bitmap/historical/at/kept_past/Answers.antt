@@ -5,7 +5,7 @@ use Rattle.historical_bitmap.proofs.Index.Found.{next_found}
 use Rattle.historical_bitmap.proofs.bitmap.historical.at.kept_past.Goals as goal
 
 pub returns-in-Some : goal.returns-in-Some
-returns-in-Some g c = next_found c.in-Some.places.now.entries c.args.commits.now c.args.number c.args.chunk (option_copied c.next_kept.result) c.requires.rise c.in-Some.ensures c.next_kept.ensures
+returns-in-Some g c = next_found c.in-Some.rows.now c.args.commits.now c.args.number c.args.chunk (option_copied c.next_past.result) c.requires.rise c.in-Some.ensures c.next_past.ensures
 
 pub first_kept-requires : goal.first_kept-requires
 first_kept-requires g c = (omega arith, (omega (arith, c.requires.width.fits), rw c.requires.past c.requires.entries))

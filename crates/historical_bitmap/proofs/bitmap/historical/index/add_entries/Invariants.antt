@@ -4,4 +4,4 @@ use Rattle.historical_bitmap.specs.Stored.{entry_values}
 use Rattle.historical_bitmap.proofs.bitmap.historical.index.add_entries.Given as goal
 
 abbrev pub invariant-loop-entry : goal.invariant-loop-entry
-invariant-loop-entry g l = AddsPlaces l.number (entry_values (take l.entry-index l.entries)) l.fn.places.entries l.places.entries
+invariant-loop-entry g l = AddsPlaces l.number (entry_values (take l.entry-index l.entries)) l.fn.index l.index

@@ -9,5 +9,5 @@ loop-entry-preserved g c =
     let all = c.args.entries.now in
     let i = c.loop-entry.entry-index in
     let e = c.entry-item.result in
-    subst (λ xs. RemovesPlaces c.args.number xs c.args.places.now.entries c.remove.new.self.entries) (sym (stepped i all e c.loop-entry-test.true c.entry-item.is))
-    (entry_removed c.args.number (entry_values (take i all)) (e.0, diff_value e.1) c.args.places.now.entries c.loop-entry.places.entries c.remove.new.self.entries c.loop-entry.invariant c.remove.ensures.updates.0)
+    subst (λ xs. RemovesPlaces c.args.number xs c.args.index.now c.remove.new.self) (sym (stepped i all e c.loop-entry-test.true c.entry-item.is))
+    (entry_removed c.args.number (entry_values (take i all)) (e.0, diff_value e.1) c.args.index.now c.loop-entry.index c.remove.new.self c.loop-entry.invariant c.remove.ensures)

@@ -9,5 +9,5 @@ pub returns : goal.returns
 returns g c =
     let first = c.index-commit.result.now in
     let all = read_from 0 c.args.commits.now.items first (omega arith) c.index-commit.ensures in
-    first_removed first (drop 1 c.args.commits.now.items) c.args.places.now.entries c.remove_entries.new.places.entries (subst RiseInNumber all c.requires.rise) (subst (IsIndexOf c.args.places.now.entries) all c.requires.index)
-    (subst (λ entries. RemovesPlaces first.0 entries c.args.places.now.entries c.remove_entries.new.places.entries) c.chunk_diffs.ensures c.remove_entries.ensures)
+    first_removed first (drop 1 c.args.commits.now.items) c.args.index.now c.remove_entries.new.index (subst RiseInNumber all c.requires.rise) (subst (IsIndexOf c.args.index.now) all c.requires.index)
+    (subst (λ entries. RemovesPlaces first.0 entries c.args.index.now c.remove_entries.new.index) c.chunk_diffs.ensures c.remove_entries.ensures)

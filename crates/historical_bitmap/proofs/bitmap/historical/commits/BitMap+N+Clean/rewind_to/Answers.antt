@@ -16,7 +16,7 @@ rewind-requires g c = (
   omega arith,
   (
     omega arith,
-    (can_undo_past g.row.N c.args.number c.self.inside.commits c.self.inside.current c.self.invariant.1.rise c.self.invariant.1.undo, rw (← c.self.view_is) at c.extent_at-len.ensures),
+    (can_undo_past g.row.N c.args.number c.self.inside.commits c.self.inside.current c.self.invariant.1.rise c.self.invariant.1.undo, (rw (← c.self.view_is) at c.extent_before-len.ensures c.args.number) c.past.ensures.later),
   ),
 )
 
