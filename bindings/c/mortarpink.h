@@ -428,7 +428,11 @@ mortarpink_status mortarpink_chunk_at(const mortarpink_bitmap *bitmap, uint64_t 
  *   is below `from`
  * - MORTARPINK_OUT_OF_BOUNDS if `to` is below `from`, or above the length
  * - MORTARPINK_PRUNED if the position `from` is pruned
- * Cost: linear in the words of the range. Each chunk that is read costs a search of each commit after `number`. */
+ * Cost: linear in the words of the range. Each chunk that is read costs a search of each commit after `number`, or,
+ *   with an index, one search. If the range has many chunks, the chunks that these commits changed are gathered
+ *   first where that costs less: in one pass over the changes of these commits, and then each changed chunk costs
+ *   one search. Allocates at most the bytes of the chunks that later commits changed, with their indices, and frees
+ *   them. If that fails, it reads without them. */
 mortarpink_status mortarpink_read_bytes_at(const mortarpink_bitmap *bitmap, uint64_t number, uint64_t from, uint64_t to,
                                            uint8_t *out, size_t len);
 
@@ -437,7 +441,11 @@ mortarpink_status mortarpink_read_bytes_at(const mortarpink_bitmap *bitmap, uint
  * mortarpink_ones.
  * Errors: returns MORTARPINK_IN_BATCH in a batch, and MORTARPINK_NO_SUCH_COMMIT if no commit is kept under `number`.
  *   *count and `out` are then unchanged.
- * Cost: linear in the chunks that are read. Each chunk that is read costs a search of each commit after `number`. */
+ * Cost: linear in the chunks that are read. Each chunk that is read costs a search of each commit after `number`,
+ *   or, with an index, one search. If the range and `out` have room for the positions of many chunks, the chunks
+ *   that these commits changed are gathered first where that costs less: in one pass over the changes of these
+ *   commits, and then each changed chunk costs one search. Allocates at most the bytes of the chunks that later
+ *   commits changed, with their indices, and frees them. If that fails, it reads without them. */
 mortarpink_status mortarpink_ones_at(const mortarpink_bitmap *bitmap, uint64_t number, uint64_t from, uint64_t to,
                                      uint64_t *out, size_t len, size_t *count);
 
@@ -472,7 +480,11 @@ mortarpink_status mortarpink_prev_zero_at(const mortarpink_bitmap *bitmap, uint6
 /* Writes the number of set retained positions at commit `number` from `from` up to `to` to *count. `to` is excluded.
  * Errors: returns MORTARPINK_IN_BATCH in a batch, and MORTARPINK_NO_SUCH_COMMIT if no commit is kept under `number`.
  *   *count is then unchanged.
- * Cost: linear in the chunks of the range. Each chunk that is read costs a search of each commit after `number`. */
+ * Cost: linear in the chunks of the range. Each chunk that is read costs a search of each commit after `number`, or,
+ *   with an index, one search. If the range has many chunks, the chunks that these commits changed are gathered
+ *   first where that costs less: in one pass over the changes of these commits, and then each changed chunk costs
+ *   one search. Allocates at most the bytes of the chunks that later commits changed, with their indices, and frees
+ *   them. If that fails, it reads without them. */
 mortarpink_status mortarpink_count_ones_at(const mortarpink_bitmap *bitmap, uint64_t number, uint64_t from, uint64_t to,
                                            uint64_t *count);
 
@@ -480,7 +492,10 @@ mortarpink_status mortarpink_count_ones_at(const mortarpink_bitmap *bitmap, uint
  * Errors: returns MORTARPINK_IN_BATCH in a batch, MORTARPINK_NO_SUCH_COMMIT if no commit is kept under `number`, and
  *   MORTARPINK_NONE if there is no such position. *position is then unchanged.
  * Cost: linear in the retained chunks up to that of the position. Each chunk that is read costs a search of each
- *   commit after `number`. */
+ *   commit after `number`, or, with an index, one search. If `k` bits fill many chunks, the chunks that these
+ *   commits changed are gathered first where that costs less: in one pass over the changes of these commits, and
+ *   then each changed chunk costs one search. Allocates at most the bytes of the chunks that later commits changed,
+ *   with their indices, and frees them. If that fails, it reads without them. */
 mortarpink_status mortarpink_select_one_at(const mortarpink_bitmap *bitmap, uint64_t number, uint64_t k,
                                            uint64_t *position);
 

@@ -129,15 +129,23 @@ static uint64_t current_ones(mortarpink_bitmap *bitmap) {
     return 1;
 }
 
-/* Lists all set positions at commit 0, in place. */
-static uint64_t oldest_ones(mortarpink_bitmap *bitmap) {
-    static uint64_t page[PAGE];
-    size_t count = PAGE;
-    for (uint64_t from = 0; count == PAGE; from = page[PAGE - 1] + 1) {
-        check(mortarpink_ones_at(bitmap, 0, from, UINT64_MAX, page, PAGE, &count));
+/* Lists all set positions at commit 0, in place, in pages of at most `size` positions. */
+static uint64_t list_oldest(mortarpink_bitmap *bitmap, size_t size) {
+    static uint64_t page[BITS];
+    size_t count = size;
+    for (uint64_t from = 0; count == size; from = page[size - 1] + 1) {
+        check(mortarpink_ones_at(bitmap, 0, from, UINT64_MAX, page, size, &count));
         total += count;
     }
     return 1;
+}
+
+static uint64_t oldest_ones(mortarpink_bitmap *bitmap) {
+    return list_oldest(bitmap, BITS);
+}
+
+static uint64_t oldest_pages(mortarpink_bitmap *bitmap) {
+    return list_oldest(bitmap, PAGE);
 }
 
 /* Makes a bitmap of commit 0, and lists all its set positions. */
@@ -146,6 +154,34 @@ static uint64_t oldest_copied_ones(mortarpink_bitmap *bitmap) {
     check(mortarpink_checkout(bitmap, 0, &copy));
     current_ones(&copy);
     check(mortarpink_free(&copy));
+    return 1;
+}
+
+/* Counts the ones of commit 0, in place. */
+static uint64_t oldest_count(mortarpink_bitmap *bitmap) {
+    uint64_t count = 0;
+    check(mortarpink_count_ones_at(bitmap, 0, 0, UINT64_MAX, &count));
+    total += count;
+    return 1;
+}
+
+/* Makes a bitmap of commit 0, and counts its ones. */
+static uint64_t oldest_copied_count(mortarpink_bitmap *bitmap) {
+    mortarpink_bitmap copy = MORTARPINK_EMPTY;
+    uint64_t count = 0;
+    check(mortarpink_checkout(bitmap, 0, &copy));
+    check(mortarpink_count_ones(&copy, 0, UINT64_MAX, &count));
+    check(mortarpink_free(&copy));
+    total += count;
+    return 1;
+}
+
+/* Encodes commit 0. The encoding has two numbers before the bits. */
+static uint64_t oldest_encoding(mortarpink_bitmap *bitmap) {
+    static uint8_t bytes[16 + BITS / 8];
+    size_t size = 0;
+    check(mortarpink_encode_at(bitmap, 0, bytes, sizeof bytes, &size));
+    total += bytes[16];
     return 1;
 }
 
@@ -200,9 +236,14 @@ static void print_reads(void) {
         { "a bit of the oldest version, in place", oldest_bits, 0 },
         { "the same, with an index", oldest_bits, 1 },
         { "all set positions of the current bitmap", current_ones, 0 },
-        { "all set positions of the oldest version, in place", oldest_ones, 0 },
-        { "the same, with an index", oldest_ones, 1 },
+        { "all set positions of the oldest version, in place, in one call", oldest_ones, 0 },
+        { "the same, in pages of 4,096 positions", oldest_pages, 0 },
+        { "in one call, with an index", oldest_ones, 1 },
         { "the same, by checkout, which is made and freed", oldest_copied_ones, 0 },
+        { "the ones of the oldest version counted, in place", oldest_count, 0 },
+        { "the same, with an index", oldest_count, 1 },
+        { "the same, by checkout, which is made and freed", oldest_copied_count, 0 },
+        { "the encoding of the oldest version", oldest_encoding, 0 },
     };
     mortarpink_bitmap bitmaps[COUNTS] = { MORTARPINK_EMPTY, MORTARPINK_EMPTY, MORTARPINK_EMPTY };
     for (int k = 0; k < COUNTS; k++) make(&bitmaps[k], 8, counts[k]);
@@ -222,6 +263,6 @@ static void print_reads(void) {
 int main(void) {
     print_calls();
     print_reads();
-    fprintf(stderr, "speed: %" PRIu64 " set bits were read\n", total);
+    fprintf(stderr, "speed: what was read adds up to %" PRIu64 "\n", total);
     return 0;
 }

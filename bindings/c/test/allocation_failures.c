@@ -325,10 +325,10 @@ static step *const steps[] = {
     free_copy, clone,      encode,   begin,     set_third,  commit_3,   encode_1,   free_copy,
     read_copy, rewind_to_1, free_copy, clone,     free_copy,  checkout_1, add_index,  begin,
     set_first, commit_2,   free_copy, clone,     save,       free_copy,  load_copy, rewind_copy_to_1,
-    delta,     log_begin_of_copy, apply_delta, begin, set_chunk, set_range, push_bits, extend,
-    truncate_to_first, commit_3, log_begin, begin, push, commit_4, rewind_to_1, drop_1,
-    clear,     free_copy,  log_end,  log_begin, begin,      push,       commit_4,   log_bytes,
-    recover_copy,
+    delta,     apply_delta, free_copy, save,    load_copy,  rewind_copy_to_1, delta,  log_begin_of_copy,
+    apply_delta, begin,    set_chunk, set_range, push_bits, extend,     truncate_to_first, commit_3,
+    log_begin, begin,      push,     commit_4,  rewind_to_1, drop_1,    clear,      free_copy,
+    log_end,   log_begin,  begin,    push,      commit_4,   log_bytes,  recover_copy,
 };
 
 enum { STEPS = sizeof steps / sizeof *steps, STEPS_TO_BATCH = 9, STEPS_TO_COMMIT_3 = 22, POSITIONS = 6 };
@@ -480,6 +480,82 @@ static void run_positions(void) {
 }
 
 
+/* ---- Reads of a version that gather its chunks ---- */
+
+enum { PAST_CHUNKS = 16, PAST_BITS = 8 * PAST_CHUNKS * 64 };
+
+static uint64_t past_numbers[PAST_BITS];
+static uint8_t past_bytes[PAST_BITS / 8];
+
+/* Makes a bitmap of 16 chunks in which all bits are 1, and a second commit that clears the first bit. */
+static void make_two_versions(mortarpink_bitmap *bitmap) {
+    uint64_t attempted = 0;
+    check_done(mortarpink_new(bitmap, width));
+    check_done(mortarpink_begin(bitmap));
+    check_done(mortarpink_extend_to(bitmap, 8 * PAST_CHUNKS * width));
+    check_done(mortarpink_set_range(bitmap, 0, 8 * PAST_CHUNKS * width, 1));
+    check_done(mortarpink_commit(bitmap, 1, &attempted));
+    check_done(mortarpink_begin(bitmap));
+    check_done(mortarpink_set(bitmap, 0, 0));
+    check_done(mortarpink_commit(bitmap, 2, &attempted));
+}
+
+static void count_past_ones(const mortarpink_bitmap *bitmap) {
+    uint64_t count = 0;
+    check_done(mortarpink_count_ones_at(bitmap, 1, 0, UINT64_MAX, &count));
+    check_equal(count, 8 * PAST_CHUNKS * width);
+}
+
+static void select_last_past_one(const mortarpink_bitmap *bitmap) {
+    uint64_t position = 0;
+    check_done(mortarpink_select_one_at(bitmap, 1, 8 * PAST_CHUNKS * width - 1, &position));
+    check_equal(position, 8 * PAST_CHUNKS * width - 1);
+}
+
+static void list_past_ones(const mortarpink_bitmap *bitmap) {
+    size_t count = 0;
+    check_done(mortarpink_ones_at(bitmap, 1, 0, UINT64_MAX, past_numbers, PAST_BITS, &count));
+    check_equal(count, 8 * PAST_CHUNKS * width);
+    for (size_t k = 0; k < count; k++) check_equal(past_numbers[k], k);
+}
+
+static void copy_past_bytes(const mortarpink_bitmap *bitmap) {
+    memset(past_bytes, 0, sizeof past_bytes);
+    check_done(mortarpink_read_bytes_at(bitmap, 1, 0, 8 * PAST_CHUNKS * width, past_bytes, PAST_CHUNKS * width));
+    for (size_t k = 0; k < PAST_CHUNKS * width; k++) check_equal(past_bytes[k], 0xFF);
+}
+
+typedef void past_read(const mortarpink_bitmap *bitmap);
+
+static past_read *const past_reads[] = {count_past_ones, select_last_past_one, list_past_ones, copy_past_bytes};
+
+/* Makes a read with these failures, which change nothing that it reads. Returns how many allocations it tried. */
+static unsigned long run_past_read(past_read *read, unsigned long at, unsigned long from) {
+    const unsigned long failures_before = failures;
+    mortarpink_bitmap bitmap = MORTARPINK_EMPTY;
+    unsigned long tried;
+    make_two_versions(&bitmap);
+    set_failures(at, from);
+    read(&bitmap);
+    tried = allocations;
+    set_failures(0, 0);
+    check_done(mortarpink_free(&bitmap));
+    count_run(failures_before);
+    return tried;
+}
+
+static void run_past_reads(void) {
+    for (size_t index = 0; index < sizeof past_reads / sizeof *past_reads; index++) {
+        unsigned long k = run_past_read(past_reads[index], 0, 0);
+        check(k > 0);
+        for (; k > 0; k--) {
+            run_past_read(past_reads[index], k, 0);
+            run_past_read(past_reads[index], 0, k);
+        }
+    }
+}
+
+
 /* ---- Calls that do not allocate ---- */
 
 static void read_in_place(mortarpink_bitmap *bitmap) {
@@ -543,6 +619,7 @@ static void run_width(uint32_t bytes) {
     run_scenario();
     run_bytes();
     run_positions();
+    run_past_reads();
     run_in_place();
 }
 

@@ -133,11 +133,13 @@ static void test_reads(uint32_t width) {
     second.used = 0;
 }
 
+/* The reads are of a bitmap without an index and a log, with both, in a batch, and of an empty handle. */
 static void test_width(uint32_t width) {
     first.used = 0;
     make_commits(handle, width);
     test_reads(width);
     check_done(mortarpink_index(handle, 1));
+    check_done(mortarpink_log_begin(handle));
     test_reads(width);
     check_done(mortarpink_begin(handle));
     check_done(mortarpink_push(handle, 1));

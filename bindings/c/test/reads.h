@@ -95,6 +95,7 @@ static inline void read_commits(const mortarpink_bitmap *bitmap, uint64_t number
     READ(mortarpink_delta(bitmap, number, COMMITS, out->bytes, 0, &out->size));
     READ(mortarpink_delta(bitmap, number, COMMITS, out->bytes, out->size <= READ_BYTES ? out->size : 0, &out->size));
     READ(mortarpink_log_bytes(bitmap, out->bytes, 0, &out->size));
+    READ(mortarpink_log_bytes(bitmap, out->bytes, out->size <= READ_BYTES ? out->size : 0, &out->size));
     READ(mortarpink_log_position(bitmap, &out->number));
     READ(mortarpink_log_digest(bitmap, &out->number));
     READ(mortarpink_save(bitmap, out->bytes, 0, &out->size));

@@ -39,12 +39,13 @@ static void test_readers(const mortarpink_bitmap *bitmap, uint32_t width) {
     }
 }
 
-/* The threads read outside a batch, without and with an index, and in a batch. */
+/* The threads read outside a batch, without and with an index and a log, and in a batch. */
 static void test_width(uint32_t width) {
     mortarpink_bitmap bitmap = MORTARPINK_EMPTY;
     make_commits(&bitmap, width);
     test_readers(&bitmap, width);
     check_done(mortarpink_index(&bitmap, 1));
+    check_done(mortarpink_log_begin(&bitmap));
     test_readers(&bitmap, width);
     check_done(mortarpink_begin(&bitmap));
     check_done(mortarpink_push(&bitmap, 1));

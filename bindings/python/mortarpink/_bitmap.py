@@ -171,7 +171,7 @@ class _Bits(Caller):
         It reads in pages. Positions that it has not read yet are those of the bitmap at the time of the next page.
         """
         stop = u64(stop)
-        return self._ascending(lambda least: self._page("ones", least, stop), u64(start))
+        return self._ascending(lambda size, least: self._page(size, "ones", least, stop), u64(start))
 
     def ones_array(self, start: int = 0, stop: int = MAX) -> array[int]:
         """Returns the set retained positions from `start` to `stop` (excluded), ascending, as an array of the type code `Q`.
@@ -510,7 +510,7 @@ class Kept(_Reads):
 
         A page takes time logarithmic in the kept commits, plus linear in its numbers.
         """
-        return self._ascending(lambda least: self._page("commits", least), 0)
+        return self._ascending(lambda size, least: self._page(size, "commits", least), 0)
 
     def commit_exists(self, number: int) -> bool:
         """Returns whether a commit is kept under the number."""
@@ -548,7 +548,7 @@ class Kept(_Reads):
         """
         older, newer = u64(older), u64(newer)
         try:
-            return self._ascending(lambda least: self._page("changed_chunks", older, newer, least), 0)
+            return self._ascending(lambda size, least: self._page(size, "changed_chunks", older, newer, least), 0)
         except NoSuchCommitError:
             if older > newer:
                 raise NoSuchCommitError(f"the older number comes first, and {older} is above {newer}") from None

@@ -35,9 +35,9 @@ UNKNOWN = -1
 MAX = 2**64 - 1
 WIDTHS = (1, 8, 32, 64)
 
-# Iterators read so many numbers per call.
-PAGE = 4096
-Page = U64 * PAGE
+# How many numbers an iterator reads in its first call, and at most in a later one.
+FIRST_PAGE = 4096
+LAST_PAGE = 16 * FIRST_PAGE
 
 
 def u64(value: int) -> int:
@@ -324,27 +324,31 @@ class Caller:
         check(status)
         return output.value
 
-    def _page(self, name: str, *arguments: object) -> list[int]:
-        """Calls a function that writes a page of numbers, and returns them. Only the last page is not full."""
-        page, count = Page(), SIZE()
-        check(self._status(name, *arguments, page, PAGE, count))
+    def _page(self, size: int, name: str, *arguments: object) -> list[int]:
+        """Calls a function that writes a page of at most `size` numbers, and returns them. Only the last page is not full."""
+        page, count = (U64 * size)(), SIZE()
+        check(self._status(name, *arguments, page, size, count))
         return page[: count.value]
 
-    def _ascending(self, read: Callable[[int], list[int]], start: int) -> Iterator[int]:
-        """Returns an iterator over the numbers from `start` on that `read` returns in pages. Reads the first page now."""
+    def _ascending(self, read: Callable[[int, int], list[int]], start: int) -> Iterator[int]:
+        """Returns an iterator over the numbers from `start` on that `read` returns in pages. Reads the first page now.
+
+        A page has twice as many numbers as the one before it, up to `LAST_PAGE`.
+        """
         session = self._session
 
-        def numbers(page: list[int]) -> Iterator[int]:
+        def numbers(page: list[int], size: int) -> Iterator[int]:
             while True:
                 for number in page:
                     if session.closed:
                         raise ClosedError()
                     yield number
-                if len(page) < PAGE:
+                if len(page) < size:
                     return
-                page = read(page[-1] + 1)
+                size = min(2 * size, LAST_PAGE)
+                page = read(size, page[-1] + 1)
 
-        return numbers(read(start))
+        return numbers(read(FIRST_PAGE, start), FIRST_PAGE)
 
     def _encoding(self, name: str, *arguments: object) -> bytes:
         """Calls a function that writes bytes of any number, and returns them."""

@@ -125,6 +125,12 @@ class BulkEdits(unittest.TestCase):
             with failing(name), bitmap_of("11").batch() as batch:
                 self.assertRaises(NoMemoryError, getattr(batch, name), *arguments)
 
+    def test_a_length_past_all_memory(self):
+        with bitmap_of("11").batch() as batch:
+            for length in 2**60, MAX:
+                self.assertRaises(NoMemoryError, batch.extend_to, length)
+            self.assertEqual((batch.length, list(batch.ones())), (2, [0, 1]))
+
     def test_a_batch_that_has_ended(self):
         batch = bitmap_of("11").batch()
         batch.abort()

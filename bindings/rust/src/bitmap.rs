@@ -430,7 +430,7 @@ impl Bitmap {
     ///
     /// # Complexity
     ///
-    /// Linear in the chunks of the range, read in pages of 64 positions.
+    /// Linear in the chunks of the range, read in pages of 64 positions at first, and of at most 65,536.
     ///
     /// # Examples
     ///
@@ -624,8 +624,8 @@ impl Bitmap {
     ///
     /// # Complexity
     ///
-    /// The numbers are read in pages of 64. A page is logarithmic in the kept commits, plus linear
-    /// in its numbers.
+    /// The numbers are read in pages of 64 at first, and of at most 65,536. A page is logarithmic in
+    /// the kept commits, plus linear in its numbers.
     ///
     /// # Examples
     ///
@@ -670,9 +670,9 @@ impl Bitmap {
     ///
     /// # Complexity
     ///
-    /// The indices are read in pages of 64. A page examines the chunks after the previous page, up
-    /// to its last one, that a commit after `from` and up to `to` changed. Each costs a search of
-    /// each commit after `from`.
+    /// The indices are read in pages of 64 at first, and of at most 65,536. A page examines the
+    /// chunks after the previous page, up to its last one, that a commit after `from` and up to `to`
+    /// changed. Each costs a search of each commit after `from`.
     ///
     /// # Examples
     ///

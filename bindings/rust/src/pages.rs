@@ -1,17 +1,23 @@
 //! Iterators, which read the library in pages.
+//!
+//! Each page has room for twice as many values as the one before it, up to a limit. So a few values cost little, and a
+//! pass over many makes few calls, each of which prepares its reads of a version anew.
 
 use std::fmt;
 use std::iter::FusedIterator;
 
 use crate::ffi::Session;
 
-const PAGE: usize = 64;
+/// How many values the first page has room for.
+const LEAST: usize = 64;
+
+/// How many values a page has room for at most.
+const MOST: usize = 1 << 16;
 
 /// The page that was read last: ascending values, and how many of them were returned.
 #[derive(Clone)]
 struct Pages {
-    page: [u64; PAGE],
-    count: usize,
+    page: Vec<u64>,
     returned: usize,
     /// The least value of the next page, or `None` after the last page.
     from: Option<u64>,
@@ -19,31 +25,34 @@ struct Pages {
 
 impl Pages {
     fn new(from: u64) -> Pages {
-        Pages { page: [0; PAGE], count: 0, returned: 0, from: Some(from) }
+        Pages { page: Vec::new(), returned: 0, from: Some(from) }
     }
 
     /// Returns the next value. `read` fills a page from a value on, and returns how many it has.
     fn next(&mut self, read: impl FnOnce(u64, &mut [u64]) -> usize) -> Option<u64> {
-        if self.returned == self.count {
+        if self.returned == self.page.len() {
             self.turn(read)?;
         }
-        let value = *self.page[..self.count].get(self.returned)?;
+        let value = *self.page.get(self.returned)?;
         self.returned += 1;
         Some(value)
     }
 
     /// Returns the least value that may be returned next, or `None` after the last one.
     fn least(&self) -> Option<u64> {
-        self.page[..self.count].get(self.returned).copied().or(self.from)
+        self.page.get(self.returned).copied().or(self.from)
     }
 
     /// Reads the next page, or returns `None` after the last one.
     fn turn(&mut self, read: impl FnOnce(u64, &mut [u64]) -> usize) -> Option<()> {
         let from = self.from.take()?;
+        let room = (2 * self.page.len()).clamp(LEAST, MOST);
+        self.page.resize(room, 0);
+        let count = read(from, &mut self.page);
+        self.page.truncate(count);
         self.returned = 0;
-        self.count = read(from, &mut self.page);
-        if self.count == PAGE {
-            self.from = self.page[PAGE - 1].checked_add(1);
+        if count == room {
+            self.from = self.page[room - 1].checked_add(1);
         }
         Some(())
     }

@@ -46,6 +46,10 @@ fn reads_of(bitmap: &Bitmap) -> Vec<Reads> {
     found.push((changed, bitmap.chunk(8).unwrap().as_slice().to_vec(), vec![]));
     found.push((vec![], bitmap.save().unwrap(), vec![]));
     found.push((vec![], bitmap.delta(2, 4).unwrap().unwrap(), vec![]));
+    if bitmap.keeps_log() {
+        let place = vec![bitmap.log_position().unwrap(), bitmap.log_digest().unwrap()];
+        found.push((place, bitmap.log_bytes().unwrap(), vec![]));
+    }
     found.extend((1..=5).map(|number| reads_of_version(bitmap.at(number).unwrap())));
     found
 }
@@ -56,6 +60,9 @@ fn threads_read_what_one_thread_reads() {
         let mut bitmap = with_five_commits(width);
         for on in [false, true] {
             bitmap.set_indexed(on).unwrap();
+            if on {
+                bitmap.begin_log().unwrap();
+            }
             let wanted = reads_of(&bitmap);
             thread::scope(|scope| {
                 for _ in 0..THREADS {
