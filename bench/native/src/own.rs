@@ -3,6 +3,7 @@
 use crate::batches::filled as filled_history;
 use crate::dense::{filled, sum_of};
 use crate::kept::commit_each;
+use commonware_utils::bitmap::historical::CleanBitMap;
 use commonware_utils::bitmap::{BitMap, Readable};
 use shared::{timed, Arguments, Positions};
 
@@ -20,14 +21,22 @@ fn read_in_place<const N: usize>(found: &impl Readable<N>, scans: bool, position
     }
 }
 
+// Lists the set positions of the oldest commit, with the chunks that later commits changed gathered anew each time.
+fn scan_gathered<const N: usize>(bitmap: &CleanBitMap<N>, times: u64) -> u64 {
+    sum_of(times, || bitmap.gathered(0).map_or(0, |found| found.ones_iter_from(0).count() as u64))
+}
+
 // Runs a call that reads the oldest of `count` commits in place, with an index or without.
 fn run_past<const N: usize>(arguments: &Arguments, count: u64) -> Option<u64> {
     let (kind, what) = arguments.call.split_once('_')?;
-    if !["at", "indexed"].contains(&kind) {
+    if !["at", "gathered", "indexed"].contains(&kind) {
         return None;
     }
     let mut positions = Positions::from_seed(4);
     let bitmap = commit_each(filled_history::<N>(arguments.bytes), &mut positions, 0, count, false);
+    if kind == "gathered" {
+        return Some(scan_gathered(&bitmap, arguments.times));
+    }
     let bitmap = if kind == "indexed" { bitmap.indexed().ok()? } else { bitmap };
     Some(read_in_place(&bitmap.at(0)?, what == "scan", &mut positions, arguments.times))
 }
