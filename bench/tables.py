@@ -124,9 +124,9 @@ NOT_COUNTED = ("set_all", "clone")  # callgrind counts a fill or a copy of the C
 PENDING = ("pending_bits", "pending_chunks")  # the instructions of other calls of `PAST` are not counted, because their commits take long to make
 # Reads of a past state with many kept commits, and how often they are run.
 READS = [Call("kept_rebuild", 50), Call("at_get", 500), Call("indexed_get", 50_000), Call("indexed_scan", 10), Call("gathered_scan", 10),
-         Call("at_scan", 1)]
+         Call("chosen_scan", 10), Call("at_scan", 1)]
 READ_AS = {"kept_rebuild": "`get_at_commit` of the oldest", "at_get": "`at` the oldest: a random bit", "at_scan": "`at` the oldest: all set positions",
-           "gathered_scan": "`gathered` of the oldest, and all set positions",
+           "gathered_scan": "`gathered` of the oldest, and all set positions", "chosen_scan": "`at_for` the oldest, and all set positions",
            "indexed_get": "with an index: a random bit", "indexed_scan": "with an index: all set positions"}
 
 # The columns of the table stores, by their names in stores.csv.

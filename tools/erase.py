@@ -74,8 +74,7 @@ TESTS = [
 LEFT_OUT = ["bench", "bitmap_c", "conformance_store", "log_runs", "log_store", "store_runs"]
 
 # The lints that are off in the generated modules: some items are for proofs alone, and the layout and the idioms are those of Rattle.
-ALLOWED = ["dead_code", "unused_imports", "unused_variables", "clippy::style", "clippy::complexity", "clippy::perf",
-           "clippy::manual_unwrap_or_default"]
+ALLOWED = ["dead_code", "unused_imports", "unused_variables", "clippy::style", "clippy::complexity", "clippy::perf"]
 
 # The modules that are left out of the Rust crate, and that are modules of the test crate.
 LAWS = "laws"

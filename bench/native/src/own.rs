@@ -26,16 +26,23 @@ fn scan_gathered<const N: usize>(bitmap: &CleanBitMap<N>, times: u64) -> u64 {
     sum_of(times, || bitmap.gathered(0).map_or(0, |found| found.ones_iter_from(0).count() as u64))
 }
 
-// Runs a call that reads the oldest of `count` commits in place, with an index or without.
+// Lists the set positions of the oldest commit, in the way that `at_for` chooses anew each time.
+fn scan_chosen<const N: usize>(bitmap: &CleanBitMap<N>, times: u64) -> u64 {
+    sum_of(times, || bitmap.at_for(0, u64::MAX).map_or(0, |found| found.ones_iter_from(0).count() as u64))
+}
+
+// Runs a call that reads the oldest of `count` commits, with an index or without.
 fn run_past<const N: usize>(arguments: &Arguments, count: u64) -> Option<u64> {
     let (kind, what) = arguments.call.split_once('_')?;
-    if !["at", "gathered", "indexed"].contains(&kind) {
+    if !["at", "chosen", "gathered", "indexed"].contains(&kind) {
         return None;
     }
     let mut positions = Positions::from_seed(4);
     let bitmap = commit_each(filled_history::<N>(arguments.bytes), &mut positions, 0, count, false);
-    if kind == "gathered" {
-        return Some(scan_gathered(&bitmap, arguments.times));
+    match kind {
+        "chosen" => return Some(scan_chosen(&bitmap, arguments.times)),
+        "gathered" => return Some(scan_gathered(&bitmap, arguments.times)),
+        _ => (),
     }
     let bitmap = if kind == "indexed" { bitmap.indexed().ok()? } else { bitmap };
     Some(read_in_place(&bitmap.at(0)?, what == "scan", &mut positions, arguments.times))

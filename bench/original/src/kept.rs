@@ -3,7 +3,7 @@
 //! `commonware-utils` reads a past state by `get_at_commit` only, which rebuilds it:
 //!
 //! - `kept_get`, `at_get` and `indexed_get` rebuild the oldest commit once per `READS` bits;
-//! - `kept_scan`, `at_scan`, `gathered_scan` and `indexed_scan` rebuild it each time;
+//! - `kept_scan`, `at_scan`, `gathered_scan`, `chosen_scan` and `indexed_scan` rebuild it each time;
 //! - `kept_rewind` rebuilds the commit to which it would rewind, which is the one before the last, and keeps the last one.
 
 use crate::batches::{committed, count_random, filled};
@@ -87,7 +87,7 @@ pub fn run<const N: usize>(arguments: &Arguments, count: u64) -> Option<u64> {
         "kept_rewind" => rewind_each(bitmap, &mut positions, count, times),
         "kept_rebuild" => Some(sum_of(times, || bitmap.get_at_commit(0).map_or(0, |found| black_box(found).len()))),
         "kept_get" | "at_get" | "indexed_get" => get_each(&bitmap, &mut positions, times),
-        "kept_scan" | "at_scan" | "gathered_scan" | "indexed_scan" => scan_each(&bitmap, times),
+        "kept_scan" | "at_scan" | "gathered_scan" | "chosen_scan" | "indexed_scan" => scan_each(&bitmap, times),
         _ => None,
     }
 }

@@ -14,6 +14,7 @@ use crate::checked_calls::{
 };
 use crate::checks::{equal, expect};
 use bitmap_core::bitmap::BitMap;
+use historical_bitmap::bitmap::Readable;
 use historical_bitmap::bitmap::historical::{CleanBitMap, DirtyBitMap, Error, RewindError};
 use std::alloc::{AllocError, Global};
 use std::process::Abort;
@@ -664,7 +665,7 @@ fn past_state_gathered(rt: HostRuntime) {
     expect(&rt, map.commits().eq([1, 2].iter().copied()));
 }
 
-// If the chunks that later commits changed cannot be gathered, a past state is read without that.
+// If a past state cannot be built, it is read without that.
 #[test]
 fn past_state_read_for_many_bits(rt: HostRuntime) {
     let Some(map) = committed(&rt, rt.alloc()) else {
@@ -680,6 +681,30 @@ fn past_state_read_for_many_bits(rt: HostRuntime) {
     );
     expect(&rt, has_bits(map.current(), 1, b"0111010111110000"));
     expect(&rt, map.commits().eq([1, 2].iter().copied()));
+}
+
+// Commit 1 of 20,000 unset bits and commit 2 that sets one of them, or `None` if an allocation fails.
+fn long_committed(rt: &impl Abort, alloc: Global) -> Option<CleanBitMap<1>> {
+    let mut map = CleanBitMap::<1>::new(alloc).into_dirty();
+    try_extend_to(&mut map, 20_000).ok()?;
+    let mut map = try_commit(rt, map, 1).ok()?.into_dirty();
+    try_set_bit(rt, &mut map, 19_999, true).ok()?;
+    try_commit(rt, map, 2).ok()
+}
+
+// If the chunk that a later commit changed cannot be gathered, a past state is read without that.
+#[test]
+fn past_state_read_for_all_bits(rt: HostRuntime) {
+    let Some(map) = long_committed(&rt, rt.alloc()) else {
+        return;
+    };
+    let Some(old) = map.at_for(1, u64::MAX) else {
+        expect(&rt, false);
+        return;
+    };
+    expect(&rt, old.len() == 20_000);
+    expect(&rt, old.count_ones_range(0..u64::MAX) == 0);
+    expect(&rt, map.current().next_one(0) == Some(19_999));
 }
 
 // `committed` after it is rewound to 1. A batch on it cannot be committed at 1 again, and can be edited.

@@ -131,9 +131,9 @@ fn commit_zeros(session: &mut Session<4>, replies: &mut Vec<Reply<4>>) -> bool {
         && replies.iter().all(|reply| matches!(reply, Reply::Done))
 }
 
-// An `OnesAt` of all chunks gathers those that later commits changed. If that fails, it searches for each chunk, and the reply is the same.
+// An `OnesAt` of all chunks builds the version that it lists. If that fails, it searches for each chunk, and the reply is the same.
 #[test]
-fn past_positions_without_gathered_chunks(rt: HostRuntime) {
+fn past_positions_without_a_built_version(rt: HostRuntime) {
     let mut session = Session::<4>::new(rt.alloc());
     let mut replies = Vec::new(rt.alloc());
     if !commit_zeros(&mut session, &mut replies) {

@@ -1,8 +1,8 @@
-//! Past states read in the way that costs less for the bits to be read: which way that is, and that both have the same bits.
+//! Past states read in the way that costs least for the bits to be read: which way that is, and that all have the same bits.
 
 ghost use Rattle.bitmap_bytes.specs.Chunk.{IsWidth};
 
-use crate::checked_calls::{commit, set_bit};
+use crate::checked_calls::{commit, extend_to, set_bit};
 use crate::checks::{expect, expect_at, ok};
 use crate::gathered::{around, eight_chunks, random_history};
 use historical_bitmap::bitmap::Readable;
@@ -14,19 +14,26 @@ use test_support::compare::{has_bits, same_bits};
 // What commit 1 of `eight_chunks` has.
 const FIRST: &[u8] = b"1000000010000000100000001000000010000000100000001000000010000000";
 
-// Fails the test unless commit 1 has its bits, and is read with the changed chunks gathered exactly if `gathers`.
-// Then the first chunk, which no commit changes, is in a slice.
-fn check_way(rt: &impl Abort, map: &CleanBitMap<1>, bits: u64, gathers: bool) {
-    let Some(then) = map.at_for(1, bits) else {
-        expect(rt, false);
-        return;
-    };
-    expect_at(rt, bits, has_bits(&then, 0, FIRST));
-    expect_at(
-        rt,
-        bits,
-        around(&then, 0).is_some_and(|slice| (slice.1 > 0) == gathers),
-    );
+// Fails the test unless commit 1, read for so many bits, has so many chunks in the slice around its first chunk.
+//
+// A chunk that is searched for is in no slice. A gathered version has slices that end at the chunks that later commits changed.
+// A built version has one slice.
+fn check_slice(rt: &impl Abort, map: &CleanBitMap<1>, bits: u64, chunks: usize) {
+    let slice = map.at_for(1, bits).and_then(|then| around(&then, 0));
+    expect_at(rt, bits, slice.is_some_and(|slice| slice.1 == chunks));
+}
+
+// The same for each of some numbers of bits. The version also has its bits.
+fn check_slices(rt: &impl Abort, map: &CleanBitMap<1>, reads: &[u64], chunks: usize) {
+    for bits in reads {
+        check_slice(rt, map, *bits, chunks);
+        let version = map.at_for(1, *bits);
+        expect_at(
+            rt,
+            *bits,
+            version.is_some_and(|then| has_bits(&then, 0, FIRST)),
+        );
+    }
 }
 
 // Commit 1 of eight chunks, and five commits after it, each of which changes one bit of the last chunk.
@@ -39,49 +46,63 @@ fn six_commits(rt: &impl Abort, alloc: Global) -> CleanBitMap<1> {
     batch.abort()
 }
 
-// Without an index, an entry costs as much as eight searches, so eight chunks are as many as are gathered for.
+// To build the version costs 30 searches: five for each of five records, and one for each entry. To read a chunk costs six.
 #[test]
 fn one_entry_per_commit(rt: HostRuntime) {
     let map = six_commits(&rt, rt.alloc());
-    for bits in [0, 7, 8, 63] {
-        check_way(&rt, &map, bits, false);
-    }
-    for bits in [64, 65, u64::MAX] {
-        check_way(&rt, &map, bits, true);
-    }
+    check_slices(&rt, &map, &[0, 7, 8, 47], 0);
+    check_slices(&rt, &map, &[48, 49, 64, u64::MAX], 8);
 }
 
-// The later commits have more entries than the chunks are worth.
+// To build the version costs seven searches: five for the record, and one for each of two entries. To read a chunk costs two.
 #[test]
 fn two_entries_per_commit(rt: HostRuntime) {
     let mut batch = eight_chunks(&rt, rt.alloc());
     set_bit(&rt, &mut batch, 57, true);
     set_bit(&rt, &mut batch, 49, true);
     let map = commit(&rt, batch, 2);
-    for bits in [0, 64, u64::MAX] {
-        check_way(&rt, &map, bits, false);
-    }
+    check_slices(&rt, &map, &[0, 31], 0);
+    check_slices(&rt, &map, &[32, 64, u64::MAX], 8);
 }
 
-// With an index, a chunk costs as much as four entries: one chunk does not pay for the entries of five commits, and two do.
+// With an index, to read a chunk costs five searches, however many commits there are.
 #[test]
 fn with_an_index(rt: HostRuntime) {
     let map = ok(&rt, six_commits(&rt, rt.alloc()).indexed());
-    for bits in [0, 8, 15] {
-        check_way(&rt, &map, bits, false);
-    }
-    for bits in [16, 64, u64::MAX] {
-        check_way(&rt, &map, bits, true);
-    }
+    check_slices(&rt, &map, &[0, 8, 55], 0);
+    check_slices(&rt, &map, &[56, 64, u64::MAX], 8);
 }
 
-// Nothing is gathered for the latest commit, and its chunks are read in place.
+// Commit 1 of `len` unset bits, and a commit that sets a bit of the second chunk.
+fn long_bitmap(rt: &impl Abort, alloc: Global, len: u64) -> CleanBitMap<1> {
+    let mut batch = CleanBitMap::<1>::new(alloc).into_dirty();
+    extend_to(rt, &mut batch, len);
+    let mut batch = commit(rt, batch, 1).into_dirty();
+    set_bit(rt, &mut batch, 9, true);
+    commit(rt, batch, 2)
+}
+
+// To gather an entry costs sixteen searches. To copy 10,240 bits costs ten, and to undo a record of one entry six.
+#[test]
+fn long_bitmaps(rt: HostRuntime) {
+    let map = long_bitmap(&rt, rt.alloc(), 10_232);
+    check_slice(&rt, &map, 63, 0);
+    check_slice(&rt, &map, 64, 1279);
+    check_slice(&rt, &map, u64::MAX, 1279);
+    check_rebuilt(&rt, &map, 1, u64::MAX);
+    let map = long_bitmap(&rt, rt.alloc(), 10_240);
+    check_slice(&rt, &map, 71, 0);
+    check_slice(&rt, &map, 72, 1);
+    check_slice(&rt, &map, u64::MAX, 1);
+    check_rebuilt(&rt, &map, 1, u64::MAX);
+}
+
+// Nothing is gathered for the latest commit, and its chunks are read in place. So one chunk is enough.
 #[test]
 fn latest_commit(rt: HostRuntime) {
     let map = eight_chunks(&rt, rt.alloc()).abort();
-    for bits in [0, 64] {
-        check_way(&rt, &map, bits, true);
-    }
+    check_slices(&rt, &map, &[0, 7], 0);
+    check_slices(&rt, &map, &[8, 64], 8);
 }
 
 // Numbers that are not kept, and a bitmap without commits.

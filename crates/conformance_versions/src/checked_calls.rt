@@ -38,6 +38,11 @@ pub fn set_range<const N: usize>(
     assert!(rt; map.set_range(range, value).is_ok());
 }
 
+/// Appends unset bits until the pending bitmap has `n` bits, if it has fewer.
+pub fn extend_to<const N: usize>(rt: &impl Abort, map: &mut DirtyBitMap<N>, n: u64) {
+    assert!(rt; map.extend_to(n).is_ok());
+}
+
 /// Appends the bits of a byte.
 pub fn push_byte<const N: usize>(rt: &impl Abort, map: &mut DirtyBitMap<N>, byte: u8) {
     assert!(rt; u64::MAX - map.len() >= 8);

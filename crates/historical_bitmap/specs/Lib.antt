@@ -3,6 +3,7 @@
 -- Record, Stored: reverse records, and how the code stores them.
 -- Undo: a record undone in steps.
 -- History: kept commits, and the past states that their records give.
+-- Past: past states, in the way in which they are read.
 -- Rewind: conditions inside the code that rewinds in place.
 -- Index: the index of kept commits by chunk.
 -- Cost: how many entries a record may have.
@@ -19,6 +20,7 @@ pub mod Record
 pub mod Stored
 pub mod Undo
 pub mod History
+pub mod Past
 pub mod Rewind
 pub mod Index
 pub mod Cost

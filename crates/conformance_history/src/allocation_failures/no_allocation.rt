@@ -352,6 +352,19 @@ fn latest_state_gathered(rt: HostRuntime) {
     expect(&rt, then.count_ones_range(0..u64::MAX) == 9);
 }
 
+// Neither is it for all bits of the latest state.
+#[test]
+fn latest_state_read_for_all_bits(rt: HostRuntime) {
+    let Some(map) = committed(&rt, rt.alloc()) else {
+        return;
+    };
+    let Some(then) = map.at_for(2, u64::MAX) else {
+        expect(&rt, false);
+        return;
+    };
+    expect(&rt, has_bits(&then, 1, b"0111010111110000"));
+}
+
 // So few bits are read in place.
 #[test]
 fn past_state_read_for_few_bits(rt: HostRuntime) {

@@ -1,9 +1,10 @@
-//! Past states that are read in place, in the way that costs less for the bits to be read.
+//! Past states that are read in the way that costs least for the bits to be read.
 
 ghost use Rattle.std.specs.Prelude.{◌≡◌, ◌-◌, ◌^◌, IfSome, None, Some};
 ghost use Rattle.bitmap_bytes.specs.Chunk.{IsWidth};
 ghost use Rattle.bitmap_core.specs.Meaning.{pruned_meaning};
 ghost use Rattle.historical_bitmap.specs.History.{kept_under};
+ghost use Rattle.historical_bitmap.specs.Past.{bitmap_of};
 ghost use Rattle.historical_bitmap.specs.View.{history_of};
 
 use crate::bitmap::historical::at::AtCommit;
@@ -11,43 +12,63 @@ use crate::bitmap::historical::commit_list::CommitList;
 use crate::bitmap::historical::gathered::Gathered;
 use crate::bitmap::historical::{BitMap, Clean};
 use bitmap_core::bitmap::Readable;
+use bitmap_core::bitmap::prunable::Prunable;
 use bitmap_core::chunk::chunk_width;
 use std::marker::Model;
 
-/// The bitmap at a kept commit, read in place: as a `Gathered` reads it, or else as an `AtCommit`.
+// A way in which a past state is read.
+#[derive(Drop)]
+enum Way<'a, const N: usize> {
+    // By a search for each chunk.
+    Searched(AtCommit<'a, N>),
+    // With the chunks that later commits changed gathered first.
+    Gathered(Gathered<'a, N>),
+    // As a bitmap of its own.
+    Built(Prunable<N>),
+}
+
+/// The bitmap at a kept commit, read in one of three ways: as an `AtCommit`, as a `Gathered`, or as
+/// a bitmap of its own.
 ///
 /// It is a `Readable`, and its methods do not allocate. `CleanBitMap::at_for` returns it.
 ///
 /// # Memory
 ///
-/// That of a `Gathered`, or none.
+/// That of a `Gathered`, that of a bitmap of its own, or none.
 ///
 /// # Complexity
 ///
 /// That of the way in which it is read.
 #[derive(Drop)]
 pub struct PastBitMap<'a, const N: usize> {
-    searched: AtCommit<'a, N>,
-    // The same bitmap, if the chunks that later commits changed are gathered.
-    gathered: Option<Gathered<'a, N>>,
+    way: Way<'a, N>,
 }
 
 impl<'a, const N: usize> Model for PastBitMap<'a, N> {
-    ghost use Rattle.std.specs.Prelude.{◌≡◌, IfSome};
     ghost use Rattle.bitmap_core.specs.PrunedBits.{PrunedBits};
+    ghost use Rattle.historical_bitmap.specs.Past.{bitmap_of};
 
     ghost Value = { PrunedBits };
 
-    ghost view = { λ p. p.searched };
-
-    ghost invariant = { λ p. IfSome p.gathered (λ gathered. gathered ≡ p.searched) };
+    ghost view = { λ p. bitmap_of p.way };
 }
 
-// How many searches in reverse records take about the time in which one entry is gathered.
-const SEARCHES_PER_ENTRY: u64 = 8;
+// Costs are estimates. Their unit is the time of one search for a chunk in a reverse record.
 
-// How many searches in reverse records take about the time of one search in an index.
-const SEARCHES_PER_INDEXED: u64 = 32;
+// The cost of a search for a chunk in an index.
+const SEARCH_IN_INDEX: u64 = 5;
+
+// The cost of gathering an entry, and of reading the version around its chunk.
+const GATHERED_ENTRY: u64 = 16;
+
+// The cost of undoing a record without entries.
+const UNDONE_RECORD: u64 = 5;
+
+// The cost of undoing an entry of a record.
+const UNDONE_ENTRY: u64 = 1;
+
+// The bits that are copied at the cost of one.
+const COPIED_BITS: u64 = 1024;
 
 // Returns the number of entries of the records from a position on.
 fn entries_from<const N: usize>(commits: &CommitList<N>, first: usize) -> u64 {
@@ -59,64 +80,98 @@ fn entries_from<const N: usize>(commits: &CommitList<N>, first: usize) -> u64 {
     entries
 }
 
+// Returns the cost of building a version that retains so many bits, with so many later commits
+// that have so many entries.
+fn building_cost(retained: u64, later: u64, entries: u64) -> u64 {
+    let records = later.saturating_mul(UNDONE_RECORD);
+    let undone = records.saturating_add(entries.saturating_mul(UNDONE_ENTRY));
+    undone.saturating_add(retained / COPIED_BITS)
+}
+
 impl<const N: usize> BitMap<N, Clean> {
-    /// Returns the bitmap at commit `number`, to be read in place, for reads of about `bits` bits.
+    /// Returns the bitmap at commit `number`, for reads of about `bits` bits.
     ///
     /// Returns `None` if that commit is not kept. `u64::MAX` is never kept. It is the same state
     /// that `at`, `gathered` and `get_at_commit` return.
-    /// For few bits, it reads as `at` does. For so many that one pass over the later records costs
-    /// less than a search for each chunk, it reads as `gathered` does. `bits` changes the cost, and
-    /// nothing else: any bits of the version may be read.
+    ///
+    /// For few bits, it reads as `at` does. For more, it reads as `gathered` does, or builds the
+    /// version as `get_at_commit` does, if the time of that and of the reads is estimated to be
+    /// less. `bits` changes the cost, and nothing else: any bits of the version may be read.
     ///
     /// # Memory
     ///
-    /// Allocates what a `Gathered` has, or nothing. If an allocation fails, it reads as `at` does.
+    /// Allocates what a `Gathered` has, or what `get_at_commit` allocates, or nothing. If an
+    /// allocation fails, it reads as `at` does.
     ///
     /// # Complexity
     ///
-    /// A search among the kept commits. If the chunks of `bits` bits are at least eight, or the
-    /// bitmap is indexed and at least a fourth of the later commits, then also a visit of each later
-    /// commit. If it gathers, also that of `gathered`, which is then in proportion to the cost of
-    /// reading the bits as `at` does, or below it.
+    /// A search among the kept commits. If the estimated time of reading `bits` bits as `at` does
+    /// is more than one step for each later commit, then also a visit of each later commit. If it
+    /// gathers or builds, also the time of `gathered` or of `get_at_commit`, which is then
+    /// estimated to be below that of reading the bits as `at` does.
     pub fn at_for(&self, number: u64, bits: u64) -> Option<PastBitMap<'_, N>>
         ensures value { result ≡ kept_under (history_of N self.now) number }
         ensures reserved { kept_under (history_of N self.now) (2 ^ 64 - 1) ≡ None }
         ensures width { IsWidth N }
     {
         let searched = self.at(number)?;
-        let gathered = if self.is_cheaper_gathered(&searched, number, bits) {
-            self.gathered_unless_full(number)
-        } else {
-            None
+        let way = match self.cheaper_way(&searched, number, bits) {
+            Some(way) => way,
+            None => Way::Searched(searched),
         };
-        Some(PastBitMap { searched, gathered })
+        Some(PastBitMap { way })
     }
 
-    // Returns whether the chunks that later commits changed are gathered in less time than some
-    // bits of the version are read by a search for each chunk.
-    //
-    // A search for a chunk without an index is a search in each later record, at most.
-    fn is_cheaper_gathered(&self, version: &AtCommit<'_, N>, number: u64, bits: u64) -> bool {
+    // Returns a way to read some bits of a version that is estimated to cost less than a search for
+    // each chunk. Returns `None` if there is none, or if an allocation fails.
+    fn cheaper_way(&self, version: &AtCommit<'_, N>, number: u64, bits: u64) -> Option<Way<'_, N>>
+        requires { kept_under (history_of N self.now) number ≡ Some version.now }
+        ensures { IfSome result (λ way. bitmap_of way ≡ version.now) }
+    {
         let retained = version.len().saturating_sub(version.pruned_bits());
-        let chunks = bits.min(retained) / chunk_width::<N>();
         let past = self.commits.past(number);
         let later = (self.commits.len() - past) as u64;
-        let searches = match self.commits.index() {
-            Some(_) => SEARCHES_PER_INDEXED,
-            None => later,
+        let search = match self.commits.index() {
+            Some(_) => SEARCH_IN_INDEX,
+            None => later.saturating_add(1),
         };
-        let entries = chunks.saturating_mul(searches) / SEARCHES_PER_ENTRY;
-        later <= entries && entries_from(&self.commits, past) <= entries
+        let searching = (bits.min(retained) / chunk_width::<N>()).saturating_mul(search);
+        // The entries are counted only if that takes less than the searches.
+        if searching <= later {
+            return None;
+        }
+        let entries = entries_from(&self.commits, past);
+        let gathering = entries.saturating_mul(GATHERED_ENTRY);
+        let building = building_cost(retained, later, entries);
+        if searching <= gathering.min(building) {
+            None
+        } else if gathering <= building {
+            self.gathered_way(number)
+        } else {
+            self.built_way(number)
+        }
     }
 
     // Returns the bitmap at a commit with the chunks that later commits changed gathered, or `None`
     // if an allocation fails.
-    fn gathered_unless_full(&self, number: u64) -> Option<Gathered<'_, N>>
-        ensures { IfSome result (λ gathered. kept_under (history_of N self.now) number ≡ Some gathered) }
+    fn gathered_way(&self, number: u64) -> Option<Way<'_, N>>
+        ensures { IfSome result
+            (λ way. kept_under (history_of N self.now) number ≡ Some (bitmap_of way)) }
     {
         match self.gathered(number) {
-            Ok(gathered) => gathered,
-            Err(_) => None,
+            Ok(Some(gathered)) => Some(Way::Gathered(gathered)),
+            _ => None,
+        }
+    }
+
+    // Returns the bitmap at a commit as a bitmap of its own, or `None` if an allocation fails.
+    fn built_way(&self, number: u64) -> Option<Way<'_, N>>
+        ensures { IfSome result
+            (λ way. kept_under (history_of N self.now) number ≡ Some (bitmap_of way)) }
+    {
+        match self.get_at_commit(number) {
+            Ok(Some(built)) => Some(Way::Built(built)),
+            _ => None,
         }
     }
 }
@@ -125,36 +180,51 @@ impl<'a, const N: usize> Readable<N> for PastBitMap<'a, N> {
     ghost meaning = { pruned_meaning N };
 
     fn complete_chunks(&self) -> usize {
-        self.searched.complete_chunks()
+        match &self.way {
+            Way::Searched(version) => version.complete_chunks(),
+            Way::Gathered(version) => version.complete_chunks(),
+            Way::Built(version) => Readable::complete_chunks(version),
+        }
     }
 
     fn get_chunk(&self, chunk: usize) -> [u8; N] {
-        match &self.gathered {
-            Some(gathered) => gathered.get_chunk(chunk),
-            None => self.searched.get_chunk(chunk),
+        match &self.way {
+            Way::Searched(version) => version.get_chunk(chunk),
+            Way::Gathered(version) => version.get_chunk(chunk),
+            Way::Built(version) => Readable::get_chunk(version, chunk),
         }
     }
 
     fn last_chunk(&self) -> ([u8; N], u64) {
-        match &self.gathered {
-            Some(gathered) => gathered.last_chunk(),
-            None => self.searched.last_chunk(),
+        match &self.way {
+            Way::Searched(version) => version.last_chunk(),
+            Way::Gathered(version) => version.last_chunk(),
+            Way::Built(version) => Readable::last_chunk(version),
         }
     }
 
-    // The slices of the gathered bitmap, if there is one.
+    // The slices of the gathered or built bitmap, if there is one.
     fn chunks_around(&self, chunk: usize) -> (&[[u8; N]], usize) {
-        match &self.gathered {
-            Some(gathered) => gathered.chunks_around(chunk),
-            None => (&[], chunk),
+        match &self.way {
+            Way::Searched(version) => version.chunks_around(chunk),
+            Way::Gathered(version) => version.chunks_around(chunk),
+            Way::Built(version) => Readable::chunks_around(version, chunk),
         }
     }
 
     fn pruned_chunks(&self) -> usize {
-        self.searched.pruned_chunks()
+        match &self.way {
+            Way::Searched(version) => version.pruned_chunks(),
+            Way::Gathered(version) => version.pruned_chunks(),
+            Way::Built(version) => Readable::pruned_chunks(version),
+        }
     }
 
     fn len(&self) -> u64 {
-        self.searched.len()
+        match &self.way {
+            Way::Searched(version) => version.len(),
+            Way::Gathered(version) => version.len(),
+            Way::Built(version) => Readable::len(version),
+        }
     }
 }
