@@ -9,8 +9,9 @@ whole. The next run goes on with the same file, and after some kills with a new 
 commits.
 
 Before that, the program runs until its file cannot grow: by a limit on the size of files, and, as root, on a small file system in memory. It has to
-end with the error of the system, and all that was acknowledged has to be there. And a program that opens a file which another one has open has to
-end with an error.
+end with the error of the system, and all that was acknowledged has to be there. The same holds if one of its calls on files fails: each of them
+fails in turn with EIO, by a preloaded library, and has done nothing, half or all of its work (tools/fail_files.c). Two of these calls, at the creation
+and at the compaction, are syncs of the folder. And a program that opens a file which another one has open has to end with an error.
 
 The program is the one that the gate has built, or the one that the environment variable STORE_RUNS_PROGRAM names. The edits of a commit follow from
 its number; `edited` makes the same ones as the program.
@@ -27,7 +28,7 @@ import sys
 import tempfile
 import time
 from collections import Counter
-from itertools import cycle
+from itertools import count, cycle
 from pathlib import Path
 from typing import NamedTuple
 
@@ -44,6 +45,11 @@ GATE = b"\xa5"  # the byte after the log
 LIMITS = (0, 1, 20, 64, 100, 150, 300, 3000, 5000, 9000, 14000, 15000)
 FREE = (0, 4, 8, 12, 20, 24, 28, 36)
 FILE_SYSTEM = 64
+
+# How many commits a run makes, one of whose calls on files fails, and what that call has done. The run compacts its file once.
+FAILING_COMMITS = 6
+WAYS = ("nothing", "half", "whole")
+FOLDER_SYNCS = 2
 
 # A folder in memory, in which a sync takes no time. Half of the files are there.
 MEMORY = "/dev/shm"
@@ -134,11 +140,12 @@ def run_of(process, seconds):
     return Run(process.returncode, output.split("\n")[:-1], error)
 
 
-def start(path, commits, limit=None):
-    """Starts the program, of which no file has more bytes than the limit. It gets an error, and no signal, at the limit: Python ignores the signal."""
+def start(path, commits, limit=None, failing=None):
+    """Starts the program, of which no file has more bytes than the limit. It gets an error, and no signal, at the limit: Python ignores the signal.
+    The environment also has the variables of `failing`."""
     limits = limit is not None and (lambda: resource.setrlimit(resource.RLIMIT_FSIZE, (limit, limit)))
     return subprocess.Popen([PROGRAM, str(path), str(commits)], stdin=subprocess.DEVNULL, stdout=subprocess.PIPE, stderr=subprocess.PIPE, text=True,
-                            preexec_fn=limits or None, restore_signals=False)
+                            preexec_fn=limits or None, restore_signals=False, env={**os.environ, **(failing or {})})
 
 
 class Tested:
@@ -195,7 +202,7 @@ class Tested:
 
 
 def check_stopped(tested, code, run):
-    """Compares the file of a program that ended because its file could not grow."""
+    """Compares the file of a program that ended because a call on it failed."""
     if run.status != 1 or f"Failed(Some({code}))" not in run.error or run.error.count("\n") != 1:
         raise Wrong(f"the program ended with {run.status}: {run.error}")
     tested.follow(run.lines)
@@ -239,6 +246,28 @@ def check_full(folder, counts):
     finally:
         subprocess.run(["umount", folder], check=True)
     return True
+
+
+def failures(folder, counts, failing):
+    """Runs the program with each of its calls on files failing in turn, and without that afterwards. Returns how many calls fail."""
+    for number in count(1):
+        tested = Tested(folder / "failing", counts)
+        run = run_of(start(tested.path, FAILING_COMMITS, failing={**failing, "FAIL_CALL": str(number)}), SECONDS)
+        if run.status == 0:
+            tested.path.unlink()
+            return number - 1
+        check_stopped(tested, errno.EIO, run)
+        go_on(tested)
+
+
+def check_failures(folder, counts):
+    """Lets the calls of the program on files fail, in all ways, and those for the folder by themselves."""
+    library = folder / "fail_files.so"
+    subprocess.run(["cc", "-O2", "-Wall", "-Wextra", "-shared", "-fPIC", "-o", library, TOP / "tools/fail_files.c", "-ldl"], check=True)
+    preloaded = {"LD_PRELOAD": str(library)}
+    counts["failures"] = sum(failures(folder, counts, {**preloaded, "FAIL_AS": way}) for way in WAYS)
+    if failures(folder, counts, {**preloaded, "FAIL_FOLDERS": "1"}) != FOLDER_SYNCS:
+        raise Wrong("the folder is not synced at the creation and at the compaction alone")
 
 
 def check_second(folder, counts):
@@ -300,6 +329,7 @@ def main():
     try:
         check_second(memory, counts)
         check_limits(memory, counts)
+        check_failures(memory, counts)
         is_mounted = check_full(disk / "small", counts)
         check_kills([memory, disk], counts, kills, seconds)
     except Wrong as error:
@@ -308,7 +338,8 @@ def main():
     for folder in {memory, disk}:
         shutil.rmtree(folder)
     disks = f"{counts['full']} full file systems" if is_mounted else "no full file system, since none can be mounted here"
-    print(f"crash_store: {counts['kills']} kills, {counts['stops']} limits on the size of the file, {disks}; {counts['changes']:,} changes acknowledged")
+    print(f"crash_store: {counts['kills']} kills, {counts['stops']} limits on the size of the file, {counts['failures']} calls that failed, {disks}; "
+          f"{counts['changes']:,} changes acknowledged")
     print(f"left by them: {counts['further']} changes whole that were not acknowledged, {counts['ends']} ends that were cut off, "
           f"{counts['replacements']} compactions that had no effect, {counts['creations']} files without a store")
     print("nothing that was acknowledged is lost, and nothing else is half there")

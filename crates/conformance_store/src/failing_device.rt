@@ -2,7 +2,7 @@
 
 ghost use Rattle.std.specs.Prelude.{◌≡◌};
 
-use log_store::{Device, DeviceError};
+use log_store::{Device, DeviceError, Replaceable};
 use std::alloc::{AllocError, Global};
 
 /// A device in memory that fails at one call, if at all, and works again after it.
@@ -11,11 +11,13 @@ use std::alloc::{AllocError, Global};
 #[derive(Drop)]
 pub struct FailingDevice {
     bytes: Vec<u8>,
+    // The bytes of the second file, until it has the name.
+    beside: Option<Vec<u8>>,
     // How many of the last bytes are not synced.
     unsynced: usize,
-    // How many appends, syncs, cuts and bytes set succeed before the one that fails, or `None` if none fails from now on.
+    // How many calls that change or sync something succeed before the one that fails, or `None` if none fails from now on.
     left: Option<usize>,
-    // How many bytes an append that fails appends, and whether a cut or a byte that fails is made.
+    // How many bytes an append that fails appends, and whether a cut, a byte or a rename that fails is made.
     torn: usize,
 }
 
@@ -24,14 +26,15 @@ impl FailingDevice {
     pub fn reliable(bytes: Vec<u8>) -> FailingDevice {
         FailingDevice {
             bytes,
+            beside: None,
             unsynced: 0,
             left: None,
             torn: 0,
         }
     }
 
-    /// Returns an empty device, of which the append, sync, cut or byte set after the first `successes` fails. An append that fails appends at most
-    /// `torn` bytes. A cut or a byte that fails is made all the same, unless `torn` is 0.
+    /// Returns an empty device, of which the append, sync, cut, byte set or step of a replacement after the first `successes` fails. An append that
+    /// fails appends at most `torn` bytes. A cut, a byte or a rename that fails is made all the same, unless `torn` is 0.
     pub fn new(alloc: Global, successes: usize, torn: usize) -> FailingDevice {
         FailingDevice::with_bytes(Vec::new(alloc), successes, torn)
     }
@@ -40,6 +43,7 @@ impl FailingDevice {
     pub fn with_bytes(bytes: Vec<u8>, successes: usize, torn: usize) -> FailingDevice {
         FailingDevice {
             bytes,
+            beside: None,
             unsynced: 0,
             left: Some(successes),
             torn,
@@ -133,6 +137,49 @@ impl Device for FailingDevice {
             return Err(DeviceError::Failed(None));
         }
         self.unsynced = 0;
+        Ok(())
+    }
+}
+
+impl Replaceable for FailingDevice {
+    ghost beside = { λ device. device.bytes.items };
+
+    ghost beside_may_leave = { λ device c. ⊥ };
+
+    ghost named_may_leave = { λ device c. ⊥ };
+
+    fn write_beside(&mut self, bytes: &[u8]) -> Result<(), DeviceError> {
+        if self.fails() {
+            return Err(DeviceError::Failed(None));
+        }
+        self.beside = Some(bytes.to_vec(*self.bytes.allocator())?);
+        Ok(())
+    }
+
+    fn sync_beside(&mut self) -> Result<(), DeviceError> {
+        if self.fails() {
+            return Err(DeviceError::Failed(None));
+        }
+        Ok(())
+    }
+
+    fn rename(&mut self) -> Result<(), DeviceError> {
+        let fails = self.fails();
+        if !fails || self.torn > 0 {
+            if let Some(bytes) = self.beside.take() {
+                self.bytes = bytes;
+            }
+        }
+        if fails {
+            return Err(DeviceError::Failed(None));
+        }
+        Ok(())
+    }
+
+    fn sync_folder(&mut self) -> Result<(), DeviceError> {
+        if self.fails() {
+            return Err(DeviceError::Failed(None));
+        }
         Ok(())
     }
 }

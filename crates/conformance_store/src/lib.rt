@@ -2,9 +2,13 @@
 #![tactic(auto)]
 
 #[cfg(test)]
+mod allocation_failures;
+#[cfg(test)]
 mod buffered;
 #[cfg(test)]
 mod checks;
+#[cfg(test)]
+mod compactions;
 #[cfg(test)]
 mod crashes;
 #[cfg(test)]

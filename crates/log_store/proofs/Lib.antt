@@ -10,6 +10,7 @@ pub mod Past
 pub mod Prefixes
 pub mod Reopening
 pub mod Replaced
+pub mod Sequenced
 pub mod Stored
 pub mod Synced
 pub mod Tears

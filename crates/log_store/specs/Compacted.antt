@@ -1,5 +1,5 @@
 -- A log that is replaced by the history of the bitmap. A chunk has n bytes.
-use Rattle.std.specs.Prelude.{◌⊎◌, ◌≡◌, ℕ, List, ◌∷◌, [], ◌++◌, length}
+use Rattle.std.specs.Prelude.{◌⊎◌, ◌≡◌, ℕ, ◌*◌, Bool, List, ◌∷◌, [], ◌++◌, length, nat_lt}
 use Rattle.commit_log.specs.Base.{Base}
 use Rattle.commit_log.specs.Entries.{Entry}
 use Rattle.commit_log.specs.History.{HasLog, IsHistory, history_base, history_bytes, history_entries}
@@ -20,3 +20,7 @@ IsReplacement n s c = HasLog n s × IsHistory s × (c ≡ history_bytes n s ++ c
 -- what a crash leaves while a log is replaced by the history of a state: what it may leave of the log, or the whole history and a closed gate
 abbrev pub IsCompacting : ℕ → Base → List Entry → ℕ → Kept → List ℕ → Type 0
 IsCompacting n base begun kept s c = IsTornLog n base begun kept c ⊎ IsReplacement n s c
+
+-- whether a log of so many bytes has more than twice those of the history of a state
+abbrev pub is_grown : ℕ → Kept → ℕ → Bool
+is_grown n s bytes = nat_lt (2 * length (history_bytes n s)) bytes

@@ -5,4 +5,5 @@ pub mod Gate
 pub mod Moments
 pub mod Opened
 pub mod Past
+pub mod Sequences
 pub mod Store

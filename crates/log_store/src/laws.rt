@@ -14,6 +14,8 @@ ghost use Rattle.log_store.specs.Moments.{IsAtRest, LeavesOnly};
 ghost use Rattle.log_store.specs.Opened.{IsOpenedWith, IsPassing, IsTornAfter, OpensTo, RecoversTo};
 ghost use Rattle.log_store.specs.Store.{Becomes, IsStored};
 
+mod sequences;
+
 use crate::buffered::BufferedStore;
 use crate::device::Device;
 use crate::error::StoreError;
@@ -22,6 +24,11 @@ use crate::replacing::Replaceable;
 use crate::store::Store;
 use crate::stored_log::StoredLog;
 use commit_log::a_compacted_log_makes_each_state;
+pub use sequences::{
+    a_clear_goes_on, a_commit_goes_on, a_compaction_begins_no_state,
+    a_compaction_if_grown_begins_no_state, a_drop_goes_on, a_rewind_goes_on, a_sequence_is_opened,
+    calls_are_a_sequence, sequences_in_a_row,
+};
 use std::alloc::Global;
 
 /// Calls, and further calls after them, are calls: what the contracts of the calls of a store say of each one holds of any sequence of them.

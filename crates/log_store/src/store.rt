@@ -4,7 +4,8 @@
 //! call returns `Ok`, the entry is kept (clause `keeps`). The entry is written behind a closed gate: a byte in the place of its first one until
 //! all others are kept. So a crash leaves an entry that is read as whole, or one that is known as not finished, whatever blocks the disk wrote. If the call fails, the bitmap is unchanged, and the entry is begun or not (`fails`). The
 //! law [`calls_in_a_row`](crate::calls_in_a_row) says the same of any sequence of calls, and the law
-//! [`a_crash_is_opened`](crate::a_crash_is_opened) what [`Store::open`] makes of what a crash leaves at any moment of it.
+//! [`a_crash_is_opened`](crate::a_crash_is_opened) what [`Store::open`] makes of what a crash leaves at any moment of it. If there are compactions
+//! among the calls, the law [`a_sequence_is_opened`](crate::a_sequence_is_opened) says it.
 //!
 //! The contracts hold while the device behaves as the model that [`Device`] describes.
 
