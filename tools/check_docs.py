@@ -1,7 +1,8 @@
 #!/usr/bin/env python3
 """Checks the documents and doc comments.
 
-- Each Rattle example is in the crate `uses` or in `store_runs`, word for word and with its imports, so that it is proved and tested.
+- Each Rattle example is in the crate `uses`, `store_runs` or `conformance_authenticated`, word for word and with its imports, so that it is proved
+  and tested.
 - Each example in C, Rust or Python is in a tested file of `bindings`, or in an example of `native`.
 - Each relative link of a document leads to a file, and to a heading if it names one.
 - Each file that a document names exists.
@@ -15,7 +16,7 @@ from pathlib import Path
 from typing import NamedTuple
 
 TOP = Path(__file__).resolve().parent.parent
-USES = [TOP / "crates/uses", TOP / "crates/store_runs"]
+USES = [TOP / "crates/uses", TOP / "crates/store_runs", TOP / "crates/conformance_authenticated"]
 DOCUMENTS = [
     "README.md", "CONTRIBUTING.md", "docs/GUIDE.md", "docs/TRUST.md", "docs/ARCHITECTURE.md", "docs/DECISIONS.md", "docs/DIFFERENCES.md",
     "docs/SCRIPT.md", "docs/FORMATS.md", "docs/BENCHMARKS.md", "bench/README.md",
@@ -102,7 +103,7 @@ def agreeing(example, lines, start):
 def example_errors(example, callers):
     if not any(line.startswith("use ") for line in example.lines):
         return [f"{example.place}: the example does not show its imports"]
-    return difference(example, callers, "crates/uses/src or crates/store_runs/src")
+    return difference(example, callers, "crates/uses/src, crates/store_runs/src or crates/conformance_authenticated/src")
 
 
 def foreign_errors():

@@ -1,4 +1,4 @@
-//! Tests of authenticated bitmaps with SHA-256, through the public calls of `authenticated_bitmap`.
+//! Tests of authenticated bitmaps with SHA-256, through the public calls of `authenticated_bitmap`, and a caller that the guide shows.
 #![tactic(auto)]
 
 #[cfg(test)]
@@ -11,6 +11,8 @@ mod checks;
 mod encodings;
 #[cfg(test)]
 mod known;
+#[cfg(test)]
+mod light_client;
 #[cfg(test)]
 mod range_encodings;
 #[cfg(test)]
