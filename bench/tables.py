@@ -77,7 +77,7 @@ BATCH_GROUPS = {
     "aborted batch: sets, pushes, pops, reads": "batch_mixed",
     "batch: get_bit, get_chunk": "pending_bits pending_chunks",
     "committed batch: sets": "commit_set_far commit_set_near",
-    "committed batch: pushes": "commit_push commit_push_byte commit_push_chunk",
+    "committed batch: pushes": "commit_push commit_push_byte commit_push_chunk commit_push_pop",
     "committed batch: pop, prune": "commit_pop commit_slide",
     "committed batch: sets, pushes, pops, reads": "commit_mixed",
     "committed batch: no edits": "commit_nothing",
@@ -364,11 +364,31 @@ def native_reads(session):
 
 def native(session):
     """Ratios of the Rust crate in `native` to commonware-utils, of short runs. Both are built together."""
-    print_groups(NATIVE_GROUPS, "dense and pruned", native_dense(session))
-    print_groups(BATCH_GROUPS, "historical", native_batches(session))
+    dense = native_dense(session)
+    # The first ratio of a call is that of the large bitmap, if there is one.
+    large = {name: values[:1] for name, values in dense.items()} if session.large and not session.counted else {}
+    small = {name: values[1:] if large else values for name, values in dense.items()}
+    print_sizes(NATIVE_GROUPS, {"16 KB" if session.counted else "1 MB": small, "64 MB": large})
+    historical = native_batches(session)
+    print_sizes(BATCH_GROUPS, {"2^20 bits": historical})
+    print_sizes({"all calls of the tables above": " ".join(dense | historical)}, {"but 64 MB": small | historical, "with 64 MB": join(small | historical, large)})
     if not session.counted:
         print_groups(PAST_GROUPS, "historical", native_reads(session))
     return {}
+
+
+def join(ratios, others):
+    """The ratios of each call, with the others of the same name."""
+    return {name: values + others.get(name, []) for name, values in ratios.items()}
+
+
+def print_sizes(groups, found):
+    """Prints the mean of each group of calls by size, and in brackets how many ratios it has. `found` has the ratios per call of each size."""
+    head("Geometric mean of ratios", *(size for size, ratios in found.items() if ratios))
+    for group, names in groups.items():
+        values = [[value for name in names.split() for value in ratios.get(name, []) if value is not None] for ratios in found.values() if ratios]
+        if any(values):
+            say(group, *(f"{short(mean(each))} ({len(each)})" if each else "" for each in values))
 
 
 def beside(session, peer, names):
