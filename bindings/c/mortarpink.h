@@ -384,7 +384,8 @@ mortarpink_status mortarpink_encode(const mortarpink_bitmap *bitmap, uint8_t *ou
  *
  * As the calls without `_at`, on the bitmap committed under `number`. Each call searches the commits for `number`. Then
  * each chunk that is read costs a search of each commit after `number`, or one search if mortarpink_index has added an
- * index. Only mortarpink_encode_at allocates. */
+ * index. mortarpink_encode_at allocates. So may mortarpink_read_bytes_at, mortarpink_ones_at, mortarpink_count_ones_at and
+ * mortarpink_select_one_at, for a while. The other calls do not. */
 
 /* Writes the length of the bitmap at commit `number`, in bits, to *len. Pruned bits count.
  * Errors: returns MORTARPINK_IN_BATCH in a batch, and MORTARPINK_NO_SUCH_COMMIT if no commit is kept under `number`.

@@ -6,7 +6,7 @@ use mortarpink::bitmap::Readable;
 use mortarpink::bitmap::historical::{CleanBitMap, Error};
 
 fn main() -> Result<(), Error> {
-    // Version 1: three orders, all of them open.
+    // A bitmap with chunks of 8 bytes, which begins a batch. Version 1: three orders, all of them open.
     let mut batch = CleanBitMap::<8>::new().into_dirty();
     batch.push(true).push(true).push(true);
     let orders = batch.commit(1)?;

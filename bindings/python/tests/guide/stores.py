@@ -5,7 +5,7 @@ from mortarpink import Batch, Store
 
 
 def open_orders(path: Path) -> Store:
-    """Opens the orders, or begins them. Raises LockedError if another store has them open, and DecodeError if the file is damaged."""
+    """Opens the orders, or begins them. Raises LockedError if another store has them open, DecodeError if a byte is damaged, and MissingEndError or OtherLogError if what was acknowledged is missing."""
     orders = Store(path, compact_automatically=True)
     if orders.cut_bytes > 0:
         print(f"a crash has left {orders.cut_bytes} bytes of a change that was not acknowledged")
