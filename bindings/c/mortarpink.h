@@ -551,7 +551,9 @@ mortarpink_status mortarpink_earliest(const mortarpink_bitmap *bitmap, uint64_t 
  *   `from` is at most `to`. *count and `out` are then unchanged.
  * Cost: two searches of the kept commits, and per chunk examined a search of each commit after `from`. A page
  *   examines the chunks from `first` on with an entry in a commit after `from` and up to `to`. If `out` is full, it
- *   stops at the last one written. */
+ *   stops at the last one written. With an index, a page takes a step for each commit between the two, and for each
+ *   chunk examined a search in the index, if that is estimated to cost less; then it examines the chunks of which
+ *   the index has old bytes, and those that are newer than the older bitmap. */
 mortarpink_status mortarpink_changed_chunks(const mortarpink_bitmap *bitmap, uint64_t from, uint64_t to, uint64_t first,
                                             uint64_t *out, size_t len, size_t *count);
 
@@ -571,7 +573,8 @@ mortarpink_status mortarpink_clear(mortarpink_bitmap *bitmap);
 
 /* Adds an index of the kept commits if `on` is not 0, and drops it if `on` is 0. With the index, a read of a chunk
  * at a commit searches once, however many commits are kept. Commits, rewinds, and calls that drop commits keep the
- * index, and a copy of the bitmap has a copy of it. Nothing that a call returns depends on the index.
+ * index, and a copy of the bitmap has a copy of it. Nothing that a call returns depends on the index, but a commit
+ * also allocates the entries of the index, and returns MORTARPINK_NO_MEMORY if that fails.
  * Errors: returns MORTARPINK_IN_BATCH in a batch, and MORTARPINK_NO_MEMORY if an allocation fails. Nothing has
  *   changed then.
  * Cost: per chunk whose old bytes a kept commit has, logarithmic in their number. Linear in the index if it is

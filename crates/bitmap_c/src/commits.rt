@@ -122,6 +122,9 @@ pub extern "C" fn mortarpink_commits(
 ///
 /// Two searches of the kept commits, and per chunk examined a search of each commit after `from`. A page examines the chunks
 /// from `first` on with an entry in a commit after `from` and up to `to`. If `out` is full, it stops at the last one written.
+/// With an index, a page takes a step for each commit between the two, and for each chunk examined a search in the index, if
+/// that is estimated to cost less; then it examines the chunks of which the index has old bytes, and those that are newer than
+/// the older bitmap.
 #[unsafe(no_mangle)]
 pub extern "C" fn mortarpink_changed_chunks(
     bitmap: &mut Handle,

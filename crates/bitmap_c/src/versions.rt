@@ -91,7 +91,8 @@ fn index(any: &mut AnySession, on: bool) -> u32
 /// Adds an index of the kept commits if `on` is not 0, and drops it if `on` is 0.
 ///
 /// With the index, a read of a chunk at a commit searches once, however many commits are kept. Commits, rewinds, and calls that
-/// drop commits keep the index, and a copy of the bitmap has a copy of it. Nothing that a call returns depends on the index.
+/// drop commits keep the index, and a copy of the bitmap has a copy of it. Nothing that a call returns depends on the index, but
+/// a commit also allocates the entries of the index, and returns `NO_MEMORY` if that fails.
 ///
 /// # Errors
 ///

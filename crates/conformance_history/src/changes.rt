@@ -149,6 +149,16 @@ fn check_pairs<const N: usize>(rt: &impl Abort, alloc: Global, map: &CleanBitMap
     expect(rt, map.changed_chunks(LAST, u64::MAX).is_none());
 }
 
+// All pairs of numbers, without an index and with one. Between commits that are far apart, the chunks are then found in the index.
+fn check_both<const N: usize>(rt: &impl Abort, alloc: Global, map: &CleanBitMap<N>, width: u64) {
+    check_pairs(rt, alloc, map, width);
+    let copy = ok(rt, map.clone());
+    match copy.indexed() {
+        Ok(indexed) => check_pairs(rt, alloc, &indexed, width),
+        Err(_) => expect(rt, false),
+    }
+}
+
 // Makes the batch of a number, and commits it under another number.
 fn committed<const N: usize>(
     rt: &impl Abort,
@@ -173,12 +183,12 @@ fn check_width<const N: usize>(rt: &impl Abort, alloc: Global, width: u64)
     for number in 1..LAST + 1 {
         map = committed(rt, alloc, map, width, number, number);
     }
-    check_pairs(rt, alloc, &map, width);
+    check_both(rt, alloc, &map, width);
     let _ = map.prune_commits_before(3);
     let map = rewind(rt, map, 6);
     let map = committed(rt, alloc, map, width, 9, 7);
     expect(rt, keeps(&map, &[3, 4, 5, 6, 7]));
-    check_pairs(rt, alloc, &map, width);
+    check_both(rt, alloc, &map, width);
 }
 
 #[test]

@@ -1,6 +1,6 @@
 -- The index of kept commits by chunk: the old bytes that their reverse records keep of a chunk. It has a row per chunk, with the bytes by the
 -- number of the commit. A place is a chunk and a number.
-use Rattle.std.specs.Prelude.{◌≡◌, ℕ, ◌<◌, ◌≤◌, Bool, false, ◌&&◌, List, [], ◌∷◌, Option, Some, None, IfSome, MatchOption, ◌++◌, length, slice_get, slice_index_or, slice_set, unwrap_or, if◌then◌else◌, nat_eq}
+use Rattle.std.specs.Prelude.{◌≡◌, ℕ, ◌<◌, ◌≤◌, Bool, true, false, ◌&&◌, List, [], ◌∷◌, Option, Some, None, IfSome, MatchOption, ◌++◌, length, slice_get, slice_index_or, slice_set, unwrap_or, if◌then◌else◌, nat_eq, nat_le, nat_lt}
 use Rattle.std.specs.List.{All, list_any}
 use Rattle.std.specs.List.Sorted.{IsStrictlySortedBy}
 use Rattle.std.specs.Map.{keys_of, lookup}
@@ -65,6 +65,16 @@ IsNextIn row number next = MatchOption next
 -- the bytes that an index has for chunk i at the least number past a given one with which it has any
 abbrev pub IsNextKept : List (ℕ × List (ℕ × List ℕ)) → ℕ → ℕ → Option (List ℕ) → Type 0
 IsNextKept rows i number next = IsNextIn (row_of rows i) number next
+
+-- whether a row has bytes at a number past one and up to another
+abbrev pub has_between : ℕ → ℕ → List (ℕ × List ℕ) → Bool
+has_between from to row = list_any (λ kept. nat_lt from kept.0 && nat_le kept.0 to) row
+
+-- the first chunk, from `first` up to, but not including, `end`, for which an index has bytes at a number past one and up to another, if there is one
+abbrev pub IsNextBetween : List (ℕ × List (ℕ × List ℕ)) → ℕ → ℕ → ℕ → ℕ → Option ℕ → Type 0
+IsNextBetween rows from to first end next = MatchOption next
+    ((i : ℕ) → first ≤ i → i < end → has_between from to (row_of rows i) ≡ false)
+    (λ chunk. (first ≤ chunk) × (chunk < end) × (has_between from to (row_of rows chunk) ≡ true) × ((i : ℕ) → first ≤ i → i < chunk → has_between from to (row_of rows i) ≡ false))
 
 -- at chunk i and a number a new index has o, and else what the old index has
 abbrev pub PutsAt : List (ℕ × List (ℕ × List ℕ)) → List (ℕ × List (ℕ × List ℕ)) → ℕ → ℕ → Option (List ℕ) → Type 0

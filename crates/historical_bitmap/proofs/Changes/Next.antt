@@ -18,7 +18,7 @@ use Rattle.bitmap_core.proofs.Lists.SetPositions.{ones_between-append, ones_betw
 use Rattle.bitmap_core.specs.PrunedBits.{PrunedBits}
 use Rattle.chunk_map.specs.Entries.{IsNextMember}
 use Rattle.historical_bitmap.specs.Changes.{changed_from, differs, retained_bytes}
-use Rattle.historical_bitmap.specs.Compared.{named_chunks, IsNextChange}
+use Rattle.historical_bitmap.specs.Compared.{named_chunks, IsNextChange, PassesEqual}
 use Rattle.historical_bitmap.specs.History.{at_least, EntriesRise}
 use Rattle.historical_bitmap.specs.Record.{ReverseRecord}
 use Rattle.historical_bitmap.proofs.Lists.Between.{none_up_to}
@@ -111,26 +111,31 @@ differs_by n old new i a b r e f h = sym (h ∙ (ap (λ o. not (option_eq (point
 pub skip : (d : ℕ → Bool) (lo mid hi : ℕ) → lo ≤ mid → mid ≤ hi → ((k : ℕ) → lo ≤ k → k < mid → d k ≡ false) → ones_between d lo hi ≡ ones_between d mid hi
 skip d lo mid hi l h none = ones_between-append d lo mid hi l h ∙ ap (λ xs. xs ++ ones_between d mid hi) (ones_between-false d lo mid none)
 
-module _ (n : ℕ) (old new : PrunedBits) (first at end : ℕ) (names : List ℕ) (unnamed : (i : ℕ) → is_member nat_eq names i ≡ false → differs n old new i ≡ false) (same : changed_from n old new at end ≡ changed_from n old new first end) where
-  -- no chunk from here on has an entry
-  pub change_none : IsNextMember names at None → IsNextChange n old new first end None
-  change_none none = sym same ∙ ones_between-false (differs n old new) at end (λ k l h. unnamed k (none k l))
+-- the next chunk of a list that has each chunk that differs
+pub passes_named : (n : ℕ) (old new : PrunedBits) (names : List ℕ) → ((i : ℕ) → is_member nat_eq names i ≡ false → differs n old new i ≡ false) → (first : ℕ) (next : Option ℕ) → IsNextMember names first next → PassesEqual n old new first next
+passes_named n old new names unnamed first None none = λ i l. unnamed i (none i l)
+passes_named n old new names unnamed first (Some chunk) next = (next.0, λ i l h. unnamed i (next.2 i l h))
 
-  -- the next chunk with an entry is past the end
-  pub change_past : (i : ℕ) → IsNextMember names at (Some i) → end ≤ i → IsNextChange n old new first end None
-  change_past i next past = sym same ∙ ones_between-false (differs n old new) at end (λ k l h. unnamed k (next.2 k l (omega (arith, h, past))))
+module _ (n : ℕ) (old new : PrunedBits) (first at end : ℕ) (same : changed_from n old new at end ≡ changed_from n old new first end) where
+  -- no chunk from here on may differ
+  pub change_none : PassesEqual n old new at None → IsNextChange n old new first end None
+  change_none none = sym same ∙ ones_between-false (differs n old new) at end (λ k l h. none k l)
 
-  -- the next chunk with an entry differs
-  pub change_here : (i : ℕ) → IsNextMember names at (Some i) → i < end → differs n old new i ≡ true → IsNextChange n old new first end (Some i)
+  -- the next chunk that may differ is past the end
+  pub change_past : (i : ℕ) → PassesEqual n old new at (Some i) → end ≤ i → IsNextChange n old new first end None
+  change_past i next past = sym same ∙ ones_between-false (differs n old new) at end (λ k l h. next.1 k l (omega (arith, h, past)))
+
+  -- the next chunk that may differ does
+  pub change_here : (i : ℕ) → PassesEqual n old new at (Some i) → i < end → differs n old new i ≡ true → IsNextChange n old new first end (Some i)
   change_here i next inside other =
-      (inside, sym same ∙ (skip (differs n old new) at i end next.0 (omega (arith, inside)) (λ k l h. unnamed k (next.2 k l h)) ∙ ones_between-hit (differs n old new) i end inside other))
+      (inside, sym same ∙ (skip (differs n old new) at i end next.0 (omega (arith, inside)) next.1 ∙ ones_between-hit (differs n old new) i end inside other))
 
-  -- the next chunk with an entry does not differ
-  pub change_later : (i : ℕ) → IsNextMember names at (Some i) → i < end → differs n old new i ≡ false → changed_from n old new (i + 1) end ≡ changed_from n old new first end
+  -- the next chunk that may differ does not
+  pub change_later : (i : ℕ) → PassesEqual n old new at (Some i) → i < end → differs n old new i ≡ false → changed_from n old new (i + 1) end ≡ changed_from n old new first end
   change_later i next inside alike =
       sym (skip (differs n old new) at (i + 1) end (omega (arith, next.0)) (omega (arith, inside)) (λ k l h. elim (cases_eq k i) [
         | inl e ↦ ap (differs n old new) e ∙ alike
-        | inr ne ↦ unnamed k (next.2 k l (omega (arith, h, ne)))
+        | inr ne ↦ next.1 k l (omega (arith, h, ne))
       ])) ∙ same
 
 -- there are fewer than 2 ^ 64 chunks that differ

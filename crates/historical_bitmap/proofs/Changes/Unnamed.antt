@@ -8,6 +8,7 @@ use Rattle.std.proofs.lemmas.Option.{same_Some}
 use Rattle.std.proofs.lemmas.Nat.{div-mul-add, mod_below, mul-le}
 use Rattle.std.specs.Cmp.Lexicographic.{options_equiv}
 use Rattle.std.specs.Map.{keys_of, lookup}
+use Rattle.std.specs.Option.{option_or}
 use Rattle.std.specs.Prelude.{Option, Some, None, nat_eq, nat_lt}
 use Rattle.std.specs.Set.{is_member}
 use Rattle.bitmap_bytes.specs.Chunk.{byte_of, chunk_bit, IsChunk, IsWidth}
@@ -18,7 +19,7 @@ use Rattle.bitmap_core.specs.PrunedBits.{PrunedBits, pruned_bits, bit_at, bit_le
 use Rattle.bitmap_core.proofs.Pruned.Positions.{bit_from_bits, bit_past, index_below_ceil, place}
 use Rattle.historical_bitmap.specs.Changes.{chunk_total, differs, retained_bytes}
 use Rattle.historical_bitmap.specs.Compared.{between_numbers, IsComparing, named_chunks}
-use Rattle.historical_bitmap.specs.History.{AllCanUndo, AreKept, kept_under, left_by, past_number, RiseInNumber, snapshots, undone}
+use Rattle.historical_bitmap.specs.History.{AllCanUndo, AreKept, first_kept, kept_under, left_by, past_number, RiseInNumber, snapshots, undone}
 use Rattle.historical_bitmap.specs.Record.{ReverseRecord, before, bit_or_else, bytes_of, IsUnchanged, kept}
 use Rattle.historical_bitmap.specs.Undo.{CanUndo}
 use Rattle.historical_bitmap.proofs.History.InPlace.{before_len, entries_rise}
@@ -70,6 +71,29 @@ chain_same n (c ∷ cs) b i all out =
     let o = in_neither (keys_of c.1.entries) (named_chunks cs) i out in
     and_then n (before n c.1 (undone n cs b)) (undone n cs b) b i (unnamed_same n c.1 (undone n cs b) i all.0 (not_key i c.1.entries o.0)) (chain_same n cs b i all.1 o.1)
 
+-- ---- chunks of which no old bytes are kept
+-- a chunk of which a record keeps nothing: its old bits are there after the commit
+unkept_stays : (n : ℕ) (r : ReverseRecord) (newer : PrunedBits) (i : ℕ) → CanUndo n r newer → kept r i ≡ None → IsUnchanged n (before n r newer) newer i
+unkept_stays n r newer i can none k e h =
+    let inside : k < r.len = rw (before_len n r newer can) at h.1 in
+    let none_at : kept r (k / (8 * n)) ≡ None = ap (kept r) e ∙ none in (
+      can.unkept k h.0 inside none_at,
+      sym (bit_from_bits n r.pruned r.len (λ j. bit_or_else n (kept r (j / (8 * n))) newer j) k h.0 inside ∙ ap (λ o. bit_or_else n o newer k) none_at),
+    )
+
+-- the same after some commits, of which no record keeps anything of the chunk
+chain_stays : (n : ℕ) (cs : List (ℕ × ReverseRecord)) (b : PrunedBits) (i : ℕ) → AllCanUndo n cs b → first_kept cs i ≡ None → IsUnchanged n (undone n cs b) b i
+chain_stays n [] b i all none k e h = (h, refl)
+chain_stays n (c ∷ cs) b i all none k e h =
+    let parts = neither_kept (kept c.1 i) (first_kept cs i) none in
+    let first = unkept_stays n c.1 (undone n cs b) i all.0 parts.0 k e h in
+    let rest = chain_stays n cs b i all.1 parts.1 k e first.0 in
+    (rest.0, rest.1 ∙ first.1)
+  where
+    neither_kept : {X : Type 0} (o p : Option X) → option_or o p ≡ None → (o ≡ None) × (p ≡ None)
+    neither_kept None p e = (refl, e)
+    neither_kept (Some x) p e = absurd (let f : Some x ≡ None = e in cc)
+
 past_past : {X : Type 0} (from to : ℕ) (cs : List (ℕ × X)) → from ≤ to → past_number to (past_number from cs) ≡ past_number to cs
 past_past from to [] h = refl
 past_past from to (c ∷ cs) h = elim (cases_lt from c.0) [
@@ -89,6 +113,12 @@ module _ (n from to : ℕ) (cs : List (ℕ × ReverseRecord)) (b : PrunedBits) (
   leads_between =
       ap (λ later. undone n (between_numbers from to cs) (undone n later b)) (sym (past_past from to cs order))
       ∙ undone_rewound n to (past_number from cs) b (rise_past from cs rise)
+
+  -- of a chunk of which no record between two states keeps old bytes, the bits of the older state are in the newer one
+  pub unkept_between : (i : ℕ) → first_kept (between_numbers from to cs) i ≡ None → IsUnchanged n (left_by n from cs b) (left_by n to cs b) i
+  unkept_between i none =
+      subst (λ old. IsUnchanged n old (left_by n to cs b) i) leads_between
+      (chain_stays n (between_numbers from to cs) (left_by n to cs b) i can_undo_between none)
 
   -- a chunk without an entry in a record between two states is the same in both
   pub unnamed_between : (i : ℕ) → is_member nat_eq (named_chunks (between_numbers from to cs)) i ≡ false → IsSameChunk n (left_by n from cs b) (left_by n to cs b) i
@@ -164,6 +194,24 @@ same_bytes n old new i pos same = elim (is_there n old i) [
   ])
 ]
 
+-- a chunk that the older state has with all its bits is retained in both with the same bytes if these bits stay, or in neither if it is pruned
+pub kept_bytes_same : (n : ℕ) (old new : PrunedBits) (i : ℕ) → 0 < n → old.pruned ≤ new.pruned → 8 * n * (i + 1) ≤ bit_len n old → IsUnchanged n old new i → retained_bytes n old i ≡ retained_bytes n new i
+kept_bytes_same n old new i pos rises whole stays = elim (cases_lt i old.pruned) [
+  | inl gone ↦ bytes_none n old i (inl gone) ∙ sym (bytes_none n new i (inl (omega (arith, gone, rises))))
+  | inr low ↦
+      let split : 8 * n * (i + 1) ≡ 8 * n * i + 8 * n = omega arith in
+      let has : IsRetainedChunk n old i = (low, omega (arith, whole, split, pos)) in
+      let there = same_has n old new i pos stays has in
+      bytes_there n old i has
+      ∙ (ap Some (chunk_from_bits n old new i pos (λ k e. sym (stays k e (not_pruned n old i k low e, inside k e)).1)) ∙ sym (bytes_there n new i there))
+]
+  where
+    inside : (k : ℕ) → k / (8 * n) ≡ i → k < bit_len n old
+    inside k e =
+        let at : 8 * n * i + k % (8 * n) ≡ k = ap (λ y. 8 * n * y + k % (8 * n)) (sym e) ∙ place (8 * n) k in
+        let split : 8 * n * (i + 1) ≡ 8 * n * i + 8 * n = omega arith in
+        omega (arith, at, whole, split, mod_below k (8 * n) (omega (arith, pos)))
+
 pub not_different : (n : ℕ) (old new : PrunedBits) (i : ℕ) → retained_bytes n old i ≡ retained_bytes n new i → differs n old new i ≡ false
 not_different n old new i e = rw e (ap not ((options_equiv nat_list_eq_equiv).refl (retained_bytes n new i)))
 
@@ -201,10 +249,15 @@ pub comparing : (n from to : ℕ) (cs : List (ℕ × ReverseRecord)) (b : Pruned
 comparing n from to cs b last old new end width order kept e f short long last_is = record {
   width = width;
   order = order;
+  numbers = kept.rise;
   rise = entries_rise n (between_numbers from to cs) (left_by n to cs b) (can_undo_between n from to cs b order kept.rise kept.undo);
   unnamed = λ i out.
       let same : IsSameChunk n (left_by n from cs b) (left_by n to cs b) i = unnamed_between n from to cs b order kept.rise kept.undo i out in
       not_different n old new i (same_bytes n old new i width.positive (rw (is_left n from cs b old kept.rise e, is_left n to cs b new kept.rise f) at same));
+  unkept = λ i whole none.
+      let stays : IsUnchanged n (left_by n from cs b) (left_by n to cs b) i = unkept_between n from to cs b order kept.rise kept.undo i none in
+      not_different n old new i
+      (kept_bytes_same n old new i width.positive (pruned_rises n from to cs b last old new kept order e f) whole (rw (is_left n from cs b old kept.rise e, is_left n to cs b new kept.rise f) at stays));
   small = λ i h. elim (cases_lt i (chunk_total n old)) [
     | inl l ↦ omega (arith, index_below_ceil n (bit_len n old) i width.positive l, short)
     | inr l ↦ omega (arith, index_below_ceil n (bit_len n new) i width.positive (omega (arith, h, l, last_is)), long)

@@ -1,15 +1,17 @@
 -- The old bytes of a chunk, found with an index: those at the least later number with which the index has any for the chunk.
-use Rattle.std.proofs.Common.{◌≡◌, ℕ, ◌<◌, List, [], ◌∷◌, refl, ap, arith, sym, ◌∙◌}
+use Rattle.std.proofs.Common.{◌≡◌, ℕ, ◌<◌, ◌≤◌, false, List, [], ◌∷◌, refl, ap, arith, sym, ◌∙◌}
 use mathlib.Core.Logic.{inl, inr}
-use Rattle.std.proofs.lemmas.Bool.{cases_lt, cases_eq, cases_order, eq-eqb, ne_eqb, lt-ltb, le-ltb}
+use Rattle.std.proofs.lemmas.Bool.{cases_lt, cases_eq, cases_order, eq-eqb, ne_eqb, lt-ltb, le-ltb, le-leb, lt-leb}
 use Rattle.std.proofs.lemmas.Option.{same_Some}
 use Rattle.std.proofs.lemmas.Map.Keys.{sorted_head, sorted_tail}
 use Rattle.std.specs.Map.{keys_of}
 use Rattle.std.specs.Ordering.{nat_cmp}
 use Rattle.std.specs.Prelude.{Option, Some, None}
+use Rattle.historical_bitmap.specs.Compared.{between_numbers}
 use Rattle.historical_bitmap.specs.History.{first_kept, kept_under, past_number, RiseInNumber}
-use Rattle.historical_bitmap.specs.Index.{bytes_at, IsIndexOf, IsNextKept, kept_in}
+use Rattle.historical_bitmap.specs.Index.{bytes_at, has_between, IsIndexOf, IsNextKept, kept_in, row_of}
 use Rattle.historical_bitmap.specs.Record.{ReverseRecord, kept}
+use Rattle.historical_bitmap.proofs.Index.Rows.{none_at_between}
 use Rattle.historical_bitmap.proofs.Records.UndoneInSteps.{none_past}
 
 -- no commit of some between two numbers keeps bytes of a chunk
@@ -73,3 +75,22 @@ next_found places cs n i (Some bytes) rise index (k, past, has, before) = of_rec
     of_record (Some r) found =
         let keeps : kept r i ≡ Some bytes = sym (index i k ∙ ap (λ o. kept_in o i) found) ∙ has in
         sym (next_first n k i cs r bytes rise past found keeps (λ m s within there. unplaced places cs i m s index (before m within.0 within.1) there))
+
+-- no commit with a number past one and up to another keeps bytes of a chunk
+none_within : (from to i : ℕ) (cs : List (ℕ × ReverseRecord)) → RiseInNumber cs → NoneKeeps cs i (λ m. (from < m) × (m ≤ to)) → first_kept (between_numbers from to cs) i ≡ None
+none_within from to i [] rise none = refl
+none_within from to i (c ∷ cs) rise none =
+    let rest = none_within from to i cs (sorted_tail nat_cmp c.0 (keys_of cs) rise) (rest_keeps c cs i (λ m. (from < m) × (m ≤ to)) rise none) in
+    elim (cases_lt from c.0) [
+      | inr low ↦ rw (le-ltb from c.0 low) rest
+      | inl past ↦ elim (cases_lt to c.0) [
+        | inl high ↦ rw (lt-ltb from c.0 past, lt-leb c.0 to high) rest
+        | inr within ↦ rw (lt-ltb from c.0 past, le-leb c.0 to within, first_none c cs i (λ m. (from < m) × (m ≤ to)) none (past, within)) rest
+      ]
+    ]
+
+-- if the row of a chunk has no bytes between two numbers, no record between them keeps any
+pub none_kept_between : (rows : List (ℕ × List (ℕ × List ℕ))) (cs : List (ℕ × ReverseRecord)) (from to i : ℕ) → RiseInNumber cs → IsIndexOf rows cs → has_between from to (row_of rows i) ≡ false
+    → first_kept (between_numbers from to cs) i ≡ None
+none_kept_between rows cs from to i rise index none =
+    none_within from to i cs rise (λ m r within found. unplaced rows cs i m r index (none_at_between from to (row_of rows i) none m within.0 within.1) found)

@@ -1,9 +1,10 @@
 -- Rows of old bytes: look-ups in one row after it is changed, and in the rows of all chunks after one of them is changed.
-use Rattle.std.proofs.Common.{◌≡◌, ◌≢◌, ℕ, zero, suc, ◌+◌, ◌-◌, ◌<◌, ◌≤◌, Bool, true, false, cond, List, [], ◌∷◌, ◌++◌, length, get_or, slice_index_or, slice_set, refl, ap, arith, sym, ◌∙◌, subst}
-use mathlib.Core.Logic.{inl, inr}
-use Rattle.std.proofs.lemmas.Bool.{cases_eq, cases_lt, eq-eqb, false≢true, ne_eqb}
+use Rattle.std.proofs.Common.{◌≡◌, ◌≢◌, ℕ, zero, suc, ◌+◌, ◌-◌, ◌<◌, ◌≤◌, Bool, true, false, cond, List, [], ◌∷◌, ◌++◌, length, get_or, slice_index, slice_index_or, slice_set, refl, ap, arith, sym, ◌∙◌, subst}
+use mathlib.Core.Logic.{inl, inr, ◌⊎◌}
+use Rattle.std.proofs.lemmas.Bool.{cases_eq, cases_lt, eq-eqb, false≢true, le-leb, le-ltb, lt-leb, lt-ltb, ne_eqb, or_parts}
 use Rattle.std.proofs.lemmas.List.{get_or-set_other, length-set, length_push}
 use Rattle.std.proofs.lemmas.List.Elements.{All-append, All-from_get_or, All-get_or, All-set}
+use Rattle.std.proofs.lemmas.List.Folds.{list_any_at}
 use Rattle.std.proofs.lemmas.Map.Entries.{length-keys_of}
 use Rattle.std.proofs.lemmas.Map.Keys.{sorted_head, sorted_tail}
 use Rattle.std.specs.List.{All, AllByRecursion, remove}
@@ -12,17 +13,22 @@ use Rattle.std.specs.declared.cmp.Ordering.TheVariants.{Less}
 use Rattle.std.specs.Map.{keys_of, lookup}
 use Rattle.std.specs.Option.{option_or}
 use Rattle.std.specs.Ordering.{nat_cmp}
-use Rattle.std.specs.Prelude.{◌&&◌, Option, Some, None, is_some, nat_eq, unwrap_or}
+use Rattle.std.specs.Prelude.{◌&&◌, Option, Some, None, is_some, nat_eq, nat_le, nat_lt, unwrap_or}
 use Rattle.chunk_map.specs.Entries.{Puts, entries_of}
+use Rattle.chunk_map.specs.Next.{AreBelow, IsNextPlace}
 use Rattle.chunk_map.specs.Trie.{AreApart, IsAbsent, IsAt, without_place}
 use Rattle.chunk_map.proofs.EntryLists.{apart_push, apart_without, entry_absent, found_at, length_without, puts_push, puts_set, puts_without, without_other, without_this}
 use Rattle.historical_bitmap.specs.History.{RiseInNumber}
-use Rattle.historical_bitmap.specs.Index.{AreRows, bytes_at, PutsAt, row_of}
+use Rattle.historical_bitmap.specs.Index.{AreRows, bytes_at, has_between, IsNextBetween, PutsAt, row_of}
 use Rattle.historical_bitmap.proofs.History.Positions.{number_after, number_at, number_found, number_less}
 use Rattle.historical_bitmap.proofs.History.Rewound.{or_none}
 use Rattle.historical_bitmap.proofs.Records.UndoneInSteps.{none_past}
 
 -- ---- one row
+and_false : (a : Bool) → (a && false) ≡ false
+and_false true = refl
+and_false false = refl
+
 -- a number at no position has no bytes
 absent_number : {X : Type 0} (es : List (ℕ × X)) (m : ℕ) → ((j : ℕ) → j < length es → get_or (keys_of es) j 0 ≢ m) → lookup (nat_eq m) es ≡ None
 absent_number [] m h = refl
@@ -51,6 +57,44 @@ module _ {X : Type 0} (es : List (ℕ × X)) (p n : ℕ) (earlier : (j : ℕ) �
   pub next_later : (later : (j : ℕ) → p ≤ j → j < length es → n < get_or (keys_of es) j 0) (e : ℕ × X) → p < length es → e ≡ get_or es p e → RiseInNumber es
       → (found : ℕ) × (n < found) × (lookup (nat_eq found) es ≡ Some e.1) × ((m : ℕ) → n < m → m < found → lookup (nat_eq m) es ≡ None)
   next_later later e within is rise = (e.0, omega (arith, number_at es p e within is, later p (omega arith) within), found_number es p e within is rise, none_between e within is rise)
+
+-- a row whose numbers are all up to one number or past another has no bytes between
+pub none_has : (from to : ℕ) (row : List (ℕ × List ℕ)) → ((j : ℕ) → j < length row → (get_or (keys_of row) j 0 ≤ from) ⊎ (to < get_or (keys_of row) j 0)) → has_between from to row ≡ false
+none_has from to [] out = refl
+none_has from to (e ∷ es) out = rw (outside (out 0 (omega arith))) (none_has from to es (λ j l. out (suc j) (omega (arith, l))))
+  where
+    outside : (e.0 ≤ from) ⊎ (to < e.0) → (nat_lt from e.0 && nat_le e.0 to) ≡ false
+    outside (inl low) = rw (le-ltb from e.0 low) refl
+    outside (inr high) = rw (lt-leb e.0 to high) (and_false (nat_lt from e.0))
+
+-- the bytes at a position are between
+pub has_at : (from to : ℕ) (row : List (ℕ × List ℕ)) (p : ℕ) (e : ℕ × List ℕ) → p < length row → e ≡ get_or row p e → from < e.0 → e.0 ≤ to → has_between from to row ≡ true
+has_at from to row p e within is low high =
+    list_any_at (λ kept. nat_lt from kept.0 && nat_le kept.0 to) row p e within
+    (subst (λ kept. (nat_lt from kept.0 && nat_le kept.0 to) ≡ true) is (rw (lt-ltb from e.0 low, le-leb e.0 to high) refl))
+
+-- the first number past one is up to another if there are bytes between, and else past it
+pub has_first : (from to : ℕ) (row : List (ℕ × List ℕ)) (p : ℕ) (e : ℕ × List ℕ) → ((j : ℕ) → j < p → get_or (keys_of row) j 0 ≤ from) → ((j : ℕ) → p ≤ j → j < length row → from < get_or (keys_of row) j 0)
+    → p < length row → e ≡ get_or row p e → RiseInNumber row → nat_le e.0 to ≡ has_between from to row
+has_first from to row p e earlier later within is rise = elim (cases_lt to e.0) [
+  | inr up ↦ rw (le-leb e.0 to up) (sym (has_at from to row p e within is (omega (arith, number_at row p e within is, later p (omega arith) within)) up))
+  | inl high ↦
+      rw (lt-leb e.0 to high)
+      (sym (none_has from to row (λ j l. elim (cases_lt j p) [
+        | inl before ↦ inl (earlier j before)
+        | inr after ↦ inr (omega (arith, high, number_after row p e within is rise j after l))
+      ])))
+]
+
+-- a row without bytes between has none at a number between
+pub none_at_between : (from to : ℕ) (row : List (ℕ × List ℕ)) → has_between from to row ≡ false → (m : ℕ) → from < m → m ≤ to → lookup (nat_eq m) row ≡ None
+none_at_between from to [] none m low high = refl
+none_at_between from to (e ∷ es) none m low high =
+    let parts = or_parts (nat_lt from e.0 && nat_le e.0 to) (has_between from to es) none in
+    elim (cases_eq m e.0) [
+      | inl same ↦ absurd (false≢true (sym parts.0 ∙ rw (lt-ltb from e.0 (omega (arith, same, low)), le-leb e.0 to (omega (arith, same, high))) refl))
+      | inr ne ↦ rw (ne_eqb m e.0 ne) (none_at_between from to es parts.1 m low high)
+    ]
 
 -- a number that has no bytes is removed
 pub none_removed : {X : Type 0} (es : List (ℕ × X)) (n : ℕ) → is_some (lookup (nat_eq n) es) ≡ false → Puts es es n None
@@ -114,10 +158,6 @@ all_less es n none = All-from_get_or (λ k. k < n) (keys_of es) 0 (λ i within. 
 ])
 
 -- ---- the rows of all chunks
-and_false : (a : Bool) → (a && false) ≡ false
-and_false true = refl
-and_false false = refl
-
 and_true : (a : Bool) → (a && true) ≡ a
 and_true true = refl
 and_true false = refl
@@ -185,6 +225,46 @@ module _ (ks : List ℕ) (rs : List (List (ℕ × List ℕ))) (i p : ℕ) (apart
 -- a chunk at no place has no row
 pub row_none : (ks : List ℕ) (rs : List (List (ℕ × List ℕ))) (i : ℕ) → IsAbsent ks i → row_of (entries_of ks rs) i ≡ []
 row_none ks rs i absent = ap (λ o. unwrap_or o []) (entry_absent ks rs i absent)
+
+-- ---- the next chunk whose row has bytes between two numbers
+module _ (from to first at : ℕ) (ks : List ℕ) (rs : List (List (ℕ × List ℕ))) (v : List (ℕ × List (ℕ × List ℕ))) (view : entries_of ks rs ≡ v) (free : (i : ℕ) → first ≤ i → i < at → has_between from to (row_of v i) ≡ false) where
+  -- a chunk without a row has no bytes
+  absent_free : (i : ℕ) → IsAbsent ks i → has_between from to (row_of v i) ≡ false
+  absent_free i absent = ap (λ x. has_between from to (row_of x i)) (sym view) ∙ ap (has_between from to) (row_none ks rs i absent)
+
+  -- no further chunk has a row
+  pub between_end : (end : ℕ) → AreBelow ks at → IsNextBetween v from to first end None
+  between_end end below i low high = elim (cases_lt i at) [
+    | inl before ↦ free i low before
+    | inr after ↦ absent_free i (λ q w e. omega (arith, e, after, below q w))
+  ]
+
+  module _ (place chunk : ℕ) (next : IsNextPlace ks at place) (key : chunk ≡ slice_index ks place) where
+    -- the chunks before the next one with a row
+    free_before : (i : ℕ) → first ≤ i → i < chunk → has_between from to (row_of v i) ≡ false
+    free_before i low high = elim (cases_lt i at) [
+      | inl before ↦ free i low before
+      | inr after ↦ absent_free i (λ q w e. omega (arith, e, high, key, next.least q w (omega (arith, e, after))))
+    ]
+
+    -- the next chunk with a row is past the end
+    pub between_past : (end : ℕ) → end ≤ chunk → IsNextBetween v from to first end None
+    between_past end past i low high = free_before i low (omega (arith, high, past))
+
+    module _ (apart : AreApart ks) (sizes : length rs ≡ length ks) (row : List (ℕ × List ℕ)) (is : row ≡ slice_index_or rs place row) where
+      row_here : row_of v chunk ≡ row
+      row_here = ap (λ x. row_of x chunk) (sym view) ∙ row_read ks rs chunk place apart sizes (record { within = next.within; is = sym key }) row is
+
+      -- its row has bytes between
+      pub between_here : (end : ℕ) → first ≤ at → chunk < end → has_between from to row ≡ true → IsNextBetween v from to first end (Some chunk)
+      between_here end low within has = (omega (arith, low, key, next.from_on), within, ap (has_between from to) row_here ∙ has, free_before)
+
+      -- its row has none
+      pub between_later : has_between from to row ≡ false → (i : ℕ) → first ≤ i → i < chunk + 1 → has_between from to (row_of v i) ≡ false
+      between_later none i low high = elim (cases_eq i chunk) [
+        | inl e ↦ ap (λ k. has_between from to (row_of v k)) e ∙ (ap (has_between from to) row_here ∙ none)
+        | inr ne ↦ free_before i low (omega (arith, high, ne))
+      ]
 
 -- so nothing is removed from it
 pub row_kept : (ks : List ℕ) (rs : List (List (ℕ × List ℕ))) (i n : ℕ) → IsAbsent ks i → PutsAt (entries_of ks rs) (entries_of ks rs) i n None

@@ -9,7 +9,7 @@ ghost use Rattle.std.specs.Map.{keys_of, lookup};
 ghost use Rattle.std.specs.Vec.{vec_capacity};
 ghost use Rattle.bitmap_bytes.specs.Chunk.{IsWidth};
 ghost use Rattle.chunk_map.specs.Entries.{Puts};
-ghost use Rattle.historical_bitmap.specs.Index.{appended_at, bytes_at, IsNextKept, PutsAt, row_at};
+ghost use Rattle.historical_bitmap.specs.Index.{appended_at, bytes_at, IsNextBetween, IsNextKept, PutsAt, row_at};
 
 use crate::bitmap::historical::kept_row::KeptRow;
 use chunk_map::places::Places;
@@ -162,6 +162,30 @@ impl<const N: usize> KeptBytes<N> {
             Some(place) => self.rows[place].next_past(number),
             None => None,
         }
+    }
+
+    // Returns the first chunk from `first` on, and before `end`, that has bytes at a number past `from` and up to `to`, if there is one.
+    // Visits the row of each chunk before it.
+    pub(crate) fn next_between(&self, from: u64, to: u64, first: usize, end: usize) -> Option<usize>
+        ensures { IsNextBetween self.now from to first end result }
+    {
+        let mut at = first;
+        while let Some(place) = self.chunks.next_from(at) {
+            let chunk = self.chunks.key_at(place);
+            if chunk >= end {
+                return None;
+            }
+            if self.rows[place].has_between(from, to) {
+                return Some(chunk);
+            }
+            at = chunk + 1;
+        }
+        None
+    }
+
+    // Returns the number of chunks that have bytes.
+    pub(crate) fn len(&self) -> usize {
+        self.rows.len()
     }
 }
 

@@ -6,7 +6,7 @@ ghost use Rattle.std.specs.Map.{keys_of};
 ghost use Rattle.bitmap_bytes.specs.Chunk.{IsWidth};
 ghost use Rattle.chunk_map.specs.Entries.{Puts};
 ghost use Rattle.historical_bitmap.specs.History.{RiseInNumber};
-ghost use Rattle.historical_bitmap.specs.Index.{IsNextIn};
+ghost use Rattle.historical_bitmap.specs.Index.{has_between, IsNextIn};
 
 use std::alloc::{AllocError, Global};
 use std::collections::VecDeque;
@@ -113,6 +113,18 @@ impl<const N: usize> KeptRow<N> {
         }
         let kept = &self.bytes[past];
         Some(&kept.1)
+    }
+
+    // Returns whether there are bytes at a number past `from` and up to `to`, by binary search.
+    pub(crate) fn has_between(&self, from: u64, to: u64) -> bool
+        ensures { result ≡ has_between from to self.now }
+    {
+        let past = search_past(&self.bytes, from);
+        if past == self.bytes.len() {
+            return false;
+        }
+        let next = &self.bytes[past];
+        next.0 <= to
     }
 }
 

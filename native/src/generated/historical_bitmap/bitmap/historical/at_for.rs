@@ -5,7 +5,7 @@ use crate::generated::bitmap_core::bitmap::Readable;
 use crate::generated::bitmap_core::bitmap::prunable::Prunable;
 use crate::generated::bitmap_core::chunk::chunk_width;
 use crate::generated::historical_bitmap::bitmap::historical::at::AtCommit;
-use crate::generated::historical_bitmap::bitmap::historical::commit_list::CommitList;
+use crate::generated::historical_bitmap::bitmap::historical::commit_list::{SEARCH_IN_INDEX, entries_between};
 use crate::generated::historical_bitmap::bitmap::historical::gathered::Gathered;
 use crate::generated::historical_bitmap::bitmap::historical::{BitMap, Clean};
 #[allow(unused_imports)]
@@ -39,10 +39,7 @@ pub struct PastBitMap<'a, const N: usize> {
     way: Way<'a, N>,
 }
 
-// Costs are estimates. Their unit is the time of one search for a chunk in a reverse record.
-
-// The cost of a search for a chunk in an index.
-const SEARCH_IN_INDEX: u64 = 5;
+// Costs are estimates, as `SEARCH_IN_INDEX` is, and have its unit.
 
 // The cost of gathering an entry, and of reading the version around its chunk.
 const GATHERED_ENTRY: u64 = 16;
@@ -55,16 +52,6 @@ const UNDONE_ENTRY: u64 = 1;
 
 // The bits that are copied at the cost of one.
 const COPIED_BITS: u64 = 1024;
-
-// Returns the number of entries of the records from a position on.
-fn entries_from<const N: usize>(commits: &CommitList<N>, first: usize) -> u64 {
-    let mut entries: u64 = 0;
-    for position in first..commits.len() {
-        let (_, record) = commits.try_commit(position);
-        entries = entries.saturating_add(record.entries() as u64);
-    }
-    entries
-}
 
 // Returns the cost of building a version that retains so many bits, with so many later commits
 // that have so many entries.
@@ -136,7 +123,7 @@ impl<const N: usize> BitMap<N, Clean> {
         if searching <= later {
             return None;
         }
-        let entries = entries_from(&self.commits, past);
+        let entries = entries_between(&self.commits, past, self.commits.len());
         let gathering = entries.saturating_mul(GATHERED_ENTRY);
         let building = building_cost(retained, later, entries);
         if searching <= gathering.min(building) {

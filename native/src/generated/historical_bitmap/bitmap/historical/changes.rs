@@ -4,8 +4,9 @@
 use crate::generated::bitmap_core::bitmap::Readable;
 use crate::generated::bitmap_core::chunk::{chunk_count, chunk_width};
 use crate::generated::historical_bitmap::bitmap::historical::at::AtCommit;
-use crate::generated::historical_bitmap::bitmap::historical::commit_list::CommitList;
+use crate::generated::historical_bitmap::bitmap::historical::commit_list::{CommitList, SEARCH_IN_INDEX, entries_between};
 use crate::generated::historical_bitmap::bitmap::historical::edited::cut;
+use crate::generated::historical_bitmap::bitmap::historical::kept_bytes::KeptBytes;
 use crate::generated::historical_bitmap::bitmap::historical::{BitMap, Clean};
 #[allow(unused_imports)]
 use crate::support::prelude::*;
@@ -17,9 +18,15 @@ use crate::support::prelude::*;
 /// Does not allocate.
 ///
 /// # Complexity
-/// For each chunk that `next` examines: two searches among the kept commits, one binary search per reverse record between the two states,
-/// and two reads through `AtCommit`.
-/// It examines only chunks with an entry in such a record.
+///
+/// Each chunk that `next` examines is read in both states, as `AtCommit` does. Which chunks it
+/// examines, and how it finds them, depends on the bitmap:
+///
+/// - Without an index: the chunks with an entry in a reverse record between the two states. For each
+///   of them: two searches among the kept commits, and one binary search per such record.
+/// - With an index, if that is estimated to cost less: the chunks with old bytes in such a record, and
+///   those that the older state has in part or not at all. For each chunk with a row in the index:
+///   a search in the trie, and one that is logarithmic in the kept commits that changed the chunk.
 ///
 /// # Examples
 ///
@@ -38,15 +45,23 @@ use crate::support::prelude::*;
 /// ```
 #[derive(Debug)]
 pub struct ChangedChunks<'a, const N: usize> {
+    states: Comparison<'a, N>,
+    // The first index that is still to be examined.
+    next: usize,
+}
+
+// Two kept states that are compared.
+#[derive(Debug)]
+struct Comparison<'a, const N: usize> {
     commits: &'a CommitList<N>,
     from: u64,
     to: u64,
     older: AtCommit<'a, N>,
     newer: AtCommit<'a, N>,
-    // The first index that is still to be examined.
-    next: usize,
     // The number of chunks of the longer state.
     end: usize,
+    // The index of the commits, if it is searched for the chunks that may differ.
+    rows: Option<&'a KeptBytes<N>>,
 }
 
 // Returns the lesser of two numbers, or the only one.
@@ -115,27 +130,54 @@ impl<'a, const N: usize> AtCommit<'a, N> {
     }
 }
 
-// Returns the first chunk from `first` on, and before `end`, in which two states differ.
-fn next_changed<const N: usize>(
-    commits: &CommitList<N>,
-    from: u64,
-    to: u64,
-    older: &AtCommit<'_, N>,
-    newer: &AtCommit<'_, N>,
-    first: usize,
-    end: usize,
-) -> Option<usize> {
-    let mut at = first;
-    while let Some(chunk) = next_named(commits, from, to, at) {
-        if chunk >= end {
-            return None;
-        }
-        if older.retained_bytes(chunk) != newer.retained_bytes(chunk) {
+// Returns the index of some commits, if there is one, and if a search in it is estimated to cost less
+// than searches in the records from position `first` up to `end`.
+fn cheaper_index<const N: usize>(commits: &CommitList<N>, first: usize, end: usize) -> Option<&KeptBytes<N>> {
+    let rows = commits.index()?;
+    let chunks = rows.len() as u64;
+    let records = end.saturating_sub(first) as u64;
+    let examined = entries_between(commits, first, end).min(chunks);
+    if examined.saturating_mul(records) > chunks.saturating_mul(SEARCH_IN_INDEX) { Some(rows) } else { None }
+}
+
+impl<'a, const N: usize> Comparison<'a, N> {
+    // Returns the number of chunks of the longer state.
+    fn end(&self) -> usize {
+        self.end
+    }
+
+    // Returns the first chunk from `first` on that may differ. The chunks before it do not.
+    fn next_candidate(&self, first: usize) -> Option<usize> {
+        let Some(rows) = self.rows else {
+            return next_named(self.commits, self.from, self.to, first);
+        };
+        let complete = self.older.complete_chunks();
+        let kept = rows.next_between(self.from, self.to, first, complete);
+        if let Some(chunk) = kept {
             return Some(chunk);
         }
-        at = chunk + 1;
+        // Old bytes are kept of no chunk that the older state lacks.
+        let next = first.max(complete);
+        if next < chunk_count::<N>(self.older.len()) {
+            return Some(next);
+        }
+        Some(next.max(self.newer.pruned_chunks()))
     }
-    None
+
+    // Returns the first chunk from `first` on that differs.
+    fn next_changed(&self, first: usize) -> Option<usize> {
+        let mut at = first;
+        while let Some(chunk) = self.next_candidate(at) {
+            if chunk >= self.end {
+                return None;
+            }
+            if self.older.retained_bytes(chunk) != self.newer.retained_bytes(chunk) {
+                return Some(chunk);
+            }
+            at = chunk + 1;
+        }
+        None
+    }
 }
 
 impl<const N: usize> BitMap<N, Clean> {
@@ -145,7 +187,9 @@ impl<const N: usize> BitMap<N, Clean> {
     /// Returns `None` unless both numbers are kept and `from` is at most `to`. Does not allocate.
     ///
     /// # Complexity
-    /// Logarithmic in the kept commits. `ChangedChunks` says what the iterator costs.
+    ///
+    /// Logarithmic in the kept commits. If the bitmap is indexed, also a visit of each commit between
+    /// the two. `ChangedChunks` says what the iterator costs.
     ///
     /// # Examples
     ///
@@ -170,7 +214,10 @@ impl<const N: usize> BitMap<N, Clean> {
         let older = self.at(from)?;
         let newer = self.at(to)?;
         let end = chunk_count::<N>(older.len()).max(chunk_count::<N>(newer.len()));
-        Some(ChangedChunks { commits: &self.commits, from, to, older, newer, next: 0, end })
+        let past = self.commits.past(from);
+        let rows = cheaper_index(&self.commits, past, self.commits.past(to));
+        let states = Comparison { commits: &self.commits, from, to, older, newer, end, rows };
+        Some(ChangedChunks { states, next: 0 })
     }
 
     /// States that of two kept states, the later one has at least as many pruned chunks as the earlier one.
@@ -216,10 +263,11 @@ impl<'a, const N: usize> Iterator for ChangedChunks<'a, N> {
     type Item = usize;
 
     fn next(&mut self) -> Option<usize> {
-        let found = next_changed(self.commits, self.from, self.to, &self.older, &self.newer, self.next, self.end);
+        let end = self.states.end();
+        let found = self.states.next_changed(self.next);
         match found {
             Some(chunk) => self.next = chunk + 1,
-            None => self.next = self.end,
+            None => self.next = end,
         }
         found
     }

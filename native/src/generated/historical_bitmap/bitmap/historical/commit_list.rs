@@ -21,6 +21,10 @@ pub(crate) struct CommitList<const N: usize> {
     index: Option<KeptBytes<N>>,
 }
 
+// The estimated cost of a search for a chunk in an index. The unit of costs is the time of one search
+// for a chunk in a reverse record.
+pub(crate) const SEARCH_IN_INDEX: u64 = 5;
+
 // Returns the position of the first number past one, or the count of the commits if there is none, by binary search.
 fn search_past<const N: usize>(commits: &VecDeque<(u64, CommitDiff<N>)>, number: u64) -> usize {
     let mut start = 0;
@@ -70,6 +74,17 @@ fn has_number<const N: usize>(commits: &VecDeque<(u64, CommitDiff<N>)>, number: 
     }
     let commit = &commits[past - 1];
     commit.0 == number
+}
+
+// Returns the number of entries of the records from position `first` up to `end`, or `u64::MAX` if
+// that is less.
+pub(crate) fn entries_between<const N: usize>(commits: &CommitList<N>, first: usize, end: usize) -> u64 {
+    let mut entries: u64 = 0;
+    for position in first..end {
+        let (_, record) = commits.try_commit(position);
+        entries = entries.saturating_add(record.entries() as u64);
+    }
+    entries
 }
 
 impl<const N: usize> CommitList<N> {

@@ -98,6 +98,28 @@ impl<const N: usize> KeptBytes<N> {
             None => None,
         }
     }
+
+    // Returns the first chunk from `first` on, and before `end`, that has bytes at a number past `from` and up to `to`, if there is one.
+    // Visits the row of each chunk before it.
+    pub(crate) fn next_between(&self, from: u64, to: u64, first: usize, end: usize) -> Option<usize> {
+        let mut at = first;
+        while let Some(place) = self.chunks.next_from(at) {
+            let chunk = self.chunks.key_at(place);
+            if chunk >= end {
+                return None;
+            }
+            if self.rows[place].has_between(from, to) {
+                return Some(chunk);
+            }
+            at = chunk + 1;
+        }
+        None
+    }
+
+    // Returns the number of chunks that have bytes.
+    pub(crate) fn len(&self) -> usize {
+        self.rows.len()
+    }
 }
 
 impl<const N: usize> TryClone for KeptBytes<N> {

@@ -73,6 +73,16 @@ impl<const N: usize> KeptRow<N> {
         let kept = &self.bytes[past];
         Some(&kept.1)
     }
+
+    // Returns whether there are bytes at a number past `from` and up to `to`, by binary search.
+    pub(crate) fn has_between(&self, from: u64, to: u64) -> bool {
+        let past = search_past(&self.bytes, from);
+        if past == self.bytes.len() {
+            return false;
+        }
+        let next = &self.bytes[past];
+        next.0 <= to
+    }
 }
 
 impl<const N: usize> TryClone for KeptRow<N> {

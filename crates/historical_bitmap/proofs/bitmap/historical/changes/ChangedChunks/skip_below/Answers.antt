@@ -4,9 +4,9 @@ use Rattle.historical_bitmap.proofs.bitmap.historical.changes.ChangedChunks.skip
 pub returns-then-self-chunk : goal.returns-then-self-chunk
 returns-then-self-chunk g c =
     rw (← c.self.view_is)
-    (skipped_to g.row.N c.self.inside.older c.self.inside.newer c.self.inside.next c.self.inside.end c.args.chunk c.if-self-chunk.true)
+    (skipped_to g.row.N c.self.inside.states.old c.self.inside.states.new c.self.inside.next c.self.inside.states.end c.args.chunk c.if-self-chunk.true)
 
 pub returns-else-self-chunk : goal.returns-else-self-chunk
 returns-else-self-chunk g c =
     rw (← c.self.view_is)
-    (none_skipped g.row.N c.self.inside.older c.self.inside.newer c.self.inside.next c.self.inside.end c.args.chunk c.if-self-chunk.false)
+    (none_skipped g.row.N c.self.inside.states.old c.self.inside.states.new c.self.inside.next c.self.inside.states.end c.args.chunk c.if-self-chunk.false)
