@@ -15,7 +15,7 @@ import tempfile
 from pathlib import Path
 
 from replay import NO_MEMORY as REFUSED
-from replay import TOP, Run, difference, report, run
+from replay import PROGRAM, TOP, Run, difference, report, run, stop_without
 
 USAGE = "replay: usage: replay WIDTH SCRIPT, WIDTH one of 1, 3, 4, 8, 32"
 UNREAD = "replay: cannot read the script"
@@ -223,6 +223,7 @@ def cases(folder, small):
 
 
 def main():
+    stop_without(PROGRAM)
     with tempfile.TemporaryDirectory() as folder:
         return report("errors", list(cases(folder, sys.argv[1:] == ["--small"])))
 

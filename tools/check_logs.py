@@ -30,7 +30,7 @@ from typing import NamedTuple, Optional
 
 from formats import COMMIT, WIDTHS, Entry, Formats, Historical, LoggedScript, ReadError, flipped, frame, other_list
 from hostile import Forger, LargeInputs, random_deltas, random_logs
-from replay import SECONDS, TOP, report
+from replay import SECONDS, TOP, report, stop_without
 
 PROGRAM = Path(os.environ.get("LOG_RUNS_PROGRAM", TOP / "crates/log_runs/out/log_runs")).resolve()
 
@@ -375,6 +375,7 @@ def first_difference(script, printed):
 
 
 def main():
+    stop_without(PROGRAM)
     count, seed = int(sys.argv[1]), sys.argv[2] if len(sys.argv) > 2 else "0"
     if has_checks():
         print("logs: the program has checks of its own, so that it has no limit on memory")

@@ -11,7 +11,7 @@ import sys
 import tempfile
 from pathlib import Path
 
-from replay import TOP, WIDTHS, Run, lines_of, report, run
+from replay import PROGRAM, TOP, WIDTHS, Run, lines_of, report, run, stop_without
 
 # In the long bitmaps every third bit is set, from the first on.
 LENGTH = 1100
@@ -87,6 +87,7 @@ def cases(path):
 
 
 def main():
+    stop_without(PROGRAM)
     with tempfile.TemporaryDirectory() as folder:
         return report("rows and examples", list(cases(Path(folder) / "rows.script")))
 

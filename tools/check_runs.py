@@ -25,7 +25,7 @@ from pathlib import Path
 
 from counter import preloaded, take_report
 from model import LAST, Bitmap, Model, State
-from replay import NO_MEMORY, TOP, WIDTHS, commands_of, difference, first_difference, report, run
+from replay import NO_MEMORY, PROGRAM, TOP, WIDTHS, commands_of, difference, first_difference, report, run, stop_without
 
 ALLOCATE = {"push", "push-byte", "push-chunk", "set", "prune", "commit", "ones", "encode", "commits", "rewind", "at", "ones-at", "encode-at", "decode"}
 READS = {"at", "ones-at", "encode-at"}
@@ -415,6 +415,7 @@ def main():
     parts = {"random": check_all_random, "exhaustive": check_all_batches, "allocation_failures": check_all_failures}
     if what not in parts:
         sys.exit(__doc__)
+    stop_without(PROGRAM)
     with tempfile.TemporaryDirectory() as folder, ProcessPoolExecutor() as pool:
         cases = parts[what](folder, pool, *map(int, counts))
     return report(what, cases)

@@ -33,7 +33,7 @@ from pathlib import Path
 from typing import NamedTuple
 
 from formats import Formats, Historical, State, be64
-from replay import SECONDS, TOP
+from replay import SECONDS, TOP, stop_without
 
 PROGRAM = Path(os.environ.get("STORE_RUNS_PROGRAM", TOP / "crates/store_runs/out/store_runs")).resolve()
 FORMATS = Formats(8)
@@ -323,6 +323,7 @@ def check_kill(tested, turn, to_open, to_commit):
 
 
 def main():
+    stop_without(PROGRAM)
     kills, seconds = int(sys.argv[1]), float(sys.argv[2]) if len(sys.argv) > 2 else float("inf")
     counts, disk = Counter(), Path(tempfile.mkdtemp(prefix="crash-store-"))
     memory = Path(tempfile.mkdtemp(prefix="crash-store-", dir=MEMORY)) if os.access(MEMORY, os.W_OK) else disk

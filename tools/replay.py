@@ -7,6 +7,7 @@ import os
 import re
 import resource
 import subprocess
+import sys
 from pathlib import Path
 from typing import NamedTuple
 
@@ -24,6 +25,12 @@ class Run(NamedTuple):
     status: int
     printed: list
     errors: list
+
+
+def stop_without(program):
+    """Ends this process with an error that names a program that the gate builds, if it is missing."""
+    if not program.exists():
+        sys.exit(f"{Path(sys.argv[0]).stem}: {program} is missing: the gate builds it")
 
 
 def lines_of(output):
