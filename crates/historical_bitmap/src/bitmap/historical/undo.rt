@@ -7,10 +7,10 @@ ghost use Rattle.std.specs.List.Sorted.{IsStrictlySortedBy};
 ghost use Rattle.std.specs.Map.{keys_of, lookup};
 ghost use Rattle.std.specs.Ordering.{nat_cmp};
 ghost use Rattle.bitmap_bytes.specs.Chunk.{IsWidth};
-ghost use Rattle.bitmap_core.specs.PrunedBits.{PrunedBits, bit_len, pruned_bits};
+ghost use Rattle.bitmap_core.specs.PrunedBits.{PrunedBits, bit_len, pruned_bits, unpruned};
 ghost use Rattle.historical_bitmap.specs.Record.{before, bytes_of, kept};
 ghost use Rattle.historical_bitmap.specs.Stored.{entry_values};
-ghost use Rattle.historical_bitmap.specs.Undo.{CanUndo, IsOldChunk, put_back, put_back_one, resized};
+ghost use Rattle.historical_bitmap.specs.Undo.{CanUndo, IsOldChunk, pruned_chunk_bytes, put_back, put_back_one, resized};
 
 use crate::bitmap::historical::record::{ChunkDiff, CommitDiff};
 use bitmap_core::bitmap::Prunable;
@@ -61,12 +61,29 @@ fn undo_in_steps<const N: usize>(
     requires short { newer.old.pruned ≤ div_ceil diff.now.len (8 * N) }
     ensures { OnOk result (newer.new ≡ before N diff.now newer.old) }
 {
-    let len = diff.len();
     let pruned = newer.pruned_chunks();
+    restore_front(newer, diff)?;
+    resize(newer, diff.len())?;
+    put_back_from(newer, diff.chunk_diffs(), pruned);
+    Ok(())
+}
+
+// Restores the chunks that the commit pruned, if it pruned any. Allocates for these.
+fn restore_front<const N: usize>(
+    newer: &mut Prunable<N>,
+    diff: &CommitDiff<N>,
+) -> Result<(), AllocError>
+    requires undo { CanUndo N diff.now newer.old }
+    requires short { newer.old.pruned ≤ div_ceil diff.now.len (8 * N) }
+    ensures { OnOk result (newer.new ≡ unpruned N newer.old (pruned_chunk_bytes diff.now newer.old.pruned)) }
+{
+    let pruned = newer.pruned_chunks();
+    if diff.pruned_chunks() == pruned {
+        return Ok(());
+    }
+    let _ = diff.len();
     let prefix = diff.pruned_bytes(pruned)?;
     newer.unprune(&prefix)?;
-    resize(newer, len)?;
-    put_back_from(newer, diff.chunk_diffs(), pruned);
     Ok(())
 }
 
@@ -78,7 +95,9 @@ fn resize<const N: usize>(bitmap: &mut Prunable<N>, len: u64) -> Result<(), Allo
     if bitmap.len() < len {
         return bitmap.extend_to(len);
     }
-    bitmap.truncate(len);
+    if len < bitmap.len() {
+        bitmap.truncate(len);
+    }
     Ok(())
 }
 

@@ -32,12 +32,22 @@ fn rebuilt<const N: usize>(diff: &CommitDiff<N>) -> Result<Prunable<N>, AllocErr
 
 // As `undo`, if the newer bitmap has at most as many pruned chunks as the older one has chunks.
 fn undo_in_steps<const N: usize>(newer: &mut Prunable<N>, diff: &CommitDiff<N>) -> Result<(), AllocError> {
-    let len = diff.len();
     let pruned = newer.pruned_chunks();
+    restore_front(newer, diff)?;
+    resize(newer, diff.len())?;
+    put_back_from(newer, diff.chunk_diffs(), pruned);
+    Ok(())
+}
+
+// Restores the chunks that the commit pruned, if it pruned any. Allocates for these.
+fn restore_front<const N: usize>(newer: &mut Prunable<N>, diff: &CommitDiff<N>) -> Result<(), AllocError> {
+    let pruned = newer.pruned_chunks();
+    if diff.pruned_chunks() == pruned {
+        return Ok(());
+    }
+    let _ = diff.len();
     let prefix = diff.pruned_bytes(pruned)?;
     newer.try_unprune(&prefix)?;
-    resize(newer, len)?;
-    put_back_from(newer, diff.chunk_diffs(), pruned);
     Ok(())
 }
 
@@ -46,7 +56,9 @@ fn resize<const N: usize>(bitmap: &mut Prunable<N>, len: u64) -> Result<(), Allo
     if bitmap.len() < len {
         return bitmap.try_extend_to(len);
     }
-    bitmap.truncate(len);
+    if len < bitmap.len() {
+        bitmap.truncate(len);
+    }
     Ok(())
 }
 
