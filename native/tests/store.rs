@@ -2,8 +2,8 @@
 
 use mortarpink::AllocError;
 use mortarpink::bitmap::Readable;
-use mortarpink::bitmap::historical::Error;
-use mortarpink::log::{Log, RecoverError, commit_logged, recover};
+use mortarpink::bitmap::historical::{CleanBitMap, Error};
+use mortarpink::log::{Log, RecoverError, commit_logged, recover, write_history};
 use mortarpink::store::{Batch, Durability, OpenError, Options, Store, StoreError};
 use std::error::Error as _;
 use std::fs;
@@ -125,6 +125,28 @@ fn a_log_without_receipts_is_opened() {
     assert!(store.bitmap().commits().eq([1]) && store.cut_bytes() > 0);
     drop(store);
     assert_eq!(folder.names(), ["orders.log", "orders.log.receipts"]);
+}
+
+/// The bitmap of a program that has kept it in memory goes on in a store.
+#[test]
+fn a_history_begins_a_store() {
+    let folder = Folder::new();
+    let mut bitmap = CleanBitMap::<8>::new();
+    for number in 1..=3 {
+        let mut batch = bitmap.into_dirty();
+        batch.push(number == 2);
+        bitmap = batch.commit(number).unwrap();
+    }
+    bitmap.prune_commits_before(2);
+    let mut bytes = Vec::new();
+    write_history(&bitmap, &mut bytes).unwrap();
+    fs::write(folder.log(), bytes).unwrap();
+    let mut store = Store::<8>::open(folder.log()).unwrap();
+    assert!(store.bitmap().commits().eq([2, 3]) && store.bitmap().current() == bitmap.current());
+    commit(&mut store, [4]);
+    drop(store);
+    let store = Store::<8>::open(folder.log()).unwrap();
+    assert!(store.bitmap().commits().eq([2, 3, 4]) && store.cut_bytes() == 0);
 }
 
 /// The store of the crate `log_store` keeps this byte after the last entry of its log.

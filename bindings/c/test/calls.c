@@ -1570,7 +1570,7 @@ static const char log_text[] =
 static const char clear_at_32[] = "0000000000000001" "8777fb2ef6f06553" "05" "3c9e243c641247a4";
 static const char rewind_at_90[] = "0000000000000009" "bdafaba374d80f2f" "02" "0000000000000001" "0fad80476082398e";
 
-enum { HEADER = 32, LOG = 306, FRAMES = 6, FILE_BYTES = 512 };
+enum { HEADER = 32, LOG = 306, FRAMES = 6, FILE_BYTES = 1024 };
 
 /* Where the frames of the worked log begin, and where the last one ends. */
 static const size_t log_places[FRAMES + 1] = {HEADER, 90, 148, 215, 248, 281, LOG};
@@ -1639,6 +1639,32 @@ static void test_recover(uint32_t width) {
     check(has_bits(at_commit(&copy, 1), "101"));
     check(has_bits(at_commit(&copy, 2), "10111"));
     check(has_bits(visible(&copy), "10111"));
+    check_done(mortarpink_free(&copy));
+    check_done(mortarpink_free(&bitmap));
+}
+
+/* A log that has grown is ended and begun anew: the file that is written then has only what is kept, and the log goes on in it. */
+static void test_shorter_log(uint32_t width) {
+    mortarpink_bitmap bitmap = MORTARPINK_EMPTY, copy = MORTARPINK_EMPTY;
+    struct file old = {0, {0}}, file = {0, {0}};
+    make_logged(&bitmap, width);
+    for (uint64_t number = 2; number < 6; number++) {
+        commit_text(&bitmap, "1", number);
+        write_log(&old, &bitmap);
+    }
+    check_number(mortarpink_drop_before(&bitmap, 5, &out.number), 4);
+    write_log(&old, &bitmap);
+    check_done(mortarpink_log_end(&bitmap));
+    check_done(mortarpink_log_begin(&bitmap));
+    write_log(&file, &bitmap);
+    check(file.size < old.size);
+    commit_text(&bitmap, "0", 6);
+    write_log(&file, &bitmap);
+
+    check_recovered(&copy, width, file.bytes, file.size, file.size);
+    check_page(mortarpink_commits(&copy, 0, out.numbers, 8, &out.size), ((const uint64_t[]){5, 6}), 2);
+    check(has_bits(at_commit(&copy, 5), "1011111"));
+    check(has_bits(visible(&copy), "10111110"));
     check_done(mortarpink_free(&copy));
     check_done(mortarpink_free(&bitmap));
 }
@@ -1888,6 +1914,7 @@ static void test_width(uint32_t width) {
     test_log_entries(width);
     test_log_digest(width);
     test_recover(width);
+    test_shorter_log(width);
     test_longest_edits(width);
     test_longest_reads(width);
 }

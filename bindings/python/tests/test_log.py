@@ -146,6 +146,26 @@ class Kept(unittest.TestCase):
         bitmap.begin_log()
         self.assertEqual(bitmap.log_position, 90)
 
+    def test_a_log_that_has_grown_is_made_short(self):
+        bitmap = Bitmap()
+        bitmap.begin_log()
+        for number in range(1, 101):
+            with bitmap.batch(number) as batch:
+                batch.push(True)
+        bitmap.drop_before(99)
+        old = bitmap.take_log()
+        bitmap.end_log()
+        bitmap.begin_log()
+        file = bitmap.take_log()
+        self.assertLess(10 * len(file), len(old))
+        for data in old, file:
+            found, good = Bitmap.recover(data)
+            self.assertEqual((good, states(found)), (len(data), states(bitmap)))
+        with bitmap.batch(101) as batch:
+            batch.push(False)
+        found, _ = Bitmap.recover(file + bitmap.take_log())
+        self.assertEqual((list(found.commits()), states(found)), ([99, 100, 101], states(bitmap)))
+
     def test_a_log_that_cannot_begin(self):
         bitmap = Bitmap()
         with failing("log_begin"):

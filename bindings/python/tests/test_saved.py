@@ -142,6 +142,20 @@ class Deltas(unittest.TestCase):
         with self.assertRaisesRegex(NoSuchCommitError, "5 is not below 3$"):
             bitmap.delta(5, 3)
 
+    def test_a_number_that_is_used_again_is_not_noticed(self):
+        """The replica is at a commit that the writer has dropped. The delta does not look at the chunk in which the two differ."""
+        writer = bitmap_of("0" * 24)
+        with writer.batch(2) as batch:
+            batch[0] = True
+        replica = Bitmap.load(writer.save(), 1)
+        writer.rewind_to(1)
+        with writer.batch(2) as batch:
+            batch[8] = True
+        with writer.batch(3) as batch:
+            batch[16] = True
+        replica.apply_delta(writer.delta(2, 3))
+        self.assertEqual((list(replica.ones()), list(writer.ones())), ([0, 16], [8, 16]))
+
     def test_damaged_deltas_change_nothing(self):
         bitmap = with_versions()
         delta = bitmap.delta(5, 9)

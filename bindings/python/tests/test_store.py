@@ -37,7 +37,7 @@ from mortarpink import (
     WrongHeaderError,
     WrongModeError,
 )
-from support import ENDS, MAX, WORKED, digest, failing, run_script, states, worked_steps
+from support import ENDS, MAX, WORKED, digest, failing, run_script, states, with_versions, worked_steps
 
 # The first receipt of the worked log: the magic, the version, the number, the kind, the place, and the check.
 RECEIPT = "4d50425245435054 0000000000000001 0000000000000001 0000000000000002 000000000000005a 210e45243dcc6fc5 7c84ef6c26890a5f"
@@ -131,6 +131,15 @@ class Files(InFolder):
         self.path.write_bytes(bitmap.take_log())
         with Store(self.path) as store:
             self.assertEqual(states(store), states(bitmap))
+
+    def test_a_history_begins_a_store(self):
+        bitmap = with_versions()
+        self.path.write_bytes(bitmap.save())
+        with Store(self.path, 1) as store:
+            self.assertEqual(states(store), states(bitmap))
+            commit(store, 10)
+        with Store(self.path, 1, create=False) as store:
+            self.assertEqual((list(store.commits()), bytes(store.at(9))), ([3, 5, 9, 10], bytes(bitmap)))
 
     def test_what_is_opened_and_created(self):
         with self.assertRaises(FileNotFoundError) as caught:
