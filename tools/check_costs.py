@@ -18,6 +18,7 @@ from typing import NamedTuple
 TOP = Path(__file__).resolve().parent.parent
 CRATES = (
     "bitmap_bytes", "bitmap_core", "historical_bitmap", "log_frames", "commit_log", "bitmap_session", "log_store", "authenticated_bitmap",
+    "authenticated_history",
 )
 GUIDE = TOP / "docs/GUIDE.md"
 SECTION = "## What each call costs"

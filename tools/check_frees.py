@@ -33,7 +33,7 @@ from check_runs import scripts, write
 from counter import Blocks, preloaded, take_report
 from replay import PROGRAM, TOP, WIDTHS, lines_of, report
 
-TESTED = ("conformance", "conformance_authenticated", "conformance_history", "conformance_log", "conformance_store", "conformance_session",
+TESTED = ("conformance", "conformance_authenticated", "conformance_authenticated_history", "conformance_history", "conformance_log", "conformance_store", "conformance_session",
           "conformance_versions", "replay", "uses")
 RANDOM_SCRIPTS = 60  # at each width of `replay`
 INTERFACE_SCRIPTS = 2000

@@ -93,7 +93,7 @@ def definition(path, lines, at, start, modules):
     """The definition that begins at a line. The parameters of its modules come before its own arguments."""
     kind, name, rest = start.groups()
     body = block(lines, at)
-    own = arguments(name, kind, rest, body)
+    own = arguments(name, kind, "\n".join([rest, *body]).split(" where")[0], body)
     words = [name] if own is None else [name, *(word for _, names in modules for word in names), *own]
     return Definition(f"{path.relative_to(TOP)}:{at + 1}", " ".join(words), comment_above(lines, at), fields(body) if kind else [])
 

@@ -34,6 +34,7 @@ runs 550 tools/check_errors.py
 tools/allocation_failures.sh --built | tee "$output"
 scenarios conformance 40
 scenarios conformance_authenticated 6
+scenarios conformance_authenticated_history 3
 scenarios conformance_history 30
 scenarios conformance_log 16
 scenarios conformance_session 6

@@ -17,7 +17,7 @@ from hashlib import sha256
 from replay import TOP, report
 
 PAGE = TOP / "docs/FORMATS.md"
-CONSTANTS = TOP / "crates/conformance_authenticated/src/known.rt"
+CONSTANTS = [TOP / f"crates/{crate}/src/known.rt" for crate in ("conformance_authenticated", "conformance_authenticated_history")]
 RUST_TESTS = TOP / "native/tests/roots.rs"
 CONSTANT = re.compile(r"pub const (\w+): \[u8; 32\] = \[([\d,\s]*)\];")
 LEAVES = ["", "00", "10", "2021", "3031", "40414243", "5051525354555657", "606162636465666768696a6b6c6d6e6f"]
@@ -225,12 +225,21 @@ def constants():
     values |= {f"PATH_CHUNK_2_{k}": one for k, one in enumerate(audit_path(2, five))}
     values |= {f"ROOT_PRUNED_{pruned}": root(4, 150, pruned, tree(five)) for pruned in (0, 2, 4)}
     values |= {"WORKED_0": worked[0], "WORKED_2": worked[2], "WORKED_ROOT": root(1, 20, 1, tree(worked))}
-    return values
+    return values | constants_of_versions()
+
+
+def constants_of_versions():
+    """The values that the constants of the tests of kept versions have to have. Each whole chunk has its index as every byte."""
+    four = [leaf(bytes([k]) * 4) for k in range(3)] + [leaf(bytes([1, 0, 0, 0]))]
+    values = {"NO_BITS": root(4, 0, 0, tree([])), "ONE_CHUNK": root(4, 32, 0, tree(four[:1])), "TWO_CHUNKS": root(4, 64, 0, tree(four[:2]))}
+    values |= {"VERSION_1": root(4, 96, 0, tree(four[:3])), "VERSION_2": root(4, 97, 0, tree(four)), "VERSION_5": root(4, 95, 1, tree(four[:3]))}
+    paths = {"TWO_CHUNKS_PATH_0": (0, 2), "VERSION_2_PATH_0": (0, 4), "VERSION_5_PATH_2": (2, 3)}
+    return values | {f"{name}_{k}": one for name, (index, n) in paths.items() for k, one in enumerate(audit_path(index, four[:n]))}
 
 
 def constant_cases():
     values = constants()
-    for name, numbers in CONSTANT.findall(CONSTANTS.read_text()):
+    for name, numbers in CONSTANT.findall("".join(path.read_text() for path in CONSTANTS)):
         found = bytes(int(number) for number in re.findall(r"\d+", numbers))
         wanted = values.pop(name, None)
         yield name, None if found == wanted else "has another value"

@@ -17,7 +17,7 @@ mod light_client;
 mod range_encodings;
 #[cfg(test)]
 mod ranges;
-mod sha;
+pub mod sha;
 #[cfg(test)]
 mod stored;
 #[cfg(test)]

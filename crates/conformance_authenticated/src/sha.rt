@@ -7,6 +7,7 @@ use authenticated_bitmap::hash::Digest;
 use sha2::{Digest as Hasher, Sha256};
 
 /// SHA-256.
+#[derive(Drop)]
 pub struct Sha;
 
 impl Digest for Sha {
