@@ -156,6 +156,28 @@ impl<const N: usize> ChunkMap<N> {
         &self.chunks[place]
     }
 
+    ghost use Rattle.std.specs.Borrow.{Array, Lends, sem, u8 as byte};
+    ghost use Rattle.chunk_map.specs.Entries.{with_chunk_at};
+    ghost use Rattle.chunk_map.specs.contracts.map.ChunkMap.{the_row};
+
+    /// Returns the chunk at `place`, which must be below the number of chunks, to be changed in its place.
+    ///
+    /// # Memory
+    ///
+    /// Does not allocate.
+    ///
+    /// # Complexity
+    ///
+    /// Constant.
+    #[inline]
+    pub fn chunk_mut(&mut self, place: usize) -> &mut [u8; N]
+        requires { place < length self.old.indices }
+        ensures* writes_back { sem 𝓛 (Lends (the_row N.row) (Array byte N) self.entry result (with_chunk_at self.old place)) }
+        ensures value { lookup (nat_eq (slice_index self.old.indices place)) self.old.entries ≡ Some result.now }
+    {
+        &mut self.chunks[place]
+    }
+
     /// Replaces the chunk at `place`, which must be below the number of chunks.
     ///
     /// # Memory
