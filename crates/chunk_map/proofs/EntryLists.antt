@@ -5,14 +5,14 @@ use Rattle.std.proofs.lemmas.Bool.{cases_eq, cases_lt, cases_order, eq-eqb, fals
 use Rattle.std.proofs.lemmas.List.{get_or-set_same, get_or-set_other, get_or-take, get_or_append_left, get_or_default, get_or_push, length-set, length-take-le, length_push}
 use Rattle.std.proofs.lemmas.Map.Made.{is_some-lookup}
 use Rattle.std.specs.declared.cmp.Ordering.TheVariants.{Less, Equal, Greater}
-use Rattle.std.specs.BTreeMap.{insert_entry}
+use Rattle.std.specs.BTreeMap.{insert_entry, is_at}
 use Rattle.std.specs.List.{AllByRecursion}
 use Rattle.std.specs.List.Sorted.{IsStrictlySortedBy}
-use Rattle.std.specs.Map.{keys_of, lookup}
-use Rattle.std.specs.Ordering.{match_ordering, nat_cmp}
+use Rattle.std.specs.Map.{keys_of, lookup, set_value}
+use Rattle.std.specs.Ordering.{is_eq, match_ordering, nat_cmp}
 use Rattle.std.specs.Prelude.{nat_eq, is_some, IsSome, ◌||◌}
 use Rattle.std.specs.Set.{is_member}
-use Rattle.chunk_map.specs.Entries.{IsNextMember, IsPaired, Puts, entries_of}
+use Rattle.chunk_map.specs.Entries.{IsNextMember, IsPaired, Puts, entries_of, with_chunk}
 use Rattle.chunk_map.specs.Next.{AreBelow, IsNextPlace}
 use Rattle.chunk_map.specs.Trie.{AreApart, IsAbsent, IsAt, without_place}
 
@@ -166,6 +166,54 @@ puts_set ks cs p c a s h q =
         | inr g ↦ entry_absent ks (slice_set cs p c) q g ∙ sym (entry_absent ks cs q g)
       ])
     ]
+
+-- the same, as a list of entries
+set_here : (k : ℕ) (e : ℕ × List ℕ) (es : List (ℕ × List ℕ)) (v : List ℕ) → k ≡ e.0 → with_chunk (e ∷ es) k v ≡ (e.0, v) ∷ es
+set_here k e es v h = ap (λ o. cond (is_eq o) ((e.0, v) ∷ es) (e ∷ with_chunk es k v)) (cmp_equal k e.0 h)
+
+set_there : (k : ℕ) (e : ℕ × List ℕ) (es : List (ℕ × List ℕ)) (v : List ℕ) → k ≢ e.0 → with_chunk (e ∷ es) k v ≡ e ∷ with_chunk es k v
+set_there k e es v ne = elim (cases_order k e.0) [
+  | inl h ↦ absurd (ne h)
+  | inr (inl l) ↦ ap (λ o. cond (is_eq o) ((e.0, v) ∷ es) (e ∷ with_chunk es k v)) (cmp_less k e.0 l)
+  | inr (inr l) ↦ ap (λ o. cond (is_eq o) ((e.0, v) ∷ es) (e ∷ with_chunk es k v)) (cmp_greater k e.0 l)
+]
+
+set_inserted : (es : List (ℕ × List ℕ)) (k : ℕ) (c v : List ℕ) → with_chunk (insert_entry nat_cmp es k c) k v ≡ insert_entry nat_cmp es k v
+set_inserted [] k c v = set_here k (k, c) [] v refl
+set_inserted (e ∷ es) k c v = elim (cases_order k e.0) [
+  | inl h ↦ ap (λ fs. with_chunk fs k v) (insert_equal e es k c h) ∙ (set_here k (e.0, c) es v h ∙ sym (insert_equal e es k v h))
+  | inr (inl l) ↦ ap (λ fs. with_chunk fs k v) (insert_less e es k c l) ∙ (set_here k (k, c) (e ∷ es) v refl ∙ sym (insert_less e es k v l))
+  | inr (inr l) ↦ ap (λ fs. with_chunk fs k v) (insert_greater e es k c l) ∙ (set_there k e (insert_entry nat_cmp es k c) v (λ h. absurd (omega (arith, h, l))) ∙ (ap (λ fs. e ∷ fs) (set_inserted es k c v) ∙ sym (insert_greater e es k v l)))
+]
+
+set_beside : (es : List (ℕ × List ℕ)) (k q : ℕ) (c v : List ℕ) → q ≢ k → insert_entry nat_cmp (with_chunk es q v) k c ≡ with_chunk (insert_entry nat_cmp es k c) q v
+set_beside [] k q c v ne = sym (set_there q (k, c) [] v ne)
+set_beside (e ∷ es) k q c v ne = elim (cases_eq q e.0) [
+  | inl h ↦
+      let there : k ≢ e.0 = λ f. ne (h ∙ sym f) in
+      ap (λ fs. insert_entry nat_cmp fs k c) (set_here q e es v h) ∙ elim (cases_order k e.0) [
+        | inl f ↦ absurd (there f)
+        | inr (inl l) ↦ insert_less (e.0, v) es k c l ∙ sym (ap (λ fs. with_chunk fs q v) (insert_less e es k c l) ∙ (set_there q (k, c) (e ∷ es) v ne ∙ ap (λ fs. (k, c) ∷ fs) (set_here q e es v h)))
+        | inr (inr l) ↦ insert_greater (e.0, v) es k c l ∙ sym (ap (λ fs. with_chunk fs q v) (insert_greater e es k c l) ∙ set_here q e (insert_entry nat_cmp es k c) v h)
+      ]
+  | inr far ↦ ap (λ fs. insert_entry nat_cmp fs k c) (set_there q e es v far) ∙ elim (cases_order k e.0) [
+    | inl f ↦ insert_equal e (with_chunk es q v) k c f ∙ sym (ap (λ fs. with_chunk fs q v) (insert_equal e es k c f) ∙ set_there q (e.0, c) es v far)
+    | inr (inl l) ↦ insert_less e (with_chunk es q v) k c l ∙ sym (ap (λ fs. with_chunk fs q v) (insert_less e es k c l) ∙ (set_there q (k, c) (e ∷ es) v ne ∙ ap (λ fs. (k, c) ∷ fs) (set_there q e es v far)))
+    | inr (inr l) ↦ insert_greater e (with_chunk es q v) k c l ∙ (ap (λ fs. e ∷ fs) (set_beside es k q c v ne) ∙ sym (ap (λ fs. with_chunk fs q v) (insert_greater e es k c l) ∙ set_there q e (insert_entry nat_cmp es k c) v far))
+  ]
+]
+
+apart_rest : (k : ℕ) (ks : List ℕ) → AreApart (k ∷ ks) → AreApart ks
+apart_rest k ks a p q l m e = let same = a (suc p) (suc q) (omega (arith, l)) (omega (arith, m)) e in omega (arith, same)
+
+pub set_is : (ks : List ℕ) (cs : List (List ℕ)) (p : ℕ) (v : List ℕ) → AreApart ks → length cs ≡ length ks → p < length ks → entries_of ks (slice_set cs p v) ≡ with_chunk (entries_of ks cs) (slice_index ks p) v
+set_is [] cs p v a s h = absurd (omega (arith, h))
+set_is (k ∷ ks) [] p v a s h = absurd (omega (arith, s))
+set_is (k ∷ ks) (c ∷ cs) zero v a s h = sym (set_inserted (entries_of ks cs) k c v)
+set_is (k ∷ ks) (c ∷ cs) (suc p) v a s h =
+    let below : p < length ks = omega (arith, h) in
+    let other : slice_index ks p ≢ k = λ e. absurd (let same = a (suc p) zero h (omega arith) e in omega (arith, same)) in
+    ap (λ es. insert_entry nat_cmp es k c) (set_is ks cs p v (apart_rest k ks a) (omega (arith, s)) below) ∙ set_beside (entries_of ks cs) k (slice_index ks p) c v other
 
 absent_push : (ks : List ℕ) (k q : ℕ) → q ≢ k → IsAbsent ks q → IsAbsent (ks ++ k ∷ []) q
 absent_push ks k q ne h place w e = elim (cases_lt place (length ks)) [

@@ -1,7 +1,7 @@
 -- What a map of chunks contains.
-use Rattle.std.specs.Prelude.{◌≡◌, ℕ, ◌*◌, ◌^◌, ◌<◌, ◌≤◌, List, [], ◌∷◌, length, true, false, if◌then◌else◌, Option, MatchOption, nat_eq}
-use Rattle.std.specs.BTreeMap.{insert_entry}
-use Rattle.std.specs.Map.{lookup}
+use Rattle.std.specs.Prelude.{◌≡◌, ℕ, ◌*◌, ◌^◌, ◌<◌, ◌≤◌, List, [], ◌∷◌, length, true, false, if◌then◌else◌, Option, MatchOption, nat_eq, slice_index}
+use Rattle.std.specs.BTreeMap.{insert_entry, is_at}
+use Rattle.std.specs.Map.{lookup, set_value}
 use Rattle.std.specs.Ordering.{nat_cmp}
 use Rattle.std.specs.Set.{is_member}
 use Rattle.chunk_map.specs.Trie.{AreApart}
@@ -32,3 +32,11 @@ abbrev pub IsNextMember : List ℕ → ℕ → Option ℕ → Type 0
 IsNextMember xs from next = MatchOption next
     ((j : ℕ) → from ≤ j → is_member nat_eq xs j ≡ false)
     (λ i. (from ≤ i) × (is_member nat_eq xs i ≡ true) × ((j : ℕ) → from ≤ j → j < i → is_member nat_eq xs j ≡ false))
+
+-- the entries with another chunk under an index that has one
+abbrev pub with_chunk : List (ℕ × List ℕ) → ℕ → List ℕ → List (ℕ × List ℕ)
+with_chunk entries index chunk = set_value (is_at (nat_cmp index)) entries chunk
+
+-- the entries and indices with another chunk at a place
+abbrev pub with_chunk_at : ChunkEntries → ℕ → List ℕ → ChunkEntries
+with_chunk_at m place chunk = record { entries = with_chunk m.entries (slice_index m.indices place) chunk; indices = m.indices }

@@ -8,7 +8,7 @@
 //! A search visits at most 16 nodes, one per digit in base 16 by which the index differs from another. An insertion adds at most one node.
 //! A removal keeps the nodes.
 
-ghost use Rattle.std.specs.Prelude.{◌≡◌, ℕ, ◌+◌, ◌*◌, ◌^◌, ◌<◌, ◌++◌, ◌↔◌, [], ◌∷◌, List, length, MatchOption, Option, Some, None, IsTrue, slice_index, slice_set, IfOk, IfNone, IfSome, IsOk, IsSome, OnOk, OnErr, nat_eq, is_some, vec_len};
+ghost use Rattle.std.specs.Prelude.{◌≡◌, ℕ, ◌+◌, ◌*◌, ◌^◌, ◌<◌, ◌++◌, ◌↔◌, [], ◌∷◌, List, length, MatchOption, Option, Some, None, IsTrue, slice_index, IfOk, IfNone, IfSome, IsOk, IsSome, OnOk, OnErr, nat_eq, is_some, vec_len};
 ghost use Rattle.std.specs.Vec.{vec_capacity};
 ghost use Rattle.std.specs.List.Sorted.{IsStrictlySortedBy};
 ghost use Rattle.std.specs.Map.{keys_of, lookup};
@@ -156,25 +156,11 @@ impl<const N: usize> ChunkMap<N> {
         &self.chunks[place]
     }
 
-    /// Replaces the chunk at `place`, which must be below the number of chunks.
-    ///
-    /// # Memory
-    ///
-    /// Does not allocate.
-    ///
-    /// # Complexity
-    ///
-    /// Constant.
-    pub fn set_at(&mut self, place: usize, chunk: [u8; N])
-        requires { place < length self.old.indices }
-        ensures entries { Puts self.old.entries self.new.entries (slice_index self.old.indices place) (Some chunk.entry) }
-        ensures indices { self.new.indices ≡ self.old.indices }
-        ensures sorted { IsStrictlySortedBy nat_cmp (keys_of self.new.entries) }
-    {
-        self.chunks[place] = chunk;
-    }
+    ghost use Rattle.std.specs.Borrow.{Array, Lends, sem, u8 as byte};
+    ghost use Rattle.chunk_map.specs.Entries.{with_chunk_at};
+    ghost use Rattle.chunk_map.specs.contracts.map.ChunkMap.{the_row};
 
-    /// Replaces byte `at` of the chunk at `place`. The place must be below the number of chunks, and `at` below `N`.
+    /// Returns the chunk at `place`, which must be below the number of chunks, to be changed in its place.
     ///
     /// # Memory
     ///
@@ -184,14 +170,12 @@ impl<const N: usize> ChunkMap<N> {
     ///
     /// Constant.
     #[inline]
-    pub fn set_byte_at(&mut self, place: usize, at: usize, byte: u8)
-        requires place { place < length self.old.indices }
-        requires at { at < N }
-        ensures entries { IfSome (lookup (nat_eq (slice_index self.old.indices place)) self.old.entries) (λ chunk. Puts self.old.entries self.new.entries (slice_index self.old.indices place) (Some (slice_set chunk at byte))) }
-        ensures indices { self.new.indices ≡ self.old.indices }
-        ensures sorted { IsStrictlySortedBy nat_cmp (keys_of self.new.entries) }
+    pub fn chunk_mut(&mut self, place: usize) -> &mut [u8; N]
+        requires { place < length self.old.indices }
+        ensures* writes_back { sem 𝓛 (Lends (the_row N.row) (Array byte N) self.entry result (with_chunk_at self.old place)) }
+        ensures value { lookup (nat_eq (slice_index self.old.indices place)) self.old.entries ≡ Some result.now }
     {
-        self.chunks[place][at] = byte;
+        &mut self.chunks[place]
     }
 
     /// Inserts or replaces the chunk at `index`.

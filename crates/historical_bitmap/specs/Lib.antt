@@ -10,7 +10,7 @@
 -- Changes: the chunks in which two states differ.
 -- Replaced: the record of a commit of a whole new bitmap.
 -- Pending: pending edits, each edit of them, and the record that a commit makes.
--- Compared, Run, Tail: conditions inside the code that compares states and stores edited chunks.
+-- Compared, Appended, CachedWord: conditions inside the code that compares states and stores edited chunks.
 -- View: a whole historical bitmap, as the contracts of its calls describe it.
 -- Prepared: a commit in two steps.
 -- Lengths: edits that make a batch longer by many bits at once.
@@ -28,8 +28,8 @@ pub mod Changes
 pub mod Replaced
 pub mod Pending
 pub mod Compared
-pub mod Run
-pub mod Tail
+pub mod Appended
+pub mod CachedWord
 pub mod View
 pub mod Prepared
 pub mod Lengths

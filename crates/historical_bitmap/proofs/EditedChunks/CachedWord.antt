@@ -24,11 +24,11 @@ use Rattle.bitmap_bytes.proofs.Bytes.Made.{bytes_are, byte_same, chunk_bit_of_by
 use Rattle.bitmap_bytes.proofs.Chunks.Bits.{chunk_bit-mod}
 use Rattle.bitmap_bytes.proofs.Words.Starts.{end_near, next_cases, start_chunk, start_of}
 use Rattle.bitmap_core.proofs.Pruned.Positions.{place as place_of}
-use Rattle.chunk_map.specs.Entries.{Puts}
+use Rattle.chunk_map.specs.Entries.{Puts, with_chunk}
 use Rattle.historical_bitmap.specs.Pending.{CrossesByte, IsByteSetIn, IsClearFrom, IsSetIn, IsWritten, SetsIn}
-use Rattle.historical_bitmap.specs.Tail.{bit_with_word, chunk_with_word, is_cached_at, IsTail, IsWordOf, IsWordPut, with_chunk, with_word}
+use Rattle.historical_bitmap.specs.CachedWord.{bit_with_word, chunk_with_word, is_cached_at, IsCachedWord, IsWordOf, IsWordPut, with_word}
 use Rattle.historical_bitmap.proofs.EditedChunks.ReplacedChunk.{lookup_at, lookup_beside, lookup_here, lookup_put, puts_here, puts_two_here, replaced_filled, replaced_keys, replaced_same, replaced_sorted, replaces, sets_here}
-use Rattle.historical_bitmap.proofs.Lists.Maps.{not_some, same_entries}
+use Rattle.historical_bitmap.proofs.Lists.Maps.{not_some}
 
 -- ---- places in a chunk
 module _ (n i k : ℕ) (low : 8 * n * i ≤ k) (high : k < 8 * n * i + 8 * n) where
@@ -362,13 +362,18 @@ module _ (n : ℕ) (es fs : List (ℕ × List ℕ)) (base count word k j : ℕ) 
         edited = rw after (puts_two_here es fs i old bytes next ok.found some puts);
       })
 
+-- without chunks there is no entry
+pub word_empty : (n : ℕ) (es : List (ℕ × List ℕ)) (cached : Option ℕ) (base count word : ℕ) → es ≡ [] → with_word n es cached base count word ≡ []
+word_empty n es None base count word e = e
+word_empty n es (Some i) base count word e = ap (λ fs. with_chunk fs i (chunk_with_word n (unwrap_or (lookup (nat_eq i) fs) []) base count word i)) e
+
 -- with a chunk there is one
 pub word_filled : (n : ℕ) (es : List (ℕ × List ℕ)) (cached : Option ℕ) (base count word : ℕ) → 0 < length es → 0 < length (with_word n es cached base count word)
 word_filled n es None base count word h = h
 word_filled n es (Some i) base count word h = replaced_filled es i (chunk_with_word n (unwrap_or (lookup (nat_eq i) es) []) base count word i) h
 
 -- a position outside the cached word is read from the entries
-pub read_out : (n : ℕ) (es : List (ℕ × List ℕ)) (cached : Option ℕ) (base count word k : ℕ) → IsTail n es cached base count → (k < base) ⊎ (base + count ≤ k) → option_map (λ chunk. chunk_bit n chunk k) (lookup (nat_eq (k / (8 * n))) (with_word n es cached base count word)) ≡ option_map (λ chunk. chunk_bit n chunk k) (lookup (nat_eq (k / (8 * n))) es)
+pub read_out : (n : ℕ) (es : List (ℕ × List ℕ)) (cached : Option ℕ) (base count word k : ℕ) → IsCachedWord n es cached base count → (k < base) ⊎ (base + count ≤ k) → option_map (λ chunk. chunk_bit n chunk k) (lookup (nat_eq (k / (8 * n))) (with_word n es cached base count word)) ≡ option_map (λ chunk. chunk_bit n chunk k) (lookup (nat_eq (k / (8 * n))) es)
 read_out n es None base count word k ok out = refl
 read_out n es (Some i) base count word k ok out = elim (cases_eq (k / (8 * n)) i) [
   | inr ne ↦ ap (option_map (λ chunk. chunk_bit n chunk k)) (lookup_beside es i (k / (8 * n)) _ ok.word.found (ne_eqb i (k / (8 * n)) (λ e. ne (sym e))))
@@ -385,32 +390,32 @@ read_out n es (Some i) base count word k ok out = elim (cases_eq (k / (8 * n)) i
         ap Some (bit_from n (bit_with_word n chunk base count word) i k pos ∙ (ap (bit_with_word n chunk base count word) here ∙ out_word n chunk base count word k out))
 
 -- where the word is in its chunk
-pub word_place : (n : ℕ) (es : List (ℕ × List ℕ)) (base count i : ℕ) → IsTail n es (Some i) base count → (base % (8 * n) % 8 ≡ 0) × (count % 8 ≡ 0) × (count ≤ 64) × (base % (8 * n) + count ≤ 8 * n)
+pub word_place : (n : ℕ) (es : List (ℕ × List ℕ)) (base count i : ℕ) → IsCachedWord n es (Some i) base count → (base % (8 * n) % 8 ≡ 0) × (count % 8 ≡ 0) × (count ≤ 64) × (base % (8 * n) + count ≤ 8 * n)
 word_place n es base count i ok =
     let w = ok.word in
     let rest : base % (8 * n) ≡ base - 8 * n * i = rest_is n i base w.low (omega (arith, w.some, w.high)) in
     (omega (arith, rest, w.starts), w.whole, w.short, omega (arith, rest, w.low, w.high))
 
 -- the chunk that is cached, or another one
-pub whole_here : (n : ℕ) (es : List (ℕ × List ℕ)) (base count word i : ℕ) (old new : List ℕ) → IsTail n es (Some i) base count → lookup (nat_eq i) es ≡ Some old → IsChunk n new → IsWordPut n old new base count word → Some new ≡ lookup (nat_eq i) (with_word n es (Some i) base count word)
+pub whole_here : (n : ℕ) (es : List (ℕ × List ℕ)) (base count word i : ℕ) (old new : List ℕ) → IsCachedWord n es (Some i) base count → lookup (nat_eq i) es ≡ Some old → IsChunk n new → IsWordPut n old new base count word → Some new ≡ lookup (nat_eq i) (with_word n es (Some i) base count word)
 whole_here n es base count word i old new ok e is put =
     ap Some (word_put n old new base count word i ok.width.positive is ok.word.some ok.word.low ok.word.high put)
     ∙ (ap (λ o. Some (chunk_with_word n (unwrap_or o []) base count word i)) (sym e)
     ∙ sym (lookup_here es i (chunk_with_word n (unwrap_or (lookup (nat_eq i) es) []) base count word i) ok.word.found))
 
-pub whole_beside : (n : ℕ) (es : List (ℕ × List ℕ)) (cached : Option ℕ) (base count word i : ℕ) → IsTail n es cached base count → is_cached_at cached i ≡ false → lookup (nat_eq i) (with_word n es cached base count word) ≡ lookup (nat_eq i) es
+pub whole_beside : (n : ℕ) (es : List (ℕ × List ℕ)) (cached : Option ℕ) (base count word i : ℕ) → IsCachedWord n es cached base count → is_cached_at cached i ≡ false → lookup (nat_eq i) (with_word n es cached base count word) ≡ lookup (nat_eq i) es
 whole_beside n es None base count word i ok out = refl
 whole_beside n es (Some h) base count word i ok out = lookup_beside es h i (chunk_with_word n (unwrap_or (lookup (nat_eq h) es) []) base count word h) ok.word.found out
 
 -- the same, for a cached index that is known to be there
-pub place_at : (n : ℕ) (es : List (ℕ × List ℕ)) (cached : Option ℕ) (base count i : ℕ) → cached ≡ Some i → IsTail n es cached base count → (base % (8 * n) % 8 ≡ 0) × (count % 8 ≡ 0) × (count ≤ 64) × (base % (8 * n) + count ≤ 8 * n)
-place_at n es cached base count i e ok = word_place n es base count i (subst (λ o. IsTail n es o base count) e ok)
+pub place_at : (n : ℕ) (es : List (ℕ × List ℕ)) (cached : Option ℕ) (base count i : ℕ) → cached ≡ Some i → IsCachedWord n es cached base count → (base % (8 * n) % 8 ≡ 0) × (count % 8 ≡ 0) × (count ≤ 64) × (base % (8 * n) + count ≤ 8 * n)
+place_at n es cached base count i e ok = word_place n es base count i (subst (λ o. IsCachedWord n es o base count) e ok)
 
-pub whole_at : (n : ℕ) (es : List (ℕ × List ℕ)) (cached : Option ℕ) (base count word i : ℕ) (old new : List ℕ) → cached ≡ Some i → IsTail n es cached base count → lookup (nat_eq i) es ≡ Some old → IsChunk n new → IsWordPut n old new base count word → Some new ≡ lookup (nat_eq i) (with_word n es cached base count word)
-whole_at n es cached base count word i old new e ok found is put = subst (λ o. Some new ≡ lookup (nat_eq i) (with_word n es o base count word)) (sym e) (whole_here n es base count word i old new (subst (λ o. IsTail n es o base count) e ok) found is put)
+pub whole_at : (n : ℕ) (es : List (ℕ × List ℕ)) (cached : Option ℕ) (base count word i : ℕ) (old new : List ℕ) → cached ≡ Some i → IsCachedWord n es cached base count → lookup (nat_eq i) es ≡ Some old → IsChunk n new → IsWordPut n old new base count word → Some new ≡ lookup (nat_eq i) (with_word n es cached base count word)
+whole_at n es cached base count word i old new e ok found is put = subst (λ o. Some new ≡ lookup (nat_eq i) (with_word n es o base count word)) (sym e) (whole_here n es base count word i old new (subst (λ o. IsCachedWord n es o base count) e ok) found is put)
 
 -- a chunk that is not among the entries is not there with the word either
-pub whole_none : (n : ℕ) (es : List (ℕ × List ℕ)) (cached : Option ℕ) (base count word i : ℕ) → IsTail n es cached base count → lookup (nat_eq i) es ≡ None → lookup (nat_eq i) (with_word n es cached base count word) ≡ None
+pub whole_none : (n : ℕ) (es : List (ℕ × List ℕ)) (cached : Option ℕ) (base count word i : ℕ) → IsCachedWord n es cached base count → lookup (nat_eq i) es ≡ None → lookup (nat_eq i) (with_word n es cached base count word) ≡ None
 whole_none n es None base count word i ok none = none
 whole_none n es (Some h) base count word i ok none = elim (cases_eq h i) [
   | inl e ↦ absurd (false≢true (rw (e, none) at ok.word.found))
@@ -418,7 +423,7 @@ whole_none n es (Some h) base count word i ok none = elim (cases_eq h i) [
 ]
 
 -- a chunk that is not there with the word is not among the entries
-pub none_stored : (n : ℕ) (es : List (ℕ × List ℕ)) (cached : Option ℕ) (base count word i : ℕ) → IsTail n es cached base count → lookup (nat_eq i) (with_word n es cached base count word) ≡ None → lookup (nat_eq i) es ≡ None
+pub none_stored : (n : ℕ) (es : List (ℕ × List ℕ)) (cached : Option ℕ) (base count word i : ℕ) → IsCachedWord n es cached base count → lookup (nat_eq i) (with_word n es cached base count word) ≡ None → lookup (nat_eq i) es ≡ None
 none_stored n es None base count word i ok none = none
 none_stored n es (Some h) base count word i ok none = elim (cases_eq h i) [
   | inl e ↦ absurd (not_some _ (sym (lookup_at es h i _ ok.word.found (eq-eqb h i e)) ∙ none))
@@ -426,11 +431,10 @@ none_stored n es (Some h) base count word i ok none = elim (cases_eq h i) [
 ]
 
 -- the word is written back
-pub written_back : (n : ℕ) (es fs : List (ℕ × List ℕ)) (base count word i : ℕ) (old new : List ℕ) → IsTail n es (Some i) base count → lookup (nat_eq i) es ≡ Some old → IsChunk n new → IsWordPut n old new base count word → IsStrictlySortedBy nat_cmp (keys_of fs) → Puts es fs i (Some new) → fs ≡ with_word n es (Some i) base count word
-written_back n es fs base count word i old new ok e is put sorted puts =
-    let bytes = word_put n old new base count word i ok.width.positive is ok.word.some ok.word.low ok.word.high put in
-    let same : fs ≡ with_chunk es i new = same_entries fs (with_chunk es i new) sorted (replaced_sorted es i new ok.word.sorted) (λ q. puts q ∙ sym (replaces es i old new e q)) in
-    same ∙ (ap (with_chunk es i) bytes ∙ ap (λ o. with_chunk es i (chunk_with_word n (unwrap_or o []) base count word i)) (sym e))
+pub written_back : (n : ℕ) (es : List (ℕ × List ℕ)) (base count word i : ℕ) (old new : List ℕ) → IsCachedWord n es (Some i) base count → lookup (nat_eq i) es ≡ Some old → IsChunk n new → IsWordPut n old new base count word → with_chunk es i new ≡ with_word n es (Some i) base count word
+written_back n es base count word i old new ok e is put =
+    ap (with_chunk es i) (word_put n old new base count word i ok.width.positive is ok.word.some ok.word.low ok.word.high put)
+    ∙ ap (λ o. with_chunk es i (chunk_with_word n (unwrap_or o []) base count word i)) (sym e)
 
 -- the indices of all entries
 pub word_keys : (n : ℕ) (es : List (ℕ × List ℕ)) (cached : Option ℕ) (base count word : ℕ) → keys_of es ≡ keys_of (with_word n es cached base count word)
@@ -531,7 +535,7 @@ module _ (n i k : ℕ) (value : Bool) (width : IsWidth n) (index : i ≡ k / (8 
   begun_word : (es : List (ℕ × List ℕ)) (chunk : List ℕ) → IsStrictlySortedBy nat_cmp (keys_of es) → lookup (nat_eq i) es ≡ Some chunk → IsWordOf n es k (next_word n k - k) i
   begun_word es chunk sorted found = loaded_word n k i width.positive index es k (next_word n k) chunk (omega (arith, starts)) refl sorted found last
 
-  pub begun_in : (es : List (ℕ × List ℕ)) (chunk : List ℕ) → IsStrictlySortedBy nat_cmp (keys_of es) → lookup (nat_eq i) es ≡ Some chunk → IsClearFrom n i k chunk → IsTail n es cached base count × ((first : List ℕ) → (bytes : List ℕ) × SetsIn n first es (with_word n es cached base count word) i k value bytes)
+  pub begun_in : (es : List (ℕ × List ℕ)) (chunk : List ℕ) → IsStrictlySortedBy nat_cmp (keys_of es) → lookup (nat_eq i) es ≡ Some chunk → IsClearFrom n i k chunk → IsCachedWord n es cached base count × ((first : List ℕ) → (bytes : List ℕ) × SetsIn n first es (with_word n es cached base count word) i k value bytes)
   begun_in es chunk sorted found clear =
       let ok = begun_word es chunk sorted found in
       rw (at, from, long, bits) (
@@ -540,7 +544,7 @@ module _ (n i k : ℕ) (value : Bool) (width : IsWidth n) (index : i ≡ k / (8 
       )
 
   -- the word begins a new chunk of zeros
-  pub begun_first : (es mid : List (ℕ × List ℕ)) → IsStrictlySortedBy nat_cmp (keys_of mid) → lookup (nat_eq i) es ≡ None → Puts es mid i (Some (replicate n 0)) → IsTail n mid cached base count × (bytes : List ℕ) × SetsIn n (replicate n 0) es (with_word n mid cached base count word) i k value bytes
+  pub begun_first : (es mid : List (ℕ × List ℕ)) → IsStrictlySortedBy nat_cmp (keys_of mid) → lookup (nat_eq i) es ≡ None → Puts es mid i (Some (replicate n 0)) → IsCachedWord n mid cached base count × (bytes : List ℕ) × SetsIn n (replicate n 0) es (with_word n mid cached base count word) i k value bytes
   begun_first es mid sorted none put =
       let begun = begun_in mid (replicate n 0) sorted (lookup_put es mid i (replicate n 0) put) (λ j e l. zero_bit n j width.positive) in
       let set = begun.1 (replicate n 0) in (
@@ -556,8 +560,8 @@ module _ (n i k : ℕ) (value : Bool) (width : IsWidth n) (index : i ≡ k / (8 
       )
 
   -- the word begins in the chunk of the cached word
-  pub begun_next : (es : List (ℕ × List ℕ)) (old : Option ℕ) (low many bits_before : ℕ) → IsTail n es old low many → is_cached_at old i ≡ true → IfSome (lookup (nat_eq i) (with_word n es old low many bits_before)) (IsClearFrom n i k)
-      → (fs : List (ℕ × List ℕ)) → fs ≡ with_word n es old low many bits_before → IsTail n fs cached base count × ((first : List ℕ) → (bytes : List ℕ) × SetsIn n first fs (with_word n fs cached base count word) i k value bytes)
+  pub begun_next : (es : List (ℕ × List ℕ)) (old : Option ℕ) (low many bits_before : ℕ) → IsCachedWord n es old low many → is_cached_at old i ≡ true → IfSome (lookup (nat_eq i) (with_word n es old low many bits_before)) (IsClearFrom n i k)
+      → (fs : List (ℕ × List ℕ)) → fs ≡ with_word n es old low many bits_before → IsCachedWord n fs cached base count × ((first : List ℕ) → (bytes : List ℕ) × SetsIn n first fs (with_word n fs cached base count word) i k value bytes)
   begun_next es None low many bits_before ok here clear fs same = cc
   begun_next es (Some h) low many bits_before ok here clear fs same =
       let found = lookup_at es h i _ ok.word.found here in

@@ -10,8 +10,8 @@ use Rattle.std.specs.Set.{is_member}
 use Rattle.chunk_map.specs.Entries.{Puts}
 use Rattle.chunk_map.specs.Trie.{IsAt, without_place}
 use Rattle.historical_bitmap.specs.Pending.{DropsFrom, IsCut, IsPartSet, IsPartSetIn}
-use Rattle.historical_bitmap.specs.Run.{IsRun, with_run}
-use Rattle.historical_bitmap.proofs.EditedChunks.AppendedRun.{look_beside, look_in}
+use Rattle.historical_bitmap.specs.Appended.{IsAppended, with_appended}
+use Rattle.historical_bitmap.proofs.EditedChunks.Appended.{look_beside, look_in}
 use Rattle.historical_bitmap.proofs.Lists.Members.{not_key}
 
 -- an index below the bound, and one that is not
@@ -42,12 +42,12 @@ all_dropped es fs from below none q = elim (cases_lt q from) [
 pub still_below : (es fs gs : List (ℕ × List ℕ)) (from index : ℕ) → from ≤ index → Puts fs gs index None → ((q : ℕ) → q < from → lookup (nat_eq q) fs ≡ lookup (nat_eq q) es) → (q : ℕ) → q < from → lookup (nat_eq q) gs ≡ lookup (nat_eq q) es
 still_below es fs gs from index past put below q h = put q ∙ rw (ne_eqb q index (λ e. absurd (omega (arith, e, past, h)))) (below q h)
 
--- ---- the appended run is shortened, and the other chunks past its new end are removed
+-- ---- the appended chunks are shortened, and the other chunks past their new end are removed
 module _ (n first from : ℕ) (xs : List (List ℕ)) (es fs : List (ℕ × List ℕ)) (put : DropsFrom es fs from) where
   left_len : length (take (from - first) xs) ≡ min (from - first) (length xs)
   left_len = length-take (from - first) xs
 
-  look_low : (q : ℕ) → q < from → lookup (nat_eq q) (with_run first (take (from - first) xs) fs) ≡ lookup (nat_eq q) (with_run first xs es)
+  look_low : (q : ℕ) → q < from → lookup (nat_eq q) (with_appended first (take (from - first) xs) fs) ≡ lookup (nat_eq q) (with_appended first xs es)
   look_low q h = elim (cases_lt q first) [
     | inl before ↦ beside (inl before) (inl before)
     | inr l ↦ elim (cases_lt q (first + length xs)) [
@@ -56,22 +56,22 @@ module _ (n first from : ℕ) (xs : List (List ℕ)) (es fs : List (ℕ × List 
     ]
   ]
     where
-      beside : ((q < first) ⊎ (first + length (take (from - first) xs) ≤ q)) → ((q < first) ⊎ (first + length xs ≤ q)) → lookup (nat_eq q) (with_run first (take (from - first) xs) fs) ≡ lookup (nat_eq q) (with_run first xs es)
+      beside : ((q < first) ⊎ (first + length (take (from - first) xs) ≤ q)) → ((q < first) ⊎ (first + length xs ≤ q)) → lookup (nat_eq q) (with_appended first (take (from - first) xs) fs) ≡ lookup (nat_eq q) (with_appended first xs es)
       beside new old = look_beside first (take (from - first) xs) fs q new ∙ (kept_below es fs from q put h ∙ sym (look_beside first xs es q old))
 
-  look_high : (q : ℕ) → from ≤ q → lookup (nat_eq q) (with_run first (take (from - first) xs) fs) ≡ None
+  look_high : (q : ℕ) → from ≤ q → lookup (nat_eq q) (with_appended first (take (from - first) xs) fs) ≡ None
   look_high q h = look_beside first (take (from - first) xs) fs q out ∙ none_from es fs from q put h
     where
       out : (q < first) ⊎ (first + length (take (from - first) xs) ≤ q)
       out = elim (cases_lt q first) [ inl before ↦ inl before | inr l ↦ inr (omega (arith, l, h, left_len)) ]
 
-  pub run_dropped : DropsFrom (with_run first xs es) (with_run first (take (from - first) xs) fs) from
-  run_dropped q = elim (cases_lt q from) [
+  pub appended_dropped : DropsFrom (with_appended first xs es) (with_appended first (take (from - first) xs) fs) from
+  appended_dropped q = elim (cases_lt q from) [
     | inl h ↦ look_low q h ∙ rw (lt-ltb q from h) refl
     | inr h ↦ look_high q h ∙ rw (le-ltb q from h) refl
   ]
 
-  pub dropped_keeps : IsRun n es first xs → IsRun n fs first (take (from - first) xs)
+  pub dropped_keeps : IsAppended n es first xs → IsAppended n fs first (take (from - first) xs)
   dropped_keeps ok = record {
     width = ok.width;
     apart = λ q l h. kept_below es fs from q put (omega (arith, l, h, left_len)) ∙ ok.apart q l (omega (arith, h, left_len));

@@ -1,20 +1,19 @@
 -- Entries with another chunk under an index that has one.
-use Rattle.std.proofs.Common.{◌≡◌, ℕ, ◌+◌, ◌<◌, Bool, true, false, cond, List, length, Some, refl, sym, ap, ◌∙◌, subst}
+use Rattle.std.proofs.Common.{◌≡◌, ℕ, ◌+◌, ◌<◌, Bool, true, false, cond, List, length, None, Some, refl, sym, ap, ◌∙◌, subst}
 use mathlib.Core.Logic.{inl, inr}
 use Rattle.std.proofs.lemmas.Bool.{cases_eq, eq-eqb, ne_eqb, eqb-true, eqb-false}
 use Rattle.std.proofs.lemmas.Cmp.{nat_eq_equiv}
 use Rattle.std.proofs.lemmas.Map.{keys-set_value, lookup-set_value}
 use Rattle.std.proofs.lemmas.Map.Entries.{length-keys_of}
 use Rattle.std.proofs.lemmas.Map.Steps.{set_value_same}
-use Rattle.std.specs.Prelude.{nat_eq, IsSome, IfSome}
+use Rattle.std.specs.Prelude.{nat_eq, IsSome, IfSome, unwrap_or}
 use Rattle.std.specs.BTreeMap.{is_at}
 use Rattle.std.specs.List.Sorted.{IsStrictlySortedBy}
 use Rattle.std.specs.Map.{keys_of, lookup}
 use Rattle.std.specs.Ordering.{nat_cmp}
-use Rattle.chunk_map.specs.Entries.{Puts}
-use Rattle.historical_bitmap.specs.Pending.{IsSetIn, IsWritten, PutsTwo}
-use Rattle.historical_bitmap.specs.Tail.{with_chunk}
-use Rattle.historical_bitmap.proofs.Lists.Maps.{is_at_is}
+use Rattle.chunk_map.specs.Entries.{Puts, with_chunk}
+use Rattle.historical_bitmap.specs.Pending.{IsSetIn, IsWritten, PutsTwo, SetsIn}
+use Rattle.historical_bitmap.proofs.Lists.Maps.{is_at_is, same_entries}
 use Rattle.historical_bitmap.proofs.History.PastStates.{same_lookup}
 
 pub replaced_keys : (es : List (ℕ × List ℕ)) (i : ℕ) (chunk : List ℕ) → keys_of (with_chunk es i chunk) ≡ keys_of es
@@ -77,6 +76,26 @@ replaced_same es i chunk e = set_value_same (is_at (nat_cmp i)) es chunk (same_l
 
 pub replaces : (es : List (ℕ × List ℕ)) (i : ℕ) (old new : List ℕ) → lookup (nat_eq i) es ≡ Some old → Puts es (with_chunk es i new) i (Some new)
 replaces es i old new e = λ q. lookup_replaced es i q new (rw e refl)
+
+-- what replaces a chunk is the same entries with another chunk
+pub put_is : (es fs : List (ℕ × List ℕ)) (i : ℕ) (old new : List ℕ) → IsStrictlySortedBy nat_cmp (keys_of es) → IsStrictlySortedBy nat_cmp (keys_of fs) → lookup (nat_eq i) es ≡ Some old → Puts es fs i (Some new) → fs ≡ with_chunk es i new
+put_is es fs i old new up up_new e put = same_entries fs (with_chunk es i new) up_new (replaced_sorted es i new up) (λ q. put q ∙ sym (replaces es i old new e q))
+
+-- a bit is written in a chunk, and in one that is new
+pub writes : (n : ℕ) (first : List ℕ) (es : List (ℕ × List ℕ)) (i k : ℕ) (value : Bool) (old new : List ℕ) → lookup (nat_eq i) es ≡ Some old → IsWritten n old k value new → SetsIn n first es (with_chunk es i new) i k value new
+writes n first es i k value old new e written = record {
+  written = subst (λ o. IsWritten n (unwrap_or o first) k value new) (sym e) written;
+  edited = replaces es i old new e;
+}
+
+pub writes_new : (n : ℕ) (first : List ℕ) (es fs : List (ℕ × List ℕ)) (i k : ℕ) (value : Bool) (new : List ℕ) → lookup (nat_eq i) es ≡ None → IsWritten n first k value new → Puts es fs i (Some new) → SetsIn n first es fs i k value new
+writes_new n first es fs i k value new none written put = record {
+  written = subst (λ o. IsWritten n (unwrap_or o first) k value new) (sym none) written;
+  edited = put;
+}
+
+pub replaces_bit : (n : ℕ) (es : List (ℕ × List ℕ)) (i k : ℕ) (value : Bool) (old new : List ℕ) → lookup (nat_eq i) es ≡ Some old → IsWritten n old k value new → IfSome (lookup (nat_eq i) es) (λ chunk. IsSetIn n es (with_chunk es i new) i chunk k value)
+replaces_bit n es i k value old new e written = subst (λ o. IfSome o (λ chunk. IsSetIn n es (with_chunk es i new) i chunk k value)) (sym e) (record { bytes = new; written = written; edited = replaces es i old new e })
 
 -- a chunk that is put is found
 pub lookup_put : (es fs : List (ℕ × List ℕ)) (i : ℕ) (chunk : List ℕ) → Puts es fs i (Some chunk) → lookup (nat_eq i) fs ≡ Some chunk

@@ -3,7 +3,8 @@ use Rattle.std.specs.Prelude.{◌≡◌, ℕ, true, false, List, [], ◌∷◌, 
 use Rattle.std.proofs.Common.{refl}
 use Rattle.historical_bitmap.specs.Record as spec
 use Rattle.historical_bitmap.specs.declared.bitmap.historical.record.ChunkDiff.TheVariants.{Modified, Removed, Added, Pruned}
-use Rattle.historical_bitmap.specs.Tail.{is_cached_at, with_chunk}
+use Rattle.chunk_map.specs.Entries.{with_chunk}
+use Rattle.historical_bitmap.specs.CachedWord.{is_cached_at}
 use Rattle.historical_bitmap.specs.Stored.{diff_value, entry_values}
 
 -- the chunks 2 and 5

@@ -12,10 +12,10 @@ use Rattle.bitmap_core.specs.PrunedBits.{PrunedBits, bit_at, bit_len, from_bits,
 use Rattle.bitmap_core.proofs.Pruned.Positions.{same_from_bits}
 use Rattle.historical_bitmap.specs.Pending.{edits_of}
 use Rattle.historical_bitmap.specs.Record.{bit_or_else}
-use Rattle.historical_bitmap.specs.Run.{run_entries, with_run}
+use Rattle.historical_bitmap.specs.Appended.{appended_entries, with_appended}
 use Rattle.historical_bitmap.specs.Undo.{put_back}
 use Rattle.historical_bitmap.proofs.Pending.Applied.{put_bit}
-use Rattle.historical_bitmap.proofs.EditedChunks.AppendedRun.{first_of, look, look_beside, look_in, run_sorted}
+use Rattle.historical_bitmap.proofs.EditedChunks.Appended.{first_of, look, look_beside, look_in, appended_sorted}
 use Rattle.historical_bitmap.proofs.Records.UndoneInSteps.{put_len, put_pruned}
 
 -- bitmaps with the same pruned count, length and bits are equal
@@ -24,19 +24,19 @@ same_bits n c d p l h = sym (same_from_bits n c (bit_at n c) (λ k m. refl)) ∙
 
 module _ (n : ℕ) (b : PrunedBits) (from : ℕ) (xs : List (List ℕ)) (es : List (ℕ × List ℕ)) where
   abbrev all : List (ℕ × List ℕ)
-  all = with_run from xs es
+  all = with_appended from xs es
 
   abbrev run : List (ℕ × List ℕ)
-  run = run_entries from xs
+  run = appended_entries from xs
 
   abbrev once : PrunedBits
   once = put_back n b (edits_of es)
 
-  run_up : IsStrictlySortedBy nat_cmp (keys_of (run_entries from xs))
+  run_up : IsStrictlySortedBy nat_cmp (keys_of (appended_entries from xs))
   unfolding IsStrictlySortedBy
-  run_up = subst (λ ys. IsStrictlySortedBy nat_cmp (keys_of ys)) (append-nil (run_entries from xs)) (run_sorted from xs [] tt (λ q h. tt))
+  run_up = subst (λ ys. IsStrictlySortedBy nat_cmp (keys_of ys)) (append-nil (appended_entries from xs)) (appended_sorted from xs [] tt (λ q h. tt))
 
-  pub put_twice : IsStrictlySortedBy nat_cmp (keys_of es) → IsStrictlySortedBy nat_cmp (keys_of (with_run from xs es)) → put_back n (put_back n b (edits_of es)) (edits_of (run_entries from xs)) ≡ put_back n b (edits_of (with_run from xs es))
+  pub put_twice : IsStrictlySortedBy nat_cmp (keys_of es) → IsStrictlySortedBy nat_cmp (keys_of (with_appended from xs es)) → put_back n (put_back n b (edits_of es)) (edits_of (appended_entries from xs)) ≡ put_back n b (edits_of (with_appended from xs es))
   put_twice up up_all = same_bits n (put_back n once (edits_of run)) (put_back n b (edits_of all)) pruned len bits
     where
       pruned : (put_back n once (edits_of run)).pruned ≡ (put_back n b (edits_of all)).pruned
@@ -59,7 +59,7 @@ module _ (n : ℕ) (b : PrunedBits) (from : ℕ) (xs : List (List ℕ)) (es : Li
           ∙ sym (put_bit n b all k up_all there)))
 
 -- a fact about each chunk holds for each of the others, and for each of the run
-pub of_other : (P : List ℕ → Type 0) (from : ℕ) (xs : List (List ℕ)) (es : List (ℕ × List ℕ)) (q : ℕ) → ((q : ℕ) → from ≤ q → q < from + length xs → lookup (nat_eq q) es ≡ None) → MatchOption (lookup (nat_eq q) (with_run from xs es)) (Unit {0}) P → MatchOption (lookup (nat_eq q) es) (Unit {0}) P
+pub of_other : (P : List ℕ → Type 0) (from : ℕ) (xs : List (List ℕ)) (es : List (ℕ × List ℕ)) (q : ℕ) → ((q : ℕ) → from ≤ q → q < from + length xs → lookup (nat_eq q) es ≡ None) → MatchOption (lookup (nat_eq q) (with_appended from xs es)) (Unit {0}) P → MatchOption (lookup (nat_eq q) es) (Unit {0}) P
 of_other P from xs es q apart h = elim (cases_lt q from) [
   | inl l ↦ subst (λ o. MatchOption o (Unit {0}) P) (look_beside from xs es q (inl l)) h
   | inr l ↦ elim (cases_lt q (from + length xs)) [
@@ -68,20 +68,20 @@ of_other P from xs es q apart h = elim (cases_lt q from) [
   ]
 ]
 
-pub of_run : (P : List ℕ → Type 0) (from : ℕ) (xs : List (List ℕ)) (es : List (ℕ × List ℕ)) (i : ℕ) (d : List ℕ) → i < length xs → MatchOption (lookup (nat_eq (from + i)) (with_run from xs es)) (Unit {0}) P → P (get_or xs i d)
+pub of_run : (P : List ℕ → Type 0) (from : ℕ) (xs : List (List ℕ)) (es : List (ℕ × List ℕ)) (i : ℕ) (d : List ℕ) → i < length xs → MatchOption (lookup (nat_eq (from + i)) (with_appended from xs es)) (Unit {0}) P → P (get_or xs i d)
 of_run P from xs es i d l h =
     let place : from + i - from ≡ i = omega arith in
     subst (λ (j : ℕ). P (get_or xs j d)) place (subst (λ o. MatchOption o (Unit {0}) P) (look_in from xs es (from + i) d (omega arith, omega (arith, l))) h)
 
 -- one chunk of the run is written
-pub rest_step : (n : ℕ) (b c : PrunedBits) (from i : ℕ) (xs : List (List ℕ)) (x : List ℕ) → i < length xs → x ≡ get_or xs i x → c ≡ with_chunk n b (from + i) x → put_back n c (edits_of (run_entries (from + (i + 1)) (drop (i + 1) xs))) ≡ put_back n b (edits_of (run_entries (from + i) (drop i xs)))
+pub rest_step : (n : ℕ) (b c : PrunedBits) (from i : ℕ) (xs : List (List ℕ)) (x : List ℕ) → i < length xs → x ≡ get_or xs i x → c ≡ with_chunk n b (from + i) x → put_back n c (edits_of (appended_entries (from + (i + 1)) (drop (i + 1) xs))) ≡ put_back n b (edits_of (appended_entries (from + i) (drop i xs)))
 rest_step n b c from i xs x h is e =
     let next : from + (i + 1) ≡ from + i + 1 = omega arith in
     let after : i + 1 ≡ suc i = omega arith in
-    ap (λ a. put_back n a (edits_of (run_entries (from + (i + 1)) (drop (i + 1) xs)))) e
-    ∙ (ap (λ (j : ℕ). put_back n (with_chunk n b (from + i) x) (edits_of (run_entries j (drop (i + 1) xs)))) next
-    ∙ (ap (λ (j : ℕ). put_back n (with_chunk n b (from + i) x) (edits_of (run_entries (from + i + 1) (drop j xs)))) after
-    ∙ ap (λ ys. put_back n b (edits_of (run_entries (from + i) ys))) (sym (drop-cons xs i x h ∙ ap (λ y. y ∷ drop (suc i) xs) (sym is)))))
+    ap (λ a. put_back n a (edits_of (appended_entries (from + (i + 1)) (drop (i + 1) xs)))) e
+    ∙ (ap (λ (j : ℕ). put_back n (with_chunk n b (from + i) x) (edits_of (appended_entries j (drop (i + 1) xs)))) next
+    ∙ (ap (λ (j : ℕ). put_back n (with_chunk n b (from + i) x) (edits_of (appended_entries (from + i + 1) (drop j xs)))) after
+    ∙ ap (λ ys. put_back n b (edits_of (appended_entries (from + i) ys))) (sym (drop-cons xs i x h ∙ ap (λ y. y ∷ drop (suc i) xs) (sym is)))))
 
-pub rest_end : (n : ℕ) (b : PrunedBits) (from i : ℕ) (xs : List (List ℕ)) → i ≡ length xs → put_back n b (edits_of (run_entries from (drop i xs))) ≡ b
-rest_end n b from i xs h = ap (λ ys. put_back n b (edits_of (run_entries from ys))) (ap (λ (j : ℕ). drop j xs) h ∙ drop-length xs)
+pub rest_end : (n : ℕ) (b : PrunedBits) (from i : ℕ) (xs : List (List ℕ)) → i ≡ length xs → put_back n b (edits_of (appended_entries from (drop i xs))) ≡ b
+rest_end n b from i xs h = ap (λ ys. put_back n b (edits_of (appended_entries from ys))) (ap (λ (j : ℕ). drop j xs) h ∙ drop-length xs)

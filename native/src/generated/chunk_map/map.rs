@@ -114,20 +114,7 @@ impl<const N: usize> ChunkMap<N> {
         &self.chunks[place]
     }
 
-    /// Replaces the chunk at `place`, which must be below the number of chunks.
-    ///
-    /// # Memory
-    ///
-    /// Does not allocate.
-    ///
-    /// # Complexity
-    ///
-    /// Constant.
-    pub fn set_at(&mut self, place: usize, chunk: [u8; N]) {
-        self.chunks[place] = chunk;
-    }
-
-    /// Replaces byte `at` of the chunk at `place`. The place must be below the number of chunks, and `at` below `N`.
+    /// Returns the chunk at `place`, which must be below the number of chunks, to be changed in its place.
     ///
     /// # Memory
     ///
@@ -137,8 +124,8 @@ impl<const N: usize> ChunkMap<N> {
     ///
     /// Constant.
     #[inline]
-    pub fn set_byte_at(&mut self, place: usize, at: usize, byte: u8) {
-        self.chunks[place][at] = byte;
+    pub fn chunk_mut(&mut self, place: usize) -> &mut [u8; N] {
+        &mut self.chunks[place]
     }
 
     /// Inserts or replaces the chunk at `index`.

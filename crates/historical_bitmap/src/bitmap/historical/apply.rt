@@ -7,10 +7,10 @@ ghost use Rattle.std.specs.Ordering.{nat_cmp};
 ghost use Rattle.bitmap_bytes.specs.Chunk.{IsWidth};
 ghost use Rattle.bitmap_core.specs.PrunedBits.{PrunedBits, bit_len, extended, pruned_bits, truncated};
 ghost use Rattle.historical_bitmap.specs.Pending.{CanApply, PendingEdits, PendingFits, edits_of, uncaptured, pending_bits};
-ghost use Rattle.historical_bitmap.specs.Run.{run_entries};
+ghost use Rattle.historical_bitmap.specs.Appended.{appended_entries};
 ghost use Rattle.historical_bitmap.specs.Undo.{IsOldChunk, put_back};
 
-use crate::bitmap::historical::grown::GrownChunks;
+use crate::bitmap::historical::edited::EditedChunks;
 use bitmap_core::bitmap::Prunable;
 use bitmap_core::chunk::chunk_width;
 use chunk_map::map::ChunkMap;
@@ -45,7 +45,7 @@ pub(crate) fn shrink_back<const N: usize>(current: &mut Prunable<N>, before: u64
 pub(crate) fn overwrite<const N: usize>(
     current: &mut Prunable<N>,
     len: u64,
-    edited: GrownChunks<N>,
+    edited: EditedChunks<N>,
     pruned: usize,
 )
     requires { CanApply N current.old (uncaptured len pruned edited) }
@@ -58,7 +58,7 @@ pub(crate) fn overwrite<const N: usize>(
 }
 
 // Replaces the bits of edited chunks. Does not allocate.
-fn write_all<const N: usize>(current: &mut Prunable<N>, edited: GrownChunks<N>)
+fn write_all<const N: usize>(current: &mut Prunable<N>, edited: EditedChunks<N>)
     requires width { IsWidth N }
     requires retained { (i : ℕ) → MatchOption (lookup (nat_eq i) edited) (Unit {0}) (λ bytes. current.old.pruned ≤ i) }
     requires fits { (i : ℕ) → MatchOption (lookup (nat_eq i) edited) (Unit {0}) (IsOldChunk N (bit_len N current.old) i) }
@@ -75,7 +75,7 @@ fn write_run<const N: usize>(current: &mut Prunable<N>, from: usize, run: &Vec<[
     requires width { IsWidth N }
     requires retained { (at : ℕ) → at < length run.now.items → current.old.pruned ≤ from + at }
     requires fits { (at : ℕ) (other : List ℕ) → at < length run.now.items → IsOldChunk N (bit_len N current.old) (from + at) (get_or run.now.items at other) }
-    ensures value { current.new ≡ put_back N current.old (edits_of (run_entries from run.now.items)) }
+    ensures value { current.new ≡ put_back N current.old (edits_of (appended_entries from run.now.items)) }
 {
     let _ = current.len();
     for at in 0..run.len() {

@@ -12,7 +12,7 @@ ghost use Rattle.historical_bitmap.specs.View.{history_of};
 
 use crate::bitmap::historical::at::AtCommit;
 use crate::bitmap::historical::commit_list::{CommitList, SEARCH_IN_INDEX, entries_between};
-use crate::bitmap::historical::edited::cut;
+use crate::bitmap::historical::cut_chunks::cut;
 use crate::bitmap::historical::kept_bytes::KeptBytes;
 use crate::bitmap::historical::{BitMap, Clean};
 use bitmap_core::bitmap::Readable;

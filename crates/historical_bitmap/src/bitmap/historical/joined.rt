@@ -8,8 +8,8 @@ ghost use Rattle.bitmap_core.specs.PrunedBits.{chunk, truncated};
 ghost use Rattle.chunk_map.specs.Entries.{Puts};
 ghost use Rattle.historical_bitmap.specs.Lengths.{IsJoined, JoinsChunks};
 
-use crate::bitmap::historical::edited::cut;
-use crate::bitmap::historical::grown::GrownChunks;
+use crate::bitmap::historical::cut_chunks::cut;
+use crate::bitmap::historical::edited::EditedChunks;
 use crate::bitmap::historical::opened::open_to;
 use bitmap_core::bitmap::prunable::Prunable;
 use bitmap_core::bitmap::{BitMap, Readable};
@@ -71,7 +71,12 @@ fn joined<const N: usize>(old: &[u8; N], index: usize, len: u64, bits: &BitMap<N
 }
 
 // Writes the bits of a bitmap from position `len` on to the edited chunk at an index. Does not allocate.
-fn join_chunk<const N: usize>(chunks: &mut GrownChunks<N>, index: usize, len: u64, bits: &BitMap<N>)
+fn join_chunk<const N: usize>(
+    chunks: &mut EditedChunks<N>,
+    index: usize,
+    len: u64,
+    bits: &BitMap<N>,
+)
     requires width { IsWidth N }
     requires from { len / (8 * N) ≤ index }
     requires fits { 8 * N * index < 2 ^ 64 }
@@ -88,7 +93,7 @@ fn join_chunk<const N: usize>(chunks: &mut GrownChunks<N>, index: usize, len: u6
 
 // Writes the bits of a bitmap from position `len` on to the edited chunks from index `first` up to `past`. Does not allocate.
 fn join_each<const N: usize>(
-    chunks: &mut GrownChunks<N>,
+    chunks: &mut EditedChunks<N>,
     first: usize,
     past: usize,
     len: u64,
@@ -110,7 +115,7 @@ fn join_each<const N: usize>(
 // Starts from the current bitmap's chunk, cut to `len` bits, if none is edited there. After an error nothing is changed.
 // Does not allocate, and succeeds, if each chunk of the new bits is edited.
 pub(crate) fn append_bits<const N: usize>(
-    chunks: &mut GrownChunks<N>,
+    chunks: &mut EditedChunks<N>,
     current: &Prunable<N>,
     len: u64,
     bits: &BitMap<N>,

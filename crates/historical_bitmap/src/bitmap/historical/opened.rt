@@ -10,15 +10,15 @@ ghost use Rattle.historical_bitmap.specs.Edits.{from_to};
 ghost use Rattle.historical_bitmap.specs.Lengths.{OpensChunks};
 ghost use Rattle.historical_bitmap.specs.Pending.{PutsEach};
 
-use crate::bitmap::historical::edited::first_chunk;
-use crate::bitmap::historical::grown::GrownChunks;
+use crate::bitmap::historical::cut_chunks::first_chunk;
+use crate::bitmap::historical::edited::EditedChunks;
 use bitmap_core::bitmap::prunable::Prunable;
 use std::alloc::AllocError;
 
 // Inserts the current bitmap's chunk, cut to `len` bits, at each index from `first` up to `past`. There is no chunk from `first` on.
 // After an error nothing is changed. Does not allocate, and succeeds, if there are no indices.
 fn open_each<const N: usize>(
-    chunks: &mut GrownChunks<N>,
+    chunks: &mut EditedChunks<N>,
     current: &Prunable<N>,
     len: u64,
     first: usize,
@@ -54,7 +54,7 @@ fn open_each<const N: usize>(
 // Inserts the current bitmap's chunk, cut to `len` bits, at each index from `first` up to `past` that has no chunk. There is no chunk past `first`.
 // After an error nothing is changed. Does not allocate, and succeeds, if there is a chunk at each of these indices.
 pub(crate) fn open_to<const N: usize>(
-    chunks: &mut GrownChunks<N>,
+    chunks: &mut EditedChunks<N>,
     current: &Prunable<N>,
     len: u64,
     first: usize,

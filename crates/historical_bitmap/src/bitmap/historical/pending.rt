@@ -10,21 +10,28 @@ ghost use Rattle.std.specs.Set.{distinct_count};
 ghost use Rattle.bitmap_bytes.specs.Chunk.{bytes_bit, byte_bits, chunk_bit, chunk_bits, IsChunk, IsWidth};
 ghost use Rattle.bitmap_core.specs.PrunedBits.{PrunedBits, bit_at, bit_len, chunk, IsRetained, pruned_bits, truncated};
 ghost use Rattle.chunk_map.specs.Entries.{IsNextMember};
+ghost use Rattle.historical_bitmap.specs.CachedWord.{IsCached, with_cached};
 ghost use Rattle.historical_bitmap.specs.Edits.{from_to};
 ghost use Rattle.historical_bitmap.specs.Pending.{AddsEntries, Appends, diff_of, edited_chunk, first_cut_of, IsClearFrom, marked_chunks, members_between, PendingFits, picked_between, old_chunk, pending_bits, pending_chunk, Pops, Prunes, IsRecordOf, run_bits, SetsRange, Truncates, unedited, Writes, SetsChunk};
 ghost use Rattle.historical_bitmap.specs.Record.{LeadsBack};
 ghost use Rattle.historical_bitmap.specs.Stored.{diff_value};
 ghost use Rattle.historical_bitmap.specs.Undo.{CanUndo};
 
-use crate::bitmap::historical::edited::{cut, first_chunk};
-use crate::bitmap::historical::grown::GrownChunks;
+use crate::bitmap::historical::cached_word::{
+    CachedWord, chunk_of, clear_bit, clear_cached, cross_byte, cut_to, get_bit, join_byte, load,
+    no_word, push_bit, settle, write_bit,
+};
+use crate::bitmap::historical::cut_chunks::{cut, first_chunk};
+use crate::bitmap::historical::edited::EditedChunks;
+use crate::bitmap::historical::joined::append_bits;
+use crate::bitmap::historical::opened::open_to;
+use crate::bitmap::historical::ranges::set_range;
 use crate::bitmap::historical::record::{ChunkDiff, CommitDiff};
-use crate::bitmap::historical::tail::TailChunks;
 use bitmap_core::bitmap::BitMap;
 use bitmap_core::bitmap::prunable::Prunable;
 use bitmap_core::chunk::facts::known;
 use bitmap_core::chunk::join::{chunk_from, join};
-use bitmap_core::chunk::{chunk_count, chunk_index, chunk_width, clear_from, get_bit};
+use bitmap_core::chunk::{chunk_count, chunk_index, chunk_width, get_bit as bit_of};
 use chunk_map::map::ChunkMap;
 use std::alloc::{AllocError, Global};
 use std::marker::Model;
@@ -36,35 +43,38 @@ use std::marker::Model;
 pub struct Dirty<const N: usize> {
     len: u64,
     pruned: usize,
-    edited: TailChunks<N>,
+    edited: EditedChunks<N>,
+    cache: CachedWord,
     captured: Vec<[u8; N]>,
     alloc: Global,
 }
 
 impl<const N: usize> Model for Dirty<N> {
-    ghost use Rattle.bitmap_bytes.specs.Chunk.{IsWidth};
+    ghost use Rattle.historical_bitmap.specs.CachedWord.{IsCached, with_cached};
     ghost use Rattle.historical_bitmap.specs.Pending.{PendingEdits};
 
     ghost Value = { PendingEdits };
 
-    ghost view = { λ d. record { len = d.len; pruned = d.pruned; edited = d.edited; captured = d.captured.items } };
+    ghost view = { λ d. record { len = d.len; pruned = d.pruned; edited = with_cached N d.edited d.cache; captured = d.captured.items } };
 
-    ghost invariant = { λ d. IsWidth N };
+    ghost invariant = { λ d. IsCached N d.edited d.cache };
 }
 
 // Returns the pending bytes of a chunk.
 fn chunk_with<const N: usize>(
-    edited: &TailChunks<N>,
+    edited: &EditedChunks<N>,
+    cache: &CachedWord,
     current: &Prunable<N>,
     len: u64,
     index: usize,
 ) -> [u8; N]
+    requires cached { IsCached N edited.now cache.now }
     requires from { current.now.pruned ≤ index }
     requires fits { 8 * N * index < 2 ^ 64 }
-    ensures value { result ≡ unwrap_or (lookup (nat_eq index) edited.now) (chunk N (truncated N current.now len) index) }
+    ensures value { result ≡ unwrap_or (lookup (nat_eq index) (with_cached N edited.now cache.now)) (chunk N (truncated N current.now len) index) }
     ensures known { IsChunk N result }
 {
-    match edited.chunk(index) {
+    match chunk_of(edited, cache, index) {
         Some(bytes) => bytes,
         None => first_chunk(current, len, index),
     }
@@ -72,41 +82,45 @@ fn chunk_with<const N: usize>(
 
 // Returns the bytes that a prune captures of a chunk.
 fn chunk_before<const N: usize>(
-    edited: &TailChunks<N>,
+    edited: &EditedChunks<N>,
+    cache: &CachedWord,
     current: &Prunable<N>,
     len: u64,
     index: usize,
 ) -> [u8; N]
+    requires cached { IsCached N edited.now cache.now }
     requires from { current.now.pruned ≤ index }
     requires fits { 8 * N * index < 2 ^ 64 }
-    ensures { result ≡ old_chunk N current.now (record { len = len; pruned = 0; edited = edited.now; captured = [] }) index }
+    ensures { result ≡ old_chunk N current.now (record { len = len; pruned = 0; edited = with_cached N edited.now cache.now; captured = [] }) index }
 {
     let total = current.len();
     if chunk_width::<N>() * (index as u64) < total {
         *current.get_chunk(index)
     } else {
-        chunk_with(edited, current, len, index)
+        chunk_with(edited, cache, current, len, index)
     }
 }
 
 // Captures the chunks from `from` up to `to`, for which there is capacity.
 fn capture<const N: usize>(
     captured: &mut Vec<[u8; N]>,
-    edited: &TailChunks<N>,
+    edited: &EditedChunks<N>,
+    cache: &CachedWord,
     current: &Prunable<N>,
     len: u64,
     from: usize,
     to: usize,
 )
+    requires cached { IsCached N edited.now cache.now }
     requires low { current.now.pruned ≤ from }
     requires rises { from ≤ to }
     requires fits { 8 * N * to < 2 ^ 64 }
     requires space { vec_len captured.old + (to - from) ≤ vec_capacity captured.old }
-    ensures { captured.new.items ≡ captured.old.items ++ map (old_chunk N current.now (record { len = len; pruned = 0; edited = edited.now; captured = [] })) (from_to from to) }
+    ensures { captured.new.items ≡ captured.old.items ++ map (old_chunk N current.now (record { len = len; pruned = 0; edited = with_cached N edited.now cache.now; captured = [] })) (from_to from to) }
 {
     let _ = current.len();
     for index in from..to {
-        captured.push_reserved(chunk_before(edited, current, len, index));
+        captured.push_reserved(chunk_before(edited, cache, current, len, index));
     }
 }
 
@@ -238,7 +252,7 @@ fn record_map<const N: usize>(
     record_sorted(record, edits, current, chunks, from, to)
 }
 
-// Appends the entries of the edited chunks from index `from` up to `to`: those before the appended run, in it and past it.
+// Appends the entries of the edited chunks from index `from` up to `to`: those before the appended ones, these, and those past them.
 fn record_edited<const N: usize>(
     record: &mut CommitDiff<N>,
     edits: &Dirty<N>,
@@ -289,7 +303,8 @@ impl<const N: usize> Dirty<N> {
         Dirty {
             len: current.len(),
             pruned: current.pruned_chunks(),
-            edited: TailChunks::new(alloc),
+            edited: EditedChunks::new(alloc),
+            cache: no_word(),
             captured: Vec::new(alloc),
             alloc,
         }
@@ -335,7 +350,7 @@ impl<const N: usize> Dirty<N> {
         ensures value { result ≡ pending_chunk N current.now self.now index }
         ensures known { IsChunk N result }
     {
-        chunk_with(&self.edited, current, self.len, index)
+        chunk_with(&self.edited, &self.cache, current, self.len, index)
     }
 
     // Returns the pending bit at a retained position.
@@ -344,7 +359,7 @@ impl<const N: usize> Dirty<N> {
         requires retained { IsRetained N (pending_bits N current.now self.now) bit }
         ensures { result ≡ bit_at N (pending_bits N current.now self.now) bit }
     {
-        match self.edited.get_bit(bit) {
+        match get_bit(&self.edited, &self.cache, bit) {
             Some(value) => value,
             None => current.get_bit(bit),
         }
@@ -365,7 +380,15 @@ impl<const N: usize> Dirty<N> {
     {
         let len = self.len;
         let index = chunk_index::<N>(bit);
-        self.edited.write_bit(current, len, index, bit, value)?;
+        write_bit(
+            &mut self.edited,
+            &mut self.cache,
+            current,
+            len,
+            index,
+            bit,
+            value,
+        )?;
         Ok(())
     }
 
@@ -381,7 +404,7 @@ impl<const N: usize> Dirty<N> {
         ensures edited { IsSome (edited_chunk self.old (self.old.len / (8 * N))) → IsOk result }
     {
         let len = self.len;
-        self.edited.push_bit(current, len, value)?;
+        push_bit(&mut self.edited, &mut self.cache, current, len, value)?;
         self.len = len + 1;
         Ok(())
     }
@@ -398,7 +421,7 @@ impl<const N: usize> Dirty<N> {
         if last % chunk_width::<N>() == 0 {
             return None;
         }
-        let bit = self.edited.clear_cached(last)?;
+        let bit = clear_cached(&mut self.edited, &mut self.cache, last)?;
         self.len = last;
         Some(bit)
     }
@@ -429,19 +452,21 @@ impl<const N: usize> Dirty<N> {
         let index = chunk_index::<N>(last);
         self.len = last;
         if last % chunk_width::<N>() == 0 {
+            settle(&mut self.edited, &mut self.cache);
             let bytes = self.edited.remove(index)?;
             // The next pop, if any, is of this word.
-            self.edited.cache_word(last.saturating_sub(1));
-            return Some(get_bit(&bytes, last));
+            let before = last.saturating_sub(1);
+            self.cache = load(&self.edited, chunk_index::<N>(before), before);
+            return Some(bit_of(&bytes, last));
         }
-        self.edited.clear_bit(last)
+        clear_bit(&mut self.edited, &mut self.cache, last)
     }
 
     // Shortens the pending bitmap to `total` bits. Does not allocate.
     pub(crate) fn truncate(&mut self, total: u64)
         ensures { Truncates N self.old total self.new }
     {
-        self.edited.truncate(total);
+        cut_to(&mut self.edited, &mut self.cache, total);
         self.len = total;
     }
 
@@ -463,8 +488,8 @@ impl<const N: usize> Dirty<N> {
         if from >= to {
             return Ok(());
         }
-        self.edited
-            .set_range(current, len, from, to, value, self.alloc)?;
+        settle(&mut self.edited, &mut self.cache);
+        set_range(&mut self.edited, current, len, from, to, value, self.alloc)?;
         Ok(())
     }
 
@@ -480,6 +505,7 @@ impl<const N: usize> Dirty<N> {
         let start = chunk_width::<N>() * index as u64;
         let mut bytes = *chunk;
         cut(&mut bytes, len - start);
+        settle(&mut self.edited, &mut self.cache);
         self.edited.replace(index, bytes)?;
         Ok(())
     }
@@ -498,7 +524,8 @@ impl<const N: usize> Dirty<N> {
         let len = self.len();
         let first = chunk_index::<N>(len);
         let past = chunk_count::<N>(total);
-        self.edited.open_to(current, len, first, past)?;
+        settle(&mut self.edited, &mut self.cache);
+        open_to(&mut self.edited, current, len, first, past)?;
         self.len = total;
         Ok(())
     }
@@ -520,7 +547,8 @@ impl<const N: usize> Dirty<N> {
     {
         let len = self.len();
         let total = len + other.len();
-        self.edited.append_bits(current, len, other)?;
+        settle(&mut self.edited, &mut self.cache);
+        append_bits(&mut self.edited, current, len, other)?;
         self.len = total;
         Ok(())
     }
@@ -541,6 +569,7 @@ impl<const N: usize> Dirty<N> {
         capture(
             &mut self.captured,
             &self.edited,
+            &self.cache,
             current,
             self.len,
             first,
@@ -568,6 +597,7 @@ impl<const N: usize> Dirty<N> {
         let mut begun = self.chunk(current, first);
         join(&mut begun, len, bytes, &[]);
         known(&begun);
+        settle(&mut self.edited, &mut self.cache);
         if count <= space {
             self.edited.write(first, begun)?;
             self.len = len + count;
@@ -590,7 +620,8 @@ impl<const N: usize> Dirty<N> {
         if chunk_width::<N>() - len % chunk_width::<N>() < 8 {
             return false;
         }
-        if !self.edited.join_byte(chunk_index::<N>(len), len, byte) {
+        let index = chunk_index::<N>(len);
+        if !join_byte(&mut self.edited, &mut self.cache, index, len, byte) {
             return false;
         }
         self.len = len + 8;
@@ -614,9 +645,8 @@ impl<const N: usize> Dirty<N> {
         }
         let rest = rest_of_byte(byte, space);
         known(&rest);
-        let crossed = self
-            .edited
-            .cross_byte(chunk_index::<N>(len), len, byte, rest)?;
+        let index = chunk_index::<N>(len);
+        let crossed = cross_byte(&mut self.edited, &mut self.cache, index, len, byte, rest)?;
         if crossed {
             self.len = len + 8;
         }
@@ -722,7 +752,7 @@ impl<const N: usize> Dirty<N> {
         }
     }
 
-    // Returns the map of the edited chunks beside the appended run, and the part of the run from index `from` up to `to`.
+    // Returns the map of the edited chunks that are not appended, and the part of the appended ones from index `from` up to `to`.
     fn edited_between(&self, from: usize, to: usize) -> (&ChunkMap<N>, usize, usize)
         requires order { from ≤ to }
         ensures from { from ≤ result.1 }
@@ -770,10 +800,11 @@ impl<const N: usize> Dirty<N> {
     }
 
     // Returns the edited chunks by index. Does not allocate.
-    pub(crate) fn into_edited(self) -> GrownChunks<N>
+    pub(crate) fn into_edited(mut self) -> EditedChunks<N>
         ensures { result ≡ self.entry.edited }
     {
-        self.edited.into_chunks()
+        settle(&mut self.edited, &mut self.cache);
+        self.edited
     }
 
     // Returns a copy. Allocates for its chunks.
@@ -785,6 +816,7 @@ impl<const N: usize> Dirty<N> {
             len: self.len,
             pruned: self.pruned,
             edited: self.edited.duplicate()?,
+            cache: self.cache,
             captured,
             alloc: self.alloc,
         })

@@ -7,14 +7,14 @@ ghost use Rattle.bitmap_core.specs.PrunedBits.{chunk, truncated};
 ghost use Rattle.chunk_map.specs.Entries.{Puts};
 ghost use Rattle.historical_bitmap.specs.Pending.{AreMissing, IsRangeSet, SetsChunks};
 
-use crate::bitmap::historical::grown::GrownChunks;
+use crate::bitmap::historical::edited::EditedChunks;
 use bitmap_core::bitmap::prunable::Prunable;
 use bitmap_core::chunk::{chunk_index, chunk_width};
 use std::alloc::{AllocError, Global};
 
 // Returns the indices from `first` up to `past` at which there is no chunk. Does not allocate, and succeeds, if there are none.
 fn missing<const N: usize>(
-    chunks: &GrownChunks<N>,
+    chunks: &EditedChunks<N>,
     first: usize,
     past: usize,
     alloc: Global,
@@ -35,7 +35,7 @@ fn missing<const N: usize>(
 
 // Sets the bits of the chunk at an index at the positions from `from` up to `to`. Does not allocate.
 fn fill_chunk<const N: usize>(
-    chunks: &mut GrownChunks<N>,
+    chunks: &mut EditedChunks<N>,
     index: usize,
     from: u64,
     to: u64,
@@ -54,7 +54,7 @@ fn fill_chunk<const N: usize>(
 
 // Sets the bits of the chunks from index `first` up to `past` at the positions from `from` up to `to`. Does not allocate.
 fn fill<const N: usize>(
-    chunks: &mut GrownChunks<N>,
+    chunks: &mut EditedChunks<N>,
     first: usize,
     past: usize,
     from: u64,
@@ -76,7 +76,7 @@ fn fill<const N: usize>(
 // It first allocates the chunks that are missing. After an error nothing is changed.
 // Does not allocate, and succeeds, if each chunk of the range is edited.
 pub(crate) fn set_range<const N: usize>(
-    chunks: &mut GrownChunks<N>,
+    chunks: &mut EditedChunks<N>,
     current: &Prunable<N>,
     len: u64,
     from: u64,

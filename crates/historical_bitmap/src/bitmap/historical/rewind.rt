@@ -13,7 +13,7 @@ ghost use Rattle.historical_bitmap.specs.Stored.{diff_value, entry_values};
 
 use crate::bitmap::historical::apply::{grow, shrink_back};
 use crate::bitmap::historical::commit_list::CommitList;
-use crate::bitmap::historical::edited::cut;
+use crate::bitmap::historical::cut_chunks::cut;
 use crate::bitmap::historical::record::ChunkDiff;
 use bitmap_core::bitmap::Prunable;
 use bitmap_core::chunk::{chunk_count, chunk_width};

@@ -2,7 +2,7 @@
 
 ghost use Rattle.std.specs.Prelude.{◌≡◌, ◌+◌, ◌*◌, ◌%◌, ◌≤◌};
 ghost use Rattle.bitmap_bytes.specs.Chunk.{IsChunk, IsWidth};
-ghost use Rattle.historical_bitmap.specs.Tail.{IsWordPut};
+ghost use Rattle.historical_bitmap.specs.CachedWord.{IsWordPut};
 
 use bitmap_core::chunk::facts::known;
 use bitmap_core::chunk::{byte_index, chunk_width};

@@ -4,7 +4,7 @@
 use crate::generated::bitmap_core::bitmap::Prunable;
 use crate::generated::bitmap_core::chunk::chunk_width;
 use crate::generated::chunk_map::map::ChunkMap;
-use crate::generated::historical_bitmap::bitmap::historical::grown::GrownChunks;
+use crate::generated::historical_bitmap::bitmap::historical::edited::EditedChunks;
 use crate::support::alloc::AllocError;
 #[allow(unused_imports)]
 use crate::support::prelude::*;
@@ -24,7 +24,7 @@ pub(crate) fn shrink_back<const N: usize>(current: &mut Prunable<N>, before: u64
 }
 
 // Applies pending edits to a bitmap that is at least as long as the pending length. Does not allocate.
-pub(crate) fn overwrite<const N: usize>(current: &mut Prunable<N>, len: u64, edited: GrownChunks<N>, pruned: usize) {
+pub(crate) fn overwrite<const N: usize>(current: &mut Prunable<N>, len: u64, edited: EditedChunks<N>, pruned: usize) {
     let _ = current.len();
     current.truncate(len);
     write_all(current, edited);
@@ -32,7 +32,7 @@ pub(crate) fn overwrite<const N: usize>(current: &mut Prunable<N>, len: u64, edi
 }
 
 // Replaces the bits of edited chunks. Does not allocate.
-fn write_all<const N: usize>(current: &mut Prunable<N>, edited: GrownChunks<N>) {
+fn write_all<const N: usize>(current: &mut Prunable<N>, edited: EditedChunks<N>) {
     let (others, from, run) = edited.into_parts();
     write_chunks(current, &others);
     write_run(current, from, &run);

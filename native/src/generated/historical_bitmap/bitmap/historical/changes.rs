@@ -5,7 +5,7 @@ use crate::generated::bitmap_core::bitmap::Readable;
 use crate::generated::bitmap_core::chunk::{chunk_count, chunk_width};
 use crate::generated::historical_bitmap::bitmap::historical::at::AtCommit;
 use crate::generated::historical_bitmap::bitmap::historical::commit_list::{CommitList, SEARCH_IN_INDEX, entries_between};
-use crate::generated::historical_bitmap::bitmap::historical::edited::cut;
+use crate::generated::historical_bitmap::bitmap::historical::cut_chunks::cut;
 use crate::generated::historical_bitmap::bitmap::historical::kept_bytes::KeptBytes;
 use crate::generated::historical_bitmap::bitmap::historical::{BitMap, Clean};
 #[allow(unused_imports)]

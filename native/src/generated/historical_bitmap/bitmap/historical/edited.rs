@@ -5,59 +5,43 @@ use crate::generated::bitmap_core::bitmap::prunable::Prunable;
 use crate::generated::bitmap_core::chunk::facts::known;
 use crate::generated::bitmap_core::chunk::join::join_byte;
 use crate::generated::bitmap_core::chunk::range::set_in;
-use crate::generated::bitmap_core::chunk::{self, bit_mask, byte_index, chunk_width, clear_from};
+use crate::generated::bitmap_core::chunk::{bit_mask, byte_index, chunk_width, get_bit};
 use crate::generated::chunk_map::map::ChunkMap;
+use crate::generated::historical_bitmap::bitmap::historical::cut_chunks::first_chunk;
+use crate::generated::historical_bitmap::bitmap::historical::word::put_word;
 use crate::support::alloc::{AllocError, Global};
 #[allow(unused_imports)]
 use crate::support::prelude::*;
 
-// Chunks by index. A chunk is first looked for at the place `recent`: that of the chunk of which a bit was written last.
-// So consecutive writes to one chunk search once.
+// Chunks by index. The appended ones, whose indices are consecutive, are found without a search: they are in one block, and `first` is the
+// index of the first. The others are stored in a map, where a chunk is first looked for at the place `recent`: that of the chunk that was
+// written last. So consecutive writes to one chunk search once.
 #[derive(Debug)]
 pub(crate) struct EditedChunks<const N: usize> {
-    chunks: ChunkMap<N>,
+    stored: ChunkMap<N>,
     recent: usize,
+    first: usize,
+    appended: Vec<[u8; N]>,
 }
 
-// Writes a bit of a chunk and returns the old one.
-pub(crate) fn replace_bit<const N: usize>(chunk: &mut [u8; N], bit: u64, value: bool) -> bool {
-    let old = chunk::get_bit(chunk, bit);
-    chunk::set_bit(chunk, bit, value);
-    known(chunk);
-    old
+// Where the bytes of a chunk are: at a place of the appended chunks, or at a place of the map.
+#[derive(Clone, Copy)]
+enum Slot {
+    Appended(usize),
+    Stored(usize),
 }
 
-// Returns the mask of a bit in its byte if `value` is true, else 0.
+crate::support::clones_by_copy! { [] Slot }
+
+// Returns whether an index is one of `count` indices from `first` on.
 #[inline]
-fn mask_where(bit: u64, value: bool) -> u8 {
-    if value { bit_mask(bit) } else { 0 }
+fn is_in(first: usize, count: usize, index: usize) -> bool {
+    first <= index && index - first < count
 }
 
-// Writes a bit of a chunk in which it is zero. It need not clear the bit first, so consecutive writes do not wait for each other.
-#[inline]
-pub(crate) fn fill_bit<const N: usize>(chunk: &mut [u8; N], bit: u64, value: bool) {
-    chunk[byte_index::<N>(bit)] |= mask_where(bit, value);
-    known(chunk);
-}
-
-// Clears the bits of a chunk from bit `from` on.
-pub(crate) fn cut<const N: usize>(bytes: &mut [u8; N], from: u64) {
-    if from < chunk_width::<N>() {
-        clear_from(bytes, from);
-    }
-    known(bytes);
-}
-
-// Returns the chunk of the current bitmap at an index, with the bits from position `len` on cleared.
-pub(crate) fn first_chunk<const N: usize>(current: &Prunable<N>, len: u64, index: usize) -> [u8; N] {
-    let total = current.len();
-    let start = chunk_width::<N>() * index as u64;
-    let mut bytes = [0; N];
-    if start < total {
-        bytes = *current.get_chunk(index);
-    }
-    cut(&mut bytes, len.saturating_sub(start));
-    bytes
+// Returns whether an index is next after `count` indices from `first` on, or there are none.
+fn is_next(first: usize, count: usize, index: usize) -> bool {
+    count == 0 || first <= index && index - first == count
 }
 
 // Returns the place of the chunk at an index, if there is one. Does not search if that is the place `recent`.
@@ -71,6 +55,18 @@ fn place_of<const N: usize>(chunks: &ChunkMap<N>, recent: usize, index: usize) -
     chunks.find(index)
 }
 
+// Returns where the bytes of the chunk at an index are, if there is one. Does not search for an appended chunk.
+#[inline]
+fn slot_of<const N: usize>(stored: &ChunkMap<N>, recent: usize, first: usize, count: usize, index: usize) -> Option<Slot> {
+    if is_in(first, count, index) {
+        return Some(Slot::Appended(index - first));
+    }
+    match place_of(stored, recent, index) {
+        Some(place) => Some(Slot::Stored(place)),
+        None => None,
+    }
+}
+
 // Returns a byte with bit `bit mod 8` set to `value`. Its other bits do not change.
 #[inline]
 fn with_bit(byte: u8, bit: u64, value: bool) -> u8 {
@@ -78,16 +74,23 @@ fn with_bit(byte: u8, bit: u64, value: bool) -> u8 {
     if value { byte | mask } else { byte & !mask }
 }
 
-// Replaces a bit of the chunk at the place of an index and returns the old one.
+// Writes a bit of a chunk and returns the old one.
 #[inline]
-fn replace_bit_at<const N: usize>(chunks: &mut ChunkMap<N>, place: usize, index: usize, bit: u64, value: bool) -> bool {
+fn replace_bit<const N: usize>(chunk: &mut [u8; N], bit: u64, value: bool) -> bool {
     let at = byte_index::<N>(bit);
-    let bytes = chunks.chunk_at(place);
-    known(bytes);
-    let old = chunk::get_bit(bytes, bit);
-    let byte = with_bit(bytes[at], bit, value);
-    chunks.set_byte_at(place, at, byte);
+    let old = get_bit(chunk, bit);
+    let byte = with_bit(chunk[at], bit, value);
+    chunk[at] = byte;
+    known(chunk);
     old
+}
+
+// Returns the current bitmap's chunk at an index, cut to `len` bits, with a bit written.
+#[inline(never)]
+fn first_with<const N: usize>(current: &Prunable<N>, len: u64, index: usize, bit: u64, value: bool) -> [u8; N] {
+    let mut bytes = first_chunk(current, len, index);
+    let _ = replace_bit(&mut bytes, bit, value);
+    bytes
 }
 
 // Removes the chunks of a map from index `from` on. Does not allocate.
@@ -97,91 +100,114 @@ fn remove_from<const N: usize>(chunks: &mut ChunkMap<N>, from: usize) {
     }
 }
 
+// Removes the chunks at the first `count` of some indices from a map. Does not allocate.
+fn remove_each<const N: usize>(stored: &mut ChunkMap<N>, indices: &[usize], count: usize) {
+    for at in 0..count {
+        let _ = stored.remove(indices[at]);
+    }
+    stored.order();
+}
+
+// Inserts the current bitmap's chunk, cut to `len` bits, at each of some indices that have no chunk in a map.
+// After an error the map has the old chunks. Does not allocate, and succeeds, if there are no indices.
+fn insert_each<const N: usize>(stored: &mut ChunkMap<N>, current: &Prunable<N>, len: u64, indices: &[usize]) -> Result<(), AllocError> {
+    let _ = current.len();
+    stored.order();
+    for at in 0..indices.len() {
+        let index = indices[at];
+        if stored.try_put(index, first_chunk(current, len, index)).is_err() {
+            remove_each(stored, indices, at);
+            return Err(AllocError);
+        }
+    }
+    Ok(())
+}
+
 impl<const N: usize> EditedChunks<N> {
     // Returns a collection without chunks. Does not allocate.
     pub(crate) fn new_within(alloc: Global) -> Self {
-        EditedChunks { chunks: ChunkMap::new_within(alloc), recent: 0 }
+        EditedChunks { stored: ChunkMap::new_within(alloc), recent: 0, first: 0, appended: Vec::new_within(alloc) }
+    }
+
+    // States that the indices ascend.
+    fn order(&self) {
+        self.stored.order();
     }
 
     // Returns the chunk at an index, if there is one.
     #[inline]
     pub(crate) fn get(&self, index: usize) -> Option<&[u8; N]> {
-        self.chunks.order();
-        match place_of(&self.chunks, self.recent, index) {
-            Some(place) => Some(self.chunks.chunk_at(place)),
+        self.order();
+        let count = self.appended.len();
+        match slot_of(&self.stored, self.recent, self.first, count, index) {
+            Some(Slot::Appended(place)) => Some(&self.appended[place]),
+            Some(Slot::Stored(place)) => Some(self.stored.chunk_at(place)),
             None => None,
         }
     }
 
-    // Writes a bit of the chunk at an index. Starts from the current bitmap's chunk, cut to `len` bits, if none is edited there.
-    // Does not allocate, and succeeds, if that chunk is edited.
+    // Returns the chunk at an index, if there is one, to be changed in its place.
     #[inline]
-    pub(crate) fn write_bit(&mut self, current: &Prunable<N>, len: u64, index: usize, bit: u64, value: bool) -> Result<(), AllocError> {
-        match place_of(&self.chunks, self.recent, index) {
-            Some(place) => {
+    pub(crate) fn get_mut(&mut self, index: usize) -> Option<&mut [u8; N]> {
+        self.order();
+        self.stored.order();
+        let count = self.appended.len();
+        match slot_of(&self.stored, self.recent, self.first, count, index) {
+            Some(Slot::Appended(place)) => Some(&mut self.appended[place]),
+            Some(Slot::Stored(place)) => {
                 self.recent = place;
-                let _ = replace_bit_at(&mut self.chunks, place, index, bit, value);
+                Some(self.stored.chunk_mut(place))
+            }
+            None => None,
+        }
+    }
+
+    // Inserts a chunk at an index that has none. It is appended if it is next there.
+    #[inline]
+    pub(crate) fn open(&mut self, index: usize, chunk: [u8; N]) -> Result<(), AllocError> {
+        self.stored.order();
+        let count = self.appended.len();
+        if !is_next(self.first, count, index) {
+            return self.stored.add(index, chunk);
+        }
+        self.appended.try_push(chunk)?;
+        if count == 0 {
+            self.first = index;
+        }
+        Ok(())
+    }
+
+    // Inserts a chunk at an index that has none. It is never appended.
+    fn try_put(&mut self, index: usize, chunk: [u8; N]) -> Result<(), AllocError> {
+        self.recent = self.stored.len();
+        self.stored.add(index, chunk)
+    }
+
+    // Inserts or replaces the chunk at an index. A new one is appended if it is next there.
+    // Does not allocate, and succeeds, if there is a chunk.
+    pub(crate) fn write(&mut self, index: usize, chunk: [u8; N]) -> Result<(), AllocError> {
+        match self.get_mut(index) {
+            Some(old) => {
+                *old = chunk;
                 Ok(())
             }
-            None => self.write_first(current, len, index, bit, value),
+            None => self.open(index, chunk),
         }
     }
 
-    // Inserts the current bitmap's chunk, cut to `len` bits, at an index that has none, with a bit written.
-    #[inline(never)]
-    fn write_first(&mut self, current: &Prunable<N>, len: u64, index: usize, bit: u64, value: bool) -> Result<(), AllocError> {
-        let mut bytes = first_chunk(current, len, index);
-        let _ = replace_bit(&mut bytes, bit, value);
-        self.recent = self.chunks.len();
-        self.chunks.add(index, bytes)
-    }
-
-    // Replaces a bit of the chunk at an index and returns the old one, if there is such a chunk. Does not allocate.
-    #[inline]
-    pub(crate) fn replace_bit(&mut self, index: usize, bit: u64, value: bool) -> Option<bool> {
-        let place = place_of(&self.chunks, self.recent, index);
-        let old = match place {
-            Some(place) => {
-                self.recent = place;
-                Some(replace_bit_at(&mut self.chunks, place, index, bit, value))
+    // As `write`, for a chunk that need not be appended: a new one never is.
+    pub(crate) fn replace(&mut self, index: usize, chunk: [u8; N]) -> Result<(), AllocError> {
+        match self.get_mut(index) {
+            Some(bytes) => {
+                *bytes = chunk;
+                Ok(())
             }
-            None => None,
-        };
-        self.chunks.order();
-        old
-    }
-
-    // Writes the eight bits of a byte from position `bit` on, if there is a chunk at the index. Returns whether there is. Does not allocate.
-    pub(crate) fn join_byte(&mut self, index: usize, bit: u64, byte: u8) -> bool {
-        match place_of(&self.chunks, self.recent, index) {
-            Some(place) => {
-                let mut bytes = *self.chunks.chunk_at(place);
-                join_byte(&mut bytes, bit, byte);
-                known(&bytes);
-                self.chunks.set_at(place, bytes);
-                true
-            }
-            None => false,
+            None => self.try_put(index, chunk),
         }
     }
 
-    // Sets the bits of an edited chunk at or above bit `from` and below bit `to`, counted from its start. Does not allocate.
-    pub(crate) fn set_in(&mut self, index: usize, from: u64, to: u64, value: bool) {
-        if let Some(place) = place_of(&self.chunks, self.recent, index) {
-            let mut bytes = *self.chunks.chunk_at(place);
-            set_in(&mut bytes, from, to, value);
-            known(&bytes);
-            self.chunks.set_at(place, bytes);
-        }
-    }
-
-    // Inserts or replaces the chunk at an index. Does not allocate, and succeeds, if there is one.
-    pub(crate) fn write(&mut self, index: usize, chunk: [u8; N]) -> Result<(), AllocError> {
-        self.chunks.order();
-        self.chunks.try_put(index, chunk)
-    }
-
-    // Inserts two chunks, at an index and at the next one, which has none. After an error nothing is changed.
+    // Inserts or replaces the chunk at an index, and inserts one at the next. There is no chunk past the index.
+    // After an error nothing is changed.
     pub(crate) fn write_two(&mut self, index: usize, first: [u8; N], second: [u8; N]) -> Result<(), AllocError> {
         self.write(index + 1, second)?;
         if self.write(index, first).is_err() {
@@ -191,72 +217,139 @@ impl<const N: usize> EditedChunks<N> {
         Ok(())
     }
 
-    // Removes the chunk at an index and returns it. Does not allocate.
+    // Writes a bit of the chunk at an index. Starts from the current bitmap's chunk, cut to `len` bits, if none is edited there.
+    // Does not allocate, and succeeds, if that chunk is edited.
+    #[inline]
+    pub(crate) fn write_bit(&mut self, current: &Prunable<N>, len: u64, index: usize, bit: u64, value: bool) -> Result<(), AllocError> {
+        match self.get_mut(index) {
+            Some(chunk) => {
+                let _ = replace_bit(chunk, bit, value);
+                Ok(())
+            }
+            None => self.try_put(index, first_with(current, len, index, bit, value)),
+        }
+    }
+
+    // As `write_bit`, for a bit that is appended at a position, which is the length. A new chunk is appended if it is next there.
+    #[inline]
+    pub(crate) fn push_bit(&mut self, current: &Prunable<N>, index: usize, bit: u64, value: bool) -> Result<(), AllocError> {
+        match self.get_mut(index) {
+            Some(last) => {
+                let _ = replace_bit(last, bit, value);
+                Ok(())
+            }
+            None => self.open(index, first_with(current, bit, index, bit, value)),
+        }
+    }
+
+    // Replaces a bit of the chunk at an index and returns the old one, if there is such a chunk. Does not allocate.
+    #[inline]
+    pub(crate) fn replace_bit(&mut self, index: usize, bit: u64, value: bool) -> Option<bool> {
+        match self.get_mut(index) {
+            Some(chunk) => Some(replace_bit(chunk, bit, value)),
+            None => None,
+        }
+    }
+
+    // Writes the eight bits of a byte from position `bit` on, if there is a chunk at the index. Returns whether there is. Does not allocate.
+    #[inline]
+    pub(crate) fn join_byte(&mut self, index: usize, bit: u64, byte: u8) -> bool {
+        match self.get_mut(index) {
+            Some(chunk) => {
+                join_byte(chunk, bit, byte);
+                known(chunk);
+                true
+            }
+            None => false,
+        }
+    }
+
+    // Sets the bits of an edited chunk at or above bit `from` and below bit `to`, counted from its start. Does not allocate.
+    pub(crate) fn set_in(&mut self, index: usize, from: u64, to: u64, value: bool) {
+        if let Some(chunk) = self.get_mut(index) {
+            set_in(chunk, from, to, value);
+            known(chunk);
+        }
+    }
+
+    // Writes a word to the chunk at an index. Does not allocate.
+    #[inline]
+    pub(crate) fn put_word(&mut self, index: usize, base: u64, count: u64, word: u64) {
+        if let Some(bytes) = self.get_mut(index) {
+            put_word(bytes, base, count, word);
+        }
+    }
+
+    // Clears the bits of the chunk at an index from bit `from` on, counted from its start, if there is a chunk. Does not allocate.
+    pub(crate) fn cut(&mut self, index: usize, from: u64) {
+        if self.get(index).is_some() {
+            self.set_in(index, from, chunk_width::<N>(), false);
+        }
+    }
+
+    // Allocates space for `count` chunks from an index on, if they would be appended. Nothing is changed, also after an error.
+    pub(crate) fn try_reserve(&mut self, index: usize, count: usize) -> Result<(), AllocError> {
+        if is_next(self.first, self.appended.len(), index) {
+            self.appended.try_reserve(count)?;
+        }
+        Ok(())
+    }
+
+    // Inserts the current bitmap's chunk, cut to `len` bits, at each of some indices that have no chunk. None is appended.
+    // After an error nothing is changed. Does not allocate, and succeeds, if there are no indices.
+    pub(crate) fn insert_each(&mut self, current: &Prunable<N>, len: u64, indices: &[usize]) -> Result<(), AllocError> {
+        insert_each(&mut self.stored, current, len, indices)
+    }
+
+    // Removes the chunk at an index, past which there is none, and returns it. Does not allocate.
     pub(crate) fn remove(&mut self, index: usize) -> Option<[u8; N]> {
-        self.chunks.remove(index)
+        self.stored.order();
+        if is_in(self.first, self.appended.len(), index) {
+            return self.appended.pop();
+        }
+        self.stored.remove(index)
     }
 
     // Removes the chunks from index `from` on. Does not allocate.
     pub(crate) fn drop_from(&mut self, from: usize) {
-        remove_from(&mut self.chunks, from);
-        self.chunks.order();
+        remove_from(&mut self.stored, from);
+        self.stored.order();
+        self.appended.truncate(from.saturating_sub(self.first));
     }
 
-    // Returns the map of the chunks.
-    pub(crate) fn map(&self) -> &ChunkMap<N> {
-        &self.chunks
+    // Returns the map, and the part of the appended chunks from index `from` up to `to`: its first index, and the one past its last.
+    pub(crate) fn parts_between(&self, from: usize, to: usize) -> (&ChunkMap<N>, usize, usize) {
+        let first = self.first.clamp(from, to);
+        let past = self.first.saturating_add(self.appended.len()).clamp(from, to);
+        (&self.stored, first, past)
     }
 
     // Returns whether there is no chunk.
     pub(crate) fn is_empty(&self) -> bool {
-        self.chunks.is_empty()
+        self.appended.len() == 0 && self.stored.is_empty()
     }
 
     // Returns the first index from `from` on that has a chunk.
     pub(crate) fn next_from(&self, from: usize) -> Option<usize> {
-        self.chunks.next_from(from)
-    }
-
-    // States that the indices ascend.
-    pub(crate) fn order(&self) {
-        self.chunks.order();
+        let other = self.stored.next_from(from);
+        let first = from.max(self.first);
+        if first - self.first >= self.appended.len() {
+            return other;
+        }
+        match other {
+            Some(index) if index < first => Some(index),
+            _ => Some(first),
+        }
     }
 
     // Returns a copy. Allocates for its chunks.
     pub(crate) fn duplicate(&self) -> Result<Self, AllocError> {
-        Ok(EditedChunks { chunks: self.chunks.duplicate()?, recent: self.recent })
+        Ok(EditedChunks { stored: self.stored.duplicate()?, recent: self.recent, first: self.first, appended: self.appended.try_clone()? })
     }
 
-    // Returns the chunks as a map. Does not allocate.
-    pub(crate) fn into_map(self) -> ChunkMap<N> {
-        self.chunks
+    // Returns the map, the index of the first appended chunk, and the appended chunks. Does not allocate.
+    pub(crate) fn into_parts(self) -> (ChunkMap<N>, usize, Vec<[u8; N]>) {
+        self.stored.order();
+        (self.stored, self.first, self.appended)
     }
-}
-
-// Removes the chunks at the first `count` of some indices. Does not allocate.
-fn remove_each<const N: usize>(chunks: &mut EditedChunks<N>, indices: &[usize], count: usize) {
-    for at in 0..count {
-        let _ = chunks.remove(indices[at]);
-    }
-    chunks.order();
-}
-
-// Inserts the current bitmap's chunk, cut to `len` bits, at each of some indices that have no chunk. After an error nothing is changed.
-// Does not allocate, and succeeds, if there are no indices.
-pub(crate) fn insert_each<const N: usize>(
-    chunks: &mut EditedChunks<N>,
-    current: &Prunable<N>,
-    len: u64,
-    indices: &[usize],
-) -> Result<(), AllocError> {
-    let _ = current.len();
-    chunks.order();
-    for at in 0..indices.len() {
-        let index = indices[at];
-        if chunks.write(index, first_chunk(current, len, index)).is_err() {
-            remove_each(chunks, indices, at);
-            return Err(AllocError);
-        }
-    }
-    Ok(())
 }

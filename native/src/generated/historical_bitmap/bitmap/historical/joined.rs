@@ -6,8 +6,8 @@ use crate::generated::bitmap_core::bitmap::{BitMap, Readable};
 use crate::generated::bitmap_core::chunk::facts::known;
 use crate::generated::bitmap_core::chunk::join::{chunk_from, join};
 use crate::generated::bitmap_core::chunk::{chunk_count, chunk_index, chunk_width};
-use crate::generated::historical_bitmap::bitmap::historical::edited::cut;
-use crate::generated::historical_bitmap::bitmap::historical::grown::GrownChunks;
+use crate::generated::historical_bitmap::bitmap::historical::cut_chunks::cut;
+use crate::generated::historical_bitmap::bitmap::historical::edited::EditedChunks;
 use crate::generated::historical_bitmap::bitmap::historical::opened::open_to;
 use crate::support::alloc::AllocError;
 #[allow(unused_imports)]
@@ -51,7 +51,7 @@ fn joined<const N: usize>(old: &[u8; N], index: usize, len: u64, bits: &BitMap<N
 }
 
 // Writes the bits of a bitmap from position `len` on to the edited chunk at an index. Does not allocate.
-fn join_chunk<const N: usize>(chunks: &mut GrownChunks<N>, index: usize, len: u64, bits: &BitMap<N>) {
+fn join_chunk<const N: usize>(chunks: &mut EditedChunks<N>, index: usize, len: u64, bits: &BitMap<N>) {
     if let Some(old) = chunks.get(index) {
         let bytes = joined(old, index, len, bits);
         let _ = chunks.write(index, bytes);
@@ -59,7 +59,7 @@ fn join_chunk<const N: usize>(chunks: &mut GrownChunks<N>, index: usize, len: u6
 }
 
 // Writes the bits of a bitmap from position `len` on to the edited chunks from index `first` up to `past`. Does not allocate.
-fn join_each<const N: usize>(chunks: &mut GrownChunks<N>, first: usize, past: usize, len: u64, bits: &BitMap<N>) {
+fn join_each<const N: usize>(chunks: &mut EditedChunks<N>, first: usize, past: usize, len: u64, bits: &BitMap<N>) {
     for index in first..past {
         join_chunk(chunks, index, len, bits);
     }
@@ -69,7 +69,7 @@ fn join_each<const N: usize>(chunks: &mut GrownChunks<N>, first: usize, past: us
 // Starts from the current bitmap's chunk, cut to `len` bits, if none is edited there. After an error nothing is changed.
 // Does not allocate, and succeeds, if each chunk of the new bits is edited.
 pub(crate) fn append_bits<const N: usize>(
-    chunks: &mut GrownChunks<N>,
+    chunks: &mut EditedChunks<N>,
     current: &Prunable<N>,
     len: u64,
     bits: &BitMap<N>,

@@ -2,8 +2,8 @@
 //! Chunks that are opened at the end of the edited chunks of a batch.
 
 use crate::generated::bitmap_core::bitmap::prunable::Prunable;
-use crate::generated::historical_bitmap::bitmap::historical::edited::first_chunk;
-use crate::generated::historical_bitmap::bitmap::historical::grown::GrownChunks;
+use crate::generated::historical_bitmap::bitmap::historical::cut_chunks::first_chunk;
+use crate::generated::historical_bitmap::bitmap::historical::edited::EditedChunks;
 use crate::support::alloc::AllocError;
 #[allow(unused_imports)]
 use crate::support::prelude::*;
@@ -11,7 +11,7 @@ use crate::support::prelude::*;
 // Inserts the current bitmap's chunk, cut to `len` bits, at each index from `first` up to `past`. There is no chunk from `first` on.
 // After an error nothing is changed. Does not allocate, and succeeds, if there are no indices.
 fn open_each<const N: usize>(
-    chunks: &mut GrownChunks<N>,
+    chunks: &mut EditedChunks<N>,
     current: &Prunable<N>,
     len: u64,
     first: usize,
@@ -33,7 +33,7 @@ fn open_each<const N: usize>(
 // Inserts the current bitmap's chunk, cut to `len` bits, at each index from `first` up to `past` that has no chunk. There is no chunk past `first`.
 // After an error nothing is changed. Does not allocate, and succeeds, if there is a chunk at each of these indices.
 pub(crate) fn open_to<const N: usize>(
-    chunks: &mut GrownChunks<N>,
+    chunks: &mut EditedChunks<N>,
     current: &Prunable<N>,
     len: u64,
     first: usize,

@@ -5,12 +5,17 @@ use crate::generated::bitmap_core::bitmap::BitMap;
 use crate::generated::bitmap_core::bitmap::prunable::Prunable;
 use crate::generated::bitmap_core::chunk::facts::known;
 use crate::generated::bitmap_core::chunk::join::{chunk_from, join};
-use crate::generated::bitmap_core::chunk::{chunk_count, chunk_index, chunk_width, clear_from, get_bit};
+use crate::generated::bitmap_core::chunk::{chunk_count, chunk_index, chunk_width, get_bit as bit_of};
 use crate::generated::chunk_map::map::ChunkMap;
-use crate::generated::historical_bitmap::bitmap::historical::edited::{cut, first_chunk};
-use crate::generated::historical_bitmap::bitmap::historical::grown::GrownChunks;
+use crate::generated::historical_bitmap::bitmap::historical::cached_word::{
+    CachedWord, chunk_of, clear_bit, clear_cached, cross_byte, cut_to, get_bit, join_byte, load, no_word, push_bit, settle, write_bit,
+};
+use crate::generated::historical_bitmap::bitmap::historical::cut_chunks::{cut, first_chunk};
+use crate::generated::historical_bitmap::bitmap::historical::edited::EditedChunks;
+use crate::generated::historical_bitmap::bitmap::historical::joined::append_bits;
+use crate::generated::historical_bitmap::bitmap::historical::opened::open_to;
+use crate::generated::historical_bitmap::bitmap::historical::ranges::set_range;
 use crate::generated::historical_bitmap::bitmap::historical::record::{ChunkDiff, CommitDiff};
-use crate::generated::historical_bitmap::bitmap::historical::tail::TailChunks;
 use crate::support::alloc::{AllocError, Global};
 #[allow(unused_imports)]
 use crate::support::prelude::*;
@@ -31,30 +36,39 @@ use crate::support::prelude::*;
 pub struct Dirty<const N: usize> {
     len: u64,
     pruned: usize,
-    edited: TailChunks<N>,
+    edited: EditedChunks<N>,
+    cache: CachedWord,
     captured: Vec<[u8; N]>,
     alloc: Global,
 }
 
 // Returns the pending bytes of a chunk.
-fn chunk_with<const N: usize>(edited: &TailChunks<N>, current: &Prunable<N>, len: u64, index: usize) -> [u8; N] {
-    match edited.chunk(index) {
+fn chunk_with<const N: usize>(edited: &EditedChunks<N>, cache: &CachedWord, current: &Prunable<N>, len: u64, index: usize) -> [u8; N] {
+    match chunk_of(edited, cache, index) {
         Some(bytes) => bytes,
         None => first_chunk(current, len, index),
     }
 }
 
 // Returns the bytes that a prune captures of a chunk.
-fn chunk_before<const N: usize>(edited: &TailChunks<N>, current: &Prunable<N>, len: u64, index: usize) -> [u8; N] {
+fn chunk_before<const N: usize>(edited: &EditedChunks<N>, cache: &CachedWord, current: &Prunable<N>, len: u64, index: usize) -> [u8; N] {
     let total = current.len();
-    if chunk_width::<N>() * (index as u64) < total { *current.get_chunk(index) } else { chunk_with(edited, current, len, index) }
+    if chunk_width::<N>() * (index as u64) < total { *current.get_chunk(index) } else { chunk_with(edited, cache, current, len, index) }
 }
 
 // Captures the chunks from `from` up to `to`, for which there is capacity.
-fn capture<const N: usize>(captured: &mut Vec<[u8; N]>, edited: &TailChunks<N>, current: &Prunable<N>, len: u64, from: usize, to: usize) {
+fn capture<const N: usize>(
+    captured: &mut Vec<[u8; N]>,
+    edited: &EditedChunks<N>,
+    cache: &CachedWord,
+    current: &Prunable<N>,
+    len: u64,
+    from: usize,
+    to: usize,
+) {
     let _ = current.len();
     for index in from..to {
-        captured.push_reserved(chunk_before(edited, current, len, index));
+        captured.push_reserved(chunk_before(edited, cache, current, len, index));
     }
 }
 
@@ -157,7 +171,7 @@ fn record_map<const N: usize>(
     record_sorted(record, edits, current, chunks, from, to)
 }
 
-// Appends the entries of the edited chunks from index `from` up to `to`: those before the appended run, in it and past it.
+// Appends the entries of the edited chunks from index `from` up to `to`: those before the appended ones, these, and those past them.
 fn record_edited<const N: usize>(
     record: &mut CommitDiff<N>,
     edits: &Dirty<N>,
@@ -193,7 +207,8 @@ impl<const N: usize> Dirty<N> {
         Dirty {
             len: current.len(),
             pruned: current.pruned_chunks(),
-            edited: TailChunks::new_within(alloc),
+            edited: EditedChunks::new_within(alloc),
+            cache: no_word(),
             captured: Vec::new_within(alloc),
             alloc,
         }
@@ -222,12 +237,12 @@ impl<const N: usize> Dirty<N> {
 
     // Returns the pending bytes of a chunk.
     pub(crate) fn chunk(&self, current: &Prunable<N>, index: usize) -> [u8; N] {
-        chunk_with(&self.edited, current, self.len, index)
+        chunk_with(&self.edited, &self.cache, current, self.len, index)
     }
 
     // Returns the pending bit at a retained position.
     pub(crate) fn get_bit(&self, current: &Prunable<N>, bit: u64) -> bool {
-        match self.edited.get_bit(bit) {
+        match get_bit(&self.edited, &self.cache, bit) {
             Some(value) => value,
             None => current.get_bit(bit),
         }
@@ -238,7 +253,7 @@ impl<const N: usize> Dirty<N> {
     pub(crate) fn write(&mut self, current: &Prunable<N>, bit: u64, value: bool) -> Result<(), AllocError> {
         let len = self.len;
         let index = chunk_index::<N>(bit);
-        self.edited.write_bit(current, len, index, bit, value)?;
+        write_bit(&mut self.edited, &mut self.cache, current, len, index, bit, value)?;
         Ok(())
     }
 
@@ -246,7 +261,7 @@ impl<const N: usize> Dirty<N> {
     #[inline]
     pub(crate) fn try_push(&mut self, current: &Prunable<N>, value: bool) -> Result<(), AllocError> {
         let len = self.len;
-        self.edited.push_bit(current, len, value)?;
+        push_bit(&mut self.edited, &mut self.cache, current, len, value)?;
         self.len = len + 1;
         Ok(())
     }
@@ -258,7 +273,7 @@ impl<const N: usize> Dirty<N> {
         if last % chunk_width::<N>() == 0 {
             return None;
         }
-        let bit = self.edited.clear_cached(last)?;
+        let bit = clear_cached(&mut self.edited, &mut self.cache, last)?;
         self.len = last;
         Some(bit)
     }
@@ -279,17 +294,19 @@ impl<const N: usize> Dirty<N> {
         let index = chunk_index::<N>(last);
         self.len = last;
         if last % chunk_width::<N>() == 0 {
+            settle(&mut self.edited, &mut self.cache);
             let bytes = self.edited.remove(index)?;
             // The next pop, if any, is of this word.
-            self.edited.cache_word(last.saturating_sub(1));
-            return Some(get_bit(&bytes, last));
+            let before = last.saturating_sub(1);
+            self.cache = load(&self.edited, chunk_index::<N>(before), before);
+            return Some(bit_of(&bytes, last));
         }
-        self.edited.clear_bit(last)
+        clear_bit(&mut self.edited, &mut self.cache, last)
     }
 
     // Shortens the pending bitmap to `total` bits. Does not allocate.
     pub(crate) fn truncate(&mut self, total: u64) {
-        self.edited.truncate(total);
+        cut_to(&mut self.edited, &mut self.cache, total);
         self.len = total;
     }
 
@@ -300,7 +317,8 @@ impl<const N: usize> Dirty<N> {
         if from >= to {
             return Ok(());
         }
-        self.edited.try_set_range(current, len, from, to, value, self.alloc)?;
+        settle(&mut self.edited, &mut self.cache);
+        set_range(&mut self.edited, current, len, from, to, value, self.alloc)?;
         Ok(())
     }
 
@@ -311,6 +329,7 @@ impl<const N: usize> Dirty<N> {
         let start = chunk_width::<N>() * index as u64;
         let mut bytes = *chunk;
         cut(&mut bytes, len - start);
+        settle(&mut self.edited, &mut self.cache);
         self.edited.replace(index, bytes)?;
         Ok(())
     }
@@ -321,7 +340,8 @@ impl<const N: usize> Dirty<N> {
         let len = self.len();
         let first = chunk_index::<N>(len);
         let past = chunk_count::<N>(total);
-        self.edited.open_to(current, len, first, past)?;
+        settle(&mut self.edited, &mut self.cache);
+        open_to(&mut self.edited, current, len, first, past)?;
         self.len = total;
         Ok(())
     }
@@ -331,7 +351,8 @@ impl<const N: usize> Dirty<N> {
     pub(crate) fn try_extend_from_bitmap(&mut self, current: &Prunable<N>, other: &BitMap<N>) -> Result<(), AllocError> {
         let len = self.len();
         let total = len + other.len();
-        self.edited.append_bits(current, len, other)?;
+        settle(&mut self.edited, &mut self.cache);
+        append_bits(&mut self.edited, current, len, other)?;
         self.len = total;
         Ok(())
     }
@@ -343,7 +364,7 @@ impl<const N: usize> Dirty<N> {
             return Ok(());
         }
         self.captured.try_reserve(end - first)?;
-        capture(&mut self.captured, &self.edited, current, self.len, first, end);
+        capture(&mut self.captured, &self.edited, &self.cache, current, self.len, first, end);
         self.pruned = end;
         Ok(())
     }
@@ -358,6 +379,7 @@ impl<const N: usize> Dirty<N> {
         let mut begun = self.chunk(current, first);
         join(&mut begun, len, bytes, &[]);
         known(&begun);
+        settle(&mut self.edited, &mut self.cache);
         if count <= space {
             self.edited.write(first, begun)?;
             self.len = len + count;
@@ -376,7 +398,8 @@ impl<const N: usize> Dirty<N> {
         if chunk_width::<N>() - len % chunk_width::<N>() < 8 {
             return false;
         }
-        if !self.edited.join_byte(chunk_index::<N>(len), len, byte) {
+        let index = chunk_index::<N>(len);
+        if !join_byte(&mut self.edited, &mut self.cache, index, len, byte) {
             return false;
         }
         self.len = len + 8;
@@ -393,7 +416,8 @@ impl<const N: usize> Dirty<N> {
         }
         let rest = rest_of_byte(byte, space);
         known(&rest);
-        let crossed = self.edited.cross_byte(chunk_index::<N>(len), len, byte, rest)?;
+        let index = chunk_index::<N>(len);
+        let crossed = cross_byte(&mut self.edited, &mut self.cache, index, len, byte, rest)?;
         if crossed {
             self.len = len + 8;
         }
@@ -463,7 +487,7 @@ impl<const N: usize> Dirty<N> {
         if len < total { chunk_index::<N>(len) } else { chunk_count::<N>(len) }
     }
 
-    // Returns the map of the edited chunks beside the appended run, and the part of the run from index `from` up to `to`.
+    // Returns the map of the edited chunks that are not appended, and the part of the appended ones from index `from` up to `to`.
     fn edited_between(&self, from: usize, to: usize) -> (&ChunkMap<N>, usize, usize) {
         self.edited.parts_between(from, to)
     }
@@ -493,13 +517,14 @@ impl<const N: usize> Dirty<N> {
     }
 
     // Returns the edited chunks by index. Does not allocate.
-    pub(crate) fn into_edited(self) -> GrownChunks<N> {
-        self.edited.into_chunks()
+    pub(crate) fn into_edited(mut self) -> EditedChunks<N> {
+        settle(&mut self.edited, &mut self.cache);
+        self.edited
     }
 
     // Returns a copy. Allocates for its chunks.
     pub(crate) fn duplicate(&self) -> Result<Self, AllocError> {
         let captured = self.captured.try_clone()?;
-        Ok(Dirty { len: self.len, pruned: self.pruned, edited: self.edited.duplicate()?, captured, alloc: self.alloc })
+        Ok(Dirty { len: self.len, pruned: self.pruned, edited: self.edited.duplicate()?, cache: self.cache, captured, alloc: self.alloc })
     }
 }

@@ -3,13 +3,13 @@
 
 use crate::generated::bitmap_core::bitmap::prunable::Prunable;
 use crate::generated::bitmap_core::chunk::{chunk_index, chunk_width};
-use crate::generated::historical_bitmap::bitmap::historical::grown::GrownChunks;
+use crate::generated::historical_bitmap::bitmap::historical::edited::EditedChunks;
 use crate::support::alloc::{AllocError, Global};
 #[allow(unused_imports)]
 use crate::support::prelude::*;
 
 // Returns the indices from `first` up to `past` at which there is no chunk. Does not allocate, and succeeds, if there are none.
-fn missing<const N: usize>(chunks: &GrownChunks<N>, first: usize, past: usize, alloc: Global) -> Result<Vec<usize>, AllocError> {
+fn missing<const N: usize>(chunks: &EditedChunks<N>, first: usize, past: usize, alloc: Global) -> Result<Vec<usize>, AllocError> {
     let mut indices = Vec::new_within(alloc);
     for index in first..past {
         if chunks.get(index).is_none() {
@@ -20,7 +20,7 @@ fn missing<const N: usize>(chunks: &GrownChunks<N>, first: usize, past: usize, a
 }
 
 // Sets the bits of the chunk at an index at the positions from `from` up to `to`. Does not allocate.
-fn fill_chunk<const N: usize>(chunks: &mut GrownChunks<N>, index: usize, from: u64, to: u64, value: bool) {
+fn fill_chunk<const N: usize>(chunks: &mut EditedChunks<N>, index: usize, from: u64, to: u64, value: bool) {
     let width = chunk_width::<N>();
     let start = width * index as u64;
     let past = to.saturating_sub(start).min(width);
@@ -28,7 +28,7 @@ fn fill_chunk<const N: usize>(chunks: &mut GrownChunks<N>, index: usize, from: u
 }
 
 // Sets the bits of the chunks from index `first` up to `past` at the positions from `from` up to `to`. Does not allocate.
-fn fill<const N: usize>(chunks: &mut GrownChunks<N>, first: usize, past: usize, from: u64, to: u64, value: bool) {
+fn fill<const N: usize>(chunks: &mut EditedChunks<N>, first: usize, past: usize, from: u64, to: u64, value: bool) {
     for index in first..past {
         fill_chunk(chunks, index, from, to, value);
     }
@@ -38,7 +38,7 @@ fn fill<const N: usize>(chunks: &mut GrownChunks<N>, first: usize, past: usize, 
 // It first allocates the chunks that are missing. After an error nothing is changed.
 // Does not allocate, and succeeds, if each chunk of the range is edited.
 pub(crate) fn set_range<const N: usize>(
-    chunks: &mut GrownChunks<N>,
+    chunks: &mut EditedChunks<N>,
     current: &Prunable<N>,
     len: u64,
     from: u64,

@@ -6,7 +6,7 @@ use crate::generated::bitmap_core::chunk::{chunk_count, chunk_width};
 use crate::generated::chunk_map::map::ChunkMap;
 use crate::generated::historical_bitmap::bitmap::historical::apply::{grow, shrink_back};
 use crate::generated::historical_bitmap::bitmap::historical::commit_list::CommitList;
-use crate::generated::historical_bitmap::bitmap::historical::edited::cut;
+use crate::generated::historical_bitmap::bitmap::historical::cut_chunks::cut;
 use crate::generated::historical_bitmap::bitmap::historical::record::ChunkDiff;
 use crate::support::alloc::{AllocError, Global};
 #[allow(unused_imports)]

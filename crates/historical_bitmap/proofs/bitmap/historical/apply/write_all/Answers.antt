@@ -5,7 +5,7 @@ use Rattle.std.specs.Map.{keys_of, lookup}
 use Rattle.std.specs.Ordering.{nat_cmp}
 use Rattle.bitmap_core.specs.PrunedBits.{bit_len}
 use Rattle.historical_bitmap.specs.Pending.{edits_of}
-use Rattle.historical_bitmap.specs.Run.{run_entries}
+use Rattle.historical_bitmap.specs.Appended.{appended_entries}
 use Rattle.historical_bitmap.specs.Undo.{IsOldChunk, put_back}
 use Rattle.historical_bitmap.proofs.Pending.AppliedRun.{of_other, of_run, put_twice}
 use Rattle.historical_bitmap.proofs.Records.UndoneInSteps.{put_len, put_pruned}
@@ -49,6 +49,6 @@ pub returns-clause-value : goal.returns-clause-value
 returns-clause-value g c =
     let r = c.into_parts-others.result in
     c.write_run.ensures.value
-    ∙ (ap (λ b. put_back g.row.N b (edits_of (run_entries r.1 r.2.items))) c.write_chunks.ensures.value
+    ∙ (ap (λ b. put_back g.row.N b (edits_of (appended_entries r.1 r.2.items))) c.write_chunks.ensures.value
     ∙ (put_twice g.row.N c.args.current.now r.1 r.2.items r.0.entries c.write_chunks.ensures.sorted (subst (λ es. IsStrictlySortedBy nat_cmp (keys_of es)) (sym c.into_parts-others.ensures.entries) c.into_parts-others.ensures.sorted)
     ∙ ap (λ es. put_back g.row.N c.args.current.now (edits_of es)) c.into_parts-others.ensures.entries))

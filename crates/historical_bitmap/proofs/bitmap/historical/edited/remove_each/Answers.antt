@@ -6,8 +6,8 @@ use Rattle.historical_bitmap.proofs.bitmap.historical.edited.remove_each.Goals a
 
 pub loop-at-preserved : goal.loop-at-preserved
 loop-at-preserved g c =
-    subst (λ xs. PutsEach c.args.chunks.now c.remove.new.self xs (λ q. None)) (sym (take_more c.args.indices.now c.loop-at.at 0 (omega (arith, c.loop-at-test.true, c.requires.within))))
-    (puts_more c.args.chunks.now c.loop-at.chunks c.remove.new.self (take c.loop-at.at c.args.indices.now) (get_or c.args.indices.now c.loop-at.at 0) (λ q. None) c.loop-at.invariant c.remove.ensures.removed)
+    subst (λ xs. PutsEach c.args.stored.now.entries c.remove.new.self.entries xs (λ q. None)) (sym (take_more c.args.indices.now c.loop-at.at 0 (omega (arith, c.loop-at-test.true, c.requires.within))))
+    (puts_more c.args.stored.now.entries c.loop-at.stored.entries c.remove.new.self.entries (take c.loop-at.at c.args.indices.now) (get_or c.args.indices.now c.loop-at.at 0) (λ q. None) c.loop-at.invariant c.remove.ensures.removed)
 
 pub returns-clause-removed : goal.returns-clause-removed
 returns-clause-removed g c =

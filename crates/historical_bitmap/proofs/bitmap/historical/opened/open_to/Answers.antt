@@ -1,7 +1,7 @@
 use Rattle.std.proofs.Common.{ap, sym, ◌∙◌}
 use Rattle.std.specs.Prelude.{is_some}
 use Rattle.bitmap_core.specs.PrunedBits.{chunk, truncated}
-use Rattle.historical_bitmap.proofs.EditedChunks.AppendedRun.{copied_some, none_of, ok_map}
+use Rattle.historical_bitmap.proofs.EditedChunks.Appended.{copied_some, none_of, ok_map}
 use Rattle.historical_bitmap.proofs.EditedChunks.OpenedUpTo.{opens_all, opens_rest}
 use Rattle.historical_bitmap.proofs.bitmap.historical.opened.open_to.Goals as goal
 

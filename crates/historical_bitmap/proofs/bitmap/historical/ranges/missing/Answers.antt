@@ -1,7 +1,7 @@
 use Rattle.std.proofs.Common.{◌+◌, ◌∙◌, ap, sym, subst}
 use Rattle.std.specs.Prelude.{is_some, not}
 use Rattle.historical_bitmap.specs.Pending.{AreMissing}
-use Rattle.historical_bitmap.proofs.EditedChunks.AppendedRun.{copied_some, none_of}
+use Rattle.historical_bitmap.proofs.EditedChunks.Appended.{copied_some, none_of}
 use Rattle.historical_bitmap.proofs.EditedChunks.ManyChunks.{none_missing, not_missing, one_missing}
 use Rattle.historical_bitmap.proofs.bitmap.historical.ranges.missing.Goals as goal
 use Rattle.historical_bitmap.proofs.bitmap.historical.ranges.missing.Goals.{then-is_none+in_ok-push, else-is_none}

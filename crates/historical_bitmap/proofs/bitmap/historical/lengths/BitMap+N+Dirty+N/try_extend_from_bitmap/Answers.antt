@@ -2,7 +2,7 @@ use Rattle.std.proofs.Common.{◌+◌, ◌^◌, ◌<◌, length, refl, sym, ◌�
 use Rattle.std.proofs.lemmas.Bool.{eqb-false}
 use Rattle.bitmap_core.specs.PrunedBits.{bit_len}
 use Rattle.historical_bitmap.specs.Pending.{pending_bits}
-use Rattle.historical_bitmap.proofs.EditedChunks.AppendedRun.{ok_map}
+use Rattle.historical_bitmap.proofs.EditedChunks.Appended.{ok_map}
 use Rattle.historical_bitmap.proofs.Pending.BatchEdits.{tried_run, tried_run_fits}
 use Rattle.historical_bitmap.proofs.Pending.Edits.{pending_len}
 use Rattle.historical_bitmap.proofs.Pending.EditedAfter.{tried_run_leaves}

@@ -1,7 +1,7 @@
 use Rattle.std.proofs.Common.{◌-◌, ◌<◌, false, replicate, arith, sym}
 use Rattle.bitmap_core.specs.PrunedBits.{bit_len}
 use Rattle.historical_bitmap.specs.Pending.{pending_bits}
-use Rattle.historical_bitmap.proofs.EditedChunks.AppendedRun.{ok_map}
+use Rattle.historical_bitmap.proofs.EditedChunks.Appended.{ok_map}
 use Rattle.historical_bitmap.proofs.Pending.BatchEdits.{tried_run_fits}
 use Rattle.historical_bitmap.proofs.Pending.Edits.{pending_len}
 use Rattle.historical_bitmap.proofs.Pending.Lengthened.{run_extends, zeros_held, zeros_leave, zeros_run}

@@ -21,8 +21,8 @@ returns-then-count-space-clause-ok g c =
     let index : c.chunk_index-first.result ≡ c.args.self.now.len / (8 * g.row.N) = c.chunk_index-first.ensures ∙ ap (λ (k : ℕ). k / (8 * g.row.N)) at in
     let space : 8 * length c.args.bytes.now ≤ 8 * g.row.N - c.args.self.now.len % (8 * g.row.N) = rw (c.chunk_width.ensures, c.chunk_width-2.ensures, at) at c.if-count-space.true in
     let has = begun_has n b l bytes pos c.chunk-begun.result c.join.new.chunk (rw index at c.chunk-begun.ensures.value) c.known.ensures.len (rw at at c.join.ensures.kept) (rw at at c.join.ensures.joined) in
-    let put : Puts c.args.self.now.edited c.write.new.self (c.args.self.now.len / (8 * g.row.N)) (Some c.join.new.chunk) = subst (λ es. Puts es c.write.new.self (c.args.self.now.len / (8 * g.row.N)) (Some c.join.new.chunk)) (ap (λ l. l.edited) v) (rw index at c.in_ok-write.ensures.ok) in
-    appends_one n b l _ (run_bits bytes) pos (omega (arith, c.requires.some, run_len bytes)) (omega (arith, at, run_len bytes)) (ap (λ l. l.pruned) v) (ap (λ l. l.captured) v) c.join.new.chunk (omega (arith, space, run_len bytes)) has put
+    let put : Puts c.args.self.now.edited c.write.new.self (c.args.self.now.len / (8 * g.row.N)) (Some c.join.new.chunk) = subst (λ es. Puts es c.write.new.self (c.args.self.now.len / (8 * g.row.N)) (Some c.join.new.chunk)) (c.settle.ensures.value ∙ ap (λ l. l.edited) v) (rw index at c.in_ok-write.ensures.ok) in
+    rw c.settle.ensures.chunk (appends_one n b l _ (run_bits bytes) pos (omega (arith, c.requires.some, run_len bytes)) (omega (arith, at, run_len bytes)) (ap (λ l. l.pruned) v) (ap (λ l. l.captured) v) c.join.new.chunk (omega (arith, space, run_len bytes)) has put)
 
 pub returns-clause-ok : goal.returns-clause-ok
 returns-clause-ok g c =
@@ -37,8 +37,8 @@ returns-clause-ok g c =
     let space : 8 * g.row.N - c.args.self.now.len % (8 * g.row.N) < 8 * length c.args.bytes.now = rw (c.chunk_width.ensures, c.chunk_width-2.ensures, at) at c.if-count-space.false in
     let has = begun_has n b l bytes pos c.chunk-begun.result c.join.new.chunk (rw index at c.chunk-begun.ensures.value) c.known.ensures.len (rw at at c.join.ensures.kept) (rw at at c.join.ensures.joined) in
     let rest = rest_has n b l bytes pos c.rest_of-rest.result c.known-2.ensures.len (rw (c.chunk_width.ensures, c.chunk_width-2.ensures, at) at c.rest_of-rest.ensures) in
-    let put : PutsTwo c.args.self.now.edited c.write_two.new.self (c.args.self.now.len / (8 * g.row.N)) c.join.new.chunk c.rest_of-rest.result = subst (λ es. PutsTwo es c.write_two.new.self (c.args.self.now.len / (8 * g.row.N)) c.join.new.chunk c.rest_of-rest.result) (ap (λ l. l.edited) v) (rw index at c.in_ok-write_two.ensures.ok) in
-    appends_two n b l _ (run_bits bytes) pos (omega (arith, c.requires.some, run_len bytes)) (omega (arith, at, run_len bytes)) (ap (λ l. l.pruned) v) (ap (λ l. l.captured) v) c.join.new.chunk c.rest_of-rest.result (omega (arith, space, run_len bytes)) (omega (arith, c.requires.short, run_len bytes)) has rest put
+    let put : PutsTwo c.args.self.now.edited c.write_two.new.self (c.args.self.now.len / (8 * g.row.N)) c.join.new.chunk c.rest_of-rest.result = subst (λ es. PutsTwo es c.write_two.new.self (c.args.self.now.len / (8 * g.row.N)) c.join.new.chunk c.rest_of-rest.result) (c.settle.ensures.value ∙ ap (λ l. l.edited) v) (rw index at c.in_ok-write_two.ensures.ok) in
+    rw c.settle.ensures.chunk (appends_two n b l _ (run_bits bytes) pos (omega (arith, c.requires.some, run_len bytes)) (omega (arith, at, run_len bytes)) (ap (λ l. l.pruned) v) (ap (λ l. l.captured) v) c.join.new.chunk c.rest_of-rest.result (omega (arith, space, run_len bytes)) (omega (arith, c.requires.short, run_len bytes)) has rest put)
 
 pub write_two-requires : goal.write_two-requires
 write_two-requires g c =
@@ -54,7 +54,7 @@ write_two-requires g c =
           λ q h.
               let past : c.args.self.now.len / (8 * g.row.N) < q = omega (arith, h, index) in
               let under = past_index g.row.N c.args.self.now.len q pos past in
-              ap (λ l. lookup (nat_eq q) l.edited) c.self.view_is ∙ none_past_len g.row.N c.args.current.now c.args.self.now c.requires.edits_fit q (omega (arith, under)),
+              ap (λ es. lookup (nat_eq q) es) c.settle.ensures.value ∙ ap (λ l. lookup (nat_eq q) l.edited) c.self.view_is ∙ none_past_len g.row.N c.args.current.now c.args.self.now c.requires.edits_fit q (omega (arith, under)),
         ),
       ),
     )

@@ -26,7 +26,7 @@ open_to-requires g c =
               omega (arith, first, first_above g.row.N c.args.current.now c.args.self.now pos c.requires.edits_fit),
               (
                 λ q h. let below : 8 * g.row.N * q < c.args.total = index_below_ceil g.row.N c.args.total q pos (rw c.chunk_count-past.ensures at h) in omega (arith, below, c.ranges.total.fits),
-                λ q h. ap (λ l. lookup (nat_eq q) l.edited) c.self.view_is ∙ none_past_first g.row.N c.args.current.now c.args.self.now pos c.requires.edits_fit q (rw first at h),
+                λ q h. ap (λ es. lookup (nat_eq q) es) c.settle.ensures.value ∙ ap (λ l. lookup (nat_eq q) l.edited) c.self.view_is ∙ none_past_first g.row.N c.args.current.now c.args.self.now pos c.requires.edits_fit q (rw first at h),
               ),
             ),
           ),
@@ -38,12 +38,12 @@ pub returns-in_err-open_to-clause-edited : goal.returns-in_err-open_to-clause-ed
 returns-in_err-open_to-clause-edited g c =
     let pos = c.len-len.ensures.width.positive in
     let first : c.chunk_index-first.result ≡ c.args.self.now.len / (8 * g.row.N) = c.chunk_index-first.ensures ∙ ap (λ (k : ℕ). k / (8 * g.row.N)) c.len-len.ensures.value in
-    λ all. absurd (false≢true (c.in_err-open_to.ensures.edited (λ q low high. rw (ap (λ l. l.edited) c.self.view_is) (each_edited g.row.N c.args.self.now c.args.total pos c.requires.more all q (rw first at low) (rw c.chunk_count-past.ensures at high)))))
+    λ all. absurd (false≢true (c.in_err-open_to.ensures.edited (λ q low high. rw (c.settle.ensures.value ∙ ap (λ l. l.edited) c.self.view_is) (each_edited g.row.N c.args.self.now c.args.total pos c.requires.more all q (rw first at low) (rw c.chunk_count-past.ensures at high)))))
 
 pub returns-clause-ok : goal.returns-clause-ok
 returns-clause-ok g c =
     let v = c.self.view_is in
     let first : c.chunk_index-first.result ≡ c.args.self.now.len / (8 * g.row.N) = c.chunk_index-first.ensures ∙ ap (λ (k : ℕ). k / (8 * g.row.N)) c.len-len.ensures.value in
-    let opened : OpensChunks (chunk g.row.N (truncated g.row.N c.args.current.now c.args.self.now.len)) c.args.self.now.edited c.open_to.new.self (c.args.self.now.len / (8 * g.row.N)) (div_ceil c.args.total (8 * g.row.N)) =
-    subst (λ es. OpensChunks (chunk g.row.N (truncated g.row.N c.args.current.now c.args.self.now.len)) es c.open_to.new.self (c.args.self.now.len / (8 * g.row.N)) (div_ceil c.args.total (8 * g.row.N))) (ap (λ l. l.edited) v) (rw (first, c.chunk_count-past.ensures, c.len-len.ensures.value) at c.in_ok-open_to.ensures.ok) in
-    zeros_appended g.row.N c.args.current.now c.args.self.now _ c.args.total c.len-len.ensures.width.positive c.requires.edits_fit c.requires.more refl (ap (λ l. l.pruned) v) (ap (λ l. l.captured) v) opened
+    let opened : OpensChunks (chunk g.row.N (truncated g.row.N c.args.current.now c.args.self.now.len)) c.args.self.now.edited c.open_to.new.chunks (c.args.self.now.len / (8 * g.row.N)) (div_ceil c.args.total (8 * g.row.N)) =
+    subst (λ es. OpensChunks (chunk g.row.N (truncated g.row.N c.args.current.now c.args.self.now.len)) es c.open_to.new.chunks (c.args.self.now.len / (8 * g.row.N)) (div_ceil c.args.total (8 * g.row.N))) (c.settle.ensures.value ∙ ap (λ l. l.edited) v) (rw (first, c.chunk_count-past.ensures, c.len-len.ensures.value) at c.in_ok-open_to.ensures.ok) in
+    rw c.settle.ensures.chunk (zeros_appended g.row.N c.args.current.now c.args.self.now _ c.args.total c.len-len.ensures.width.positive c.requires.edits_fit c.requires.more refl (ap (λ l. l.pruned) v) (ap (λ l. l.captured) v) opened)

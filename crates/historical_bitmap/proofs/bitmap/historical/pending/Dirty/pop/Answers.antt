@@ -1,6 +1,7 @@
-use Rattle.std.proofs.Common.{◌≡◌, ℕ, ◌-◌, ◌*◌, ◌/◌, ◌%◌, ◌<◌, ◌≤◌, None, refl, sym, arith}
+use Rattle.std.proofs.Common.{◌≡◌, ℕ, ◌-◌, ◌*◌, ◌/◌, ◌%◌, ◌<◌, ◌≤◌, None, refl, sym, ap, ◌∙◌, arith}
 use Rattle.std.specs.Prelude.{nat_eq}
 use Rattle.std.specs.Map.{lookup}
+use Rattle.historical_bitmap.specs.CachedWord.{with_cached}
 use Rattle.historical_bitmap.proofs.Pending.Ends.{past_index}
 use Rattle.historical_bitmap.proofs.Pending.Writes.{pops_inside}
 use Rattle.historical_bitmap.proofs.bitmap.historical.pending.Dirty.pop.Goals as goal
@@ -12,13 +13,13 @@ returns-clause-pops g c =
 
 pub remove-requires : goal.remove-requires
 remove-requires g c =
-    let last : (q : ℕ) → c.self.inside.len ≤ 8 * g.row.N * q → lookup (nat_eq q) c.self.inside.edited ≡ None = rw (sym c.self.view_is) at c.requires.last in (
-      omega (arith, c.self.invariant.fits),
+    let last : (q : ℕ) → c.self.inside.len ≤ 8 * g.row.N * q → lookup (nat_eq q) (with_cached g.row.N c.self.inside.edited c.self.inside.cache) ≡ None = rw (sym c.self.view_is) at c.requires.last in (
+      omega (arith, c.self.invariant.width.fits),
       (
-        omega (arith, c.self.invariant.fits),
+        omega (arith, c.self.invariant.width.fits),
         λ q h.
             let past : (c.self.inside.len - 1) / (8 * g.row.N) < q = omega (arith, h, c.chunk_index-index.ensures) in
-            let under = past_index g.row.N (c.self.inside.len - 1) q c.self.invariant.positive past in
-            last q (omega (arith, under)),
+            let under = past_index g.row.N (c.self.inside.len - 1) q c.self.invariant.width.positive past in
+            ap (λ es. lookup (nat_eq q) es) c.settle.ensures.value ∙ last q (omega (arith, under)),
       ),
     )
