@@ -16,7 +16,8 @@ pub record ChunkProof : Type 0 where
 
 -- the encoding: five numbers in eight bytes each, the chunk, and the digests of the path
 unfoldable pub encoding : ChunkProof → List ℕ
-encoding p = header p.shape ++ to_be_bytes w64 p.index ++ to_be_bytes w64 (length p.path) ++ (p.chunk ++ flat_map (λ digest. digest) p.path)
+encoding p = header p.shape ++ to_be_bytes w64 p.index ++ to_be_bytes w64 (length p.path)
+    ++ (p.chunk ++ flat_map (λ digest. digest) p.path)
 
 -- the number in the eight bytes from start on
 abbrev pub number_at : ℕ → List ℕ → ℕ
@@ -51,4 +52,5 @@ IsReadAgain = (n : ℕ) (p : ChunkProof) → IsProof n p → proof_in n (encodin
 
 -- bytes that are read as a proof are its encoding
 abbrev pub IsWrittenSo : Type 0
-IsWrittenSo = (n : ℕ) (bytes : List ℕ) (p : ChunkProof) → ((i : ℕ) → slice_index_or bytes i 0 < 256) → proof_in n bytes ≡ Ok p → bytes ≡ encoding p
+IsWrittenSo = (n : ℕ) (bytes : List ℕ) (p : ChunkProof) → ((i : ℕ) → slice_index_or bytes i 0 < 256)
+    → proof_in n bytes ≡ Ok p → bytes ≡ encoding p

@@ -26,16 +26,26 @@ pub record Rebuilt : Type 0 where
 
 -- the node above two trees, of which the right one is rebuilt with the digests that the left one leaves
 abbrev pub above_both : (List ℕ → List ℕ) → Rebuilt → Rebuilt → Rebuilt
-above_both H left right = record { digest = node_hash H left.digest right.digest; rest = right.rest; hashed = node_input left.digest right.digest ∷ (left.hashed ++ right.hashed) }
+above_both H left right =
+    record {
+      digest = node_hash H left.digest right.digest;
+      rest = right.rest;
+      hashed = node_input left.digest right.digest ∷ (left.hashed ++ right.hashed);
+    }
 
 -- the tree of n leaves, at most 2 ^ height, from the digests of the leaves from first on and those beside them, left to right; None if these are too few
-unfoldable pub rebuilt : (List ℕ → List ℕ) → ℕ → ℕ → ℕ → List (List ℕ) → List (List ℕ) → Option Rebuilt
+unfoldable pub rebuilt : (List ℕ → List ℕ) → ℕ → ℕ → ℕ → List (List ℕ) → List (List ℕ)
+    → Option Rebuilt
 rebuilt H k n first [] [] = None
-rebuilt H k n first [] (sibling ∷ siblings) = Some (record { digest = sibling; rest = siblings; hashed = [] })
-rebuilt H zero n first (digest ∷ range) siblings = Some (record { digest = digest; rest = siblings; hashed = [] })
+rebuilt H k n first [] (sibling ∷ siblings) =
+    Some (record { digest = sibling; rest = siblings; hashed = [] })
+rebuilt H zero n first (digest ∷ range) siblings =
+    Some (record { digest = digest; rest = siblings; hashed = [] })
 rebuilt H (suc k) n first (digest ∷ range) siblings =
     if nat_le n (2 ^ k) then rebuilt H k n first (digest ∷ range) siblings
-    else option_and_then (λ left. option_map (above_both H left) (rebuilt H k (n - 2 ^ k) (first - 2 ^ k) (drop (2 ^ k - first) (digest ∷ range)) left.rest))
+    else option_and_then (λ left.
+    option_map (above_both H left)
+    (rebuilt H k (n - 2 ^ k) (first - 2 ^ k) (drop (2 ^ k - first) (digest ∷ range)) left.rest))
     (rebuilt H k (2 ^ k) first (take (2 ^ k - first) (digest ∷ range)) siblings)
 
 -- a range and digests rebuild a tree with this digest, and leave these digests
@@ -49,8 +59,10 @@ if_none_left [] digest = Some digest
 if_none_left (sibling ∷ rest) digest = None
 
 -- the digest of a tree of n leaves, from the digests of the leaves from first on and all those beside them; None if these are too many or too few
-abbrev pub tree_from_range : (List ℕ → List ℕ) → ℕ → ℕ → List (List ℕ) → List (List ℕ) → Option (List ℕ)
-tree_from_range H first n range siblings = option_and_then (λ tree. if_none_left tree.rest tree.digest) (rebuilt H n n first range siblings)
+abbrev pub tree_from_range : (List ℕ → List ℕ) → ℕ → ℕ → List (List ℕ) → List (List ℕ)
+    → Option (List ℕ)
+tree_from_range H first n range siblings =
+    option_and_then (λ tree. if_none_left tree.rest tree.digest) (rebuilt H n n first range siblings)
 
 -- what is hashed for the nodes, if a tree is rebuilt
 abbrev pub hashed_for : Option Rebuilt → List (List ℕ)
@@ -58,37 +70,55 @@ hashed_for None = []
 hashed_for (Some tree) = tree.hashed
 
 -- chunks and digests lead to a root, as the chunks from first on of a bitmap of some shape
-abbrev pub RangeLeadsTo : (List ℕ → List ℕ) → List ℕ → Shape → ℕ → List (List ℕ) → List (List ℕ) → Type 0
+abbrev pub RangeLeadsTo : (List ℕ → List ℕ) → List ℕ → Shape → ℕ → List (List ℕ) → List (List ℕ)
+    → Type 0
 RangeLeadsTo H root s first chunks siblings =
-    (0 < length chunks) × (first + length chunks ≤ chunk_count s) × (option_map (root_over H s) (tree_from_range H first (chunk_count s) (leaf_hashes H chunks) siblings) ≡ Some root)
+    (0 < length chunks) × (first + length chunks ≤ chunk_count s)
+    × (option_map (root_over H s)
+    (tree_from_range H first (chunk_count s) (leaf_hashes H chunks) siblings) ≡ Some root)
 
 -- what is hashed to recompute a root from a range: the root's input, each chunk, and each node that is rebuilt
-abbrev pub range_inputs : (List ℕ → List ℕ) → Shape → ℕ → List (List ℕ) → List (List ℕ) → List (List ℕ)
+abbrev pub range_inputs : (List ℕ → List ℕ) → Shape → ℕ → List (List ℕ) → List (List ℕ)
+    → List (List ℕ)
 range_inputs H s first chunks siblings =
-    and_above (root_input s) (tree_from_range H first (chunk_count s) (leaf_hashes H chunks) siblings)
-    (map leaf_input chunks ++ hashed_for (rebuilt H (chunk_count s) (chunk_count s) first (leaf_hashes H chunks) siblings))
+    and_above (root_input s)
+    (tree_from_range H first (chunk_count s) (leaf_hashes H chunks) siblings)
+    (map leaf_input chunks ++ hashed_for
+    (rebuilt H (chunk_count s) (chunk_count s) first (leaf_hashes H chunks) siblings))
 
 -- a bitmap has this shape, and these chunks from first on
 abbrev pub HasRange : (List ℕ → List ℕ) → Bitmap → Shape → ℕ → List (List ℕ) → Type 0
-HasRange H b s first chunks = (i : ℕ) → i < length chunks → Has H b s (first + i) (slice_index_or chunks i [])
+HasRange H b s first chunks = (i : ℕ) → i < length chunks
+    → Has H b s (first + i) (slice_index_or chunks i [])
 
 -- each range of retained chunks and the digests beside it lead to the root
 abbrev pub ShowsRanges : (List ℕ → List ℕ) → Type 0
-ShowsRanges H = (b : Bitmap) (first count : ℕ) → IsBitmap b → 0 < count → first + count ≤ length b.chunks
-    → RangeLeadsTo H (root_of H b) b.shape (b.shape.pruned + first) (take count (drop first b.chunks)) (range_siblings H (b.shape.pruned + first) count (chunk_digests H b))
+ShowsRanges H = (b : Bitmap) (first count : ℕ) → IsBitmap b → 0 < count
+    → first + count ≤ length b.chunks
+    → RangeLeadsTo H (root_of H b) b.shape (b.shape.pruned + first)
+    (take count (drop first b.chunks))
+    (range_siblings H (b.shape.pruned + first) count (chunk_digests H b))
 
 -- what leads to the root of a bitmap is in the bitmap, unless an input of the range and one of the bitmap collide
 abbrev pub BindsRanges : (List ℕ → List ℕ) → Type 0
-BindsRanges H = (b : Bitmap) (s : Shape) (first : ℕ) (chunks siblings : List (List ℕ)) → IsBitmap b → Fits s → All AreBytes chunks → All IsDigest siblings
-    → RangeLeadsTo H (root_of H b) s first chunks siblings → HasRange H b s first chunks ⊎ Collision H (range_inputs H s first chunks siblings) (bitmap_inputs H b)
+BindsRanges H = (b : Bitmap) (s : Shape) (first : ℕ) (chunks siblings : List (List ℕ)) → IsBitmap b
+    → Fits s → All AreBytes chunks → All IsDigest siblings
+    → RangeLeadsTo H (root_of H b) s first chunks siblings
+    → HasRange H b s first chunks
+    ⊎ Collision H (range_inputs H s first chunks siblings) (bitmap_inputs H b)
 
 -- whichever bitmap has this root has this shape and these chunks, unless an input of the range and one of the bitmap collide
-abbrev pub BindsRange : (List ℕ → List ℕ) → List ℕ → Shape → ℕ → List (List ℕ) → List (List ℕ) → Type 0
+abbrev pub BindsRange : (List ℕ → List ℕ) → List ℕ → Shape → ℕ → List (List ℕ) → List (List ℕ)
+    → Type 0
 BindsRange H root s first chunks siblings = (b : Bitmap) → IsBitmap b → root_of H b ≡ root
-    → HasRange H b s first chunks ⊎ Collision H (range_inputs H s first chunks siblings) (bitmap_inputs H b)
+    → HasRange H b s first chunks
+    ⊎ Collision H (range_inputs H s first chunks siblings) (bitmap_inputs H b)
 
 -- a range that led to a tree leads to the root after a prune
 abbrev pub KeepsRanges : (List ℕ → List ℕ) → Type 0
-KeepsRanges H = (b : Bitmap) (more first : ℕ) (chunks siblings : List (List ℕ)) → 0 < length chunks → first + length chunks ≤ chunk_count b.shape
-    → tree_from_range H first (chunk_count b.shape) (leaf_hashes H chunks) siblings ≡ Some (tree_hash H (chunk_digests H b))
-    → RangeLeadsTo H (root_of H (after_pruning H more b)) (shape_after_pruning more b.shape) first chunks siblings
+KeepsRanges H = (b : Bitmap) (more first : ℕ) (chunks siblings : List (List ℕ)) → 0 < length chunks
+    → first + length chunks ≤ chunk_count b.shape
+    → tree_from_range H first (chunk_count b.shape) (leaf_hashes H chunks) siblings
+    ≡ Some (tree_hash H (chunk_digests H b))
+    → RangeLeadsTo H (root_of H (after_pruning H more b))
+    (shape_after_pruning more b.shape) first chunks siblings

@@ -30,12 +30,17 @@ leaves_under level index digests = take (2 ^ level) (drop (index * 2 ^ level) di
 pub record StoresSubtrees (H : List ℕ → List ℕ) : Type 0 where
   pub count : (digests : List (List ℕ)) → length (stored H digests) ≡ nodes (length digests)
   pub at : (digests : List (List ℕ)) (level index : ℕ) → (index + 1) * 2 ^ level ≤ length digests
-      → slice_index_or (stored H digests) (position level index) [] ≡ tree_hash H (leaves_under level index digests)
-  pub grows : (digests more : List (List ℕ)) → (rest : List (List ℕ)) × (stored H (digests ++ more) ≡ stored H digests ++ rest)
+      → slice_index_or (stored H digests) (position level index) []
+      ≡ tree_hash H (leaves_under level index digests)
+  pub grows : (digests more : List (List ℕ))
+      → (rest : List (List ℕ)) × (stored H (digests ++ more) ≡ stored H digests ++ rest)
 
 -- two complete subtrees of n leaves that are stored at one place are one, and a leaf that is replaced changes no subtree beside it
 pub record KeepsApart : Type 0 where
-  pub places : (n level index other_level other_index : ℕ) → (index + 1) * 2 ^ level ≤ n → (other_index + 1) * 2 ^ other_level ≤ n
-      → position level index ≡ position other_level other_index → (level ≡ other_level) × (index ≡ other_index)
-  pub leaves : (digests : List (List ℕ)) (i level index : ℕ) (digest : List ℕ) → (i < index * 2 ^ level) ⊎ ((index + 1) * 2 ^ level ≤ i)
+  pub places : (n level index other_level other_index : ℕ) → (index + 1) * 2 ^ level ≤ n
+      → (other_index + 1) * 2 ^ other_level ≤ n
+      → position level index ≡ position other_level other_index
+      → (level ≡ other_level) × (index ≡ other_index)
+  pub leaves : (digests : List (List ℕ)) (i level index : ℕ) (digest : List ℕ)
+      → (i < index * 2 ^ level) ⊎ ((index + 1) * 2 ^ level ≤ i)
       → leaves_under level index (slice_set digests i digest) ≡ leaves_under level index digests

@@ -24,7 +24,8 @@ subtree_hash H zero [] = H []
 subtree_hash H zero (digest ∷ digests) = digest
 subtree_hash H (suc k) digests =
     if nat_le (length digests) (2 ^ k) then subtree_hash H k digests
-    else node_hash H (subtree_hash H k (take (2 ^ k) digests)) (subtree_hash H k (drop (2 ^ k) digests))
+    else node_hash H (subtree_hash H k (take (2 ^ k) digests))
+    (subtree_hash H k (drop (2 ^ k) digests))
 
 -- the digest of the tree of all leaves, from their digests
 abbrev pub tree_hash : (List ℕ → List ℕ) → List (List ℕ) → List ℕ
@@ -56,7 +57,8 @@ climbed H (suc k) i n digest (beside ∷ path) =
     if nat_le n (2 ^ k) then climbed H k i n digest (beside ∷ path)
     else (if nat_lt i (2 ^ k)
     then option_map (λ left. node_hash H left beside) (climbed H k i (2 ^ k) digest path)
-    else option_map (λ right. node_hash H beside right) (climbed H k (i - 2 ^ k) (n - 2 ^ k) digest path))
+    else option_map (λ right. node_hash H beside right)
+    (climbed H k (i - 2 ^ k) (n - 2 ^ k) digest path))
 
 -- the digest of a tree of n leaves, from the digest of leaf i and its audit path
 abbrev pub root_from_path : (List ℕ → List ℕ) → ℕ → ℕ → List ℕ → List (List ℕ) → Option (List ℕ)
@@ -87,8 +89,11 @@ hashed H (suc k) i n digest [] = if nat_le n (2 ^ k) then hashed H k i n digest 
 hashed H (suc k) i n digest (beside ∷ path) =
     if nat_le n (2 ^ k) then hashed H k i n digest (beside ∷ path)
     else (if nat_lt i (2 ^ k)
-    then and_above (λ left. node_input left beside) (climbed H k i (2 ^ k) digest path) (hashed H k i (2 ^ k) digest path)
-    else and_above (λ right. node_input beside right) (climbed H k (i - 2 ^ k) (n - 2 ^ k) digest path) (hashed H k (i - 2 ^ k) (n - 2 ^ k) digest path))
+    then and_above (λ left. node_input left beside) (climbed H k i (2 ^ k) digest path)
+    (hashed H k i (2 ^ k) digest path)
+    else and_above (λ right. node_input beside right)
+    (climbed H k (i - 2 ^ k) (n - 2 ^ k) digest path)
+    (hashed H k (i - 2 ^ k) (n - 2 ^ k) digest path))
 
 -- what is hashed to recompute a tree from a leaf and its path: the leaf, and each node of the way
 abbrev pub path_inputs : (List ℕ → List ℕ) → ℕ → ℕ → List ℕ → List (List ℕ) → List (List ℕ)
@@ -100,7 +105,8 @@ subtree_inputs H zero [] = [] ∷ []
 subtree_inputs H zero (digest ∷ digests) = []
 subtree_inputs H (suc k) digests =
     if nat_le (length digests) (2 ^ k) then subtree_inputs H k digests
-    else node_input (subtree_hash H k (take (2 ^ k) digests)) (subtree_hash H k (drop (2 ^ k) digests))
+    else node_input (subtree_hash H k (take (2 ^ k) digests))
+    (subtree_hash H k (drop (2 ^ k) digests))
     ∷ (subtree_inputs H k (take (2 ^ k) digests) ++ subtree_inputs H k (drop (2 ^ k) digests))
 
 -- what is hashed for the nodes of the tree of all leaves
@@ -133,32 +139,44 @@ pub record CollidesSomewhere (H : List ℕ → List ℕ) : Type 0 where
 
 -- any two leaves that lead to one digest, at one place of trees of one size, are equal, unless two inputs of their paths collide
 abbrev pub BindsLeaves : (List ℕ → List ℕ) → Type 0
-BindsLeaves H = (i n : ℕ) (a b : List ℕ) (p q : List (List ℕ)) (tree : List ℕ) → AreBytes a → AreBytes b → All AreBytes p → All AreBytes q
-    → root_from_path H i n (leaf_hash H a) p ≡ Some tree → root_from_path H i n (leaf_hash H b) q ≡ Some tree
+BindsLeaves H = (i n : ℕ) (a b : List ℕ) (p q : List (List ℕ)) (tree : List ℕ) → AreBytes a
+    → AreBytes b → All AreBytes p → All AreBytes q
+    → root_from_path H i n (leaf_hash H a) p ≡ Some tree
+    → root_from_path H i n (leaf_hash H b) q ≡ Some tree
     → (a ≡ b) ⊎ Collision H (path_inputs H i n a p) (path_inputs H i n b q)
 
 -- a leaf that leads to the digest of a tree is the tree's leaf at that place, unless an input of the path and one of the tree collide
 abbrev pub BindsTrees : (List ℕ → List ℕ) → Type 0
-BindsTrees H = (leaves : List (List ℕ)) (i : ℕ) (leaf : List ℕ) (path : List (List ℕ)) → All AreBytes leaves → i < length leaves → AreBytes leaf → All AreBytes path
-    → root_from_path H i (length leaves) (leaf_hash H leaf) path ≡ Some (tree_hash H (leaf_hashes H leaves))
-    → (leaf ≡ slice_index_or leaves i []) ⊎ Collision H (path_inputs H i (length leaves) leaf path) (tree_inputs H leaves)
+BindsTrees H = (leaves : List (List ℕ)) (i : ℕ) (leaf : List ℕ) (path : List (List ℕ))
+    → All AreBytes leaves → i < length leaves → AreBytes leaf → All AreBytes path
+    → root_from_path H i (length leaves) (leaf_hash H leaf) path
+    ≡ Some (tree_hash H (leaf_hashes H leaves))
+    → (leaf ≡ slice_index_or leaves i [])
+    ⊎ Collision H (path_inputs H i (length leaves) leaf path) (tree_inputs H leaves)
 
 -- a leaf and a path lead to the digest of a tree of n leaves, as leaf i
 abbrev pub LeadsToTree : (List ℕ → List ℕ) → List ℕ → ℕ → ℕ → List ℕ → List (List ℕ) → Type 0
-LeadsToTree H tree n i leaf path = (i < n) × (root_from_path H i n (leaf_hash H leaf) path ≡ Some tree)
+LeadsToTree H tree n i leaf path = (i < n)
+    × (root_from_path H i n (leaf_hash H leaf) path ≡ Some tree)
 
 -- whichever tree of n leaves has this digest, a leaf is its leaf i, unless an input of the path and one of the tree collide
 abbrev pub BindsLeaf : (List ℕ → List ℕ) → List ℕ → ℕ → ℕ → List ℕ → List (List ℕ) → Type 0
-BindsLeaf H tree n i leaf path = (leaves : List (List ℕ)) → All AreBytes leaves → length leaves ≡ n → tree_hash H (leaf_hashes H leaves) ≡ tree
-    → (leaf ≡ slice_index_or leaves i []) ⊎ Collision H (path_inputs H i n leaf path) (tree_inputs H leaves)
+BindsLeaf H tree n i leaf path = (leaves : List (List ℕ)) → All AreBytes leaves → length leaves ≡ n
+    → tree_hash H (leaf_hashes H leaves) ≡ tree
+    → (leaf ≡ slice_index_or leaves i [])
+    ⊎ Collision H (path_inputs H i n leaf path) (tree_inputs H leaves)
 
 -- each digest of a leaf and its audit path lead to the digest of the tree
 abbrev pub ShowsLeaves : (List ℕ → List ℕ) → Type 0
-ShowsLeaves H = (digests : List (List ℕ)) (i : ℕ) → i < length digests → root_from_path H i (length digests) (slice_index_or digests i []) (audit_path H i digests) ≡ Some (tree_hash H digests)
+ShowsLeaves H = (digests : List (List ℕ)) (i : ℕ) → i < length digests
+    → root_from_path H i (length digests) (slice_index_or digests i []) (audit_path H i digests)
+    ≡ Some (tree_hash H digests)
 
 -- the tree of leaves is that of RFC 9162: no leaf, one leaf, and else a split at the largest power of two below the number of leaves
 pub record SplitsAtPower (H : List ℕ → List ℕ) : Type 0 where
   pub none : tree_hash H (leaf_hashes H []) ≡ H []
   pub one : (leaf : List ℕ) → tree_hash H (leaf_hashes H (leaf ∷ [])) ≡ leaf_hash H leaf
   pub more : (leaves : List (List ℕ)) (k : ℕ) → 2 ^ k < length leaves → length leaves ≤ 2 * 2 ^ k
-      → tree_hash H (leaf_hashes H leaves) ≡ node_hash H (tree_hash H (leaf_hashes H (take (2 ^ k) leaves))) (tree_hash H (leaf_hashes H (drop (2 ^ k) leaves)))
+      → tree_hash H (leaf_hashes H leaves)
+      ≡ node_hash H (tree_hash H (leaf_hashes H (take (2 ^ k) leaves)))
+      (tree_hash H (leaf_hashes H (drop (2 ^ k) leaves)))

@@ -82,7 +82,8 @@ fn put_leaf<D: Digest, const N: usize>(
         StoresTree (D.digest_of hash.now) next (pending_of 32 stored.new)) }
     ensures leaves { StoresTree (D.digest_of hash.now) count (pending_of 32 stored.old)
         → IfOk result (λ next. leaves_in next (pending_of 32 stored.new)
-        ≡ with_leaf (D.digest_of hash.now) (leaves_in count (pending_of 32 stored.old)) (chunk, bytes.now)) }
+        ≡ with_leaf (D.digest_of hash.now) (leaves_in count (pending_of 32 stored.old))
+        (chunk, bytes.now)) }
     ensures base { IsOnBaseOf stored.old stored.new }
 {
     let digest = leaf_digest(hash, bytes);

@@ -367,7 +367,8 @@ pub fn replace_leaf<D: Digest>(hash: &D, stored: &mut [[u8; 32]], n: u64, i: u64
 /// Constant: hashes nothing, since the digests of fewer leaves are the first of those of more.
 pub fn truncate_leaves(stored: &mut Vec<[u8; 32]>, kept: u64)
     requires { kept < 2 ^ 63 }
-    ensures value { (H : List ℕ → List ℕ) (digests : List (List ℕ)) → stored.old.items ≡ stored_of H digests
+    ensures value { (H : List ℕ → List ℕ) (digests : List (List ℕ))
+        → stored.old.items ≡ stored_of H digests
         → stored.new.items ≡ stored_of H (take kept digests) }
     ensures prefix { stored.new.items ≡ take (nodes kept) stored.old.items }
 {

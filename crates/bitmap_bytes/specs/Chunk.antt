@@ -57,8 +57,10 @@ pub record IsByteWritten (n : ℕ) (old new : List ℕ) (i byte : ℕ) : Type 0 
 
 -- the new chunk has the eight bits of byte from bit i on, and every other bit as the old chunk has it
 pub record IsByteJoined (n : ℕ) (old new : List ℕ) (i byte : ℕ) : Type 0 where
-  pub here : (j : ℕ) → i % (8 * n) ≤ j % (8 * n) → j % (8 * n) < i % (8 * n) + 8 → chunk_bit n new j ≡ (bit_at byte (j % (8 * n) - i % (8 * n)) == 1)
-  pub others : (j : ℕ) → (j % (8 * n) < i % (8 * n)) ⊎ (i % (8 * n) + 8 ≤ j % (8 * n)) → chunk_bit n new j ≡ chunk_bit n old j
+  pub here : (j : ℕ) → i % (8 * n) ≤ j % (8 * n) → j % (8 * n) < i % (8 * n) + 8
+      → chunk_bit n new j ≡ (bit_at byte (j % (8 * n) - i % (8 * n)) == 1)
+  pub others : (j : ℕ) → (j % (8 * n) < i % (8 * n)) ⊎ (i % (8 * n) + 8 ≤ j % (8 * n))
+      → chunk_bit n new j ≡ chunk_bit n old j
 
 -- whether a bit is wanted: set bits are wanted if `wanted` is true, and unset bits if it is false
 abbrev pub is_wanted : Bool → Bool → Bool

@@ -10,6 +10,9 @@ unfolding xor
 xor_zeros = refl
 
 -- each bit of the new chunks is f of the same bit of the old chunks and of the others
-pub record IsCombined (n : ℕ) (f : Bool → Bool → Bool) (old others new : List (List ℕ)) : Type 0 where
+pub record IsCombined (n : ℕ) (f : Bool → Bool → Bool)
+    (old others new : List (List ℕ)) : Type 0 where
   pub count : length new ≡ length old
-  pub bits : (i : ℕ) → i < length old → (t : ℕ) → chunk_bit n (slice_index_or new i []) t ≡ f (chunk_bit n (slice_index_or old i []) t) (chunk_bit n (slice_index_or others i []) t)
+  pub bits : (i : ℕ) → i < length old → (t : ℕ)
+      → chunk_bit n (slice_index_or new i []) t
+      ≡ f (chunk_bit n (slice_index_or old i []) t) (chunk_bit n (slice_index_or others i []) t)

@@ -20,6 +20,7 @@ IsCut base word end = (i : ℕ) → i < 64 → end ≤ base + i → (bit_at word
 
 -- the word at base has the bits of f at the positions from `at` up to `to`, `to` excluded, and zeros elsewhere
 pub record IsPart (f : ℕ → Bool) (base word at to : ℕ) : Type 0 where
-  pub inside : (i : ℕ) → i < 64 → at ≤ base + i → base + i < to → (bit_at word i == 1) ≡ f (base + i)
+  pub inside : (i : ℕ) → i < 64 → at ≤ base + i → base + i < to
+      → (bit_at word i == 1) ≡ f (base + i)
   pub before : (i : ℕ) → i < 64 → base + i < at → (bit_at word i == 1) ≡ false
   pub past : (i : ℕ) → i < 64 → to ≤ base + i → (bit_at word i == 1) ≡ false

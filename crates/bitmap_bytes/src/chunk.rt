@@ -154,7 +154,8 @@ pub fn flip_bit<const N: usize>(chunk: &mut [u8; N], bit: u64)
 pub fn clear_from<const N: usize>(chunk: &mut [u8; N], from: u64)
     requires width { IsWidth N }
     requires within { from < 8 * N }
-    ensures below { (i : ℕ) → i % (8 * N) < from → chunk_bit N chunk.new i ≡ chunk_bit N chunk.old i }
+    ensures below { (i : ℕ) → i % (8 * N) < from
+        → chunk_bit N chunk.new i ≡ chunk_bit N chunk.old i }
     ensures above { (i : ℕ) → from ≤ i % (8 * N) → chunk_bit N chunk.new i ≡ false }
 {
     let byte = (from / 8) as usize;
@@ -234,7 +235,8 @@ pub fn append_bools<const N: usize>(chunk: &[u8; N], count: u64, bools: &mut Vec
     requires width { IsWidth N }
     requires within { count ≤ 8 * N }
     requires space { vec_len bools.old + count ≤ vec_capacity bools.old }
-    ensures items { bools.new.items ≡ bools.old.items ++ map (chunk_bit N chunk.now) (range_with_len 0 count) }
+    ensures items { bools.new.items
+        ≡ bools.old.items ++ map (chunk_bit N chunk.now) (range_with_len 0 count) }
     ensures len { vec_len bools.new ≡ vec_len bools.old + count }
     ensures capacity { vec_capacity bools.new ≡ vec_capacity bools.old }
 {

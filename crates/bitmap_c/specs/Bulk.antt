@@ -14,14 +14,18 @@ edit_status None = 0
 edit_status (Some refusal) = edit_refusal_status refusal
 
 -- a session of any width makes the edits of a call, or is refused for a reason; its width and its log are the same afterwards
-abbrev pub EditsAny : AnySession → ((N : ℕ) → State → EditCall) → Option Refusal → AnySession → Type 0
-EditsAny old call why new = KeepsLog old new × EditsTo (width old) (machine old) (call (width old)) why (machine new)
+abbrev pub EditsAny : AnySession → ((N : ℕ) → State → EditCall) → Option Refusal → AnySession
+    → Type 0
+EditsAny old call why new = KeepsLog old new
+    × EditsTo (width old) (machine old) (call (width old)) why (machine new)
 
 -- an empty handle stays empty, with EMPTY_HANDLE; the session of a full one makes the edits of a call, with DONE, or has the status of the refusal
-abbrev pub CallsEdit : Option AnySession → ((N : ℕ) → State → EditCall) → ℕ → Option AnySession → Type 0
+abbrev pub CallsEdit : Option AnySession → ((N : ℕ) → State → EditCall) → ℕ → Option AnySession
+    → Type 0
 CallsEdit None call status new = (new ≡ None) × (status ≡ 15)
 CallsEdit (Some old) call status new =
-    (now : AnySession) × (new ≡ Some now) × ((why : Option Refusal) × (status ≡ edit_status why) × EditsAny old call why now)
+    (now : AnySession) × (new ≡ Some now)
+    × ((why : Option Refusal) × (status ≡ edit_status why) × EditsAny old call why now)
 
 -- a session makes the edits of a call, or has the status of the refusal, if a buffer has the size of a chunk; otherwise it is unchanged, with WRONG_SIZE
 unfoldable pub EditsChunk : (N : ℕ) → ℕ → Machine → (State → EditCall) → ℕ → Machine → Type 0
@@ -32,10 +36,12 @@ EditsChunk N size old call status new = MatchBool (nat_eq size N)
 -- the same of a session of any width, which is the same afterwards, and so is the log
 abbrev pub EditsAnyChunk : ℕ → AnySession → ((N : ℕ) → State → EditCall) → ℕ → AnySession → Type 0
 EditsAnyChunk size old call status new =
-    KeepsLog old new × EditsChunk (width old) size (machine old) (call (width old)) status (machine new)
+    KeepsLog old new × EditsChunk (width old) size (machine old) (call (width old)) status
+    (machine new)
 
 -- an empty handle stays empty, with EMPTY_HANDLE; for the session of a full one the size of the buffer is checked first
-abbrev pub CallsEditChunk : ℕ → Option AnySession → ((N : ℕ) → State → EditCall) → ℕ → Option AnySession → Type 0
+abbrev pub CallsEditChunk : ℕ → Option AnySession → ((N : ℕ) → State → EditCall) → ℕ
+    → Option AnySession → Type 0
 CallsEditChunk size None call status new = (new ≡ None) × (status ≡ 15)
 CallsEditChunk size (Some old) call status new =
     (now : AnySession) × (new ≡ Some now) × EditsAnyChunk size old call status now
@@ -54,6 +60,7 @@ SetsAnyMany old positions value count status new =
 
 -- an empty handle stays empty, with EMPTY_HANDLE and the old count; the session of a full one sets the bits at positions
 abbrev pub CallsSetMany : Option AnySession → List ℕ → Bool → ℕ → ℕ → ℕ → Option AnySession → Type 0
-CallsSetMany None positions value old_count count status new = (new ≡ None) × (status ≡ 15) × (count ≡ old_count)
+CallsSetMany None positions value old_count count status new = (new ≡ None) × (status ≡ 15)
+    × (count ≡ old_count)
 CallsSetMany (Some old) positions value old_count count status new =
     (now : AnySession) × (new ≡ Some now) × SetsAnyMany old positions value count status now

@@ -13,7 +13,8 @@ use Rattle.bitmap_c.specs.Widths.{is_width, log_of, machine, width, without_log}
 -- an empty handle gets a session with the property, with DONE, or stays empty, with NO_MEMORY
 abbrev pub Fills : (AnySession → Type 0) → ℕ → Option AnySession → Type 0
 Fills Is status new =
-    ((status ≡ 13) × (new ≡ None)) ⊎ ((status ≡ 0) × ((made : AnySession) × (new ≡ Some made) × Is made))
+    ((status ≡ 13) × (new ≡ None))
+    ⊎ ((status ≡ 0) × ((made : AnySession) × (new ≡ Some made) × Is made))
 
 -- a session without a log is the first machine of a width
 abbrev pub IsFirst : ℕ → AnySession → Type 0
@@ -22,7 +23,8 @@ IsFirst n made = (width made ≡ n) × (machine made ≡ first_machine) × (log_
 -- a full handle is unchanged, with FULL_HANDLE; an empty one gets the first machine of a width, or NO_SUCH_WIDTH
 abbrev pub Makes : Option AnySession → ℕ → ℕ → Option AnySession → Type 0
 Makes (Some old) n status new = (status ≡ 16) × (new ≡ Some old)
-Makes None n status new = MatchBool (is_width n) (Fills (IsFirst n) status new) ((status ≡ 17) × (new ≡ None))
+Makes None n status new =
+    MatchBool (is_width n) (Fills (IsFirst n) status new) ((status ≡ 17) × (new ≡ None))
 
 -- a session is equal to another one
 abbrev pub IsEqual : AnySession → AnySession → Type 0
@@ -41,14 +43,17 @@ Copies (Some old) None status new = Fills (IsCopy old) status new
 -- a session has the width of another one, and the bitmap that the other one keeps under a number, without a batch, commits, a last number and a log
 abbrev pub IsVersion : AnySession → ℕ → AnySession → Type 0
 IsVersion old number made =
-    (width made ≡ width old) × (Some (machine made) ≡ option_map machine_with (kept_under (machine old).state.history number))
+    (width made ≡ width old)
+    × (Some (machine made) ≡ option_map machine_with
+    (kept_under (machine old).state.history number))
     × (log_of made ≡ None)
 
 -- as Copies, with the bitmap that the session keeps under a number, or the status of why there is none
 abbrev pub ChecksOut : Option AnySession → ℕ → Option AnySession → ℕ → Option AnySession → Type 0
 ChecksOut None number copy status new = (status ≡ 15) × (new ≡ copy)
 ChecksOut (Some old) number (Some copy) status new = (status ≡ 16) × (new ≡ Some copy)
-ChecksOut (Some old) number None status new = MatchOption (checkout_refusal (machine old).state number)
+ChecksOut (Some old) number None status new =
+    MatchOption (checkout_refusal (machine old).state number)
     (Fills (IsVersion old number) status new)
     (λ refusal. (status ≡ refusal_status refusal) × (new ≡ None))
 

@@ -13,4 +13,5 @@ bit_below bit end k = if nat_lt k end then bit k else false
 
 -- the bytes of the bits from `from` up to `to`; the bits of the last byte past `to` are zero
 abbrev pub packed : (ℕ → Bool) → ℕ → ℕ → List ℕ
-packed bit from to = map (λ j. byte_of (λ t. bit_below bit to (from + (8 * j + t)))) (range_with_len 0 (byte_count from to))
+packed bit from to = map (λ j. byte_of (λ t. bit_below bit to (from + (8 * j + t))))
+    (range_with_len 0 (byte_count from to))

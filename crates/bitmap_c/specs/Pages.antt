@@ -20,7 +20,8 @@ IsPageOf (Ok all) count new_count old new = IsPage all new_count old new
 IsPageOf (Err status) count new_count old new = (new_count ≡ count) × (new ≡ old)
 
 -- a call returns a page: its status is the read's, and its count and its buffer have a page of the list
-pub record ReturnsPage (status count new_count : ℕ) (old new : List ℕ) (read : Result (List ℕ) ℕ) : Type 0 where
+pub record ReturnsPage (status count new_count : ℕ) (old new : List ℕ)
+    (read : Result (List ℕ) ℕ) : Type 0 where
   pub status_is : status ≡ status_of read
   pub page_is : IsPageOf read count new_count old new
 
@@ -35,4 +36,5 @@ numbers_read m from = outside_batch m (Ok (at_least from (keys_of m.state.histor
 -- the indices, from `first` on, of the chunks that differ between two commits, or status 12 if there are no such commits
 abbrev pub changes_read : ℕ → Machine → ℕ → ℕ → ℕ → Result (List ℕ) ℕ
 changes_read N m from to first =
-    outside_batch m (ok_or (option_map (at_least first) (changed_between N m.state.history from to)) 12)
+    outside_batch m (ok_or (option_map (at_least first) (changed_between N m.state.history from to))
+    12)

@@ -43,7 +43,8 @@ session_shown N m read = read N (pruned_meaning N (shown m.state))
 
 -- the read of the bitmap that a machine keeps under a number
 abbrev pub session_commit : {A : Type 0} → ℕ → Machine → ℕ → (ℕ → Meaning → Result A ℕ) → Result A ℕ
-session_commit N m number read = outside_batch m (of_kept N (kept_under m.state.history number) read)
+session_commit N m number read =
+    outside_batch m (of_kept N (kept_under m.state.history number) read)
 
 -- the read of the session of a handle, but status 15 if the handle is empty
 abbrev pub of_handle : {A : Type 0} → Option AnySession → (ℕ → Machine → Result A ℕ) → Result A ℕ
@@ -55,13 +56,15 @@ abbrev pub read_shown : {A : Type 0} → Option AnySession → (ℕ → Meaning 
 read_shown handle read = of_handle handle (λ N m. session_shown N m read)
 
 -- the read of the bitmap that a handle keeps under a number
-abbrev pub read_commit : {A : Type 0} → Option AnySession → ℕ → (ℕ → Meaning → Result A ℕ) → Result A ℕ
+abbrev pub read_commit : {A : Type 0} → Option AnySession → ℕ → (ℕ → Meaning → Result A ℕ)
+    → Result A ℕ
 read_commit handle number read = of_handle handle (λ N m. session_commit N m number read)
 
 -- the read, but status 2 if the position is not below the length, and else status 3 if it is pruned
 abbrev pub at_position : {A : Type 0} → ℕ → Meaning → ℕ → Result A ℕ → Result A ℕ
 at_position N b position read =
-    if nat_le b.len position then Err 2 else (if nat_lt position (8 * N * b.pruned) then Err 3 else read)
+    if nat_le b.len position then Err 2
+    else (if nat_lt position (8 * N * b.pruned) then Err 3 else read)
 
 -- the bit at a position, as 0 or 1
 abbrev pub bit_read : ℕ → Meaning → ℕ → Result ℕ ℕ
@@ -70,12 +73,14 @@ bit_read N b position = at_position N b position (Ok (bit_value (b.bit position)
 -- the chunk of a position, with zeros past the length, but status 18 if the size is not the width
 abbrev pub chunk_read : ℕ → Meaning → ℕ → ℕ → Result (List ℕ) ℕ
 chunk_read N b position size =
-    if size == N then at_position N b position (Ok (chunk_from N b.bit (position / (8 * N)))) else Err 18
+    if size == N then at_position N b position (Ok (chunk_from N b.bit (position / (8 * N))))
+    else Err 18
 
 -- the read, but status 2 if the range ends before it begins or past the length, and else status 3 if it begins before the retained bits
 abbrev pub in_range : {A : Type 0} → ℕ → Meaning → ℕ → ℕ → Result A ℕ → Result A ℕ
 in_range N b from to read =
-    if nat_lt to from || nat_lt b.len to then Err 2 else (if nat_lt from (8 * N * b.pruned) then Err 3 else read)
+    if nat_lt to from || nat_lt b.len to then Err 2
+    else (if nat_lt from (8 * N * b.pruned) then Err 3 else read)
 
 -- the bytes of the bits of a range, but status 18 if the size is not their number
 abbrev pub bytes_read : ℕ → Meaning → ℕ → ℕ → ℕ → Result (List ℕ) ℕ

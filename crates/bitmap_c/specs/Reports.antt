@@ -106,7 +106,8 @@ ReportsEntries status old new reply = (status ≡ reply_status reply) × (new �
 
 -- the status and the last number are those of the reply, to a call that needs a batch
 unfoldable pub ReportsPrevious : ℕ → ℕ → ℕ → ReplyValue → Type 0
-ReportsPrevious status old new reply = (status ≡ edit_reply_status reply) × (new ≡ previous_or reply old)
+ReportsPrevious status old new reply = (status ≡ edit_reply_status reply)
+    × (new ≡ previous_or reply old)
 
 -- the status and the bytes of a chunk are those of the reply
 unfoldable pub ReportsChunk : ℕ → List ℕ → List ℕ → ReplyValue → Type 0
@@ -115,4 +116,5 @@ ReportsChunk status old new reply = (status ≡ reply_status reply) × (new ≡ 
 -- the status, a size and the bytes of a buffer are those of the reply
 unfoldable pub ReportsBytes : ℕ → ℕ → ℕ → List ℕ → List ℕ → ReplyValue → Type 0
 ReportsBytes status old_size new_size old new reply =
-    (status ≡ bytes_status reply (length old)) × (new_size ≡ size_or reply old_size) × (new ≡ bytes_or reply old)
+    (status ≡ bytes_status reply (length old)) × (new_size ≡ size_or reply old_size)
+    × (new ≡ bytes_or reply old)

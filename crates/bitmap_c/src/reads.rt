@@ -88,7 +88,8 @@ fn get(any: &AnySession, position: u64, bit: &mut u8) -> u32
 #[unsafe(no_mangle)]
 pub extern "C" fn mortarpink_get(bitmap: &mut Handle, position: u64, bit: &mut u8) -> u32
     ensures step { Calls bitmap.old.value (λ N. Command.Get position)
-        (ReportsBit result bit.old bit.new) ((result ≡ EMPTY_HANDLE) × (bit.new ≡ bit.old)) bitmap.new.value }
+        (ReportsBit result bit.old bit.new)
+        ((result ≡ EMPTY_HANDLE) × (bit.new ≡ bit.old)) bitmap.new.value }
 {
     in_handle!(bitmap, any => get(any, position, bit))
 }

@@ -87,17 +87,30 @@ bits_tests n range text =
     ∷ (is_out_of_range range text, InvalidLength (number text))
     ∷ (has_too_many_chunks n text, EndOfBuffer)
     ∷ (lacks_chunks n text, EndOfBuffer)
-    ∷ (has_trailing_bit n text, Invalid (codes "BitMap") (codes "Invalid trailing bits in encoded data"))
+    ∷ (
+      has_trailing_bit n text,
+      Invalid (codes "BitMap") (codes "Invalid trailing bits in encoded data"),
+    )
     ∷ []
 
 -- the tests of an input that is read as a bitmap with a pruned prefix, in order, each with its decode error
 abbrev pub pruned_tests : ℕ → (ℕ → Bool) → List ℕ → List (Bool × DecodeError)
 pruned_tests n range text =
     (is_short text, EndOfBuffer)
-    ∷ (has_too_many_pruned_bits n text, Invalid (codes "Prunable") (codes "pruned_chunks would overflow when computing pruned_bits"))
-    ∷ (has_too_many_pruned_chunks text, Invalid (codes "Prunable") (codes "pruned_chunks doesn't fit in usize"))
+    ∷ (
+      has_too_many_pruned_bits n text,
+      Invalid (codes "Prunable") (codes "pruned_chunks would overflow when computing pruned_bits"),
+    )
+    ∷ (
+      has_too_many_pruned_chunks text,
+      Invalid (codes "Prunable") (codes "pruned_chunks doesn't fit in usize"),
+    )
     ∷ bits_tests n range (drop 8 text)
-    ++ (has_too_many_bits n text, Invalid (codes "Prunable") (codes "total bitmap length (pruned + unpruned) would overflow u64"))
+    ++ (
+      has_too_many_bits n text,
+      Invalid (codes "Prunable")
+          (codes "total bitmap length (pruned + unpruned) would overflow u64"),
+    )
     ∷ []
 
 -- the first decode error of an input that is read as a list of bits, if there is one

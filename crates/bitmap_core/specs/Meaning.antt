@@ -39,7 +39,8 @@ IsRetained n m k = (8 * n * m.pruned ≤ k) × (k < m.len)
 
 -- the bytes have the bits of chunk c below the length, and any bits past it
 abbrev pub ShowsChunk : ℕ → Meaning → ℕ → List ℕ → Type 0
-ShowsChunk n m c bytes = (k : ℕ) → k < 8 * n → 8 * n * c + k < m.len → chunk_bit n bytes k ≡ m.bit (8 * n * c + k)
+ShowsChunk n m c bytes = (k : ℕ) → k < 8 * n → 8 * n * c + k < m.len
+    → chunk_bit n bytes k ≡ m.bit (8 * n * c + k)
 
 -- the positions from lo up to hi, hi excluded, whose bit is true, in ascending order
 abbrev pub ones_between : (ℕ → Bool) → ℕ → ℕ → List ℕ
@@ -63,7 +64,8 @@ seen_as wanted m = record { pruned = m.pruned; len = m.len; bit = λ k. is_wante
 
 -- the number of words that have a position from lo up to hi, hi excluded
 abbrev pub words_between : ℕ → ℕ → ℕ → ℕ
-words_between n lo hi = if nat_lt lo hi then length (ones_between (starts_word n) (word_start n lo) hi) else 0
+words_between n lo hi = if nat_lt lo hi
+    then length (ones_between (starts_word n) (word_start n lo) hi) else 0
 
 -- the number of words that have a retained position from a up to b, b excluded
 abbrev pub words : ℕ → Meaning → ℕ → ℕ → ℕ
@@ -90,30 +92,35 @@ word_bit base word k = digit_at word (k - base) == 1
 
 -- the set positions in a word at base, followed by those of the bitmap from `next` on
 abbrev pub left_from : Meaning → ℕ → ℕ → ℕ → ℕ → List ℕ
-left_from m base word next end = ones_between (word_bit base word) base (base + 64) ++ ones_between m.bit next end
+left_from m base word next end =
+    ones_between (word_bit base word) base (base + 64) ++ ones_between m.bit next end
 
 -- the position after some words of 64 bits that begin at `next`
 abbrev pub run_end : ℕ → List (List ℕ) → ℕ
 run_end next run = next + 64 * length run
 
 -- what holds of the cursor of an iterator: from `next` on it has words in place. Where they end, a word of a retained chunk begins, and it has a copy of that chunk unless the chunk begins there too. It loads at most the words of its range before `next`, and a load covers at most 64 positions.
-pub record IsScan (n : ℕ) (m : Meaning) (next end : ℕ) (run : List (List ℕ)) (chunk : List ℕ) (loads first : ℕ) : Type 0 where
+pub record IsScan (n : ℕ) (m : Meaning) (next end : ℕ) (run : List (List ℕ)) (chunk : List ℕ)
+    (loads first : ℕ) : Type 0 where
   pub lawful : IsLawful n m
   pub within : end ≤ m.len
   pub retained : next < end → 8 * n * m.pruned ≤ next
   pub inside : run_end next run ≤ end
   pub bits : (i : ℕ) → i < 64 * length run → chunks_bit 8 run i ≡ m.bit (next + i)
   pub aligned : run_end next run < end → starts_word n (run_end next run) ≡ true
-  pub shown : run_end next run < end → (run_end next run % (8 * n) ≡ 0 → ⊥) → ShowsChunk n m (run_end next run / (8 * n)) chunk
+  pub shown : run_end next run < end → (run_end next run % (8 * n) ≡ 0 → ⊥)
+      → ShowsChunk n m (run_end next run / (8 * n)) chunk
   pub counted : loads + words_between n next end ≤ words_between n first end
   pub covered : next ≤ first + 64 * loads
 
 -- what holds of an iterator: its cursor is right, and its word has no set bit at or past the end
-pub record IsIterating (n : ℕ) (m : Meaning) (base word next end : ℕ) (run : List (List ℕ)) (chunk : List ℕ) (loads first : ℕ) : Type 0 where
+pub record IsIterating (n : ℕ) (m : Meaning) (base word next end : ℕ) (run : List (List ℕ))
+    (chunk : List ℕ) (loads first : ℕ) : Type 0 where
   pub scan : IsScan n m next end run chunk loads first
   pub cut : IsCut base word end
 
 -- a position of a list of bits, and the byte that contains it, unless a byte begins there
 pub record IsPlace (bits : List Bool) (position : ℕ) (byte : List ℕ) : Type 0 where
   pub within : position ≤ length bits
-  pub held : (k : ℕ) → ¬ (position % 8 ≡ 0) → k / 8 ≡ position / 8 → chunk_bit 1 byte k ≡ slice_index_or bits k false
+  pub held : (k : ℕ) → ¬ (position % 8 ≡ 0) → k / 8 ≡ position / 8
+      → chunk_bit 1 byte k ≡ slice_index_or bits k false

@@ -40,7 +40,11 @@ IsRetainedChunk n b i = (b.pruned ≤ i) × (8 * n * i < bit_len n b)
 
 -- the bitmap of length len with the given number of pruned chunks, whose retained bits are given by position
 abbrev pub from_bits : ℕ → ℕ → ℕ → (ℕ → Bool) → PrunedBits
-from_bits n pruned len bit = record { pruned = pruned; bits = map bit (range_with_len (8 * n * pruned) (len - 8 * n * pruned)) }
+from_bits n pruned len bit =
+    record {
+      pruned = pruned;
+      bits = map bit (range_with_len (8 * n * pruned) (len - 8 * n * pruned));
+    }
 
 -- the bytes of chunk i; a bit past the length is zero
 abbrev pub chunk : ℕ → PrunedBits → ℕ → List ℕ
@@ -64,7 +68,8 @@ set_at n b k x = record { pruned = b.pruned; bits = slice_set b.bits (k - pruned
 
 -- the bitmap with x as the bit at each position from lo up to hi, hi excluded
 abbrev pub set_range : ℕ → PrunedBits → ℕ → ℕ → Bool → PrunedBits
-set_range n b lo hi x = from_bits n b.pruned (bit_len n b) (λ k. if is_between lo hi k then x else bit_at n b k)
+set_range n b lo hi x = from_bits n b.pruned (bit_len n b)
+    (λ k. if is_between lo hi k then x else bit_at n b k)
 
 -- the bitmap with a list of bits appended
 abbrev pub appended : PrunedBits → List Bool → PrunedBits
@@ -80,12 +85,18 @@ truncated n b len = record { pruned = b.pruned; bits = take (len - pruned_bits n
 
 -- the bitmap without the chunks before chunk i; if these are pruned already, the bitmap itself
 abbrev pub pruned_to : ℕ → PrunedBits → ℕ → PrunedBits
-pruned_to n b i = if nat_lt b.pruned i then record { pruned = i; bits = drop (8 * n * (i - b.pruned)) b.bits } else b
+pruned_to n b i = if nat_lt b.pruned i
+    then record { pruned = i; bits = drop (8 * n * (i - b.pruned)) b.bits } else b
 
 -- the bitmap with a list of chunks inserted, in order, before the retained bits
 abbrev pub unpruned : ℕ → PrunedBits → List (List ℕ) → PrunedBits
-unpruned n b chunks = record { pruned = b.pruned - length chunks; bits = flat_map (chunk_bits n) chunks ++ b.bits }
+unpruned n b chunks = record {
+  pruned = b.pruned - length chunks;
+  bits = flat_map (chunk_bits n) chunks ++ b.bits;
+}
 
 -- the bitmap with the bits of chunk i replaced by those of some bytes
 abbrev pub with_chunk : ℕ → PrunedBits → ℕ → List ℕ → PrunedBits
-with_chunk n b i bytes = from_bits n b.pruned (bit_len n b) (λ k. if k / (8 * n) == i then chunk_bit n bytes k else bit_at n b k)
+with_chunk n b i bytes =
+    from_bits n b.pruned (bit_len n b)
+    (λ k. if k / (8 * n) == i then chunk_bit n bytes k else bit_at n b k)

@@ -9,7 +9,8 @@ is_between lo hi k = not (nat_lt k lo) && nat_lt k hi
 
 -- the list with x as each bit from position lo up to hi, hi excluded, and its own bits at the other positions
 abbrev pub set_between : List Bool → ℕ → ℕ → Bool → List Bool
-set_between v lo hi x = map (λ k. if is_between lo hi k then x else slice_index_or v k false) (range_with_len 0 (length v))
+set_between v lo hi x = map (λ k. if is_between lo hi k then x else slice_index_or v k false)
+    (range_with_len 0 (length v))
 
 -- the new chunks have x as each bit from position lo up to hi, hi excluded, and every other bit as the old chunks have it
 pub record IsRangePut (n : ℕ) (old new : List (List ℕ)) (lo hi : ℕ) (x : Bool) : Type 0 where

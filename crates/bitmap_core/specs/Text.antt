@@ -9,4 +9,8 @@ digit false = codes "0"
 
 -- the text of a bitmap: all bits if there are at most 64, otherwise the first 32 and the last 32
 abbrev pub debug_text : List Bool → List ℕ
-debug_text v = codes "BitMap[" ++ (if nat_le (length v) 64 then flat_map digit v else flat_map digit (take 32 v) ++ codes "..." ++ flat_map digit (drop (length v - 32) v)) ++ codes "]"
+debug_text v = codes "BitMap["
+    ++ (if nat_le (length v) 64
+    then flat_map digit v
+    else flat_map digit (take 32 v) ++ codes "..." ++ flat_map digit (drop (length v - 32) v))
+    ++ codes "]"

@@ -266,7 +266,8 @@ impl<const N: usize> BitMap<N> {
     // Returns the byte that contains a bit, as a chunk. Its bits past the length are zero.
     pub(crate) fn read_byte(&self, bit: u64) -> [u8; 1]
         requires { bit < length self.now }
-        ensures { (k : ℕ) → k / 8 ≡ bit / 8 → chunk_bit 1 result k ≡ slice_index_or self.now k false }
+        ensures { (k : ℕ) → k / 8 ≡ bit / 8
+            → chunk_bit 1 result k ≡ slice_index_or self.now k false }
     {
         deque::get_byte(&self.chunks, bit)
     }
@@ -365,7 +366,10 @@ impl<const N: usize> BitMap<N> {
     // Whether no bit gives true if it is combined with the bit of `other` at the same position.
     fn gives_none<B: Bitwise>(&self, other: &BitMap<N>) -> bool
         requires { length self.now ≡ length other.now }
-        ensures { Decides result ((k : ℕ) → k < length self.now → B.gives (slice_index_or self.now k false) (slice_index_or other.now k false) ≡ false) }
+        ensures { Decides result
+            ((k : ℕ) → k < length self.now
+            → B.gives (slice_index_or self.now k false) (slice_index_or other.now k false)
+            ≡ false) }
     {
         deque::gives_none::<B, N>(&self.chunks, &other.chunks)
     }
@@ -413,7 +417,8 @@ impl<const N: usize> BitMap<N> {
     /// Constant. The whole iteration is linear in the words of the bitmap plus the positions returned.
     /// A word is 64 bits of one chunk, or fewer at the end of a chunk.
     pub fn ones_iter(&self) -> OnesIter<'_, BitMap<N>, N>
-        ensures positions { result.left ≡ filter (λ k. slice_index_or self.now k false) (range_with_len 0 (length self.now)) }
+        ensures positions { result.left
+            ≡ filter (λ k. slice_index_or self.now k false) (range_with_len 0 (length self.now)) }
         ensures width { IsWidth N }
         ensures words { result.words ≡ words_between N 0 (length self.now) }
         ensures loads { result.loads ≤ result.words }
@@ -534,7 +539,8 @@ impl<const N: usize> BitMap<N> {
         requires space { length self.old + length other.now < 2 ^ 64 }
         ensures ok { OnOk result (self.new ≡ self.old ++ other.now) }
         ensures err { OnErr result (self.new ≡ self.old) }
-        ensures has_capacity { length self.old + length other.now ≤ 8 * N * div_ceil (length self.old) (8 * N) → IsOk result }
+        ensures has_capacity { length self.old + length other.now
+            ≤ 8 * N * div_ceil (length self.old) (8 * N) → IsOk result }
     {
         let len = self.len;
         let total = len + other.len();

@@ -51,14 +51,26 @@ reason_of_rewind (rewind_errors.Memory error) = NoMemory
 -- a historical bitmap outside a batch, as a machine
 abbrev pub clean : ℕ → View ⊤ → Machine
 clean n v = record {
-  state = record { current = v.current; pending = None; history = history_of n v; costs = costs_of v; last = v.last };
+  state = record {
+    current = v.current;
+    pending = None;
+    history = history_of n v;
+    costs = costs_of v;
+    last = v.last;
+  };
   touched = [];
 }
 
 -- a historical bitmap in a batch, as a machine that has touched the chunks that the batch has marked
 abbrev pub dirty : ℕ → View PendingEdits → Machine
 dirty n v = record {
-  state = record { current = v.current; pending = Some (pending_of n v); history = history_of n v; costs = costs_of v; last = v.last };
+  state = record {
+    current = v.current;
+    pending = Some (pending_of n v);
+    history = history_of n v;
+    costs = costs_of v;
+    last = v.last;
+  };
   touched = marked_of n v;
 }
 

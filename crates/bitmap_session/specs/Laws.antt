@@ -11,7 +11,8 @@ use Rattle.bitmap_session.specs.Machine.{State, Machine, Agrees, Run, RunsOn, St
 
 -- the law of consecutive runs: two runs, of which the second goes on from where the first leads, are one run of all their commands
 abbrev pub RunsJoin : ℕ → Type 0
-RunsJoin N = (old mid new : Machine) (commands more : List (Command N)) (replies others : List ReplyValue)
+RunsJoin N = (old mid new : Machine) (commands more : List (Command N))
+    (replies others : List ReplyValue)
     → RunsOn N old commands replies mid
     → RunsOn N mid more others new
     → RunsOn N old (commands ++ more) (replies ++ others) new
@@ -25,7 +26,8 @@ StepIsRun N = (old new : Machine) (command : Command N) (reply : ReplyValue)
 -- steps of a session, each from where the one before leads, by these commands and with these replies
 abbrev pub StepsOn : (N : ℕ) → Machine → List (Command N × ReplyValue) → Machine → Type 0
 StepsOn N old [] new = new ≡ old
-StepsOn N old (step ∷ steps) new = (mid : Machine) × StepTo N Agrees old step.0 step.1 mid × StepsOn N mid steps new
+StepsOn N old (step ∷ steps) new = (mid : Machine) × StepTo N Agrees old step.0 step.1 mid
+    × StepsOn N mid steps new
 
 -- the law of consecutive steps: they are one run of their commands, with their replies
 abbrev pub StepsAreRun : ℕ → Type 0
@@ -35,7 +37,8 @@ StepsAreRun N = (old new : Machine) (steps : List (Command N × ReplyValue))
 
 -- an optional number is at least each number of a list; if there is none, the list is empty
 abbrev pub IsGreatestOf : Option ℕ → List ℕ → Type 0
-IsGreatestOf number numbers = MatchOption number (numbers ≡ []) (λ greatest. All (λ k. k ≤ greatest) numbers)
+IsGreatestOf number numbers =
+    MatchOption number (numbers ≡ []) (λ greatest. All (λ k. k ≤ greatest) numbers)
 
 -- the kept numbers are strictly ascending, and none is above the last number; without a last number no commit is kept
 pub record HasRisingNumbers (s : State) : Type 0 where
@@ -62,25 +65,30 @@ NumbersRiseOn N = (old new : Machine) (commands : List (Command N)) (replies : L
 
 -- the law of the latest number: if the numbers rise, it is the greatest of them
 abbrev pub LatestIsGreatest : Type 0
-LatestIsGreatest = (s : State) → HasRisingNumbers s → IsGreatestOf (latest s.history) (keys_of s.history)
+LatestIsGreatest = (s : State) → HasRisingNumbers s
+    → IsGreatestOf (latest s.history) (keys_of s.history)
 
 -- a run whose machines all keep a commit under the number, so that none of its commands is an accepted start
-abbrev pub RunKeeping : (N : ℕ) → ℕ → Machine → List (Command N) → List ReplyValue → Machine → Type 0
+abbrev pub RunKeeping : (N : ℕ) → ℕ → Machine → List (Command N) → List ReplyValue → Machine
+    → Type 0
 RunKeeping N number old [] [] new = IsSome (kept_under old.state.history number) × (new ≡ old)
 RunKeeping N number old (command ∷ commands) (reply ∷ replies) new =
     IsSome (kept_under old.state.history number)
-    × ((mid : Machine) × (Step N old command reply mid × RunKeeping N number mid commands replies new))
+    × ((mid : Machine) × (Step N old command reply mid
+    × RunKeeping N number mid commands replies new))
 RunKeeping N number old [] (reply ∷ replies) new = ⊥
 RunKeeping N number old (command ∷ commands) [] new = ⊥
 
 -- a rewind of the machine `left` leads back to an earlier machine: to its current bitmap, and to its history less the commits that `left` does not keep
 pub record IsRewoundTo (earlier left now : Machine) : Type 0 where
   pub current : now.state.current ≡ earlier.state.current
-  pub history : now.state.history ≡ filter (λ commit. is_kept left.state commit.0) earlier.state.history
+  pub history : now.state.history
+      ≡ filter (λ commit. is_kept left.state commit.0) earlier.state.history
 
 -- the law of rewinding: after a commit to a machine whose numbers rise, a run that keeps it and an accepted rewind to it, the machine is rewound to the commit
 abbrev pub Rewinding : ℕ → Type 0
-Rewinding N = (number : ℕ) (before committed left back : Machine) (commands : List (Command N)) (replies : List ReplyValue)
+Rewinding N = (number : ℕ) (before committed left back : Machine) (commands : List (Command N))
+    (replies : List ReplyValue)
     → HasRisingNumbers before.state
     → Step N before (Commit number) Done committed
     → RunKeeping N number committed commands replies left

@@ -77,7 +77,8 @@ appended_all log (e ∷ es) = appended_all (appended log e) es
 -- ---- what is served
 
 -- a command with this reply makes of a session with its log another one: a step of the machine, and the entries of the command at the end of the log
-pub record Serves (n : ℕ) (old : LoggedView) (command : Command n) (reply : ReplyValue) (new : LoggedView) : Type 0 where
+pub record Serves (n : ℕ) (old : LoggedView) (command : Command n) (reply : ReplyValue)
+    (new : LoggedView) : Type 0 where
   pub step : StepTo n Agrees old.machine command reply new.machine
   pub log : new.log ≡ appended_all old.log (entries_of n old.machine.state command reply)
   pub follows : GoesOn n (kept_part old.machine.state)
@@ -95,14 +96,16 @@ IsLogError n m command errors.NoEntry = (chunks : ℕ) × (command ≡ Start chu
 IsLogError n m command (errors.Memory e) = IsDrop command × (is_dirty m.state ≡ false)
 
 -- what applying bytes as a delta makes of a session with its log: what it makes of the session alone, and the entry of the commit at the end of the log, or neither
-pub record LogsDelta {T : Type 0} (n : ℕ) (bytes : List ℕ) (old : LoggedView) (r : Result T ApplyDeltaError) (new : LoggedView) : Type 0 where
+pub record LogsDelta {T : Type 0} (n : ℕ) (bytes : List ℕ) (old : LoggedView)
+    (r : Result T ApplyDeltaError) (new : LoggedView) : Type 0 where
   pub applied : AppliesDelta n bytes old.machine r new.machine
   pub log : OnOk r (new.log
       ≡ appended old.log (entry_to n (kept_part old.machine.state) (kept_part new.machine.state)))
   pub follows : OnOk r (MayFollow n (kept_part old.machine.state)
       (entry_to n (kept_part old.machine.state) (kept_part new.machine.state)))
   pub kept : OnOk r (kept_part new.machine.state
-      ≡ after n (kept_part old.machine.state) (entry_to n (kept_part old.machine.state) (kept_part new.machine.state)))
+      ≡ after n (kept_part old.machine.state)
+      (entry_to n (kept_part old.machine.state) (kept_part new.machine.state)))
   pub unlogged : OnErr r (new.log ≡ old.log)
 
 -- ---- what is logged

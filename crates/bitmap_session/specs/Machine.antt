@@ -32,7 +32,13 @@ pub record Machine : Type 0 where
 
 -- the state with this many pruned chunks, no retained bits, no batch, no commits and no last number
 abbrev pub empty_state : ℕ → State
-empty_state chunks = record { current = record { pruned = chunks; bits = [] }; pending = None; history = []; costs = []; last = None }
+empty_state chunks = record {
+  current = record { pruned = chunks; bits = [] };
+  pending = None;
+  history = [];
+  costs = [];
+  last = None;
+}
 
 -- the machine before the first command: empty, with nothing pruned and nothing touched
 abbrev pub first_machine : Machine
@@ -40,7 +46,16 @@ first_machine = record { state = empty_state 0; touched = [] }
 
 -- the machine with this current bitmap, without a batch, commits and a last number, and with nothing touched
 abbrev pub machine_with : PrunedBits → Machine
-machine_with bitmap = record { state = record { current = bitmap; pending = None; history = []; costs = []; last = None }; touched = [] }
+machine_with bitmap = record {
+  state = record {
+    current = bitmap;
+    pending = None;
+    history = [];
+    costs = [];
+    last = None;
+  };
+  touched = [];
+}
 
 -- there is a batch
 abbrev pub is_dirty : State → Bool
@@ -76,7 +91,8 @@ rewound s number = record {
 
 -- the state without the commits below the number
 abbrev pub dropped_before : State → ℕ → State
-dropped_before s number = record s { history = from_number number s.history; costs = from_number number s.costs }
+dropped_before s number =
+    record s { history = from_number number s.history; costs = from_number number s.costs }
 
 -- the refusal if the test is true, and otherwise none
 abbrev pub when : Bool → Refusal → Option Refusal
@@ -116,7 +132,8 @@ wants_retained s = when (length (shown s).bits == 0) NoRetainedBit
 abbrev pub wants_number : State → ℕ → List (Option Refusal)
 wants_number s number =
     when (number == 2 ^ 64 - 1) ReservedCommitNumber
-    ∷ option_and_then (λ previous. when (nat_le number previous) (NonMonotonicCommit previous number)) s.last
+    ∷ option_and_then (λ previous. when (nat_le number previous)
+    (NonMonotonicCommit previous number)) s.last
     ∷ []
 
 -- a commit is kept under the number
@@ -134,16 +151,29 @@ checkout_refusal s number = first (wants_no_batch s ∷ wants_kept s number ∷ 
 -- the rule of a command that reads: it leaves the state unchanged
 abbrev pub reads : State → List (Option Refusal) → Bool → ReplyValue → Rule
 reads s refusals allocates reply =
-    record { refusals = refusals; allocates = allocates; reply = reply; after = λ cost. s; touches = [] }
+    record {
+      refusals = refusals;
+      allocates = allocates;
+      reply = reply;
+      after = λ cost. s;
+      touches = [];
+    }
 
 -- the rule of a command that reads the bitmap at a commit, or finds none: it allocates only if the commit is kept
 abbrev pub reads_kept : State → ℕ → (Option PrunedBits → ReplyValue) → Rule
-reads_kept s number reply = reads s (wants_no_batch s ∷ []) (is_kept s number) (reply (kept_under s.history number))
+reads_kept s number reply =
+    reads s (wants_no_batch s ∷ []) (is_kept s number) (reply (kept_under s.history number))
 
 -- the rule of a command that touches no chunk: it starts, begins or ends a batch, rewinds, or drops commits
 abbrev pub sets_state : List (Option Refusal) → Bool → ReplyValue → (ℕ → State) → Rule
 sets_state refusals allocates reply after =
-    record { refusals = refusals; allocates = allocates; reply = reply; after = after; touches = [] }
+    record {
+      refusals = refusals;
+      allocates = allocates;
+      reply = reply;
+      after = after;
+      touches = [];
+    }
 
 -- The definitions from here on are for chunks of N bytes.
 module _ (N : ℕ) where
@@ -176,11 +206,13 @@ module _ (N : ℕ) where
 
   -- the refusal of an input with a decode error
   abbrev pub wants_readable : (ℕ → Bool) → List ℕ → Option Refusal
-  wants_readable range input = option_map (λ decode_error. Codec (Some decode_error)) (pruned_error N range input)
+  wants_readable range input =
+      option_map (λ decode_error. Codec (Some decode_error)) (pruned_error N range input)
 
   -- the reply to an input without a decode error: the bitmap, and the number of bytes after its encoding
   abbrev pub decoded : List ℕ → ReplyValue
-  decoded input = Read (pruned_in input) (length input - length (pruned_encoding N (pruned_in input)))
+  decoded input = Read (pruned_in input)
+      (length input - length (pruned_encoding N (pruned_in input)))
 
   -- a possible reply to a decode of the input: its decode error if it has one, and otherwise its bitmap or NoMemory
   abbrev pub IsDecoded : (ℕ → Bool) → List ℕ → ReplyValue → Type 0
@@ -208,37 +240,50 @@ module _ (N : ℕ) where
 
   -- the rule of each command
   abbrev pub rule : State → Command N → Rule
-  rule s (Start chunks) = sets_state (wants_no_batch s ∷ wants_fitting chunks ∷ []) false Done (λ cost. empty_state chunks)
+  rule s (Start chunks) = sets_state (wants_no_batch s ∷ wants_fitting chunks ∷ []) false Done
+      (λ cost. empty_state chunks)
   rule s Begin = sets_state (wants_no_batch s ∷ []) false Done (λ cost. edited s s.current)
   rule s (Push value) = appends s 1 (value ∷ [])
   rule s (PushByte byte) = appends s 8 (byte_bits byte)
   rule s (PushChunk bytes) = appends s (8 * N) (chunk_bits N bytes)
   rule s Pop = edits s (wants_retained s ∷ []) false (Bit (last_bit (shown s))) (Edit.Pop ∷ [])
-  rule s (Set position value) = edits s (wants_bit s position) true Done (Edit.Set position value ∷ [])
+  rule s (Set position value) =
+      edits s (wants_bit s position) true Done (Edit.Set position value ∷ [])
   rule s (Prune position) =
-      edits s (wants_end s position ∷ []) (nat_lt (shown s).pruned (chunk_index position)) Done (Edit.Prune position ∷ [])
-  rule s (Commit number) = sets_state (wants_batch s ∷ wants_number s number) true Done (λ cost. committed s number cost)
+      edits s (wants_end s position ∷ []) (nat_lt (shown s).pruned (chunk_index position)) Done
+      (Edit.Prune position ∷ [])
+  rule s (Commit number) =
+      sets_state (wants_batch s ∷ wants_number s number) true Done (λ cost. committed s number cost)
   rule s Abort = sets_state (wants_batch s ∷ []) false Done (λ cost. record s { pending = None })
   rule s (Rewind number) =
-      sets_state (wants_no_batch s ∷ wants_kept s number ∷ []) (is_kept s number) Done (λ cost. rewound s number)
+      sets_state (wants_no_batch s ∷ wants_kept s number ∷ []) (is_kept s number) Done
+      (λ cost. rewound s number)
   rule s Len = reads s [] false (Number (shown_len s))
   rule s PrunedChunks = reads s [] false (Number (shown s).pruned)
   rule s (Get position) = reads s (wants_bit s position) false (Bit (bit_at N (shown s) position))
-  rule s (Chunk position) = reads s (wants_bit s position) false (ReplyValue.Chunk (chunk N (shown s) (chunk_index position)))
-  rule s (Ones from to) = reads s (wants_no_batch s ∷ []) true (Positions (Some (ones_of from to s.current)))
+  rule s (Chunk position) =
+      reads s (wants_bit s position) false
+      (ReplyValue.Chunk (chunk N (shown s) (chunk_index position)))
+  rule s (Ones from to) = reads s (wants_no_batch s ∷ []) true
+      (Positions (Some (ones_of from to s.current)))
   rule s Encode = reads s (wants_no_batch s ∷ []) true (Bytes (Some (pruned_encoding N s.current)))
   rule s (At number) = reads_kept s number Snapshot
-  rule s (OnesAt number from to) = reads_kept s number (λ kept. Positions (option_map (ones_of from to) kept))
-  rule s (EncodeAt number) = reads_kept s number (λ kept. Bytes (option_map (pruned_encoding N) kept))
-  rule s (Decode input range) = reads s (wants_readable (admits range) input.items ∷ []) true (decoded input.items)
+  rule s (OnesAt number from to) =
+      reads_kept s number (λ kept. Positions (option_map (ones_of from to) kept))
+  rule s (EncodeAt number) =
+      reads_kept s number (λ kept. Bytes (option_map (pruned_encoding N) kept))
+  rule s (Decode input range) =
+      reads s (wants_readable (admits range) input.items ∷ []) true (decoded input.items)
   rule s Commits = reads s (wants_no_batch s ∷ []) true (Positions (Some (keys_of s.history)))
   rule s (Exists number) = reads s (wants_no_batch s ∷ []) false (Bit (is_kept s number))
   rule s Latest = reads s (wants_no_batch s ∷ []) false (Maybe (latest s.history))
   rule s Earliest = reads s (wants_no_batch s ∷ []) false (Maybe (earliest s.history))
   rule s (DropBefore number) =
       let kept = from_number number s.history in
-      sets_state (wants_no_batch s ∷ []) false (Number (length s.history - length kept)) (λ cost. dropped_before s number)
-  rule s Clear = sets_state (wants_no_batch s ∷ []) false Done (λ cost. record s { history = []; costs = [] })
+      sets_state (wants_no_batch s ∷ []) false (Number (length s.history - length kept))
+      (λ cost. dropped_before s number)
+  rule s Clear = sets_state (wants_no_batch s ∷ []) false Done
+      (λ cost. record s { history = []; costs = [] })
   rule s Entries = reads s (wants_no_batch s ∷ []) false (Wide (sum_by (λ kept. kept.1) s.costs))
 
   -- the refusal of a command, if one holds
@@ -264,18 +309,24 @@ module _ (N : ℕ) where
   -- the touched chunks after an accepted command: they add up within a batch, and there are none at its begin and after its end
   abbrev pub touched_after : Machine → Command N → List ℕ
   touched_after m command =
-      if is_dirty m.state && is_dirty (state_after m.state command 0) then m.touched ++ touches m.state command else []
+      if is_dirty m.state && is_dirty (state_after m.state command 0)
+      then m.touched ++ touches m.state command else []
 
   -- the machine after an accepted command, given the cost of a commit
   abbrev pub after : Machine → Command N → ℕ → Machine
-  after m command cost = record { state = state_after m.state command cost; touched = touched_after m command }
+  after m command cost = record {
+    state = state_after m.state command cost;
+    touched = touched_after m command;
+  }
 
   -- Steps up to Is, a relation that says when two machines count as the same.
   module _ (Is : Machine → Machine → Type 0) where
     -- the command is accepted: the reply and the machine are those of its rule, and a commit has any cost up to the most
     abbrev pub Accepts : Machine → Command N → ReplyValue → Machine → Type 0
     Accepts old command reply new =
-        (reply ≡ reply_of old.state command) × ((cost : ℕ) × (cost ≤ most_cost N old.touched old.state.current (shown old.state)) × Is new (after old command cost))
+        (reply ≡ reply_of old.state command)
+        × ((cost : ℕ) × (cost ≤ most_cost N old.touched old.state.current (shown old.state))
+        × Is new (after old command cost))
 
     -- the command is refused with this refusal, and the machine is unchanged
     abbrev pub Refuses : Machine → Refusal → ReplyValue → Machine → Type 0
@@ -284,7 +335,8 @@ module _ (N : ℕ) where
     -- one step: if a refusal holds the command is refused with it; otherwise it is accepted, or, if it allocates, may be refused with NoMemory
     abbrev pub StepTo : Machine → Command N → ReplyValue → Machine → Type 0
     StepTo old command reply new = MatchOption (refusal_of old.state command)
-        (Accepts old command reply new ⊎ (IsTrue (allocates old.state command) × Refuses old NoMemory reply new))
+        (Accepts old command reply new
+        ⊎ (IsTrue (allocates old.state command) × Refuses old NoMemory reply new))
         (λ refusal. Refuses old refusal reply new)
 
   -- one step: from the machine old, the command may have this reply and lead to the machine new
@@ -294,7 +346,8 @@ module _ (N : ℕ) where
   -- a run: from the machine old, the commands may have these replies, one each, and lead to the machine new
   abbrev pub Run : Machine → List (Command N) → List ReplyValue → Machine → Type 0
   Run old [] [] new = new ≡ old
-  Run old (command ∷ commands) (reply ∷ replies) new = (mid : Machine) × Step old command reply mid × Run mid commands replies new
+  Run old (command ∷ commands) (reply ∷ replies) new = (mid : Machine) × Step old command reply mid
+      × Run mid commands replies new
   Run old [] (reply ∷ replies) new = ⊥
   Run old (command ∷ commands) [] new = ⊥
 
@@ -306,4 +359,5 @@ pub record Agrees (session machine : Machine) : Type 0 where
 -- from every machine that agrees with old there is a run of the commands, with these replies, to a machine that agrees with new
 abbrev pub RunsOn : (N : ℕ) → Machine → List (Command N) → List ReplyValue → Machine → Type 0
 RunsOn N old commands replies new =
-    (before : Machine) → Agrees old before → (after : Machine) × Agrees new after × Run N before commands replies after
+    (before : Machine) → Agrees old before
+    → (after : Machine) × Agrees new after × Run N before commands replies after

@@ -48,7 +48,8 @@ fn step<const N: usize>(
 ) -> (Reply<N>, State<N>)
     requires width { IsWidth N }
     requires replaces { ReplacesState command.now }
-    ensures { StepTo N Agrees (machine_of state.entry) command.now (value_of result.0) (machine_of result.1) }
+    ensures { StepTo N Agrees (machine_of state.entry) command.now (value_of result.0)
+        (machine_of result.1) }
 {
     match state {
         State::Clean(bitmap) => clean::step(bitmap, alloc, command),
@@ -157,10 +158,22 @@ impl<const N: usize> Session<N> {
     /// Linear in the bytes of the encoding. If the bytes have a decode error, constant.
     pub fn read(alloc: Global, from: &mut &[u8], range: &RangeCfg) -> Result<Self, CodecError>
         requires width { IsWidth N }
-        ensures found { IfOk result (λ s. from.old.now ≡ pruned_encoding N s.state.current ++ from.new.now) }
-        ensures value { IfOk result (λ s. s ≡ record { state = record { current = pruned_in from.old.now; pending = None; history = []; costs = []; last = None }; touched = [] }) }
+        ensures found { IfOk result
+            (λ s. from.old.now ≡ pruned_encoding N s.state.current ++ from.new.now) }
+        ensures value { IfOk result
+            (λ s. s ≡ record {
+              state = record {
+                current = pruned_in from.old.now;
+                pending = None;
+                history = [];
+                costs = [];
+                last = None;
+              };
+              touched = [];
+            }) }
         ensures accepted { OnOk result (pruned_error N (admits range.now) from.old.now ≡ None) }
-        ensures refused { IfErr result (λ e. pruned_error N (admits range.now) from.old.now ≡ decode_error e) }
+        ensures refused { IfErr result
+            (λ e. pruned_error N (admits range.now) from.old.now ≡ decode_error e) }
         ensures unmoved { OnErr result (from.new ≡ from.old) }
     {
         let bitmap = Prunable::read_cfg(alloc, from, range)?;
@@ -339,7 +352,8 @@ impl<const N: usize> Session<N> {
     ///
     /// As `try_push_chunk`.
     pub fn push_chunk(&mut self, bytes: &[u8; N]) -> Reply<N>
-        ensures { StepTo N Agrees self.old (Command.PushChunk bytes.now) (value_of result) self.new }
+        ensures { StepTo N Agrees self.old (Command.PushChunk bytes.now)
+            (value_of result) self.new }
     {
         match &mut self.state {
             State::Dirty(bitmap) => dirty::push_chunk(bitmap, bytes),
@@ -475,7 +489,8 @@ impl<const N: usize> Session<N> {
     ///
     /// Constant.
     pub fn current(&self) -> Option<&Prunable<N>>
-        ensures { option_copied result ≡ if is_dirty self.now.state then None else Some self.now.state.current }
+        ensures { option_copied result ≡ if is_dirty self.now.state then None
+            else Some self.now.state.current }
     {
         match &self.state {
             State::Clean(bitmap) => Some(bitmap.current()),
@@ -493,7 +508,8 @@ impl<const N: usize> Session<N> {
     ///
     /// As `at` of `CleanBitMap`.
     pub fn at(&self, number: u64) -> Option<AtCommit<'_, N>>
-        ensures { result ≡ if is_dirty self.now.state then None else kept_under self.now.state.history number }
+        ensures { result ≡ if is_dirty self.now.state then None
+            else kept_under self.now.state.history number }
     {
         match &self.state {
             State::Clean(bitmap) => bitmap.at(number),
@@ -512,7 +528,8 @@ impl<const N: usize> Session<N> {
     ///
     /// As `at_for` of `CleanBitMap`.
     pub fn at_for(&self, number: u64, bits: u64) -> Option<PastBitMap<'_, N>>
-        ensures { result ≡ if is_dirty self.now.state then None else kept_under self.now.state.history number }
+        ensures { result ≡ if is_dirty self.now.state then None
+            else kept_under self.now.state.history number }
     {
         match &self.state {
             State::Clean(bitmap) => bitmap.at_for(number, bits),
@@ -530,7 +547,8 @@ impl<const N: usize> Session<N> {
     ///
     /// As `commits` of `CleanBitMap`.
     pub fn commits(&self) -> Option<Commits<'_, N>>
-        ensures { result ≡ if is_dirty self.now.state then None else Some (keys_of self.now.state.history) }
+        ensures { result ≡ if is_dirty self.now.state then None
+            else Some (keys_of self.now.state.history) }
     {
         match &self.state {
             State::Clean(bitmap) => Some(bitmap.commits()),
@@ -548,7 +566,8 @@ impl<const N: usize> Session<N> {
     ///
     /// As `commits_from` of `CleanBitMap`.
     pub fn commits_from(&self, number: u64) -> Option<Commits<'_, N>>
-        ensures { result ≡ if is_dirty self.now.state then None else Some (at_least number (keys_of self.now.state.history)) }
+        ensures { result ≡ if is_dirty self.now.state then None
+            else Some (at_least number (keys_of self.now.state.history)) }
     {
         match &self.state {
             State::Clean(bitmap) => Some(bitmap.commits_from(number)),
@@ -568,7 +587,8 @@ impl<const N: usize> Session<N> {
     ///
     /// As `changed_chunks` of `CleanBitMap`.
     pub fn changed_chunks(&self, from: u64, to: u64) -> Option<ChangedChunks<'_, N>>
-        ensures value { result ≡ if is_dirty self.now.state then None else changed_between N self.now.state.history from to }
+        ensures value { result ≡ if is_dirty self.now.state then None
+            else changed_between N self.now.state.history from to }
         ensures bound { IfSome result (λ changes. length changes < 2 ^ 64) }
     {
         match &self.state {
@@ -605,10 +625,13 @@ impl<const N: usize> Session<N> {
         commands: &[Command<N>],
         replies: &mut Vec<Reply<N>>,
     ) -> Result<(), AllocError>
-        ensures run { OnOk result ((new : List (Reply N)) × (replies.new.items ≡ replies.old.items ++ new)
+        ensures run { OnOk result
+            ((new : List (Reply N)) × (replies.new.items ≡ replies.old.items ++ new)
             × RunsOn N self.old commands.now (map value_of new) self.new) }
-        ensures refused { OnErr result ((self.new ≡ self.old) × (replies.new.items ≡ replies.old.items)) }
-        ensures has_capacity { vec_len replies.old + length commands.now ≤ vec_capacity replies.old → IsOk result }
+        ensures refused { OnErr result
+            ((self.new ≡ self.old) × (replies.new.items ≡ replies.old.items)) }
+        ensures has_capacity { vec_len replies.old + length commands.now ≤ vec_capacity replies.old
+            → IsOk result }
     {
         replies.reserve(commands.len())?;
         for command in commands {

@@ -12,7 +12,8 @@ LeadsTo nodes keys link key = (place : ℕ) × Finds nodes keys key place link
 
 -- the link of a node leads to a key whose digit in the node is below another
 abbrev pub LeadsBelow : List Node → List ℕ → ℕ → ℕ → ℕ → Type 0
-LeadsBelow nodes keys link digit key = LeadsTo nodes keys link key × (digit_in (node_at nodes (link / 2)) key < digit)
+LeadsBelow nodes keys link digit key = LeadsTo nodes keys link key
+    × (digit_in (node_at nodes (link / 2)) key < digit)
 
 -- all numbers of which P holds are appended to a list, and no others, ascending
 pub record AppendsAscending (P : ℕ → Type 0) (old new : List ℕ) : Type 0 where

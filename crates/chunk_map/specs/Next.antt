@@ -11,7 +11,8 @@ IsSpan span = IsShift span ⊎ (span ≡ 64)
 
 -- all keys at or above a number are at or above another
 abbrev pub AreFrom : List ℕ → ℕ → ℕ → Type 0
-AreFrom keys from past = (place : ℕ) → place < length keys → from ≤ slice_index keys place → past ≤ slice_index keys place
+AreFrom keys from past = (place : ℕ) → place < length keys → from ≤ slice_index keys place
+    → past ≤ slice_index keys place
 
 -- the key at a place is the least at or above a number
 pub record IsNextPlace (keys : List ℕ) (from place : ℕ) : Type 0 where
@@ -52,11 +53,13 @@ pub record IsWalk (nodes : List Node) (keys : List ℕ) (from at span link : ℕ
   pub at_fits : at < 2 ^ 64
   pub from_on : from ≤ at
   pub all : AreFrom keys from at
-  pub below : (place : ℕ) → place < length keys → slice_index keys place / 2 ^ span ≡ at / 2 ^ span → Finds nodes keys (slice_index keys place) place link
+  pub below : (place : ℕ) → place < length keys → slice_index keys place / 2 ^ span ≡ at / 2 ^ span
+      → Finds nodes keys (slice_index keys place) place link
   pub node : link % 2 ≡ 1 → link / 2 < length nodes
   pub place : link % 2 ≡ 0 → link / 2 ≤ length keys
   pub lower : link % 2 ≡ 1 → (node_at nodes (link / 2)).shift < span
-  pub node_in : link % 2 ≡ 1 → span ≤ 60 → (node_at nodes (link / 2)).base / 2 ^ span ≡ at / 2 ^ span
+  pub node_in : link % 2 ≡ 1 → span ≤ 60
+      → (node_at nodes (link / 2)).base / 2 ^ span ≡ at / 2 ^ span
   pub key_in : link % 2 ≡ 0 → 0 < link → slice_index keys (link / 2 - 1) / 2 ^ span ≡ at / 2 ^ span
 
 -- all keys at or above a number are at or above another, from which a walk starts at a link of a slot

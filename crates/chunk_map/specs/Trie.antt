@@ -15,7 +15,8 @@ IsAbsent keys key = (place : ℕ) → place < length keys → slice_index keys p
 
 -- no key is at two places
 abbrev pub AreApart : List ℕ → Type 0
-AreApart keys = (p q : ℕ) → p < length keys → q < length keys → slice_index keys p ≡ slice_index keys q → p ≡ q
+AreApart keys = (p q : ℕ) → p < length keys → q < length keys
+    → slice_index keys p ≡ slice_index keys q → p ≡ q
 
 -- node c, or an empty one past the end
 abbrev pub node_at : List Node → ℕ → Node
@@ -41,7 +42,9 @@ pub record IsNode (nodes : List Node) (link : ℕ) : Type 0 where
 -- from a link, a number of nodes leads to a key at a place
 abbrev pub Leads : List Node → List ℕ → ℕ → ℕ → ℕ → ℕ → Type 0
 Leads nodes keys key place zero link = IsAt keys key place × (link ≡ 2 * place + 2)
-Leads nodes keys key place (suc steps) link = IsNode nodes link × Holds (node_at nodes (link / 2)) key × Leads nodes keys key place steps (link_for (node_at nodes (link / 2)) key)
+Leads nodes keys key place (suc steps) link = IsNode nodes link
+    × Holds (node_at nodes (link / 2)) key
+    × Leads nodes keys key place steps (link_for (node_at nodes (link / 2)) key)
 
 -- some number of nodes leads from a link to a key at a place
 abbrev pub Finds : List Node → List ℕ → ℕ → ℕ → ℕ → Type 0
@@ -50,7 +53,8 @@ Finds nodes keys key place link = (steps : ℕ) × Leads nodes keys key place st
 -- from a link, a number of nodes leads to another link, for a key
 abbrev pub Reaches : List Node → ℕ → ℕ → ℕ → ℕ → Type 0
 Reaches nodes key target zero link = link ≡ target
-Reaches nodes key target (suc steps) link = IsNode nodes link × Holds (node_at nodes (link / 2)) key × Reaches nodes key target steps (link_for (node_at nodes (link / 2)) key)
+Reaches nodes key target (suc steps) link = IsNode nodes link × Holds (node_at nodes (link / 2)) key
+    × Reaches nodes key target steps (link_for (node_at nodes (link / 2)) key)
 
 -- some number of nodes leads from a link to another link, for a key
 abbrev pub Meets : List Node → ℕ → ℕ → ℕ → Type 0
@@ -59,7 +63,9 @@ Meets nodes key target link = (steps : ℕ) × Reaches nodes key target steps li
 -- the walk for a key from the root is at a link, which is in the node of the link `owner`, or is the root if that is 0
 abbrev pub IsWay : List Node → ℕ → ℕ → ℕ → ℕ → Type 0
 IsWay nodes root key zero link = link ≡ root
-IsWay nodes root key (suc owner) link = IsNode nodes (suc owner) × Holds (node_at nodes (suc owner / 2)) key × (link ≡ link_for (node_at nodes (suc owner / 2)) key) × Meets nodes key (suc owner) root
+IsWay nodes root key (suc owner) link = IsNode nodes (suc owner)
+    × Holds (node_at nodes (suc owner / 2)) key
+    × (link ≡ link_for (node_at nodes (suc owner / 2)) key) × Meets nodes key (suc owner) root
 
 -- the walk for a key from the root ends at a link, which is not that of a node that holds the key
 pub record IsEnd (nodes : List Node) (root key owner link : ℕ) : Type 0 where
@@ -84,7 +90,8 @@ mark_of (suc link) = 1
 
 -- the bit of each digit says whether there is a link for it
 abbrev pub AreMarked : List ℕ → ℕ → Type 0
-AreMarked links used = (digit : ℕ) → digit < 16 → bit_at used digit ≡ mark_of (slice_index links digit)
+AreMarked links used = (digit : ℕ) → digit < 16
+    → bit_at used digit ≡ mark_of (slice_index links digit)
 
 -- the bits of the digits, after the link for a digit was replaced
 abbrev pub marked : ℕ → ℕ → ℕ → ℕ
@@ -95,8 +102,10 @@ marked used digit (suc link) = bit_or used (1 * 2 ^ digit % 2 ^ 32)
 pub record IsLower (nodes : List Node) (node : Node) : Type 0 where
   pub size : length node.links ≡ 16
   pub shift : IsShift node.shift
-  pub within : (digit : ℕ) → digit < 16 → slice_index node.links digit % 2 ≡ 1 → slice_index node.links digit / 2 < length nodes
-  pub lower : (digit : ℕ) → digit < 16 → slice_index node.links digit % 2 ≡ 1 → (node_at nodes (slice_index node.links digit / 2)).shift < node.shift
+  pub within : (digit : ℕ) → digit < 16 → slice_index node.links digit % 2 ≡ 1
+      → slice_index node.links digit / 2 < length nodes
+  pub lower : (digit : ℕ) → digit < 16 → slice_index node.links digit % 2 ≡ 1
+      → (node_at nodes (slice_index node.links digit / 2)).shift < node.shift
   pub used : AreMarked node.links node.used
 
 -- all links between nodes go down
@@ -106,12 +115,17 @@ IsForest nodes = (c : ℕ) → c < length nodes → IsLower nodes (node_at nodes
 -- a link of a node for a digit leads to keys with that digit
 pub record IsSlot (nodes : List Node) (keys : List ℕ) (node : Node) (digit link : ℕ) : Type 0 where
   pub place : link % 2 ≡ 0 → link / 2 ≤ length keys
-  pub below_node : link % 2 ≡ 1 → (node_at nodes (link / 2)).base / 2 ^ node.shift ≡ node.base / 2 ^ node.shift / 16 * 16 + digit
-  pub below_key : link % 2 ≡ 0 → 0 < link → slice_index keys (link / 2 - 1) / 2 ^ node.shift ≡ node.base / 2 ^ node.shift / 16 * 16 + digit
+  pub below_node : link % 2 ≡ 1
+      → (node_at nodes (link / 2)).base / 2 ^ node.shift
+      ≡ node.base / 2 ^ node.shift / 16 * 16 + digit
+  pub below_key : link % 2 ≡ 0 → 0 < link
+      → slice_index keys (link / 2 - 1) / 2 ^ node.shift
+      ≡ node.base / 2 ^ node.shift / 16 * 16 + digit
 
 -- the links of a node are right
 abbrev pub AreSlots : List Node → List ℕ → Node → Type 0
-AreSlots nodes keys node = (digit : ℕ) → digit < 16 → IsSlot nodes keys node digit (slice_index node.links digit)
+AreSlots nodes keys node = (digit : ℕ) → digit < 16
+    → IsSlot nodes keys node digit (slice_index node.links digit)
 
 -- the root is right
 pub record IsRoot (nodes : List Node) (keys : List ℕ) (root : ℕ) : Type 0 where
@@ -124,7 +138,8 @@ pub record IsTrie (nodes : List Node) (keys : List ℕ) (root : ℕ) : Type 0 wh
   pub first : IsRoot nodes keys root
   pub slots : (c : ℕ) → c < length nodes → AreSlots nodes keys (node_at nodes c)
   pub reached : (c : ℕ) → c < length nodes → Meets nodes (node_at nodes c).base (2 * c + 1) root
-  pub found : (place : ℕ) → place < length keys → Finds nodes keys (slice_index keys place) place root
+  pub found : (place : ℕ) → place < length keys
+      → Finds nodes keys (slice_index keys place) place root
 
 -- the links are right, and lead to each node and each key but that at one place, to which none leads
 pub record IsPartial (nodes : List Node) (keys : List ℕ) (root gone : ℕ) : Type 0 where
@@ -132,22 +147,29 @@ pub record IsPartial (nodes : List Node) (keys : List ℕ) (root gone : ℕ) : T
   pub first : IsRoot nodes keys root
   pub slots : (c : ℕ) → c < length nodes → AreSlots nodes keys (node_at nodes c)
   pub reached : (c : ℕ) → c < length nodes → Meets nodes (node_at nodes c).base (2 * c + 1) root
-  pub found : (place : ℕ) → place < length keys → place ≢ gone → Finds nodes keys (slice_index keys place) place root
-  pub free : (c digit : ℕ) → c < length nodes → digit < 16 → slice_index (node_at nodes c).links digit ≢ 2 * gone + 2
+  pub found : (place : ℕ) → place < length keys → place ≢ gone
+      → Finds nodes keys (slice_index keys place) place root
+  pub free : (c digit : ℕ) → c < length nodes → digit < 16
+      → slice_index (node_at nodes c).links digit ≢ 2 * gone + 2
   pub free_root : root ≢ 2 * gone + 2
 
 -- a list without the element at a place, to which the last one is moved
 abbrev pub without_place : {X : Type 0} → List X → ℕ → X → List X
-without_place xs place d = take (length xs - 1) (slice_set xs place (slice_index_or xs (length xs - 1) d))
+without_place xs place d =
+    take (length xs - 1) (slice_set xs place (slice_index_or xs (length xs - 1) d))
 
 -- a node with another link for a key
 abbrev pub linked : Node → ℕ → ℕ → Node
-linked node key link = record node { links = slice_set node.links (digit_in node key) link; used = marked node.used (digit_in node key) link }
+linked node key link = record node {
+  links = slice_set node.links (digit_in node key) link;
+  used = marked node.used (digit_in node key) link;
+}
 
 -- the nodes with another link for a key in the node of the link `owner`, if that is not 0
 abbrev pub relinked : List Node → ℕ → ℕ → ℕ → List Node
 relinked nodes zero key link = nodes
-relinked nodes (suc owner) key link = slice_set nodes (suc owner / 2) (linked (node_at nodes (suc owner / 2)) key link)
+relinked nodes (suc owner) key link =
+    slice_set nodes (suc owner / 2) (linked (node_at nodes (suc owner / 2)) key link)
 
 -- the root after that
 abbrev pub new_root : ℕ → ℕ → ℕ → ℕ
@@ -156,7 +178,14 @@ new_root root (suc owner) link = root
 
 -- a node for two keys or more: those below `link`, of which one is `base`, and a new key
 abbrev pub branch_of : ℕ → ℕ → ℕ → ℕ → ℕ → Node
-branch_of base link key leaf shift = record { links = slice_set (slice_set (replicate 16 0) (base / 2 ^ shift % 16) link) (key / 2 ^ shift % 16) leaf; base = key; shift = shift; used = marked (marked 0 (base / 2 ^ shift % 16) link) (key / 2 ^ shift % 16) leaf }
+branch_of base link key leaf shift =
+    record {
+      links = slice_set (slice_set (replicate 16 0) (base / 2 ^ shift % 16) link)
+          (key / 2 ^ shift % 16) leaf;
+      base = key;
+      shift = shift;
+      used = marked (marked 0 (base / 2 ^ shift % 16) link) (key / 2 ^ shift % 16) leaf;
+    }
 
 -- the highest digit by which two keys differ is that at a shift
 pub record Parts (a b shift : ℕ) : Type 0 where
@@ -184,8 +213,10 @@ pub record Branches (old new : List Node) (keys : List ℕ) (link key leaf : ℕ
 -- a link for a digit in a node, after the link for a key in the node of the link `owner` was replaced
 abbrev pub LinkAfter : List Node → List Node → ℕ → ℕ → ℕ → ℕ → ℕ → Type 0
 LinkAfter old new owner key link c digit =
-    ((2 * c + 1 ≡ owner) × (digit ≡ digit_in (node_at old c) key) × (slice_index (node_at new c).links digit ≡ link))
-    ⊎ ((2 * c + 1 ≡ owner → digit ≡ digit_in (node_at old c) key → ⊥) × (slice_index (node_at new c).links digit ≡ slice_index (node_at old c).links digit))
+    ((2 * c + 1 ≡ owner) × (digit ≡ digit_in (node_at old c) key)
+    × (slice_index (node_at new c).links digit ≡ link))
+    ⊎ ((2 * c + 1 ≡ owner → digit ≡ digit_in (node_at old c) key → ⊥)
+    × (slice_index (node_at new c).links digit ≡ slice_index (node_at old c).links digit))
 
 -- the new nodes are the old ones, with another link for a key in the node of the link `owner`, and maybe more nodes
 pub record Relinks (old new : List Node) (owner key link : ℕ) : Type 0 where
@@ -201,17 +232,26 @@ abbrev pub KeepsKeys : List ℕ → List ℕ → Type 0
 KeepsKeys old new = (place : ℕ) → place < length old → IsAt new (slice_index old place) place
 
 -- a new key, and the nodes and keys before and after: `new_link` replaces `link`, which is in the node of the link `owner`, or is the root if that is 0
-pub record Grows (old new : List Node) (keys new_keys : List ℕ) (owner key link new_link : ℕ) : Type 0 where
+pub record Grows (old new : List Node) (keys new_keys : List ℕ)
+    (owner key link new_link : ℕ) : Type 0 where
   pub relinks : Relinks old new owner key new_link
   pub kept : KeepsKeys keys new_keys
-  pub added : (place : ℕ) → place < length new_keys → (place < length keys) ⊎ ((place ≡ length keys) × (slice_index new_keys place ≡ key))
+  pub added : (place : ℕ) → place < length new_keys
+      → (place < length keys) ⊎ ((place ≡ length keys) × (slice_index new_keys place ≡ key))
   pub lower : (c : ℕ) → length old ≤ c → c < length new → IsLower new (node_at new c)
   pub slots : (c : ℕ) → length old ≤ c → c < length new → AreSlots new new_keys (node_at new c)
-  pub reached : (c : ℕ) → length old ≤ c → c < length new → ((node_at new c).base ≡ key) × (2 * c + 1 ≡ new_link)
+  pub reached : (c : ℕ) → length old ≤ c → c < length new
+      → ((node_at new c).base ≡ key) × (2 * c + 1 ≡ new_link)
   pub node : new_link % 2 ≡ 1 → new_link / 2 < length new
   pub place : new_link % 2 ≡ 0 → new_link / 2 ≤ length new_keys
-  pub below : (c : ℕ) → c < length old → 2 * c + 1 ≡ owner → new_link % 2 ≡ 1 → (node_at new (new_link / 2)).shift < (node_at old c).shift
-  pub slot : (c : ℕ) → c < length old → 2 * c + 1 ≡ owner → IsSlot new new_keys (node_at old c) (digit_in (node_at old c) key) new_link
-  pub turns : (other place steps : ℕ) → Leads old keys other place steps link → Finds new new_keys other place link → Finds new new_keys other place new_link
-  pub passes : (c steps : ℕ) → c < length old → Reaches old (node_at old c).base (2 * c + 1) steps link → Meets new (node_at old c).base (2 * c + 1) link → Meets new (node_at old c).base (2 * c + 1) new_link
+  pub below : (c : ℕ) → c < length old → 2 * c + 1 ≡ owner → new_link % 2 ≡ 1
+      → (node_at new (new_link / 2)).shift < (node_at old c).shift
+  pub slot : (c : ℕ) → c < length old → 2 * c + 1 ≡ owner
+      → IsSlot new new_keys (node_at old c) (digit_in (node_at old c) key) new_link
+  pub turns : (other place steps : ℕ) → Leads old keys other place steps link
+      → Finds new new_keys other place link → Finds new new_keys other place new_link
+  pub passes : (c steps : ℕ) → c < length old
+      → Reaches old (node_at old c).base (2 * c + 1) steps link
+      → Meets new (node_at old c).base (2 * c + 1) link
+      → Meets new (node_at old c).base (2 * c + 1) new_link
   pub finds : Finds new new_keys key (length keys) new_link

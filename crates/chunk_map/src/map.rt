@@ -39,7 +39,10 @@ impl<const N: usize> Model for ChunkMap<N> {
 
     ghost Value = { ChunkEntries };
 
-    ghost view = { λ m. record { entries = entries_of m.places m.chunks.items; indices = m.places } };
+    ghost view = { λ m. record {
+      entries = entries_of m.places m.chunks.items;
+      indices = m.places;
+    } };
 
     ghost invariant = { λ m. IsPaired N m.places m.chunks.items };
 }
@@ -118,7 +121,8 @@ impl<const N: usize> ChunkMap<N> {
     /// Visits at most 16 nodes.
     #[inline]
     pub fn find(&self, index: usize) -> Option<usize>
-        ensures place { MatchOption result (lookup (nat_eq index) self.now.entries ≡ None) (IsAt self.now.indices index) }
+        ensures place { MatchOption result (lookup (nat_eq index) self.now.entries ≡ None)
+            (IsAt self.now.indices index) }
         ensures found { is_some result ≡ is_some (lookup (nat_eq index) self.now.entries) }
     {
         self.places.find(index)
@@ -151,7 +155,8 @@ impl<const N: usize> ChunkMap<N> {
     /// Constant.
     pub fn chunk_at(&self, place: usize) -> &[u8; N]
         requires { place < length self.now.indices }
-        ensures { lookup (nat_eq (slice_index self.now.indices place)) self.now.entries ≡ Some result.now }
+        ensures { lookup (nat_eq (slice_index self.now.indices place)) self.now.entries
+            ≡ Some result.now }
     {
         &self.chunks[place]
     }
@@ -172,8 +177,11 @@ impl<const N: usize> ChunkMap<N> {
     #[inline]
     pub fn chunk_mut(&mut self, place: usize) -> &mut [u8; N]
         requires { place < length self.old.indices }
-        ensures* writes_back { sem 𝓛 (Lends (the_row N.row) (Array byte N) self.entry result (with_chunk_at self.old place)) }
-        ensures value { lookup (nat_eq (slice_index self.old.indices place)) self.old.entries ≡ Some result.now }
+        ensures* writes_back { sem 𝓛
+            (Lends (the_row N.row) (Array byte N) self.entry result
+            (with_chunk_at self.old place)) }
+        ensures value { lookup (nat_eq (slice_index self.old.indices place)) self.old.entries
+            ≡ Some result.now }
     {
         &mut self.chunks[place]
     }
@@ -195,8 +203,11 @@ impl<const N: usize> ChunkMap<N> {
     pub fn insert(&mut self, index: usize, chunk: [u8; N]) -> Result<(), AllocError>
         ensures ok { OnOk result (Puts self.old.entries self.new.entries index (Some chunk.entry)) }
         ensures err { OnErr result (self.new ≡ self.old) }
-        ensures present { IsSome (lookup (nat_eq index) self.old.entries) → IsOk result × (self.new.indices ≡ self.old.indices) }
-        ensures absent { OnOk result (lookup (nat_eq index) self.old.entries ≡ None → self.new.indices ≡ self.old.indices ++ index ∷ []) }
+        ensures present { IsSome (lookup (nat_eq index) self.old.entries)
+            → IsOk result × (self.new.indices ≡ self.old.indices) }
+        ensures absent { OnOk result
+            (lookup (nat_eq index) self.old.entries ≡ None
+            → self.new.indices ≡ self.old.indices ++ index ∷ []) }
         ensures sorted { IsStrictlySortedBy nat_cmp (keys_of self.new.entries) }
     {
         match self.find(index) {
@@ -248,7 +259,9 @@ impl<const N: usize> ChunkMap<N> {
         ensures value { result ≡ lookup (nat_eq index) self.old.entries }
         ensures removed { Puts self.old.entries self.new.entries index None }
         ensures none { IfNone result (self.new ≡ self.old) }
-        ensures indices { IfSome result (λ chunk. (place : ℕ) × IsAt self.old.indices index place × (self.new.indices ≡ without_place self.old.indices place 0)) }
+        ensures indices { IfSome result
+            (λ chunk. (place : ℕ) × IsAt self.old.indices index place
+            × (self.new.indices ≡ without_place self.old.indices place 0)) }
         ensures sorted { IsStrictlySortedBy nat_cmp (keys_of self.new.entries) }
     {
         match self.find(index) {
@@ -308,9 +321,12 @@ impl<const N: usize> ChunkMap<N> {
     /// Constant.
     pub fn order(&self)
         ensures sorted { IsStrictlySortedBy nat_cmp (keys_of self.now.entries) }
-        ensures places { (index : ℕ) → IsSome (lookup (nat_eq index) self.now.entries) → (place : ℕ) × IsAt self.now.indices index place }
+        ensures places { (index : ℕ) → IsSome (lookup (nat_eq index) self.now.entries)
+            → (place : ℕ) × IsAt self.now.indices index place }
         ensures apart { AreApart self.now.indices }
-        ensures members { (index : ℕ) → is_member nat_eq self.now.indices index ≡ is_member nat_eq (keys_of self.now.entries) index }
+        ensures members { (index : ℕ)
+            → is_member nat_eq self.now.indices index
+            ≡ is_member nat_eq (keys_of self.now.entries) index }
     {
         let _chunks = &self.chunks;
     }

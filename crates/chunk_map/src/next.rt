@@ -25,7 +25,8 @@ pub(crate) struct Slot {
 // Returns the first number past those that have the digits of `at` from a shift on.
 fn skip(at: usize, span: u32) -> Option<usize>
     requires { IsSpan span }
-    ensures { MatchOption result (2 ^ 64 ≤ (at / 2 ^ span + 1) * 2 ^ span) (λ past. past ≡ (at / 2 ^ span + 1) * 2 ^ span) }
+    ensures { MatchOption result (2 ^ 64 ≤ (at / 2 ^ span + 1) * 2 ^ span)
+        (λ past. past ≡ (at / 2 ^ span + 1) * 2 ^ span) }
 {
     if span == 64 {
         return None;
@@ -41,7 +42,8 @@ pub(crate) fn next_digit(node: &Node, from: usize) -> usize
     ensures from { from ≤ result }
     ensures within { result ≤ 16 }
     ensures some { result < 16 → slice_index node.now.links result ≢ 0 }
-    ensures least { (digit : ℕ) → from ≤ digit → digit < result → slice_index node.now.links digit ≡ 0 }
+    ensures least { (digit : ℕ) → from ≤ digit → digit < result
+        → slice_index node.now.links digit ≡ 0 }
 {
     let later = (node.used | 0x1_0000) >> from;
     from + later.trailing_zeros() as usize
@@ -92,7 +94,8 @@ fn past(at: usize, span: u32) -> Step
 // Walks to the slot of the number, and keeps the first slot with a link after those on the way.
 fn start(nodes: &[Node], keys: &[usize], root: u32, from: usize) -> Option<Slot>
     requires { IsTrie nodes.now keys.now root }
-    ensures { MatchOption result (AreBelow keys.now from) (λ slot. IsStart nodes.now keys.now from slot.at slot.span slot.link) }
+    ensures { MatchOption result (AreBelow keys.now from)
+        (λ slot. IsStart nodes.now keys.now from slot.at slot.span slot.link) }
 {
     let mut next = None;
     let mut span = 64;

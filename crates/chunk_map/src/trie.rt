@@ -132,7 +132,8 @@ fn branch(
     requires fits { link % 2 ≡ 1 → IsShift (node_at nodes.old.items (link / 2)).shift }
     requires stops { link % 2 ≡ 1 → Holds (node_at nodes.old.items (link / 2)) key → ⊥ }
     requires other { link % 2 ≡ 0 → slice_index keys.now (link / 2 - 1) ≢ key }
-    ensures branches { OnOk result (Branches nodes.old.items nodes.new.items keys.now link key leaf) }
+    ensures branches { OnOk result
+        (Branches nodes.old.items nodes.new.items keys.now link key leaf) }
     ensures link { IfOk result (λ l. l ≡ 2 * length nodes.old.items + 1) }
     ensures err { OnErr result (nodes.new.items ≡ nodes.old.items) }
 {
@@ -267,8 +268,10 @@ fn move_last(nodes: &mut Vec<Node>, keys: &mut Vec<usize>, root: &mut u32, place
     requires partial { IsPartial nodes.old.items keys.old.items root.old place }
     requires within { place + 1 < length keys.old.items }
     requires link { link ≡ 2 * place + 2 }
-    ensures partial { IsPartial nodes.new.items keys.new.items root.new (length keys.old.items - 1) }
-    ensures keys { keys.new.items ≡ slice_set keys.old.items place (slice_index keys.old.items (length keys.old.items - 1)) }
+    ensures partial { IsPartial nodes.new.items keys.new.items root.new
+        (length keys.old.items - 1) }
+    ensures keys { keys.new.items
+        ≡ slice_set keys.old.items place (slice_index keys.old.items (length keys.old.items - 1)) }
 {
     let last = keys.len() - 1;
     let key = keys[last];

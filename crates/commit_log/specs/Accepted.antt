@@ -40,7 +40,8 @@ AcceptsAll n s (e ∷ es) = Accepts n s e × AcceptsAll n (after n s e) es
 -- why a change does not follow a bitmap with a last number: its number, else its extent, else its list of chunks
 abbrev pub IsChangeError : ℕ → PrunedBits → Option ℕ → Change → EntryError → Type 0
 IsChangeError n old last c errors.Number = commit_error last c.number ≡ None → ⊥
-IsChangeError n old last c errors.Length = (commit_error last c.number ≡ None) × (HasExtent n old c → ⊥)
+IsChangeError n old last c errors.Length = (commit_error last c.number ≡ None)
+    × (HasExtent n old c → ⊥)
 IsChangeError n old last c errors.Chunks =
     (commit_error last c.number ≡ None) × HasExtent n old c × (IsCanonical n old c → ⊥)
 IsChangeError n old last c errors.NoSuchCommit = ⊥

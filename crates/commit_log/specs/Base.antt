@@ -37,12 +37,14 @@ past_count (KeptUnder number count) = count
 
 -- a flag, a number and a count are those of what is known
 abbrev pub IsPast : ℕ → ℕ → ℕ → Past → Type 0
-IsPast known number count past = (flag past ≡ known) × (past_number past ≡ number) × (past_count past ≡ count)
+IsPast known number count past = (flag past ≡ known) × (past_number past ≡ number)
+    × (past_count past ≡ count)
 
 -- the encoding of a base: the byte 4, the flag, the number, the count, and the encoding of the bitmap
 unfoldable pub encode_base : ℕ → Base → List ℕ
 encode_base n b =
-    4 ∷ flag b.past ∷ (to_be_bytes w64 (past_number b.past) ++ (to_be_bytes w64 (past_count b.past) ++ pruned_encoding n b.bits))
+    4 ∷ flag b.past ∷ (to_be_bytes w64 (past_number b.past)
+    ++ (to_be_bytes w64 (past_count b.past) ++ pruned_encoding n b.bits))
 
 -- two numbers, and the bytes after them
 unfoldable pub decode_numbers : List ℕ → Result (ℕ × ℕ × List ℕ) DecodeError
@@ -72,7 +74,11 @@ past_history bits (KeptUnder number count) = (number, bits) ∷ []
 
 -- the state that a base is
 abbrev pub base_kept : Base → Kept
-base_kept b = record { current = b.bits; history = past_history b.bits b.past; last = past_last b.past }
+base_kept b = record {
+  current = b.bits;
+  history = past_history b.bits b.past;
+  last = past_last b.past;
+}
 
 -- ---- errors
 
@@ -110,7 +116,8 @@ is_wrong_count flag count = nat_lt flag 2 && not (count == 0)
 
 -- the tests of a flag, a last number and a count, in order, each with its reason
 abbrev pub past_tests : ℕ → ℕ → ℕ → List (Bool × Reason)
-past_tests flag number count = (is_wrong_number flag number, Number) ∷ (is_wrong_count flag count, Count) ∷ []
+past_tests flag number count =
+    (is_wrong_number flag number, Number) ∷ (is_wrong_count flag count, Count) ∷ []
 
 -- whether bytes are left after the pruned bitmap that some bytes encode
 abbrev pub has_more : ℕ → List ℕ → Bool
@@ -145,7 +152,8 @@ Names errors.Short found = found ≡ Some Short
 Names errors.Flag found = found ≡ Some Flag
 Names errors.Number found = found ≡ Some Number
 Names errors.Count found = found ≡ Some Count
-Names (errors.State e) found = (why : StateError) × (decode_error e ≡ Some why) × (found ≡ Some (State why))
+Names (errors.State e) found = (why : StateError) × (decode_error e ≡ Some why)
+    × (found ≡ Some (State why))
 Names errors.Long found = found ≡ Some Long
 Names (errors.Memory e) found = found ≡ None
 

@@ -68,14 +68,16 @@ pub record FitsDelta (n : ℕ) (d : Delta) : Type 0 where
 
 -- the encoded delta between two states, if there are both
 abbrev pub encoded_between : ℕ → ℕ → Option PrunedBits → ℕ → Option PrunedBits → Option (List ℕ)
-encoded_between n from (Some old) to (Some new) = Some (encode_delta n (delta_between n from old to new))
+encoded_between n from (Some old) to (Some new) =
+    Some (encode_delta n (delta_between n from old to new))
 encoded_between n from (Some old) to None = None
 encoded_between n from None to new = None
 
 -- the encoded delta between the states under two numbers, if both are kept and the first number is below the second
 abbrev pub delta_of : ℕ → List (ℕ × PrunedBits) → ℕ → ℕ → Option (List ℕ)
 delta_of n history from to =
-    if nat_lt from to then encoded_between n from (kept_under history from) to (kept_under history to)
+    if nat_lt from to then encoded_between n from (kept_under history from) to
+    (kept_under history to)
     else None
 
 -- ---- decoding
@@ -87,7 +89,13 @@ before_digest bytes = take (length bytes - 8) bytes
 -- the delta with the fields of some bytes and this change, or the error of a change that is cut off
 abbrev pub with_fields : List ℕ → Result Change DecodeError → Result Delta DeltaError
 with_fields bytes (Ok change) =
-    Ok (record { number = number_at 24 bytes; len = number_at 32 bytes; pruned = number_at 40 bytes; replaced_digest = number_at 48 bytes; change = change })
+    Ok (record {
+      number = number_at 24 bytes;
+      len = number_at 32 bytes;
+      pruned = number_at 40 bytes;
+      replaced_digest = number_at 48 bytes;
+      change = change;
+    })
 with_fields bytes (Err e) = Err errors.Short
 
 -- the delta that bytes encode at a width, or the first error of the bytes
@@ -96,14 +104,21 @@ decode_delta n bytes =
     if nat_lt (length bytes) 88 then Err errors.Short
     else if not (starts_with nat_eq bytes magic) then Err errors.NotADelta
     else if not (number_at 8 bytes == 1) then Err (errors.Version (number_at 8 bytes))
-    else if not (number_at (length bytes - 8) bytes == digest (before_digest bytes)) then Err errors.BadDigest
+    else if not (number_at (length bytes - 8) bytes == digest (before_digest bytes))
+    then Err errors.BadDigest
     else if not (number_at 16 bytes == n) then Err (errors.Width (number_at 16 bytes))
     else with_fields bytes (decode_change n (drop 56 (before_digest bytes)))
 
 -- a delta that was read
 abbrev pub view_delta : ℕ → DeltaFields → Delta
 view_delta n d =
-    record { number = d.number; len = d.len; pruned = d.pruned; replaced_digest = d.replaced_digest; change = view_change n d.change }
+    record {
+      number = d.number;
+      len = d.len;
+      pruned = d.pruned;
+      replaced_digest = d.replaced_digest;
+      change = view_change n d.change;
+    }
 
 -- ---- what is applied, and why not
 
@@ -149,4 +164,5 @@ pub record IsStep (n from : ℕ) (old : PrunedBits) (to : ℕ) (new : PrunedBits
 
 -- a state after another bitmap is committed under a number
 abbrev pub committed : Kept → ℕ → PrunedBits → Kept
-committed s number new = record { current = new; history = s.history ++ (number, new) ∷ []; last = Some number }
+committed s number new =
+    record { current = new; history = s.history ++ (number, new) ∷ []; last = Some number }

@@ -32,7 +32,8 @@ encode_chunk e = to_be_bytes w64 e.0 ++ e.1
 -- the encoding of a change: its number, its length, its pruned count, and its chunks in order
 unfoldable pub encode_change : Change → List ℕ
 encode_change c =
-    to_be_bytes w64 c.number ++ (to_be_bytes w64 c.len ++ (to_be_bytes w64 c.pruned ++ flat_map encode_chunk c.chunks))
+    to_be_bytes w64 c.number
+    ++ (to_be_bytes w64 c.len ++ (to_be_bytes w64 c.pruned ++ flat_map encode_chunk c.chunks))
 
 -- the encoding of an entry: a byte that says which kind it is, and its fields
 unfoldable pub encode_entry : Entry → List ℕ
@@ -64,7 +65,8 @@ FitsEntry n Clear = Unit {0}
 
 infixl 10 ◌>>=◌
 -- what was read is read on, unless there is an error
-abbrev pub ◌>>=◌ : {A B : Type 0} → Result A DecodeError → (A → Result B DecodeError) → Result B DecodeError
+abbrev pub ◌>>=◌ : {A B : Type 0} → Result A DecodeError → (A → Result B DecodeError)
+    → Result B DecodeError
 (Ok x) >>= f = f x
 (Err e) >>= f = Err e
 
@@ -75,12 +77,14 @@ Gives view (Err e) decoded = decoded ≡ Err e
 
 -- a number, and the bytes after it
 abbrev pub decode_number : List ℕ → Result (ℕ × List ℕ) DecodeError
-decode_number bytes = if nat_lt (length bytes) 8 then Err Short else Ok (number_in bytes, drop 8 bytes)
+decode_number bytes = if nat_lt (length bytes) 8 then Err Short
+    else Ok (number_in bytes, drop 8 bytes)
 
 -- the first k chunks of some bytes
 abbrev pub chunks_in : ℕ → ℕ → List ℕ → List (ℕ × List ℕ)
 chunks_in n zero bytes = []
-chunks_in n (suc k) bytes = (number_in bytes, take n (drop 8 bytes)) ∷ chunks_in n k (drop (8 + n) bytes)
+chunks_in n (suc k) bytes =
+    (number_in bytes, take n (drop 8 bytes)) ∷ chunks_in n k (drop (8 + n) bytes)
 
 -- the number of whole chunks, each with its index, in some bytes
 abbrev pub chunks_of : ℕ → List ℕ → ℕ
@@ -92,7 +96,8 @@ all_chunks n bytes = chunks_in n (chunks_of n bytes) bytes
 
 -- all chunks of some bytes, unless the last one is cut off
 unfoldable pub decode_chunks : ℕ → List ℕ → Result (List (ℕ × List ℕ)) DecodeError
-decode_chunks n bytes = if (8 + n) * chunks_of n bytes == length bytes then Ok (all_chunks n bytes) else Err Short
+decode_chunks n bytes = if (8 + n) * chunks_of n bytes == length bytes then Ok (all_chunks n bytes)
+    else Err Short
 
 -- the change that some bytes encode, or the first error
 unfoldable pub decode_change : ℕ → List ℕ → Result Change DecodeError
@@ -118,7 +123,8 @@ decode_entry n [] = Err Short
 decode_entry n (zero ∷ rest) = Err Kind
 decode_entry n (suc zero ∷ rest) = decode_change n rest >>= λ c. Ok (Commit c)
 decode_entry n (suc (suc zero) ∷ rest) = decode_last_number rest >>= λ number. Ok (Rewind number)
-decode_entry n (suc (suc (suc zero)) ∷ rest) = decode_last_number rest >>= λ number. Ok (DropBefore number)
+decode_entry n (suc (suc (suc zero)) ∷ rest) =
+    decode_last_number rest >>= λ number. Ok (DropBefore number)
 decode_entry n (suc (suc (suc (suc zero))) ∷ rest) = Err Kind
 decode_entry n (suc (suc (suc (suc (suc zero)))) ∷ rest) = decode_clear rest
 decode_entry n (suc (suc (suc (suc (suc (suc kind))))) ∷ rest) = Err Kind
@@ -127,7 +133,12 @@ decode_entry n (suc (suc (suc (suc (suc (suc kind))))) ∷ rest) = Err Kind
 
 -- a change that was read
 abbrev pub view_change : ℕ → BorrowedChange → Change
-view_change n c = record { number = c.number; len = c.len; pruned = c.pruned; chunks = all_chunks n c.chunks.now }
+view_change n c = record {
+  number = c.number;
+  len = c.len;
+  pruned = c.pruned;
+  chunks = all_chunks n c.chunks.now;
+}
 
 -- an entry that was read
 abbrev pub view_entry : ℕ → BorrowedEntry → Entry

@@ -20,12 +20,14 @@ past_without (Some number) = Dropped number
 -- the base of these kept states: the first one, with the number of the others, or the current bitmap if none is kept
 abbrev pub base_of : PrunedBits → Option ℕ → List (ℕ × PrunedBits) → Base
 base_of current last [] = record { bits = current; past = past_without last }
-base_of current last (first ∷ later) = record { bits = first.1; past = KeptUnder first.0 (length later) }
+base_of current last (first ∷ later) =
+    record { bits = first.1; past = KeptUnder first.0 (length later) }
 
 -- the commits of kept states: each has the change from the state before it, and the first one that from a given bitmap
 abbrev pub commits_from : ℕ → PrunedBits → List (ℕ × PrunedBits) → List Entry
 commits_from n old [] = []
-commits_from n old (kept ∷ later) = Commit (change_to n kept.0 old kept.1) ∷ commits_from n kept.1 later
+commits_from n old (kept ∷ later) =
+    Commit (change_to n kept.0 old kept.1) ∷ commits_from n kept.1 later
 
 -- the commits of the kept states after the first one
 abbrev pub later_commits : ℕ → List (ℕ × PrunedBits) → List Entry

@@ -14,7 +14,12 @@ use Rattle.commit_log.specs.Entries.Entry.{Commit, Rewind, DropBefore, Clear}
 -- the change that leads from a bitmap to another, under a number: it lists the chunks that differ
 abbrev pub change_to : ℕ → ℕ → PrunedBits → PrunedBits → Change
 change_to n number old new =
-    record { number = number; len = bit_len n new; pruned = new.pruned; chunks = listed n new (changed n old new) }
+    record {
+      number = number;
+      len = bit_len n new;
+      pruned = new.pruned;
+      chunks = listed n new (changed n old new);
+    }
 
 -- a bitmap after a change: the bits of the listed chunks, and the other bits as they were
 abbrev pub applied : ℕ → PrunedBits → Change → PrunedBits
@@ -34,9 +39,17 @@ kept_of n v = record { current = v.current; history = history_of n v; last = v.l
 -- what an entry makes of it
 abbrev pub after : ℕ → Kept → Entry → Kept
 after n s (Commit c) =
-    record { current = applied n s.current c; history = s.history ++ (c.number, applied n s.current c) ∷ []; last = Some c.number }
+    record {
+      current = applied n s.current c;
+      history = s.history ++ (c.number, applied n s.current c) ∷ [];
+      last = Some c.number;
+    }
 after n s (Rewind number) =
-    record { current = unwrap_or (kept_under s.history number) s.current; history = up_to_number number s.history; last = Some number }
+    record {
+      current = unwrap_or (kept_under s.history number) s.current;
+      history = up_to_number number s.history;
+      last = Some number;
+    }
 after n s (DropBefore number) =
     record { current = s.current; history = from_number number s.history; last = s.last }
 after n s Clear = record { current = s.current; history = []; last = s.last }

@@ -43,7 +43,8 @@ pub record IsLog (n : ℕ) (base : Base) (entries : List Entry) : Type 0 where
 
 -- the entries of a log that are whole in its first m bytes, where the base is whole too
 abbrev pub entries_in : ℕ → ℕ → Base → List Entry → List Entry
-entries_in m n base entries = take (whole_in (m - length (log_bytes n base [])) (map encode_entry entries)) entries
+entries_in m n base entries =
+    take (whole_in (m - length (log_bytes n base [])) (map encode_entry entries)) entries
 
 -- what was appended to a log and not taken from it yet, and the place after it
 pub record LogView : Type 0 where

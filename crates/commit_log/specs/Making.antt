@@ -19,7 +19,8 @@ pub record IsOn (old new : View PendingEdits) : Type 0 where
   pub last : new.last ≡ old.last
 
 -- a batch is another one whose pending bitmap has this length and these bits
-pub record Makes (n : ℕ) (old : View PendingEdits) (len : ℕ) (bit : ℕ → Bool) (new : View PendingEdits) : Type 0 where
+pub record Makes (n : ℕ) (old : View PendingEdits) (len : ℕ) (bit : ℕ → Bool)
+    (new : View PendingEdits) : Type 0 where
   pub on : IsOn old new
   pub has : Has n (pending_of n old).pruned len bit (pending_of n new)
 
@@ -44,7 +45,8 @@ Resizes n old len new = Makes n old len (bit_at n (pending_of n old)) new
 -- a batch is another one with the bits of chunk i replaced by those of some bytes
 abbrev pub Replaces : ℕ → View PendingEdits → ℕ → List ℕ → View PendingEdits → Type 0
 Replaces n old i bytes new =
-    Makes n old (bit_len n (pending_of n old)) (λ k. if k / (8 * n) == i then chunk_bit n bytes k else bit_at n (pending_of n old) k) new
+    Makes n old (bit_len n (pending_of n old))
+    (λ k. if k / (8 * n) == i then chunk_bit n bytes k else bit_at n (pending_of n old) k) new
 
 -- a batch is another one with the bits of each of some chunks
 abbrev pub Overlays : ℕ → View PendingEdits → List (ℕ × List ℕ) → View PendingEdits → Type 0

@@ -56,7 +56,8 @@ pub record IsWithin (r : Ranges) (s : Kept) : Type 0 where
 -- ---- what is read
 
 -- the bytes are the history of a state, and then a rest; the numbers of the state are admitted
-pub record BeginsWithHistory (n : ℕ) (r : Ranges) (bytes : List ℕ) (s : Kept) (rest : List ℕ) : Type 0 where
+pub record BeginsWithHistory (n : ℕ) (r : Ranges) (bytes : List ℕ) (s : Kept)
+    (rest : List ℕ) : Type 0 where
   pub whole : bytes ≡ history_bytes n s ++ rest
   pub log : IsLog n (history_base s) (history_entries n s)
   pub ends : IsHistory s
@@ -70,7 +71,8 @@ decode_commit n (suc zero ∷ rest) = decode_change n rest
 decode_commit n (suc (suc kind) ∷ rest) = Err Kind
 
 -- the bytes are those of a log of a base and commits, all admitted, that makes this state and ends at this place, and then a rest; the base counts this number of commits more
-pub record ReadsPart (n : ℕ) (r : Ranges) (bytes : List ℕ) (state : Kept) (place : Place) (left : ℕ) (rest : List ℕ) : Type 0 where
+pub record ReadsPart (n : ℕ) (r : Ranges) (bytes : List ℕ) (state : Kept) (place : Place) (left : ℕ)
+    (rest : List ℕ) : Type 0 where
   pub reads : ReadsTo n bytes state place rest
   pub bits : r.bits (length reads.base.bits.bits) ≡ true
   pub count : r.commits (past_count reads.base.past) ≡ true
@@ -78,7 +80,8 @@ pub record ReadsPart (n : ℕ) (r : Ranges) (bytes : List ℕ) (state : Kept) (p
   pub left_is : length reads.entries + left ≡ past_count reads.base.past
 
 -- a body encodes a commit that a history may have, and that makes of a state another one
-pub record CommitsNext (n : ℕ) (range : ℕ → Bool) (state : Kept) (body : List ℕ) (new : Kept) : Type 0 where
+pub record CommitsNext (n : ℕ) (range : ℕ → Bool) (state : Kept) (body : List ℕ)
+    (new : Kept) : Type 0 where
   pub next : MakesNext n state body new
   pub within : IsCommitWithin n range next.entry
 
@@ -138,7 +141,8 @@ IsCommitError n s body errors.Chunks = HasCommitError n s body errors.Chunks
 IsCommitError n s body errors.NoSuchCommit = ⊥
 
 -- a body encodes a commit that a state accepts, and after it this number of bits is retained, which is not admitted
-pub record HasOtherBits (n : ℕ) (range : ℕ → Bool) (s : Kept) (body : List ℕ) (len : ℕ) : Type 0 where
+pub record HasOtherBits (n : ℕ) (range : ℕ → Bool) (s : Kept) (body : List ℕ)
+    (len : ℕ) : Type 0 where
   pub change : Change
   pub decoded : decode_commit n body ≡ Ok change
   pub accepted : Accepts n s (Commit change)
@@ -179,9 +183,11 @@ IsHistoryError n r bytes history_errors.BadDigest = LacksPart n r bytes BadDiges
 IsHistoryError n r bytes (history_errors.Base e) = HasBaseError n r bytes e
 IsHistoryError n r bytes (history_errors.Count count) = HasOtherCount n r bytes count
 IsHistoryError n r bytes (history_errors.Entry e) = HasNextError n r bytes (history_errors.Entry e)
-IsHistoryError n r bytes (history_errors.Bits len) = HasNextError n r bytes (history_errors.Bits len)
+IsHistoryError n r bytes (history_errors.Bits len) =
+    HasNextError n r bytes (history_errors.Bits len)
 IsHistoryError n r bytes (history_errors.Memory e) = HasBase n r bytes
 
 -- a history that is cut off after its header was not read: a frame is not whole, unless an allocation failed
 abbrev pub IsCutOff : {X : Type 0} → Result X HistoryError → Type 0
-IsCutOff result = IsErrOf result history_errors.Short ⊎ IsErrOf result (history_errors.Memory alloc_error)
+IsCutOff result = IsErrOf result history_errors.Short
+    ⊎ IsErrOf result (history_errors.Memory alloc_error)

@@ -27,12 +27,14 @@ use Rattle.commit_log.specs.declared.recovery.RecoverError.TheVariants as recove
 -- ---- what is read
 
 -- the bytes are those of a log, and then a rest
-pub record BeginsWith (n : ℕ) (bytes : List ℕ) (base : Base) (entries : List Entry) (rest : List ℕ) : Type 0 where
+pub record BeginsWith (n : ℕ) (bytes : List ℕ) (base : Base) (entries : List Entry)
+    (rest : List ℕ) : Type 0 where
   pub whole : bytes ≡ log_bytes n base entries ++ rest
   pub log : IsLog n base entries
 
 -- the bytes are those of a log that makes this state and ends at this place, and then a rest
-pub record ReadsTo (n : ℕ) (bytes : List ℕ) (state : Kept) (place : Place) (rest : List ℕ) : Type 0 where
+pub record ReadsTo (n : ℕ) (bytes : List ℕ) (state : Kept) (place : Place)
+    (rest : List ℕ) : Type 0 where
   pub base : Base
   pub entries : List Entry
   pub begins : BeginsWith n bytes base entries rest
@@ -40,7 +42,8 @@ pub record ReadsTo (n : ℕ) (bytes : List ℕ) (state : Kept) (place : Place) (
   pub place_is : place ≡ place_of n base entries
 
 -- the bytes are those of a log that makes this state and ends at this place, and then a torn rest, which may be empty: the flag says whether it has a byte
-pub record Recovers (n : ℕ) (bytes : List ℕ) (state : Kept) (place : Place) (torn : Bool) : Type 0 where
+pub record Recovers (n : ℕ) (bytes : List ℕ) (state : Kept) (place : Place)
+    (torn : Bool) : Type 0 where
   pub rest : List ℕ
   pub reads : ReadsTo n bytes state place rest
   pub stop : frame_at place rest ≡ Err Torn
@@ -55,14 +58,16 @@ pub record MakesNext (n : ℕ) (state : Kept) (body : List ℕ) (new : Kept) : T
   pub new_is : new ≡ after n state entry
 
 -- these bytes are the first m bytes of a log, in which its base is whole
-pub record IsPrefixOf (n : ℕ) (base : Base) (entries : List Entry) (m : ℕ) (bytes : List ℕ) : Type 0 where
+pub record IsPrefixOf (n : ℕ) (base : Base) (entries : List Entry) (m : ℕ)
+    (bytes : List ℕ) : Type 0 where
   pub log : IsLog n base entries
   pub has_base : length (log_bytes n base []) ≤ m
   pub within : m ≤ length (log_bytes n base entries)
   pub is : bytes ≡ take m (log_bytes n base entries)
 
 -- the state and the place of the entries that are whole in the first m bytes of a log, and whether there are more bytes than theirs
-pub record IsMadeIn (n : ℕ) (base : Base) (entries : List Entry) (m : ℕ) (state : Kept) (place : Place) (torn : Bool) : Type 0 where
+pub record IsMadeIn (n : ℕ) (base : Base) (entries : List Entry) (m : ℕ) (state : Kept)
+    (place : Place) (torn : Bool) : Type 0 where
   pub state_is : state ≡ state_of n base (entries_in m n base entries)
   pub place_is : place ≡ place_of n base (entries_in m n base entries)
   pub torn_is : Decides torn (length (log_bytes n base (entries_in m n base entries)) < m)

@@ -44,7 +44,8 @@ pub fn rewind_is_an_entry<const N: usize>(
     bitmap: CleanBitMap<N>,
     number: u64,
 ) -> Result<CleanBitMap<N>, (CleanBitMap<N>, RewindError)>
-    ensures entry { IfOk result (λ b. kept_of N b ≡ after N (kept_of N bitmap.entry) (Rewind number)) }
+    ensures entry { IfOk result
+        (λ b. kept_of N b ≡ after N (kept_of N bitmap.entry) (Rewind number)) }
     ensures accepted { OnOk result (Accepts N (kept_of N bitmap.entry) (Rewind number)) }
     ensures costs { IfOk result (λ b. costs_of b ≡ up_to_number number (costs_of bitmap.entry)) }
     ensures refused { IfErr result (λ e. e.1

@@ -33,7 +33,8 @@ use std::alloc::{AllocError, Global};
 
 /// The change from a bitmap to another, applied to the first, makes the second.
 pub fn a_change_makes_the_newer_state()
-    ensures { (n number : ℕ) (old new : PrunedBits) → 0 < n → applied n old (change_to n number old new) ≡ new }
+    ensures { (n number : ℕ) (old new : PrunedBits) → 0 < n
+        → applied n old (change_to n number old new) ≡ new }
 {}
 
 /// A change is the one to the bitmap that it makes if and only if it lists the chunks that differ, and no others.

@@ -44,7 +44,11 @@ impl Readable<4> for Five {
 struct Top;
 
 impl Readable<1> for Top {
-    ghost meaning = { λ _. record { pruned = 2305843009213693951; len = 18446744073709551615; bit = λ _. true } };
+    ghost meaning = { λ _. record {
+      pruned = 2305843009213693951;
+      len = 18446744073709551615;
+      bit = λ _. true;
+    } };
 
     fn complete_chunks(&self) -> usize {
         2305843009213693951

@@ -14,10 +14,13 @@ appended_entries from (chunk ∷ chunks) = (from, chunk) ∷ appended_entries (f
 -- the entries of indices below `from`, then those of the appended chunks, then the other entries
 abbrev pub with_appended : ℕ → List (List ℕ) → List (ℕ × List ℕ) → List (ℕ × List ℕ)
 with_appended from chunks [] = appended_entries from chunks
-with_appended from chunks (entry ∷ entries) = if nat_lt entry.0 from then entry ∷ with_appended from chunks entries else appended_entries from chunks ++ (entry ∷ entries)
+with_appended from chunks (entry ∷ entries) = if nat_lt entry.0 from
+    then entry ∷ with_appended from chunks entries
+    else appended_entries from chunks ++ (entry ∷ entries)
 
 -- no index of an appended chunk is among the other entries
-pub record IsAppended (n : ℕ) (entries : List (ℕ × List ℕ)) (from : ℕ) (chunks : List (List ℕ)) : Type 0 where
+pub record IsAppended (n : ℕ) (entries : List (ℕ × List ℕ)) (from : ℕ)
+    (chunks : List (List ℕ)) : Type 0 where
   pub width : IsWidth n
   pub apart : (q : ℕ) → from ≤ q → q < from + length chunks → lookup (nat_eq q) entries ≡ None
 
@@ -28,4 +31,5 @@ IsBeside first count index = (index < first) ⊎ (first + count ≤ index)
 -- a slot is that of the chunk at an index: the places of the map have some indices, and there are `count` appended chunks, of which the first has the index `first`
 abbrev pub IsSlot : List ℕ → ℕ → ℕ → ℕ → Slot → Type 0
 IsSlot indices first count index (Appended place) = (index ≡ first + place) × (place < count)
-IsSlot indices first count index (Stored place) = IsBeside first count index × IsAt indices index place
+IsSlot indices first count index (Stored place) = IsBeside first count index
+    × IsAt indices index place

@@ -10,7 +10,8 @@ use Rattle.historical_bitmap.specs.declared.bitmap.historical.cached_word.Cached
 
 -- bit k of a chunk of which the `count` bits from position `base` on are those of a word
 abbrev pub bit_with_word : ℕ → List ℕ → ℕ → ℕ → ℕ → ℕ → Bool
-bit_with_word n chunk base count word k = if nat_le base k && nat_lt k (base + count) then bit_at word (k - base) == 1 else chunk_bit n chunk k
+bit_with_word n chunk base count word k = if nat_le base k && nat_lt k (base + count)
+    then bit_at word (k - base) == 1 else chunk_bit n chunk k
 
 -- the bytes of chunk i with those bits
 abbrev pub chunk_with_word : ℕ → List ℕ → ℕ → ℕ → ℕ → ℕ → List ℕ
@@ -24,7 +25,9 @@ is_cached_at (Some cached) index = nat_eq cached index
 -- the entries, with the bits of the cached word in its chunk if there is one
 abbrev pub with_word : ℕ → List (ℕ × List ℕ) → Option ℕ → ℕ → ℕ → ℕ → List (ℕ × List ℕ)
 with_word n entries None base count word = entries
-with_word n entries (Some i) base count word = with_chunk entries i (chunk_with_word n (unwrap_or (lookup (nat_eq i) entries) []) base count word i)
+with_word n entries (Some i) base count word =
+    with_chunk entries i (chunk_with_word n
+    (unwrap_or (lookup (nat_eq i) entries) []) base count word i)
 
 -- the `count` bits from position `base` on are whole bytes of chunk i, which is among the entries, and fit a word; the position past them fits 64 bits or is the first that does not
 pub record IsWordOf (n : ℕ) (entries : List (ℕ × List ℕ)) (base count : ℕ) (i : ℕ) : Type 0 where
@@ -39,7 +42,8 @@ pub record IsWordOf (n : ℕ) (entries : List (ℕ × List ℕ)) (base count : �
   pub fits : base + count ≤ 2 ^ 64
 
 -- the cached word, if there is one, is a word of a chunk of the entries; else it has no bits
-pub record IsCachedWord (n : ℕ) (entries : List (ℕ × List ℕ)) (cached : Option ℕ) (base count : ℕ) : Type 0 where
+pub record IsCachedWord (n : ℕ) (entries : List (ℕ × List ℕ)) (cached : Option ℕ)
+    (base count : ℕ) : Type 0 where
   pub width : IsWidth n
   pub word : MatchOption cached (count ≡ 0) (IsWordOf n entries base count)
 
@@ -53,5 +57,7 @@ IsCached n entries cache = IsCachedWord n entries cache.chunk cache.base cache.c
 
 -- the new chunk has the low `count` bits of a word from bit `base` on, and every other bit as the old chunk has it
 pub record IsWordPut (n : ℕ) (old new : List ℕ) (base count word : ℕ) : Type 0 where
-  pub here : (k : ℕ) → base % (8 * n) ≤ k % (8 * n) → k % (8 * n) < base % (8 * n) + count → chunk_bit n new k ≡ (bit_at word (k % (8 * n) - base % (8 * n)) == 1)
-  pub others : (k : ℕ) → (k % (8 * n) < base % (8 * n)) ⊎ (base % (8 * n) + count ≤ k % (8 * n)) → chunk_bit n new k ≡ chunk_bit n old k
+  pub here : (k : ℕ) → base % (8 * n) ≤ k % (8 * n) → k % (8 * n) < base % (8 * n) + count
+      → chunk_bit n new k ≡ (bit_at word (k % (8 * n) - base % (8 * n)) == 1)
+  pub others : (k : ℕ) → (k % (8 * n) < base % (8 * n)) ⊎ (base % (8 * n) + count ≤ k % (8 * n))
+      → chunk_bit n new k ≡ chunk_bit n old k

@@ -12,11 +12,13 @@ use Rattle.historical_bitmap.specs.Record.{bit_or_else}
 
 -- the bytes of chunk i, if the chunk is retained; bits past the length are zero
 abbrev pub retained_bytes : ℕ → PrunedBits → ℕ → Option (List ℕ)
-retained_bytes n b i = if nat_le b.pruned i && nat_lt (8 * n * i) (bit_len n b) then Some (chunk n b i) else None
+retained_bytes n b i = if nat_le b.pruned i && nat_lt (8 * n * i) (bit_len n b)
+    then Some (chunk n b i) else None
 
 -- whether chunk i differs: it is retained in only one of the two states, or its bytes differ
 abbrev pub differs : ℕ → PrunedBits → PrunedBits → ℕ → Bool
-differs n old new i = not (option_eq (pointwise nat_eq) (retained_bytes n old i) (retained_bytes n new i))
+differs n old new i = not
+    (option_eq (pointwise nat_eq) (retained_bytes n old i) (retained_bytes n new i))
 
 -- the number of chunks: pruned ones count, and so does an incomplete last one
 abbrev pub chunk_total : ℕ → PrunedBits → ℕ
@@ -48,7 +50,8 @@ changed_if n None new = None
 
 -- the chunks that differ between the states under two numbers, if both are kept and the first is at most the second
 abbrev pub changed_between : ℕ → List (ℕ × PrunedBits) → ℕ → ℕ → Option (List ℕ)
-changed_between n history from to = if nat_le from to then changed_if n (kept_under history from) (kept_under history to) else None
+changed_between n history from to = if nat_le from to
+    then changed_if n (kept_under history from) (kept_under history to) else None
 
 -- the bytes of chunk i of the new state, if i is in the list
 abbrev pub sent_bytes : ℕ → PrunedBits → List ℕ → ℕ → Option (List ℕ)
@@ -56,4 +59,6 @@ sent_bytes n new sent i = if is_member nat_eq sent i then Some (chunk n new i) e
 
 -- the first state with the length, the pruned count and the listed chunks of the second
 abbrev pub patched : ℕ → PrunedBits → PrunedBits → List ℕ → PrunedBits
-patched n old new sent = from_bits n new.pruned (bit_len n new) (λ k. bit_or_else n (sent_bytes n new sent (k / (8 * n))) old k)
+patched n old new sent =
+    from_bits n new.pruned (bit_len n new)
+    (λ k. bit_or_else n (sent_bytes n new sent (k / (8 * n))) old k)

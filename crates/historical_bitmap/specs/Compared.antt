@@ -25,17 +25,21 @@ pub record Compared : Type 0 where
   pub end : ℕ
 
 -- two states can be compared: positions in chunks before `end` fit 64 bits, and each chunk that differs has an entry in a record between the two numbers, with its old bytes if the old state has all of its bits
-pub record IsComparing (n from to : ℕ) (commits : List (ℕ × ReverseRecord)) (old new : PrunedBits) (end : ℕ) : Type 0 where
+pub record IsComparing (n from to : ℕ) (commits : List (ℕ × ReverseRecord)) (old new : PrunedBits)
+    (end : ℕ) : Type 0 where
   pub width : IsWidth n
   pub order : from ≤ to
   pub numbers : RiseInNumber commits
   pub rise : EntriesRise (between_numbers from to commits)
-  pub unnamed : (i : ℕ) → is_member nat_eq (named_chunks (between_numbers from to commits)) i ≡ false → differs n old new i ≡ false
-  pub unkept : (i : ℕ) → 8 * n * (i + 1) ≤ bit_len n old → first_kept (between_numbers from to commits) i ≡ None → differs n old new i ≡ false
+  pub unnamed : (i : ℕ) → is_member nat_eq (named_chunks (between_numbers from to commits)) i
+      ≡ false → differs n old new i ≡ false
+  pub unkept : (i : ℕ) → 8 * n * (i + 1) ≤ bit_len n old
+      → first_kept (between_numbers from to commits) i ≡ None → differs n old new i ≡ false
   pub small : (i : ℕ) → i < end → 8 * n * i < 2 ^ 64
 
 -- the current and the pending bitmap can be compared from index `next` on, which is at least the current pruned count
-pub record IsComparingPending (n : ℕ) (b : PrunedBits) (l : PendingEdits) (next end : ℕ) : Type 0 where
+pub record IsComparingPending (n : ℕ) (b : PrunedBits) (l : PendingEdits)
+    (next end : ℕ) : Type 0 where
   pub width : IsWidth n
   pub edits_fit : PendingFits n b l
   pub low : b.pruned ≤ next

@@ -56,7 +56,8 @@ abbrev pub left_by : ℕ → ℕ → List (ℕ × ReverseRecord) → PrunedBits 
 left_by n number commits current = undone n (past_number number commits) current
 
 -- the length and the number of pruned chunks of the bitmap that the last commit up to a number left
-pub record IsLeftBy (n number : ℕ) (commits : List (ℕ × ReverseRecord)) (current : PrunedBits) (len pruned : ℕ) : Type 0 where
+pub record IsLeftBy (n number : ℕ) (commits : List (ℕ × ReverseRecord)) (current : PrunedBits)
+    (len pruned : ℕ) : Type 0 where
   pub width : IsWidth n
   pub len_is : bit_len n (left_by n number commits current) ≡ len
   pub pruned_is : (left_by n number commits current).pruned ≡ pruned
@@ -68,7 +69,8 @@ EntriesRise commits = All (λ commit. IsStrictlySortedBy nat_cmp (keys_of commit
 
 -- the entries of the latest record, if there is one, strictly ascend by chunk
 abbrev pub LatestRises : List (ℕ × ReverseRecord) → Type 0
-LatestRises commits = IfSome (slice_get commits (length commits - 1)) (λ commit. IsStrictlySortedBy nat_cmp (keys_of commit.1.entries))
+LatestRises commits = IfSome (slice_get commits (length commits - 1))
+    (λ commit. IsStrictlySortedBy nat_cmp (keys_of commit.1.entries))
 
 -- the old bytes of chunk i in the first of some records that keeps any
 abbrev pub first_kept : List (ℕ × ReverseRecord) → ℕ → Option (List ℕ)
@@ -78,7 +80,8 @@ first_kept (commit ∷ later) i = option_or (kept commit.1 i) (first_kept later 
 -- the number of each commit with the bitmap that it left: the current one with the later records undone
 abbrev pub snapshots : ℕ → List (ℕ × ReverseRecord) → PrunedBits → List (ℕ × PrunedBits)
 snapshots n [] current = []
-snapshots n (commit ∷ later) current = (commit.0, undone n later current) ∷ snapshots n later current
+snapshots n (commit ∷ later) current =
+    (commit.0, undone n later current) ∷ snapshots n later current
 
 -- the number of each commit with the count of entries of its record
 abbrev pub costs : List (ℕ × ReverseRecord) → List (ℕ × ℕ)
@@ -87,7 +90,8 @@ costs commits = map (λ commit. (commit.0, length commit.1.entries)) commits
 -- the record of each commit can be undone in steps from the bitmap that the commit left
 abbrev pub AllCanUndo : ℕ → List (ℕ × ReverseRecord) → PrunedBits → Type 0
 AllCanUndo n [] current = Unit {0}
-AllCanUndo n (commit ∷ later) current = CanUndo n commit.1 (undone n later current) × AllCanUndo n later current
+AllCanUndo n (commit ∷ later) current = CanUndo n commit.1 (undone n later current)
+    × AllCanUndo n later current
 
 -- the last number is below the reserved one, and no number is above it; without a last number there are no numbers
 abbrev pub AreUpTo : List ℕ → Option ℕ → Type 0
@@ -104,7 +108,8 @@ abbrev pub LatestIsLast : {X : Type 0} → List (ℕ × X) → Option ℕ → Ty
 LatestIsLast history last = IfSome (latest history) (λ number. last ≡ Some number)
 
 -- the invariant of kept commits: each record can be undone, and the numbers ascend up to the last number, which is the latest of them if there are any
-pub record AreKept (n : ℕ) (current : PrunedBits) (commits : List (ℕ × ReverseRecord)) (last : Option ℕ) : Type 0 where
+pub record AreKept (n : ℕ) (current : PrunedBits) (commits : List (ℕ × ReverseRecord))
+    (last : Option ℕ) : Type 0 where
   pub undo : AllCanUndo n commits current
   pub rise : RiseInNumber commits
   pub numbers : AreUpTo (keys_of commits) last

@@ -26,10 +26,12 @@ bytes_at rows i number = lookup (nat_eq number) (row_of rows i)
 
 -- at each chunk and number an index has the bytes that the record of the commit with that number keeps of the chunk, and no bytes if it keeps none
 abbrev pub IsIndexOf : List (ℕ × List (ℕ × List ℕ)) → List (ℕ × ReverseRecord) → Type 0
-IsIndexOf index commits = (i number : ℕ) → bytes_at index i number ≡ kept_in (kept_under commits number) i
+IsIndexOf index commits = (i number : ℕ)
+    → bytes_at index i number ≡ kept_in (kept_under commits number) i
 
 -- the invariant of a list of kept commits with an index, or without one: the numbers ascend, and the index is that of the commits
-pub record IsIndexed (n : ℕ) (commits : List (ℕ × ReverseRecord)) (index : Option (List (ℕ × List (ℕ × List ℕ)))) : Type 0 where
+pub record IsIndexed (n : ℕ) (commits : List (ℕ × ReverseRecord))
+    (index : Option (List (ℕ × List (ℕ × List ℕ)))) : Type 0 where
   pub width : IsWidth n
   pub rise : RiseInNumber commits
   pub is_index : IfSome index (λ rows. IsIndexOf rows commits)
@@ -42,25 +44,34 @@ names entries i = list_any (λ entry. nat_eq i entry.0) entries
 -- the old bytes of chunk i in the last of some entries that keeps any
 abbrev pub last_kept : List (ℕ × ChunkDiff) → ℕ → Option (List ℕ)
 last_kept [] i = None
-last_kept (entry ∷ later) i = option_or (last_kept later i) (if nat_eq i entry.0 then kept_bytes entry.1 else None)
+last_kept (entry ∷ later) i =
+    option_or (last_kept later i) (if nat_eq i entry.0 then kept_bytes entry.1 else None)
 
 -- at a number, a new index has the old bytes of each chunk that some entries keep; else it has what the old index has
-abbrev pub AddsPlaces : ℕ → List (ℕ × ChunkDiff) → List (ℕ × List (ℕ × List ℕ)) → List (ℕ × List (ℕ × List ℕ)) → Type 0
-AddsPlaces number entries old new = (i m : ℕ) → bytes_at new i m ≡ option_or (if nat_eq m number then last_kept entries i else None) (bytes_at old i m)
+abbrev pub AddsPlaces : ℕ → List (ℕ × ChunkDiff) → List (ℕ × List (ℕ × List ℕ))
+    → List (ℕ × List (ℕ × List ℕ)) → Type 0
+AddsPlaces number entries old new = (i m : ℕ)
+    → bytes_at new i m ≡ option_or (if nat_eq m number then last_kept entries i else None)
+    (bytes_at old i m)
 
 -- at a number, a new index has nothing for each chunk that some entries are for; else it has what the old index has
-abbrev pub RemovesPlaces : ℕ → List (ℕ × ChunkDiff) → List (ℕ × List (ℕ × List ℕ)) → List (ℕ × List (ℕ × List ℕ)) → Type 0
-RemovesPlaces number entries old new = (i m : ℕ) → bytes_at new i m ≡ (if nat_eq m number && names entries i then None else bytes_at old i m)
+abbrev pub RemovesPlaces : ℕ → List (ℕ × ChunkDiff) → List (ℕ × List (ℕ × List ℕ))
+    → List (ℕ × List (ℕ × List ℕ)) → Type 0
+RemovesPlaces number entries old new = (i m : ℕ)
+    → bytes_at new i m ≡ (if nat_eq m number && names entries i then None else bytes_at old i m)
 
 -- the old and the new index have the same, except at a number for the chunks that some entries are for
-abbrev pub KeepsOthers : ℕ → List (ℕ × ChunkDiff) → List (ℕ × List (ℕ × List ℕ)) → List (ℕ × List (ℕ × List ℕ)) → Type 0
-KeepsOthers number entries old new = (i m : ℕ) → (nat_eq m number && names entries i) ≡ false → bytes_at new i m ≡ bytes_at old i m
+abbrev pub KeepsOthers : ℕ → List (ℕ × ChunkDiff) → List (ℕ × List (ℕ × List ℕ))
+    → List (ℕ × List (ℕ × List ℕ)) → Type 0
+KeepsOthers number entries old new = (i m : ℕ) → (nat_eq m number && names entries i) ≡ false
+    → bytes_at new i m ≡ bytes_at old i m
 
 -- the bytes that a row has at the least number past a given one with which it has any
 abbrev pub IsNextIn : List (ℕ × List ℕ) → ℕ → Option (List ℕ) → Type 0
 IsNextIn row number next = MatchOption next
     ((m : ℕ) → number < m → lookup (nat_eq m) row ≡ None)
-    (λ bytes. (found : ℕ) × (number < found) × (lookup (nat_eq found) row ≡ Some bytes) × ((m : ℕ) → number < m → m < found → lookup (nat_eq m) row ≡ None))
+    (λ bytes. (found : ℕ) × (number < found) × (lookup (nat_eq found) row ≡ Some bytes)
+    × ((m : ℕ) → number < m → m < found → lookup (nat_eq m) row ≡ None))
 
 -- the bytes that an index has for chunk i at the least number past a given one with which it has any
 abbrev pub IsNextKept : List (ℕ × List (ℕ × List ℕ)) → ℕ → ℕ → Option (List ℕ) → Type 0
@@ -74,11 +85,14 @@ has_between from to row = list_any (λ kept. nat_lt from kept.0 && nat_le kept.0
 abbrev pub IsNextBetween : List (ℕ × List (ℕ × List ℕ)) → ℕ → ℕ → ℕ → ℕ → Option ℕ → Type 0
 IsNextBetween rows from to first end next = MatchOption next
     ((i : ℕ) → first ≤ i → i < end → has_between from to (row_of rows i) ≡ false)
-    (λ chunk. (first ≤ chunk) × (chunk < end) × (has_between from to (row_of rows chunk) ≡ true) × ((i : ℕ) → first ≤ i → i < chunk → has_between from to (row_of rows i) ≡ false))
+    (λ chunk. (first ≤ chunk) × (chunk < end) × (has_between from to (row_of rows chunk) ≡ true)
+    × ((i : ℕ) → first ≤ i → i < chunk → has_between from to (row_of rows i) ≡ false))
 
 -- at chunk i and a number a new index has o, and else what the old index has
-abbrev pub PutsAt : List (ℕ × List (ℕ × List ℕ)) → List (ℕ × List (ℕ × List ℕ)) → ℕ → ℕ → Option (List ℕ) → Type 0
-PutsAt old new i number o = (j m : ℕ) → bytes_at new j m ≡ (if nat_eq m number && nat_eq j i then o else bytes_at old j m)
+abbrev pub PutsAt : List (ℕ × List (ℕ × List ℕ)) → List (ℕ × List (ℕ × List ℕ)) → ℕ → ℕ
+    → Option (List ℕ) → Type 0
+PutsAt old new i number o = (j m : ℕ)
+    → bytes_at new j m ≡ (if nat_eq m number && nat_eq j i then o else bytes_at old j m)
 
 -- an index has no bytes at a number or past it
 abbrev pub EndsBefore : ℕ → List (ℕ × List (ℕ × List ℕ)) → Type 0
@@ -86,7 +100,9 @@ EndsBefore number rows = (i m : ℕ) → number ≤ m → bytes_at rows i m ≡ 
 
 -- the entries of the record at a position, if there is one, strictly ascend by chunk
 abbrev pub RisesAt : List (ℕ × ReverseRecord) → ℕ → Type 0
-RisesAt commits position = IfSome (slice_get commits position) (λ commit. IsStrictlySortedBy nat_cmp (keys_of commit.1.entries))
+RisesAt commits position =
+    IfSome (slice_get commits position)
+    (λ commit. IsStrictlySortedBy nat_cmp (keys_of commit.1.entries))
 
 -- the row at a place, or an empty one past the end
 abbrev pub row_at : List (List (ℕ × List ℕ)) → ℕ → List (ℕ × List ℕ)
@@ -94,7 +110,8 @@ row_at rows place = slice_index_or rows place []
 
 -- the rows after bytes are appended at a number to the row at a place
 abbrev pub appended_at : List (List (ℕ × List ℕ)) → ℕ → ℕ → List ℕ → List (List (ℕ × List ℕ))
-appended_at rows place number bytes = slice_set rows place (row_at rows place ++ (number, bytes) ∷ [])
+appended_at rows place number bytes =
+    slice_set rows place (row_at rows place ++ (number, bytes) ∷ [])
 
 -- the numbers of a row strictly ascend
 pub record IsRow (n : ℕ) (row : List (ℕ × List ℕ)) : Type 0 where

@@ -15,5 +15,8 @@ abbrev pub dirty_row : RattleType → RattleType
 dirty_row N = the_row N (dirty.the_row N) (ghosts N)
 
 -- if the result is an error, the dirty bitmap of this reference ends as it was; else the guard of the result lends it
-abbrev pub rests_if_refused : (N : RattleType) → {E : Type 0} → MutBor (dirty_row N).Denot → Result (Lent (dirty_row N).Denot) E → Fml
-rests_if_refused N reference result = RestsIfErr (dirty_row N) reference (λ lent. lent.on.ghost_name) result (λ left. left ≡ reference.now)
+abbrev pub rests_if_refused : (N : RattleType) → {E : Type 0} → MutBor (dirty_row N).Denot
+    → Result (Lent (dirty_row N).Denot) E → Fml
+rests_if_refused N reference result =
+    RestsIfErr (dirty_row N) reference (λ lent. lent.on.ghost_name) result
+    (λ left. left ≡ reference.now)

@@ -16,7 +16,9 @@ pub record PreparedView : Type 0 where
   pub number : ℕ
 
 -- a commit is prepared: the bitmap is extended to the pending length, and the record of the pending edits is appended to the commits
-pub record IsPrepared (n : ℕ) (b : PrunedBits) (commits : List (ℕ × ReverseRecord)) (l : PendingEdits) (number : ℕ) (grown : PrunedBits) (more : List (ℕ × ReverseRecord)) : Type 0 where
+pub record IsPrepared (n : ℕ) (b : PrunedBits) (commits : List (ℕ × ReverseRecord))
+    (l : PendingEdits) (number : ℕ) (grown : PrunedBits)
+    (more : List (ℕ × ReverseRecord)) : Type 0 where
   pub grown_is : grown ≡ extended n b l.len
   pub diff : ReverseRecord
   pub appended : more ≡ commits ++ (number, diff) ∷ []
@@ -31,7 +33,8 @@ pub record IsExtended (n : ℕ) (grown : PrunedBits) (length : ℕ) (l : Pending
   pub grown_is : grown ≡ extended n (truncated n grown length) l.len
 
 -- the invariant of a prepared commit: the bitmap, its length before, the commits with the new one, the last number, the pending edits and the number
-pub record CanFinish (n : ℕ) (grown : PrunedBits) (length : ℕ) (more : List (ℕ × ReverseRecord)) (last : Option ℕ) (l : PendingEdits) (number : ℕ) : Type 0 where
+pub record CanFinish (n : ℕ) (grown : PrunedBits) (length : ℕ) (more : List (ℕ × ReverseRecord))
+    (last : Option ℕ) (l : PendingEdits) (number : ℕ) : Type 0 where
   pub small : number < 2 ^ 64
   pub is_extended : IsExtended n grown length l
   pub accepted : commit_error last number ≡ None
@@ -44,10 +47,13 @@ changes_in n old new chunks = listed n new (filter (differs n old new) chunks)
 
 -- no chunk of a list is pruned in a bitmap, and each begins below position 2 ^ 64
 abbrev pub AreIndices : ℕ → PrunedBits → List ℕ → Type 0
-AreIndices n b chunks = (i : ℕ) → is_member nat_eq chunks i ≡ true → (b.pruned ≤ i) × (8 * n * i < 2 ^ 64)
+AreIndices n b chunks = (i : ℕ) → is_member nat_eq chunks i ≡ true
+    → (b.pruned ≤ i) × (8 * n * i < 2 ^ 64)
 
 -- the first change among some chunks from one place on, with its newer bytes, if there is one; the other changes are those from a second place on
 abbrev pub IsNextFrom : ℕ → PrunedBits → PrunedBits → List ℕ → ℕ → ℕ → Option (ℕ × List ℕ) → Type 0
 IsNextFrom n old new chunks from after next = MatchOption next
-    ((changes_in n old new (drop from chunks) ≡ []) × (changes_in n old new (drop after chunks) ≡ []))
-    (λ found. changes_in n old new (drop from chunks) ≡ found ∷ changes_in n old new (drop after chunks))
+    ((changes_in n old new (drop from chunks) ≡ [])
+    × (changes_in n old new (drop after chunks) ≡ []))
+    (λ found. changes_in n old new (drop from chunks)
+    ≡ found ∷ changes_in n old new (drop after chunks))

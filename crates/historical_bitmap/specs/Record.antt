@@ -44,10 +44,12 @@ before n r newer = from_bits n r.pruned r.len (λ k. bit_or_else n (kept r (k / 
 
 -- each bit of chunk i that the older bitmap retains is retained in the newer one, with the same value
 abbrev pub IsUnchanged : ℕ → PrunedBits → PrunedBits → ℕ → Type 0
-IsUnchanged n older newer i = (k : ℕ) → k / (8 * n) ≡ i → IsRetained n older k → IsRetained n newer k × (bit_at n newer k ≡ bit_at n older k)
+IsUnchanged n older newer i = (k : ℕ) → k / (8 * n) ≡ i → IsRetained n older k
+    → IsRetained n newer k × (bit_at n newer k ≡ bit_at n older k)
 
 -- a record leads from the newer bitmap to the older one: it has the length and pruned count of the older one, and keeps the bytes of each of its chunks that changed
 pub record LeadsBack (n : ℕ) (r : ReverseRecord) (older newer : PrunedBits) : Type 0 where
   pub len : r.len ≡ bit_len n older
   pub pruned : r.pruned ≡ older.pruned
-  pub chunks : (i : ℕ) → IsRetainedChunk n older i → MatchOption (kept r i) (IsUnchanged n older newer i) (λ bytes. bytes ≡ chunk n older i)
+  pub chunks : (i : ℕ) → IsRetainedChunk n older i
+      → MatchOption (kept r i) (IsUnchanged n older newer i) (λ bytes. bytes ≡ chunk n older i)

@@ -20,7 +20,12 @@ added_entries n new = map (λ i. (i, Added)) (retained_chunks n new)
 
 -- the record of the commit: it has no entry for a chunk that neither bitmap retains
 abbrev pub replaced_record : ℕ → PrunedBits → PrunedBits → ReverseRecord
-replaced_record n old new = record { len = bit_len n old; pruned = old.pruned; entries = pruned_entries n old ++ added_entries n new }
+replaced_record n old new =
+    record {
+      len = bit_len n old;
+      pruned = old.pruned;
+      entries = pruned_entries n old ++ added_entries n new;
+    }
 
 -- a record with some entries appended
 abbrev pub with_entries : ReverseRecord → List (ℕ × ChunkDiff) → ReverseRecord

@@ -15,13 +15,15 @@ gathered first end i found old = if nat_le first i && nat_lt i end then option_o
 
 -- the new chunks are the old ones, with the old bytes that are found for each index of a range
 abbrev pub Gathers : (ℕ → Option (List ℕ)) → ℕ → ℕ → List (ℕ × List ℕ) → List (ℕ × List ℕ) → Type 0
-Gathers found first end old new = (i : ℕ) → lookup (nat_eq i) new ≡ gathered first end i (found i) (lookup (nat_eq i) old)
+Gathers found first end old new = (i : ℕ)
+    → lookup (nat_eq i) new ≡ gathered first end i (found i) (lookup (nat_eq i) old)
 
 -- the chunks, with these ascending indices, are the old bytes that later records keep of the state at a number, which has this length and pruned count
 pub record IsGathered (n number : ℕ) (commits : List (ℕ × ReverseRecord)) (current : PrunedBits)
     (len pruned : ℕ) (changed : List (ℕ × List ℕ)) (indices : List ℕ) : Type 0 where
   pub extent : IsLeftBy n number commits current len pruned
-  pub bytes : Gathers (first_kept (past_number number commits)) pruned (div_ceil len (8 * n)) [] changed
+  pub bytes : Gathers (first_kept (past_number number commits)) pruned
+      (div_ceil len (8 * n)) [] changed
   pub indices_are : indices ≡ keys_of changed
   pub ascend : IsStrictlySortedBy nat_cmp indices
 
@@ -32,7 +34,9 @@ pub record HasExtent (n : ℕ) (old : PrunedBits) (pruned len : ℕ) (new : Prun
   pub bits : (k : ℕ) → IsRetained n old k → IsRetained n new k → bit_at n new k ≡ bit_at n old k
 
 -- the new bitmap is the old one with the bits of some chunks replaced by those of given bytes
-pub record IsWrittenBack (n : ℕ) (old : PrunedBits) (chunks : List (ℕ × List ℕ)) (new : PrunedBits) : Type 0 where
+pub record IsWrittenBack (n : ℕ) (old : PrunedBits) (chunks : List (ℕ × List ℕ))
+    (new : PrunedBits) : Type 0 where
   pub pruned : new.pruned ≡ old.pruned
   pub len : bit_len n new ≡ bit_len n old
-  pub bits : (k : ℕ) → IsRetained n old k → bit_at n new k ≡ bit_or_else n (lookup (nat_eq (k / (8 * n))) chunks) old k
+  pub bits : (k : ℕ) → IsRetained n old k
+      → bit_at n new k ≡ bit_or_else n (lookup (nat_eq (k / (8 * n))) chunks) old k

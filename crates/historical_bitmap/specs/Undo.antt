@@ -29,11 +29,15 @@ pruned_chunk_bytes r pruned = map (λ i. unwrap_or (kept r i) []) (from_to r.pru
 
 -- the bytes that entries keep of the chunks from one index up to, but not including, another, in order
 abbrev pub kept_between : ℕ → ℕ → List (ℕ × ChunkDiff) → List (List ℕ)
-kept_between from to entries = flat_map (λ entry. option_to_list (kept_bytes entry.1)) (filter (λ entry. nat_le from entry.0 && nat_lt entry.0 to) entries)
+kept_between from to entries =
+    flat_map (λ entry. option_to_list (kept_bytes entry.1))
+    (filter (λ entry. nat_le from entry.0 && nat_lt entry.0 to) entries)
 
 -- a record undone in steps: pruned chunks prepended, the length restored, and the old bytes of the other chunks written back
 abbrev pub undone_in_steps : ℕ → ReverseRecord → PrunedBits → PrunedBits
-undone_in_steps n r newer = put_back n (resized n (unpruned n newer (pruned_chunk_bytes r newer.pruned)) r.len) (filter (λ entry. nat_le newer.pruned entry.0) r.entries)
+undone_in_steps n r newer =
+    put_back n (resized n (unpruned n newer (pruned_chunk_bytes r newer.pruned)) r.len)
+    (filter (λ entry. nat_le newer.pruned entry.0) r.entries)
 
 -- old bytes of chunk i can be written back after the length is restored: the chunk starts before the length, and their bits past it are zero
 pub record IsOldChunk (n : ℕ) (len : ℕ) (i : ℕ) (bytes : List ℕ) : Type 0 where
@@ -46,6 +50,8 @@ pub record CanUndo (n : ℕ) (r : ReverseRecord) (newer : PrunedBits) : Type 0 w
   pub fits : 8 * n * r.pruned ≤ r.len
   pub pruned : (i : ℕ) → r.pruned ≤ i → i < newer.pruned → 8 * n * i < r.len → IsSome (kept r i)
   pub others : (i : ℕ) → newer.pruned ≤ i → MatchOption (kept r i) (Unit {0}) (IsOldChunk n r.len i)
-  pub unkept : (k : ℕ) → 8 * n * r.pruned ≤ k → k < r.len → kept r (k / (8 * n)) ≡ None → IsRetained n newer k
-  pub unnamed : (k : ℕ) → IsRetained n newer k → lookup (nat_eq (k / (8 * n))) r.entries ≡ None → (8 * n * r.pruned ≤ k) × (k < r.len)
+  pub unkept : (k : ℕ) → 8 * n * r.pruned ≤ k → k < r.len → kept r (k / (8 * n)) ≡ None
+      → IsRetained n newer k
+  pub unnamed : (k : ℕ) → IsRetained n newer k → lookup (nat_eq (k / (8 * n))) r.entries ≡ None
+      → (8 * n * r.pruned ≤ k) × (k < r.len)
   pub sorted : IsStrictlySortedBy nat_cmp (keys_of r.entries)

@@ -35,7 +35,8 @@ marked_of n v = marked_chunks n v.current v.state
 -- a commit of a batch under a number adds its cost to the costs of the commits: at most one entry per marked chunk, and one more if the batch popped down to whole chunks
 abbrev pub AddsCost : ℕ → View PendingEdits → ℕ → View ⊤ → Type 0
 AddsCost n batch number new =
-    (cost : ℕ) × (cost ≤ most_cost n (marked_of n batch) batch.current (pending_of n batch)) × (costs_of new ≡ costs_of batch ++ (number, cost) ∷ [])
+    (cost : ℕ) × (cost ≤ most_cost n (marked_of n batch) batch.current (pending_of n batch))
+    × (costs_of new ≡ costs_of batch ++ (number, cost) ∷ [])
 
 -- the chunk of a position is an edited chunk, so that a further write to it does not allocate
 abbrev pub IsEditedAt : ℕ → View PendingEdits → ℕ → Type 0
@@ -43,20 +44,25 @@ IsEditedAt n v position = IsSome (edited_chunk v.state (position / (8 * n)))
 
 -- every edited chunk of the old batch is edited in the new one, and so is the chunk of a position
 abbrev pub KeepsEdited : ℕ → View PendingEdits → ℕ → View PendingEdits → Type 0
-KeepsEdited n old position new = IsEditedAt n new position × ((other : ℕ) → IsEditedAt n old other → IsEditedAt n new other)
+KeepsEdited n old position new = IsEditedAt n new position
+    × ((other : ℕ) → IsEditedAt n old other → IsEditedAt n new other)
 
 -- the chunk of a position was edited, and starts before the new pending length: it has not lost all of its bits
 abbrev pub StaysEditedAt : ℕ → View PendingEdits → View PendingEdits → ℕ → Type 0
-StaysEditedAt n old new position = IsEditedAt n old position × (8 * n * (position / (8 * n)) < bit_len n (pending_of n new))
+StaysEditedAt n old new position = IsEditedAt n old position
+    × (8 * n * (position / (8 * n)) < bit_len n (pending_of n new))
 
 -- the edited chunks of a batch are those of the positions that meet a condition, those of the positions from lo up to, but not including, hi, and no others
-pub record LeavesEdited (n : ℕ) (Meets : ℕ → Type 0) (lo hi : ℕ) (v : View PendingEdits) : Type 0 where
+pub record LeavesEdited (n : ℕ) (Meets : ℕ → Type 0) (lo hi : ℕ)
+    (v : View PendingEdits) : Type 0 where
   pub kept : (position : ℕ) → Meets position → IsEditedAt n v position
   pub written : (position : ℕ) → lo ≤ position → position < hi → IsEditedAt n v position
-  pub only : (position : ℕ) → IsEditedAt n v position → Meets position ⊎ IsReached n lo hi (position / (8 * n))
+  pub only : (position : ℕ) → IsEditedAt n v position
+      → Meets position ⊎ IsReached n lo hi (position / (8 * n))
 
 -- new is old after an edit: the pending bitmap is edited, and each marked chunk was marked in old or is touched by the edit
-pub record IsEditOf (n : ℕ) (old : View PendingEdits) (edit : Edit) (new : View PendingEdits) : Type 0 where
+pub record IsEditOf (n : ℕ) (old : View PendingEdits) (edit : Edit)
+    (new : View PendingEdits) : Type 0 where
   pub current : new.current ≡ old.current
   pub commits : new.commits ≡ old.commits
   pub last : new.last ≡ old.last
@@ -64,7 +70,8 @@ pub record IsEditOf (n : ℕ) (old : View PendingEdits) (edit : Edit) (new : Vie
   pub marks : IsWithin (marked_of n new) (marked_of n old ++ touches n (pending_of n old) edit)
 
 -- new is old after a list of edits
-pub record IsRunOf (n : ℕ) (old : View PendingEdits) (edits : List Edit) (new : View PendingEdits) : Type 0 where
+pub record IsRunOf (n : ℕ) (old : View PendingEdits) (edits : List Edit)
+    (new : View PendingEdits) : Type 0 where
   pub current : new.current ≡ old.current
   pub commits : new.commits ≡ old.commits
   pub last : new.last ≡ old.last
@@ -80,8 +87,10 @@ pub record IsBatchOn (begun : View ⊤) (batch : View PendingEdits) : Type 0 whe
 -- the error of a commit if there is a last number: the number is not above it
 abbrev pub commit_error_after : Option ℕ → ℕ → Option Error
 commit_error_after None attempted = None
-commit_error_after (Some previous) attempted = if nat_le attempted previous then Some (NonMonotonicCommit previous attempted) else None
+commit_error_after (Some previous) attempted = if nat_le attempted previous
+    then Some (NonMonotonicCommit previous attempted) else None
 
 -- the error of a commit that its number causes: it is the greatest of 64 bits, which is reserved, or it is not above the last number
 abbrev pub commit_error : Option ℕ → ℕ → Option Error
-commit_error last attempted = if attempted == 2 ^ 64 - 1 then Some ReservedCommitNumber else commit_error_after last attempted
+commit_error last attempted = if attempted == 2 ^ 64 - 1 then Some ReservedCommitNumber
+    else commit_error_after last attempted

@@ -12,4 +12,5 @@ bodies_in m bodies = take (whole_in m bodies) bodies
 abbrev pub CutsAtAFrame : Place → List (List ℕ) → ℕ → Type 0
 CutsAtAFrame place bodies m =
     let prefix : List ℕ = take m (frames place bodies) in
-    Splits place prefix (bodies_in m bodies) (drop (length (frames place (bodies_in m bodies))) prefix) Torn
+    Splits place prefix (bodies_in m bodies)
+    (drop (length (frames place (bodies_in m bodies))) prefix) Torn

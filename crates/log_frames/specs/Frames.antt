@@ -31,7 +31,8 @@ chained place body = digest (be64 place.digest ++ body)
 
 -- a frame: the length of the body, the check of these two, the body, and the digest
 unfoldable pub frame : Place → List ℕ → List ℕ
-frame place body = be64 (length body) ++ (be64 (head_check place (length body)) ++ (body ++ be64 (chained place body)))
+frame place body = be64 (length body)
+    ++ (be64 (head_check place (length body)) ++ (body ++ be64 (chained place body)))
 
 -- the place after a frame
 abbrev pub next : Place → List ℕ → Place
@@ -80,7 +81,8 @@ abbrev pub view : Frame → List ℕ × List ℕ
 view found = (found.body.now, found.rest.now)
 
 -- the bytes are these frames, and then a rest that begins with no whole frame, for this reason
-pub record Splits (place : Place) (bytes : List ℕ) (bodies : List (List ℕ)) (rest : List ℕ) (why : Stop) : Type 0 where
+pub record Splits (place : Place) (bytes : List ℕ) (bodies : List (List ℕ)) (rest : List ℕ)
+    (why : Stop) : Type 0 where
   pub whole : bytes ≡ frames place bodies ++ rest
   pub each : AllByRecursion IsBody bodies
   pub stop : frame_at (place_after place bodies) rest ≡ Err why
@@ -88,4 +90,5 @@ pub record Splits (place : Place) (bytes : List ℕ) (bodies : List (List ℕ)) 
 -- how many of the frames with these bodies end within the first m bytes
 abbrev pub whole_in : ℕ → List (List ℕ) → ℕ
 whole_in m [] = 0
-whole_in m (body ∷ bodies) = if nat_le (24 + length body) m then suc (whole_in (m - (24 + length body)) bodies) else 0
+whole_in m (body ∷ bodies) = if nat_le (24 + length body) m
+    then suc (whole_in (m - (24 + length body)) bodies) else 0

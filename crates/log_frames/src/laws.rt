@@ -18,7 +18,8 @@ pub fn any_prefix_is_cut_at_a_frame()
 /// Bytes have one reading at a place: one list of frames, one rest that begins with no whole frame, and one reason why.
 pub fn only_one_reading()
     ensures { (place : Place) (bytes : List ℕ) (bodies others : List (List ℕ)) (rest after : List ℕ)
-        (why other : Stop) → Splits place bytes bodies rest why → Splits place bytes others after other
+        (why other : Stop) → Splits place bytes bodies rest why
+        → Splits place bytes others after other
         → (bodies ≡ others) × (rest ≡ after) × (why ≡ other) }
 {}
 

@@ -11,7 +11,8 @@ use Rattle.log_store.specs.declared.stored_log.StoredLog.{StoredLog}
 
 -- a log on a device is the history of a state, all of which is kept
 abbrev pub IsCompacted : {D : Type 0} → ℕ → Ghosts D → Kept → StoredLog D → Type 0
-IsCompacted n g s log = IsStored n g (history_base s) (history_entries n s) (length (history_entries n s)) s log
+IsCompacted n g s log = IsStored n g (history_base s) (history_entries n s)
+    (length (history_entries n s)) s log
 
 -- bytes are the history of a state and a closed gate, and the history is a log that makes the state
 abbrev pub IsReplacement : ℕ → Kept → List ℕ → Type 0

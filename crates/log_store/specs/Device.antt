@@ -20,7 +20,8 @@ abbrev pub Only : List ℕ → (List ℕ → Type 0) → Type 0
 Only bytes outcomes = (c : List ℕ) → outcomes c → c ≡ bytes
 
 -- time passes: a crash since t might have left what it might have left before, or what it may leave now
-pub record Elapses (before now : ℕ) (past since : ℕ → List ℕ → Type 0) (may_leave : List ℕ → Type 0) : Type 0 where
+pub record Elapses (before now : ℕ) (past since : ℕ → List ℕ → Type 0)
+    (may_leave : List ℕ → Type 0) : Type 0 where
   pub later : before ≤ now
   pub nothing_else : (t : ℕ) (c : List ℕ) → t ≤ before → since t c → past t c ⊎ may_leave c
   pub keeps : (t : ℕ) (c : List ℕ) → t ≤ before → past t c → since t c

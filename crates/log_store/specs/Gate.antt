@@ -40,9 +40,11 @@ pub record IsBeforeGate (width : ℕ) (bytes good : List ℕ) : Type 0 where
 -- what a crash leaves while a byte and further bytes are put in the place of the closed gate after some bytes: the closed gate and any further bytes, or all of them
 abbrev pub IsGated : List ℕ → ℕ → List ℕ → List ℕ → Type 0
 IsGated good first rest c =
-    ((after : List ℕ) × (c ≡ good ++ closed ∷ after) × (length after ≤ length rest)) ⊎ (c ≡ good ++ first ∷ rest)
+    ((after : List ℕ) × (c ≡ good ++ closed ∷ after) × (length after ≤ length rest))
+    ⊎ (c ≡ good ++ first ∷ rest)
 
 -- what a crash leaves while a closed gate is put in the place of a rest after some bytes: the rest, or one byte at most, or the closed gate and any further bytes
 abbrev pub IsShutting : List ℕ → List ℕ → List ℕ → Type 0
 IsShutting good rest c = (left : List ℕ) × (c ≡ good ++ left)
-    × ((left ≡ rest) ⊎ ((length left ≤ 1) ⊎ ((after : List ℕ) × (left ≡ closed ∷ after) × (length after < length rest))))
+    × ((left ≡ rest) ⊎ ((length left ≤ 1)
+    ⊎ ((after : List ℕ) × (left ≡ closed ∷ after) × (length after < length rest))))

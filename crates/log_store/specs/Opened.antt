@@ -39,7 +39,8 @@ IsNewStore n c = HasNoHeader c ⊎ (c ≡ log_bytes n empty_base [] ++ closed �
 
 -- what an error leaves of a device on which a store was to be created: it is as it was, or the device failed
 abbrev pub LeavesUncreated : {D : Type 0} → Ghosts D → D → CreateError → D → Type 0
-LeavesUncreated g old create_errors.NotEmpty new = IsAtRest g new × (g.seen new ≡ g.seen old) × (0 < length (g.seen old))
+LeavesUncreated g old create_errors.NotEmpty new = IsAtRest g new × (g.seen new ≡ g.seen old)
+    × (0 < length (g.seen old))
 LeavesUncreated g old (create_errors.Memory e) new = IsAtRest g new × (g.seen new ≡ g.seen old)
 LeavesUncreated g old (create_errors.Device e) new = IsFailed e → g.faults old < g.faults new
 
@@ -52,7 +53,8 @@ pub record ReadsUpTo (n : ℕ) (bytes : List ℕ) (state : Kept) (place : Place)
   pub unfinished : IsUnfinished place rest
 
 -- what bytes are opened to: they are read up to this state, a closed gate is in the place of the bytes after its last entry, and the log can be written to
-pub record Opens {D : Type 0} (n : ℕ) (g : Ghosts D) (bytes : List ℕ) (state : Kept) (log : StoredLog D) : Type 0 where
+pub record Opens {D : Type 0} (n : ℕ) (g : Ghosts D) (bytes : List ℕ) (state : Kept)
+    (log : StoredLog D) : Type 0 where
   pub reads : ReadsUpTo n bytes state log.place
   pub good : log.place.at ≤ length bytes
   pub rest : IsAtRest g log.device
@@ -60,7 +62,8 @@ pub record Opens {D : Type 0} (n : ℕ) (g : Ghosts D) (bytes : List ℕ) (state
   pub written : log.is_read_only ≡ false
 
 -- a log is opened with some first entries of a log, at least so many, all of which are kept
-pub record OpensTo {D : Type 0} (n : ℕ) (g : Ghosts D) (base : Base) (entries : List Entry) (kept : ℕ) (state : Kept) (log : StoredLog D) : Type 0 where
+pub record OpensTo {D : Type 0} (n : ℕ) (g : Ghosts D) (base : Base) (entries : List Entry)
+    (kept : ℕ) (state : Kept) (log : StoredLog D) : Type 0 where
   pub count : ℕ
   pub least_is : kept ≤ count
   pub within : count ≤ length entries
@@ -68,18 +71,22 @@ pub record OpensTo {D : Type 0} (n : ℕ) (g : Ghosts D) (base : Base) (entries 
 
 -- bytes are what a crash may leave of the log of these entries, all of which are kept
 abbrev pub IsTornAfter : ℕ → Base → List Entry → List ℕ → Type 0
-IsTornAfter n base entries bytes = IsLog n base entries × IsTornLog n base entries (length entries) bytes
+IsTornAfter n base entries bytes = IsLog n base entries
+    × IsTornLog n base entries (length entries) bytes
 
 -- a log is opened with these entries, all of which are kept
-abbrev pub IsOpenedWith : {D : Type 0} → ℕ → Ghosts D → Base → List Entry → Kept → StoredLog D → Type 0
+abbrev pub IsOpenedWith : {D : Type 0} → ℕ → Ghosts D → Base → List Entry → Kept → StoredLog D
+    → Type 0
 IsOpenedWith n g base entries state log = IsStored n g base entries (length entries) state log
 
 -- bytes are read up to the state after some first entries of a log, at least so many
-pub record RecoversTo (n : ℕ) (base : Base) (entries : List Entry) (kept : ℕ) (bytes : List ℕ) : Type 0 where
+pub record RecoversTo (n : ℕ) (base : Base) (entries : List Entry) (kept : ℕ)
+    (bytes : List ℕ) : Type 0 where
   pub count : ℕ
   pub least_is : kept ≤ count
   pub within : count ≤ length entries
-  pub reads : ReadsUpTo n bytes (state_of n base (take count entries)) (place_of n base (take count entries))
+  pub reads : ReadsUpTo n bytes (state_of n base (take count entries))
+      (place_of n base (take count entries))
 
 -- what an error leaves of a device that was to be opened: it is as it was if its bytes are not recovered, for this reason, or the device failed
 abbrev pub LeavesUnopened : {D : Type 0} → ℕ → Ghosts D → D → OpenError → D → Type 0

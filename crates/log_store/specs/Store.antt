@@ -14,7 +14,8 @@ use Rattle.log_store.specs.declared.error.StoreError.TheVariants.{ReadOnly, Numb
 use Rattle.log_store.specs.declared.stored_log.StoredLog.{StoredLog}
 
 -- what a crash may leave of a log of which so many first entries are kept: the bytes of a log with these, or with these and some that follow, and then of a frame that is not finished, if any
-pub record IsTornLog (n : ℕ) (base : Base) (entries : List Entry) (kept : ℕ) (c : List ℕ) : Type 0 where
+pub record IsTornLog (n : ℕ) (base : Base) (entries : List Entry) (kept : ℕ)
+    (c : List ℕ) : Type 0 where
   pub count : ℕ
   pub least_is : kept ≤ count
   pub within : count ≤ length entries
@@ -23,13 +24,15 @@ pub record IsTornLog (n : ℕ) (base : Base) (entries : List Entry) (kept : ℕ)
   pub unfinished : IsUnfinished (place_of n base (take count entries)) rest
 
 -- a device has the bytes of a log with these entries and a closed gate, all of which are kept, and the place after the entries is known
-pub record IsWhole {D : Type 0} (n : ℕ) (g : Ghosts D) (base : Base) (entries : List Entry) (log : StoredLog D) : Type 0 where
+pub record IsWhole {D : Type 0} (n : ℕ) (g : Ghosts D) (base : Base) (entries : List Entry)
+    (log : StoredLog D) : Type 0 where
   pub rest : IsAtRest g log.device
   pub bytes : g.seen log.device ≡ log_bytes n base entries ++ closed ∷ []
   pub place : log.place ≡ place_of n base entries
 
 -- a log on a device: of the entries that were begun, so many first ones are kept, and these make the state; a crash leaves all of these; and as long as the log is written to, all entries that were begun are kept
-pub record IsStored {D : Type 0} (n : ℕ) (g : Ghosts D) (base : Base) (begun : List Entry) (kept : ℕ) (state : Kept) (log : StoredLog D) : Type 0 where
+pub record IsStored {D : Type 0} (n : ℕ) (g : Ghosts D) (base : Base) (begun : List Entry)
+    (kept : ℕ) (state : Kept) (log : StoredLog D) : Type 0 where
   pub log_is : IsLog n base begun
   pub within : kept ≤ length begun
   pub state_is : state ≡ state_of n base (take kept begun)
@@ -38,22 +41,29 @@ pub record IsStored {D : Type 0} (n : ℕ) (g : Ghosts D) (base : Base) (begun :
   pub written : log.is_read_only ≡ false → (kept ≡ length begun) × IsWhole n g base begun log
 
 -- what calls made of a log on a device: they began further entries, no fewer entries are kept than before, and a crash at any moment of the calls left all entries that were kept before
-pub record Becomes {D : Type 0} (n : ℕ) (g : Ghosts D) (base : Base) (begun : List Entry) (kept : ℕ) (old : StoredLog D) (further : List Entry) (now_kept : ℕ) (state : Kept) (new : StoredLog D) : Type 0 where
+pub record Becomes {D : Type 0} (n : ℕ) (g : Ghosts D) (base : Base) (begun : List Entry) (kept : ℕ)
+    (old : StoredLog D) (further : List Entry) (now_kept : ℕ) (state : Kept)
+    (new : StoredLog D) : Type 0 where
   pub stored : IsStored n g base (begun ++ further) now_kept state new
   pub rises : kept ≤ now_kept
   pub any_moment : LeavesOnly g old.device new.device (IsTornLog n base (begun ++ further) kept)
 
 -- a call has appended an entry, and the entry is kept
-abbrev pub Keeps : {D : Type 0} → ℕ → Ghosts D → Base → List Entry → ℕ → StoredLog D → Entry → Kept → StoredLog D → Type 0
-Keeps n g base begun kept old e state new = Becomes n g base begun kept old (e ∷ []) (kept + 1) state new
+abbrev pub Keeps : {D : Type 0} → ℕ → Ghosts D → Base → List Entry → ℕ → StoredLog D → Entry → Kept
+    → StoredLog D → Type 0
+Keeps n g base begun kept old e state new =
+    Becomes n g base begun kept old (e ∷ []) (kept + 1) state new
 
 -- a call that failed has begun to append these entries or has not, and the state is as it was
-abbrev pub FailsToAppend : {D : Type 0} → ℕ → Ghosts D → Base → List Entry → ℕ → StoredLog D → List Entry → Kept → StoredLog D → Type 0
+abbrev pub FailsToAppend : {D : Type 0} → ℕ → Ghosts D → Base → List Entry → ℕ → StoredLog D
+    → List Entry → Kept → StoredLog D → Type 0
 FailsToAppend n g base begun kept old entries state new =
-    Becomes n g base begun kept old [] kept state new ⊎ Becomes n g base begun kept old entries kept state new
+    Becomes n g base begun kept old [] kept state new
+    ⊎ Becomes n g base begun kept old entries kept state new
 
 -- the same of one entry
-abbrev pub Fails : {D : Type 0} → ℕ → Ghosts D → Base → List Entry → ℕ → StoredLog D → Entry → Kept → StoredLog D → Type 0
+abbrev pub Fails : {D : Type 0} → ℕ → Ghosts D → Base → List Entry → ℕ → StoredLog D → Entry → Kept
+    → StoredLog D → Type 0
 Fails n g base begun kept old e state new = FailsToAppend n g base begun kept old (e ∷ []) state new
 
 -- the error of a commit that is refused: that of its number, or else an allocation failed
@@ -77,5 +87,6 @@ LeavesLog g old (Number e) new = new ≡ old
 LeavesLog g old NoSuchCommit new = new ≡ old
 LeavesLog g old (Memory e) new = new ≡ old
 LeavesLog g old (Device e) new =
-    (new.is_read_only ≡ true) × (g.behaves old.device → IsFailed e → g.faults old.device < g.faults new.device)
+    (new.is_read_only ≡ true)
+    × (g.behaves old.device → IsFailed e → g.faults old.device < g.faults new.device)
 LeavesLog g old (NotApplied e) new = new.is_read_only ≡ true

@@ -60,7 +60,8 @@ pub trait Device {
     fn read_all(&mut self, alloc: Global) -> Result<Vec<u8>, DeviceError>
         ensures bytes { behaves self.old → IfOk result (λ bytes. bytes.items ≡ seen self.old) }
         ensures seen { behaves self.old → seen self.new ≡ seen self.old }
-        ensures crash { behaves self.old → (c : List ℕ) → may_leave self.new c → may_leave self.old c }
+        ensures crash { behaves self.old → (c : List ℕ) → may_leave self.new c
+            → may_leave self.old c }
         ensures time { behaves self.old → Elapses (moment self.old) (moment self.new)
             (left_since self.old) (left_since self.new) (may_leave self.new) }
         ensures cause { behaves self.old → HasCause (faults self.old) (faults self.new) result }
@@ -71,7 +72,8 @@ pub trait Device {
     /// # Errors
     /// `Memory` if an allocation fails, and `Failed` if the device does. Some of the bytes may then be appended.
     fn append(&mut self, bytes: &[u8]) -> Result<(), DeviceError>
-        ensures written { behaves self.old → OnOk result (seen self.new ≡ seen self.old ++ bytes.now) }
+        ensures written { behaves self.old
+            → OnOk result (seen self.new ≡ seen self.old ++ bytes.now) }
         ensures crash { behaves self.old → Only (seen self.old) (may_leave self.old) → (c : List ℕ)
             → may_leave self.new c → MayTear (seen self.old) (seen self.old ++ bytes.now) c }
         ensures time { behaves self.old → Elapses (moment self.old) (moment self.new)
@@ -116,7 +118,8 @@ pub trait Device {
     fn sync(&mut self) -> Result<(), DeviceError>
         ensures kept { behaves self.old → OnOk result (Only (seen self.old) (may_leave self.new)) }
         ensures seen { behaves self.old → seen self.new ≡ seen self.old }
-        ensures crash { behaves self.old → (c : List ℕ) → may_leave self.new c → may_leave self.old c }
+        ensures crash { behaves self.old → (c : List ℕ) → may_leave self.new c
+            → may_leave self.old c }
         ensures time { behaves self.old → Elapses (moment self.old) (moment self.new)
             (left_since self.old) (left_since self.new) (may_leave self.new) }
         ensures cause { behaves self.old → HasCause (faults self.old) (faults self.new) result }

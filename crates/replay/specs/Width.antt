@@ -8,7 +8,8 @@ IsOfferedWidth width = (width ≡ 1) ⊎ ((width ≡ 3) ⊎ ((width ≡ 4) ⊎ (
 
 -- the five widths, each with its text
 abbrev pub offered_widths : List (List ℕ × ℕ)
-offered_widths = (codes "1", 1) ∷ (codes "3", 3) ∷ (codes "4", 4) ∷ (codes "8", 8) ∷ (codes "32", 32) ∷ []
+offered_widths = (codes "1", 1) ∷ (codes "3", 3) ∷ (codes "4", 4) ∷ (codes "8", 8)
+    ∷ (codes "32", 32) ∷ []
 
 -- the width that the arguments name, each given by its bytes: there are two, and the first is the text of one of the five
 abbrev pub offered_width : List (List ℕ) → Option ℕ

@@ -37,7 +37,8 @@ pub fn all_known<const N: usize>(chunks: &[[u8; N]])
 /// Does not allocate; constant time.
 pub fn from_own_bits<const N: usize>(chunk: &[u8; N]) -> &[u8; N]
     ensures same { result.now ≡ chunk.now }
-    ensures bytes { chunk.now ≡ map (λ j. byte_of (λ t. chunk_bit N chunk.now (8 * j + t))) (range_with_len 0 N) }
+    ensures bytes { chunk.now
+        ≡ map (λ j. byte_of (λ t. chunk_bit N chunk.now (8 * j + t))) (range_with_len 0 N) }
 {
     fit(chunk);
     chunk

@@ -43,7 +43,8 @@ fn byte_at(front: &[u8], back: &[u8], at: usize) -> u8
 fn bits_from(front: &[u8], back: &[u8], at: usize, skip: u64) -> u8
     requires place { skip < 8 }
     requires space { at + 1 < 2 ^ 64 }
-    ensures { (t : ℕ) → t < 8 → (bit_at result t == 1) ≡ bytes_bit (front.now ++ back.now) (8 * at + skip + t) }
+    ensures { (t : ℕ) → t < 8
+        → (bit_at result t == 1) ≡ bytes_bit (front.now ++ back.now) (8 * at + skip + t) }
 {
     joined_byte(byte_at(front, back, at), byte_at(front, back, at + 1), skip)
 }
@@ -51,8 +52,11 @@ fn bits_from(front: &[u8], back: &[u8], at: usize, skip: u64) -> u8
 // Fills a chunk, from its byte `from` on, with the bits of the run from bit `bit` on.
 fn fill_from<const N: usize>(chunk: &mut [u8; N], from: usize, front: &[u8], back: &[u8], bit: u64)
     requires width { IsWidth N }
-    ensures kept { (i : ℕ) → i % (8 * N) < 8 * from → chunk_bit N chunk.new i ≡ chunk_bit N chunk.old i }
-    ensures filled { (i : ℕ) → 8 * from ≤ i % (8 * N) → chunk_bit N chunk.new i ≡ bytes_bit (front.now ++ back.now) (bit + (i % (8 * N) - 8 * from)) }
+    ensures kept { (i : ℕ) → i % (8 * N) < 8 * from
+        → chunk_bit N chunk.new i ≡ chunk_bit N chunk.old i }
+    ensures filled { (i : ℕ) → 8 * from ≤ i % (8 * N)
+        → chunk_bit N chunk.new i
+        ≡ bytes_bit (front.now ++ back.now) (bit + (i % (8 * N) - 8 * from)) }
 {
     let at = (bit / 8) as usize;
     for j in from..N {
@@ -64,7 +68,8 @@ fn fill_from<const N: usize>(chunk: &mut [u8; N], from: usize, front: &[u8], bac
 fn joined_word(low: u64, high: u8, skip: u64) -> u64
     requires { skip < 8 }
     ensures low { (t : ℕ) → t + skip < 64 → bit_at result t ≡ bit_at low (t + skip) }
-    ensures high { (t : ℕ) → t < 64 → 64 ≤ t + skip → bit_at result t ≡ bit_at high (t + skip - 64) }
+    ensures high { (t : ℕ) → t < 64 → 64 ≤ t + skip
+        → bit_at result t ≡ bit_at high (t + skip - 64) }
 {
     (low >> skip) | (((high as u64) << (63 - skip)) << 1)
 }
@@ -83,7 +88,8 @@ fn word_from(bytes: &[u8], at: usize, skip: u64) -> u64
 fn put_word<const N: usize>(chunk: &mut [u8; N], at: usize, word: u64)
     requires { at + 8 ≤ N }
     ensures size { length chunk.new ≡ N }
-    ensures here { (j t : ℕ) → j < 8 → t < 8 → bit_at (slice_index_or chunk.new (at + j) 0) t ≡ bit_at word (8 * j + t) }
+    ensures here { (j t : ℕ) → j < 8 → t < 8
+        → bit_at (slice_index_or chunk.new (at + j) 0) t ≡ bit_at word (8 * j + t) }
     ensures kept { (k : ℕ) → k < at → slice_index_or chunk.new k 0 ≡ slice_index_or chunk.old k 0 }
 {
     let bytes = word.to_le_bytes();
@@ -97,7 +103,9 @@ fn fill_words<const N: usize>(chunk: &mut [u8; N], bytes: &[u8], skip: u64)
     requires place { skip < 8 }
     requires more { N < length bytes.now }
     ensures size { length chunk.new ≡ N }
-    ensures bits { (k t : ℕ) → k < 8 * (N / 8) → t < 8 → (bit_at (slice_index_or chunk.new k 0) t == 1) ≡ bytes_bit bytes.now (skip + (8 * k + t)) }
+    ensures bits { (k t : ℕ) → k < 8 * (N / 8) → t < 8
+        → (bit_at (slice_index_or chunk.new k 0) t == 1)
+        ≡ bytes_bit bytes.now (skip + (8 * k + t)) }
 {
     for word in 0..N / 8 {
         put_word(chunk, 8 * word, word_from(bytes, 8 * word, skip));
@@ -138,7 +146,8 @@ fn chunk_within<const N: usize>(bytes: &[u8], skip: u64) -> [u8; N]
 #[inline(always)]
 pub fn chunk_from<const N: usize>(front: &[u8], back: &[u8], bit: u64) -> [u8; N]
     requires width { IsWidth N }
-    ensures { (i : ℕ) → chunk_bit N result i ≡ bytes_bit (front.now ++ back.now) (bit + i % (8 * N)) }
+    ensures { (i : ℕ) → chunk_bit N result i
+        ≡ bytes_bit (front.now ++ back.now) (bit + i % (8 * N)) }
 {
     let at = (bit / 8) as usize;
     if at + N < front.len() {
@@ -165,8 +174,11 @@ pub fn chunk_from<const N: usize>(front: &[u8], back: &[u8], bit: u64) -> [u8; N
 /// Linear in the bytes of the chunk from the one that contains bit `len mod 8N` on.
 pub fn join<const N: usize>(chunk: &mut [u8; N], len: u64, front: &[u8], back: &[u8])
     requires width { IsWidth N }
-    ensures kept { (i : ℕ) → i % (8 * N) < len % (8 * N) → chunk_bit N chunk.new i ≡ chunk_bit N chunk.old i }
-    ensures joined { (i : ℕ) → len % (8 * N) ≤ i % (8 * N) → chunk_bit N chunk.new i ≡ bytes_bit (front.now ++ back.now) (i % (8 * N) - len % (8 * N)) }
+    ensures kept { (i : ℕ) → i % (8 * N) < len % (8 * N)
+        → chunk_bit N chunk.new i ≡ chunk_bit N chunk.old i }
+    ensures joined { (i : ℕ) → len % (8 * N) ≤ i % (8 * N)
+        → chunk_bit N chunk.new i
+        ≡ bytes_bit (front.now ++ back.now) (i % (8 * N) - len % (8 * N)) }
 {
     let byte = byte_index::<N>(len);
     let shift = len % 8;

@@ -15,7 +15,8 @@ fn word_at<const N: usize>(chunk: &[u8; N], byte: usize) -> u64
     requires within { byte ≤ N }
     requires only { N ≤ 8 → byte ≡ 0 }
     requires whole { N % 8 ≡ 0 → byte + 8 ≤ N }
-    ensures inside { (t : ℕ) → t < 64 → 8 * byte + t < 8 * N → (bit_at result t == 1) ≡ chunk_bit N chunk.now (8 * byte + t) }
+    ensures inside { (t : ℕ) → t < 64 → 8 * byte + t < 8 * N
+        → (bit_at result t == 1) ≡ chunk_bit N chunk.now (8 * byte + t) }
     ensures past { (t : ℕ) → t < 64 → 8 * N ≤ 8 * byte + t → (bit_at result t == 1) ≡ false }
 {
     let bytes = &chunk[..];
@@ -31,7 +32,8 @@ fn word_at<const N: usize>(chunk: &[u8; N], byte: usize) -> u64
 
 // The first eight bytes, with zeros if there are fewer.
 fn first_word(bytes: &[u8]) -> u64
-    ensures { (t : ℕ) → t < 64 → bit_at result t ≡ bit_at (slice_index_or bytes.now (t / 8) 0) (t % 8) }
+    ensures { (t : ℕ) → t < 64
+        → bit_at result t ≡ bit_at (slice_index_or bytes.now (t / 8) 0) (t % 8) }
 {
     match bytes.first_chunk::<8>() {
         Some(word) => u64::from_le_bytes(*word),
@@ -42,7 +44,8 @@ fn first_word(bytes: &[u8]) -> u64
 // Fewer than eight bytes, with zeros after them.
 fn short_word(bytes: &[u8]) -> u64
     requires { length bytes.now < 8 }
-    ensures { (t : ℕ) → t < 64 → bit_at result t ≡ bit_at (slice_index_or bytes.now (t / 8) 0) (t % 8) }
+    ensures { (t : ℕ) → t < 64
+        → bit_at result t ≡ bit_at (slice_index_or bytes.now (t / 8) 0) (t % 8) }
 {
     let mut word = [0; 8];
     for i in 0..bytes.len() {
@@ -83,7 +86,8 @@ pub fn take_lowest(word: &mut u64) -> u64
     ensures set { (bit_at word.old result == 1) ≡ true }
     ensures lowest { (t : ℕ) → t < result → (bit_at word.old t == 1) ≡ false }
     ensures cleared { (bit_at word.new result == 1) ≡ false }
-    ensures others { (t : ℕ) → t < 64 → t ≢ result → (bit_at word.new t == 1) ≡ (bit_at word.old t == 1) }
+    ensures others { (t : ℕ) → t < 64 → t ≢ result
+        → (bit_at word.new t == 1) ≡ (bit_at word.old t == 1) }
 {
     let old = *word;
     *word = old & (old - 1);
@@ -120,8 +124,10 @@ pub fn word_below<const N: usize>(chunk: &[u8; N], base: u64, end: u64) -> u64
     requires width { IsWidth N }
     requires start { starts_word N base ≡ true }
     requires below { base < end }
-    ensures inside { (i : ℕ) → i < 64 → base + i < end → base % (8 * N) + i < 8 * N → (bit_at result i == 1) ≡ chunk_bit N chunk.now (base % (8 * N) + i) }
-    ensures past_chunk { (i : ℕ) → i < 64 → 8 * N ≤ base % (8 * N) + i → (bit_at result i == 1) ≡ false }
+    ensures inside { (i : ℕ) → i < 64 → base + i < end → base % (8 * N) + i < 8 * N
+        → (bit_at result i == 1) ≡ chunk_bit N chunk.now (base % (8 * N) + i) }
+    ensures past_chunk { (i : ℕ) → i < 64 → 8 * N ≤ base % (8 * N) + i
+        → (bit_at result i == 1) ≡ false }
     ensures past_end { IsCut base result end }
 {
     let byte = (base % (8 * N as u64) / 8) as usize;
@@ -136,8 +142,10 @@ pub fn wanted_below<const N: usize>(chunk: &[u8; N], base: u64, end: u64, wanted
     requires width { IsWidth N }
     requires start { starts_word N base ≡ true }
     requires below { base < end }
-    ensures inside { (i : ℕ) → i < 64 → base + i < end → base % (8 * N) + i < 8 * N → (bit_at result i == 1) ≡ is_wanted wanted (chunk_bit N chunk.now (base % (8 * N) + i)) }
-    ensures past_chunk { (i : ℕ) → i < 64 → 8 * N ≤ base % (8 * N) + i → (bit_at result i == 1) ≡ false }
+    ensures inside { (i : ℕ) → i < 64 → base + i < end → base % (8 * N) + i < 8 * N
+        → (bit_at result i == 1) ≡ is_wanted wanted (chunk_bit N chunk.now (base % (8 * N) + i)) }
+    ensures past_chunk { (i : ℕ) → i < 64 → 8 * N ≤ base % (8 * N) + i
+        → (bit_at result i == 1) ≡ false }
     ensures past_end { IsCut base result end }
 {
     let word = word_below(chunk, base, end);

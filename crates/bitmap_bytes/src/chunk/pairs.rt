@@ -42,7 +42,8 @@ fn end_gives_none<B: Bitwise>(a: &[u8], b: &[u8]) -> bool
 fn blocks_give_none<B: Bitwise, const M: usize>(a: &[[u8; M]], b: &[[u8; M]]) -> bool
     requires positive { 0 < M }
     requires same { length a.now ≡ length b.now }
-    ensures { Decides result ((i : ℕ) → B.gives (chunks_bit M a.now i) (chunks_bit M b.now i) ≡ false) }
+    ensures { Decides result
+        ((i : ℕ) → B.gives (chunks_bit M a.now i) (chunks_bit M b.now i) ≡ false) }
 {
     for i in 0..a.len() {
         let mut combined = a[i];

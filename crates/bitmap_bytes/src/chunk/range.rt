@@ -96,7 +96,9 @@ fn part_word<const N: usize>(chunk: &[u8; N], at: u64, to: u64) -> u64
 pub fn nth_in<const N: usize>(chunk: &[u8; N], from: u64, to: u64, k: u64) -> Option<u64>
     requires width { IsWidth N }
     requires within { to ≤ 8 * N }
-    ensures { MatchOption result (count_by (chunk_bit N chunk.now) (range_with_len from (to - from)) ≤ k) (IsNth (chunk_bit N chunk.now) from to k) }
+    ensures { MatchOption result
+        (count_by (chunk_bit N chunk.now) (range_with_len from (to - from)) ≤ k)
+        (IsNth (chunk_bit N chunk.now) from to k) }
 {
     let mut left = k;
     let mut at = from;
@@ -126,7 +128,9 @@ pub fn nth_in<const N: usize>(chunk: &[u8; N], from: u64, to: u64, k: u64) -> Op
 pub fn last_in<const N: usize>(chunk: &[u8; N], to: u64, wanted: bool) -> Option<u64>
     requires width { IsWidth N }
     requires within { to ≤ 8 * N }
-    ensures { MatchOption result ((i : ℕ) → i < to → is_wanted wanted (chunk_bit N chunk.now i) ≡ false) (λ k. IsLastBelow (λ i. is_wanted wanted (chunk_bit N chunk.now i)) to k) }
+    ensures { MatchOption result
+        ((i : ℕ) → i < to → is_wanted wanted (chunk_bit N chunk.now i) ≡ false)
+        (λ k. IsLastBelow (λ i. is_wanted wanted (chunk_bit N chunk.now i)) to k) }
 {
     let mut top = to;
     while top > 0 {
@@ -154,8 +158,10 @@ pub fn last_in<const N: usize>(chunk: &[u8; N], to: u64, wanted: bool) -> Option
 pub fn set_in<const N: usize>(chunk: &mut [u8; N], from: u64, to: u64, value: bool)
     requires width { IsWidth N }
     requires within { to ≤ 8 * N }
-    ensures inside { (i : ℕ) → from ≤ i % (8 * N) → i % (8 * N) < to → chunk_bit N chunk.new i ≡ value }
-    ensures outside { (i : ℕ) → (i % (8 * N) < from) ⊎ (to ≤ i % (8 * N)) → chunk_bit N chunk.new i ≡ chunk_bit N chunk.old i }
+    ensures inside { (i : ℕ) → from ≤ i % (8 * N) → i % (8 * N) < to
+        → chunk_bit N chunk.new i ≡ value }
+    ensures outside { (i : ℕ) → (i % (8 * N) < from) ⊎ (to ≤ i % (8 * N))
+        → chunk_bit N chunk.new i ≡ chunk_bit N chunk.old i }
 {
     if from >= to {
         return;
@@ -178,7 +184,8 @@ fn set_in_byte(byte: u8, from: u64, to: u64, value: bool) -> u8
     requires some { from < to }
     requires within { to ≤ 8 }
     ensures inside { (t : ℕ) → from ≤ t → t < to → (bit_at result t == 1) ≡ value }
-    ensures outside { (t : ℕ) → t < 8 → (t < from) ⊎ (to ≤ t) → (bit_at result t == 1) ≡ (bit_at byte t == 1) }
+    ensures outside { (t : ℕ) → t < 8 → (t < from) ⊎ (to ≤ t)
+        → (bit_at result t == 1) ≡ (bit_at byte t == 1) }
 {
     let mask = (u8::MAX >> (8 - (to - from))) << from;
     if value { byte | mask } else { byte & !mask }

@@ -130,7 +130,8 @@ impl Bitwise for AndNot {
 /// Linear in `N`.
 pub fn combine<B: Bitwise, const N: usize>(chunk: &mut [u8; N], other: &[u8; N])
     requires { 0 < N }
-    ensures { (i : ℕ) → chunk_bit N chunk.new i ≡ B.gives (chunk_bit N chunk.old i) (chunk_bit N other.now i) }
+    ensures { (i : ℕ) → chunk_bit N chunk.new i
+        ≡ B.gives (chunk_bit N chunk.old i) (chunk_bit N other.now i) }
 {
     if N < 8 {
         return combine_in_place::<B, N>(chunk, other);
@@ -144,7 +145,8 @@ pub fn combine<B: Bitwise, const N: usize>(chunk: &mut [u8; N], other: &[u8; N])
 
 fn combine_in_place<B: Bitwise, const N: usize>(chunk: &mut [u8; N], other: &[u8; N])
     requires { 0 < N }
-    ensures { (i : ℕ) → chunk_bit N chunk.new i ≡ B.gives (chunk_bit N chunk.old i) (chunk_bit N other.now i) }
+    ensures { (i : ℕ) → chunk_bit N chunk.new i
+        ≡ B.gives (chunk_bit N chunk.old i) (chunk_bit N other.now i) }
 {
     for j in 0..N {
         chunk[j] = B::of_bytes(chunk[j], other[j]);

@@ -40,7 +40,8 @@ pub fn count_ones(bytes: &[u8]) -> u64
 /// At most linear in the words of the range.
 pub fn is_unset(bytes: &[u8], from: u64, to: u64) -> bool
     requires { to ≤ 8 * length bytes.now }
-    ensures { result ≡ list_all not (slice_range (chunk_bits (length bytes.now) bytes.now) from to) }
+    ensures { result ≡ list_all not
+        (slice_range (chunk_bits (length bytes.now) bytes.now) from to) }
 {
     if from >= to {
         return true;

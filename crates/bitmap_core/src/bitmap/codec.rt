@@ -89,8 +89,10 @@ pub trait Write: EncodeSize {
     ///
     /// Amortized linear in the bytes of the encoding.
     fn write(&self, out: &mut Vec<u8>) -> Result<(), AllocError>
-        ensures items { out.new.items ≡ (if is_ok result then out.old.items ++ Self.encoded self.now else out.old.items) }
-        ensures has_capacity { vec_len out.old + length (Self.encoded self.now) ≤ vec_capacity out.old → IsOk result };
+        ensures items { out.new.items
+            ≡ (if is_ok result then out.old.items ++ Self.encoded self.now else out.old.items) }
+        ensures has_capacity { vec_len out.old + length (Self.encoded self.now)
+            ≤ vec_capacity out.old → IsOk result };
 }
 
 /// A value that can be read from bytes.
@@ -125,6 +127,7 @@ pub trait Read: EncodeSize + Sized {
         ensures value { IfOk result (λ v. v ≡ value_in from.old.now) }
         ensures sized { IfOk result (λ v. Self.IsSized v) }
         ensures accepted { OnOk result (error_of (admits range.now) from.old.now ≡ None) }
-        ensures refused { IfErr result (λ e. error_of (admits range.now) from.old.now ≡ decode_error e) }
+        ensures refused { IfErr result
+            (λ e. error_of (admits range.now) from.old.now ≡ decode_error e) }
         ensures unmoved { OnErr result (from.new ≡ from.old) };
 }

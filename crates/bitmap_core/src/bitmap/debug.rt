@@ -23,8 +23,10 @@ fn write_bits<const N: usize, W: fmt::Write>(
 ) -> fmt::Result
     requires order { start ≤ end }
     requires within { end ≤ length bitmap.now }
-    ensures plain { DisplaysOnOk W.write_str_gives f.old result (Some (flat_map digit (drop start (take end bitmap.now)))) f.new }
-    ensures styled { WritesStyledOnOk W.write_str_gives f.old result (flat_map digit (drop start (take end bitmap.now))) f.new }
+    ensures plain { DisplaysOnOk W.write_str_gives f.old result
+        (Some (flat_map digit (drop start (take end bitmap.now)))) f.new }
+    ensures styled { WritesStyledOnOk W.write_str_gives f.old result
+        (flat_map digit (drop start (take end bitmap.now))) f.new }
 {
     for i in start..end {
         let digit = if bitmap.get(i) { "1" } else { "0" };
@@ -42,8 +44,10 @@ impl<const N: usize> fmt::Debug for BitMap<N> {
     ///
     /// Of more than 64 bits it writes the first 32, `...` and the last 32. Does not allocate itself; at most 67 calls of the writer.
     fn fmt<W: fmt::Write>(&self, f: &mut fmt::Formatter<W>) -> fmt::Result
-        ensures writes { DisplaysOnOk W.write_str_gives f.old result (Some (debug_text self.now)) f.new }
-        ensures styled { WritesStyledOnOk W.write_str_gives f.old result (debug_text self.now) f.new }
+        ensures writes { DisplaysOnOk W.write_str_gives f.old result
+            (Some (debug_text self.now)) f.new }
+        ensures styled { WritesStyledOnOk W.write_str_gives f.old result
+            (debug_text self.now) f.new }
     {
         let len = self.len();
         f.write_str("BitMap[")?;

@@ -251,7 +251,8 @@ impl<const N: usize> Prunable<N> {
     pub fn is_unset(&self, range: Range<u64>) -> bool
         requires from { pruned_bits N self.now ≤ range.start }
         requires to { range.end ≤ bit_len N self.now }
-        ensures { result ≡ list_all (λ k. not (bit_at N self.now k)) (range_with_len range.start (range.end - range.start)) }
+        ensures { result ≡ list_all (λ k. not (bit_at N self.now k))
+            (range_with_len range.start (range.end - range.start)) }
     {
         let pruned = self.pruned_bits();
         self.bitmap
@@ -283,8 +284,11 @@ impl<const N: usize> Prunable<N> {
     pub(crate) fn slice_around(&self, index: usize) -> (&[[u8; N]], usize)
         requires { IsRetainedChunk N self.now index }
         ensures included { (result.1 ≤ index) × (index < result.1 + length result.0.now) }
-        ensures retained { (i : ℕ) → i < length result.0.now → IsRetainedChunk N self.now (result.1 + i) }
-        ensures shown { (i : ℕ) → i < length result.0.now → ShowsChunk N (pruned_meaning N self.now) (result.1 + i) (slice_index_or result.0.now i []) }
+        ensures retained { (i : ℕ) → i < length result.0.now
+            → IsRetainedChunk N self.now (result.1 + i) }
+        ensures shown { (i : ℕ) → i < length result.0.now
+            → ShowsChunk N (pruned_meaning N self.now) (result.1 + i)
+            (slice_index_or result.0.now i []) }
     {
         let (chunks, first) = self.bitmap.slice_around(index - self.pruned_chunks);
         (chunks, self.pruned_chunks + first)
@@ -407,7 +411,8 @@ impl<const N: usize> Prunable<N> {
     /// The length does not change. The bits of `chunk` past the length are zero. Does not allocate; constant time: one chunk is copied.
     pub fn set_chunk_by_index(&mut self, index: usize, chunk: &[u8; N])
         requires retained { IsRetainedChunk N self.old index }
-        requires zero { (k : ℕ) → bit_len N self.old ≤ k → k / (8 * N) ≡ index → chunk_bit N chunk.now k ≡ false }
+        requires zero { (k : ℕ) → bit_len N self.old ≤ k → k / (8 * N) ≡ index
+            → chunk_bit N chunk.now k ≡ false }
         ensures { self.new ≡ with_chunk N self.old index chunk.now }
     {
         let pruned = self.pruned_chunks;
@@ -524,7 +529,8 @@ impl<const N: usize> Prunable<N> {
         requires space { bit_len N self.old + length other.now < 2 ^ 64 }
         ensures ok { OnOk result (self.new ≡ appended self.old other.now) }
         ensures err { OnErr result (self.new ≡ self.old) }
-        ensures has_capacity { bit_len N self.old + length other.now ≤ 8 * N * div_ceil (bit_len N self.old) (8 * N) → IsOk result }
+        ensures has_capacity { bit_len N self.old + length other.now
+            ≤ 8 * N * div_ceil (bit_len N self.old) (8 * N) → IsOk result }
     {
         self.bitmap.extend_from_bitmap(other)
     }

@@ -109,8 +109,10 @@ pub trait Readable<const N: usize> {
     /// At least one bit is retained. The bits of the chunk past the length may have any value.
     fn last_chunk(&self) -> ([u8; N], u64)
         requires { 8 * N * (meaning self.now).pruned < (meaning self.now).len }
-        ensures chunk { ShowsChunk N (meaning self.now) (((meaning self.now).len - 1) / (8 * N)) result.0 }
-        ensures used { 8 * N * (((meaning self.now).len - 1) / (8 * N)) + result.1 ≡ (meaning self.now).len };
+        ensures chunk { ShowsChunk N (meaning self.now)
+            (((meaning self.now).len - 1) / (8 * N)) result.0 }
+        ensures used { 8 * N * (((meaning self.now).len - 1) / (8 * N)) + result.1
+            ≡ (meaning self.now).len };
 
     /// Returns consecutive chunks in place, among them the chunk at an absolute index, and the absolute index of the first.
     ///
@@ -120,9 +122,12 @@ pub trait Readable<const N: usize> {
     /// For `BitMap` and `Prunable`, does not allocate; constant time.
     fn chunks_around(&self, chunk: usize) -> (&[[u8; N]], usize)
         requires { IsRetainedChunk N (meaning self.now) chunk }
-        ensures included { 0 < length result.0.now → (result.1 ≤ chunk) × (chunk < result.1 + length result.0.now) }
-        ensures retained { (i : ℕ) → i < length result.0.now → IsRetainedChunk N (meaning self.now) (result.1 + i) }
-        ensures shown { (i : ℕ) → i < length result.0.now → ShowsChunk N (meaning self.now) (result.1 + i) (slice_index_or result.0.now i []) }
+        ensures included { 0 < length result.0.now
+            → (result.1 ≤ chunk) × (chunk < result.1 + length result.0.now) }
+        ensures retained { (i : ℕ) → i < length result.0.now
+            → IsRetainedChunk N (meaning self.now) (result.1 + i) }
+        ensures shown { (i : ℕ) → i < length result.0.now
+            → ShowsChunk N (meaning self.now) (result.1 + i) (slice_index_or result.0.now i []) }
     {
         (&[], chunk)
     }

@@ -23,8 +23,11 @@ impl<const N: usize> BitMap<N> {
     pub(crate) fn slice_around(&self, index: usize) -> (&[[u8; N]], usize)
         requires { 8 * N * index < length self.now }
         ensures included { (result.1 ≤ index) × (index < result.1 + length result.0.now) }
-        ensures stored { (i : ℕ) → i < length result.0.now → 8 * N * (result.1 + i) < length self.now }
-        ensures shown { (i : ℕ) → i < length result.0.now → ShowsChunk N (plain_meaning self.now) (result.1 + i) (slice_index_or result.0.now i []) }
+        ensures stored { (i : ℕ) → i < length result.0.now
+            → 8 * N * (result.1 + i) < length self.now }
+        ensures shown { (i : ℕ) → i < length result.0.now
+            → ShowsChunk N (plain_meaning self.now) (result.1 + i)
+            (slice_index_or result.0.now i []) }
     {
         deque::slice_around(&self.chunks, index)
     }
@@ -32,9 +35,13 @@ impl<const N: usize> BitMap<N> {
     // Replaces the chunk at an index by one whose bits past the length are zero.
     pub(crate) fn replace_chunk(&mut self, index: usize, chunk: &[u8; N])
         requires within { 8 * N * index < length self.old }
-        requires zero { (k : ℕ) → length self.old ≤ k → k / (8 * N) ≡ index → chunk_bit N chunk.now k ≡ false }
+        requires zero { (k : ℕ) → length self.old ≤ k → k / (8 * N) ≡ index
+            → chunk_bit N chunk.now k ≡ false }
         ensures len { length self.new ≡ length self.old }
-        ensures bits { (k : ℕ) → k < length self.old → slice_index_or self.new k false ≡ cond (k / (8 * N) == index) (chunk_bit N chunk.now k) (slice_index_or self.old k false) }
+        ensures bits { (k : ℕ) → k < length self.old
+            → slice_index_or self.new k false
+            ≡ cond (k / (8 * N) == index) (chunk_bit N chunk.now k)
+            (slice_index_or self.old k false) }
     {
         deque::set_chunk(&mut self.chunks, index, chunk);
     }

@@ -13,7 +13,9 @@ use std::alloc::AllocError;
 pub fn and_at_each_position<const N: usize>(bitmap: &mut BitMap<N>, other: &BitMap<N>)
     requires { length bitmap.old ≡ length other.now }
     ensures len { length bitmap.new ≡ length bitmap.old }
-    ensures bits { (k : ℕ) → k < length bitmap.old → slice_index_or bitmap.new k false ≡ (slice_index_or bitmap.old k false && slice_index_or other.now k false) }
+    ensures bits { (k : ℕ) → k < length bitmap.old
+        → slice_index_or bitmap.new k false
+        ≡ (slice_index_or bitmap.old k false && slice_index_or other.now k false) }
 {
     bitmap.and(other);
 }
@@ -22,7 +24,9 @@ pub fn and_at_each_position<const N: usize>(bitmap: &mut BitMap<N>, other: &BitM
 pub fn or_at_each_position<const N: usize>(bitmap: &mut BitMap<N>, other: &BitMap<N>)
     requires { length bitmap.old ≡ length other.now }
     ensures len { length bitmap.new ≡ length bitmap.old }
-    ensures bits { (k : ℕ) → k < length bitmap.old → slice_index_or bitmap.new k false ≡ (slice_index_or bitmap.old k false || slice_index_or other.now k false) }
+    ensures bits { (k : ℕ) → k < length bitmap.old
+        → slice_index_or bitmap.new k false
+        ≡ (slice_index_or bitmap.old k false || slice_index_or other.now k false) }
 {
     bitmap.or(other);
 }
@@ -31,7 +35,9 @@ pub fn or_at_each_position<const N: usize>(bitmap: &mut BitMap<N>, other: &BitMa
 pub fn xor_at_each_position<const N: usize>(bitmap: &mut BitMap<N>, other: &BitMap<N>)
     requires { length bitmap.old ≡ length other.now }
     ensures len { length bitmap.new ≡ length bitmap.old }
-    ensures bits { (k : ℕ) → k < length bitmap.old → slice_index_or bitmap.new k false ≡ xor (slice_index_or bitmap.old k false) (slice_index_or other.now k false) }
+    ensures bits { (k : ℕ) → k < length bitmap.old
+        → slice_index_or bitmap.new k false
+        ≡ xor (slice_index_or bitmap.old k false) (slice_index_or other.now k false) }
 {
     bitmap.xor(other);
 }
@@ -40,7 +46,9 @@ pub fn xor_at_each_position<const N: usize>(bitmap: &mut BitMap<N>, other: &BitM
 pub fn and_not_at_each_position<const N: usize>(bitmap: &mut BitMap<N>, other: &BitMap<N>)
     requires { length bitmap.old ≡ length other.now }
     ensures len { length bitmap.new ≡ length bitmap.old }
-    ensures bits { (k : ℕ) → k < length bitmap.old → slice_index_or bitmap.new k false ≡ (slice_index_or bitmap.old k false && not (slice_index_or other.now k false)) }
+    ensures bits { (k : ℕ) → k < length bitmap.old
+        → slice_index_or bitmap.new k false
+        ≡ (slice_index_or bitmap.old k false && not (slice_index_or other.now k false)) }
 {
     bitmap.and_not(other);
 }
@@ -56,7 +64,10 @@ pub fn bitand_at_each_position<const N: usize>(
 ) -> Result<BitMap<N>, AllocError>
     requires { length a.now ≡ length b.now }
     ensures len { IfOk result (λ c. length c ≡ length a.now) }
-    ensures bits { IfOk result (λ c. (k : ℕ) → k < length a.now → slice_index_or c k false ≡ (slice_index_or a.now k false && slice_index_or b.now k false)) }
+    ensures bits { IfOk result
+        (λ c. (k : ℕ) → k < length a.now
+        → slice_index_or c k false
+        ≡ (slice_index_or a.now k false && slice_index_or b.now k false)) }
 {
     a & b
 }
@@ -72,7 +83,10 @@ pub fn bitor_at_each_position<const N: usize>(
 ) -> Result<BitMap<N>, AllocError>
     requires { length a.now ≡ length b.now }
     ensures len { IfOk result (λ c. length c ≡ length a.now) }
-    ensures bits { IfOk result (λ c. (k : ℕ) → k < length a.now → slice_index_or c k false ≡ (slice_index_or a.now k false || slice_index_or b.now k false)) }
+    ensures bits { IfOk result
+        (λ c. (k : ℕ) → k < length a.now
+        → slice_index_or c k false
+        ≡ (slice_index_or a.now k false || slice_index_or b.now k false)) }
 {
     a | b
 }
@@ -88,7 +102,10 @@ pub fn bitxor_at_each_position<const N: usize>(
 ) -> Result<BitMap<N>, AllocError>
     requires { length a.now ≡ length b.now }
     ensures len { IfOk result (λ c. length c ≡ length a.now) }
-    ensures bits { IfOk result (λ c. (k : ℕ) → k < length a.now → slice_index_or c k false ≡ xor (slice_index_or a.now k false) (slice_index_or b.now k false)) }
+    ensures bits { IfOk result
+        (λ c. (k : ℕ) → k < length a.now
+        → slice_index_or c k false
+        ≡ xor (slice_index_or a.now k false) (slice_index_or b.now k false)) }
 {
     a ^ b
 }
@@ -104,7 +121,10 @@ pub fn sub_at_each_position<const N: usize>(
 ) -> Result<BitMap<N>, AllocError>
     requires { length a.now ≡ length b.now }
     ensures len { IfOk result (λ c. length c ≡ length a.now) }
-    ensures bits { IfOk result (λ c. (k : ℕ) → k < length a.now → slice_index_or c k false ≡ (slice_index_or a.now k false && not (slice_index_or b.now k false))) }
+    ensures bits { IfOk result
+        (λ c. (k : ℕ) → k < length a.now
+        → slice_index_or c k false
+        ≡ (slice_index_or a.now k false && not (slice_index_or b.now k false))) }
 {
     a - b
 }
@@ -112,7 +132,9 @@ pub fn sub_at_each_position<const N: usize>(
 /// `is_subset` returns true if and only if each position that is set in the one bitmap is set in the other.
 pub fn subset_at_each_position<const N: usize>(a: &BitMap<N>, b: &BitMap<N>) -> bool
     requires { length a.now ≡ length b.now }
-    ensures { Decides result ((k : ℕ) → k < length a.now → slice_index_or a.now k false ≡ true → slice_index_or b.now k false ≡ true) }
+    ensures { Decides result
+        ((k : ℕ) → k < length a.now → slice_index_or a.now k false ≡ true
+        → slice_index_or b.now k false ≡ true) }
 {
     a.is_subset(b)
 }
@@ -120,7 +142,9 @@ pub fn subset_at_each_position<const N: usize>(a: &BitMap<N>, b: &BitMap<N>) -> 
 /// `is_disjoint` returns true if and only if no position is set in both bitmaps.
 pub fn disjoint_at_each_position<const N: usize>(a: &BitMap<N>, b: &BitMap<N>) -> bool
     requires { length a.now ≡ length b.now }
-    ensures { Decides result ((k : ℕ) → k < length a.now → slice_index_or a.now k false ≡ true → slice_index_or b.now k false ≡ true → ⊥) }
+    ensures { Decides result
+        ((k : ℕ) → k < length a.now → slice_index_or a.now k false ≡ true
+        → slice_index_or b.now k false ≡ true → ⊥) }
 {
     a.is_disjoint(b)
 }

@@ -20,34 +20,44 @@ use std::alloc::{AllocError, Global};
 
 /// An input has no decode error if and only if some prefix of it encodes bits whose number the range admits.
 pub fn bits_are_accepted_where_encoded()
-    ensures { (n : ℕ) (range : ℕ → Bool) (text : List ℕ) → 0 < n → ((k : ℕ) → slice_index text k < 256) → (bits_error n range text ≡ None) ↔ EncodesBits n range text }
+    ensures { (n : ℕ) (range : ℕ → Bool) (text : List ℕ) → 0 < n
+        → ((k : ℕ) → slice_index text k < 256)
+        → (bits_error n range text ≡ None) ↔ EncodesBits n range text }
 {}
 
 /// An input has no decode error if and only if some prefix of it encodes a bitmap with a pruned prefix that the range admits.
 ///
 /// The range admits the bitmap if it admits the number of retained bits.
 pub fn pruned_bits_are_accepted_where_encoded()
-    ensures { (n : ℕ) (range : ℕ → Bool) (text : List ℕ) → 0 < n → ((k : ℕ) → slice_index text k < 256) → (pruned_error n range text ≡ None) ↔ EncodesPruned n range text }
+    ensures { (n : ℕ) (range : ℕ → Bool) (text : List ℕ) → 0 < n
+        → ((k : ℕ) → slice_index text k < 256)
+        → (pruned_error n range text ≡ None) ↔ EncodesPruned n range text }
 {}
 
 /// An input begins with the encoding of at most one list of bits.
 pub fn one_encoding_of_bits()
-    ensures { (n : ℕ) (v w : List Bool) (xs ys : List ℕ) → 0 < n → length v < 2 ^ 64 → length w < 2 ^ 64 → encoding n v ++ xs ≡ encoding n w ++ ys → (v ≡ w) × (xs ≡ ys) }
+    ensures { (n : ℕ) (v w : List Bool) (xs ys : List ℕ) → 0 < n → length v < 2 ^ 64
+        → length w < 2 ^ 64 → encoding n v ++ xs ≡ encoding n w ++ ys → (v ≡ w) × (xs ≡ ys) }
 {}
 
 /// An input begins with the encoding of at most one bitmap with a pruned prefix.
 pub fn one_encoding_of_pruned_bits()
-    ensures { (n : ℕ) (b c : PrunedBits) (xs ys : List ℕ) → 0 < n → bit_len n b < 2 ^ 64 → bit_len n c < 2 ^ 64 → b.pruned < 2 ^ 64 → c.pruned < 2 ^ 64 → pruned_encoding n b ++ xs ≡ pruned_encoding n c ++ ys → (b ≡ c) × (xs ≡ ys) }
+    ensures { (n : ℕ) (b c : PrunedBits) (xs ys : List ℕ) → 0 < n → bit_len n b < 2 ^ 64
+        → bit_len n c < 2 ^ 64 → b.pruned < 2 ^ 64 → c.pruned < 2 ^ 64
+        → pruned_encoding n b ++ xs ≡ pruned_encoding n c ++ ys → (b ≡ c) × (xs ≡ ys) }
 {}
 
 /// If an input begins with the encoding of a list of bits, `bits_in` of the input is that list.
 pub fn encoded_bits_are_read_off()
-    ensures { (n : ℕ) (text : List ℕ) (v : List Bool) (rest : List ℕ) → 0 < n → length v < 2 ^ 64 → text ≡ encoding n v ++ rest → v ≡ bits_in text }
+    ensures { (n : ℕ) (text : List ℕ) (v : List Bool) (rest : List ℕ) → 0 < n → length v < 2 ^ 64
+        → text ≡ encoding n v ++ rest → v ≡ bits_in text }
 {}
 
 /// If an input begins with the encoding of a bitmap with a pruned prefix, `pruned_in` of the input is that bitmap.
 pub fn encoded_pruned_bits_are_read_off()
-    ensures { (n : ℕ) (text : List ℕ) (b : PrunedBits) (rest : List ℕ) → 0 < n → length b.bits < 2 ^ 64 → b.pruned < 2 ^ 64 → text ≡ pruned_encoding n b ++ rest → b ≡ pruned_in text }
+    ensures { (n : ℕ) (text : List ℕ) (b : PrunedBits) (rest : List ℕ) → 0 < n
+        → length b.bits < 2 ^ 64 → b.pruned < 2 ^ 64 → text ≡ pruned_encoding n b ++ rest
+        → b ≡ pruned_in text }
 {}
 
 /// Bitmaps are equal if and only if their lists of bits are, and if and only if their encodings are.
@@ -74,10 +84,16 @@ pub fn bits_are_read_again<const N: usize>(
     from: &mut &[u8],
     range: &RangeCfg,
 ) -> Result<BitMap<N>, CodecError>
-    ensures encoded { (rest : List ℕ) → from.old.now ≡ encoding N map.now ++ rest → bits_in from.old.now ≡ map.now }
-    ensures accepted { (rest : List ℕ) → from.old.now ≡ encoding N map.now ++ rest → admits range.now (length map.now) ≡ true → bits_error N (admits range.now) from.old.now ≡ None }
-    ensures found { (rest : List ℕ) → from.old.now ≡ encoding N map.now ++ rest → IfOk result (λ v. (v ≡ map.now) × (from.new.now ≡ rest)) }
-    ensures refused { (rest : List ℕ) → from.old.now ≡ encoding N map.now ++ rest → admits range.now (length map.now) ≡ true → IfErr result (λ e. e ≡ CodecError.OutOfMemory) }
+    ensures encoded { (rest : List ℕ) → from.old.now ≡ encoding N map.now ++ rest
+        → bits_in from.old.now ≡ map.now }
+    ensures accepted { (rest : List ℕ) → from.old.now ≡ encoding N map.now ++ rest
+        → admits range.now (length map.now) ≡ true
+        → bits_error N (admits range.now) from.old.now ≡ None }
+    ensures found { (rest : List ℕ) → from.old.now ≡ encoding N map.now ++ rest
+        → IfOk result (λ v. (v ≡ map.now) × (from.new.now ≡ rest)) }
+    ensures refused { (rest : List ℕ) → from.old.now ≡ encoding N map.now ++ rest
+        → admits range.now (length map.now) ≡ true
+        → IfErr result (λ e. e ≡ CodecError.OutOfMemory) }
     ensures unmoved { OnErr result (from.new ≡ from.old) }
 {
     let _ = map.len();
@@ -98,10 +114,16 @@ pub fn pruned_bits_are_read_again<const N: usize>(
     from: &mut &[u8],
     range: &RangeCfg,
 ) -> Result<Prunable<N>, CodecError>
-    ensures encoded { (rest : List ℕ) → from.old.now ≡ pruned_encoding N map.now ++ rest → pruned_in from.old.now ≡ map.now }
-    ensures accepted { (rest : List ℕ) → from.old.now ≡ pruned_encoding N map.now ++ rest → admits range.now (length map.now.bits) ≡ true → pruned_error N (admits range.now) from.old.now ≡ None }
-    ensures found { (rest : List ℕ) → from.old.now ≡ pruned_encoding N map.now ++ rest → IfOk result (λ b. (b ≡ map.now) × (from.new.now ≡ rest)) }
-    ensures refused { (rest : List ℕ) → from.old.now ≡ pruned_encoding N map.now ++ rest → admits range.now (length map.now.bits) ≡ true → IfErr result (λ e. e ≡ CodecError.OutOfMemory) }
+    ensures encoded { (rest : List ℕ) → from.old.now ≡ pruned_encoding N map.now ++ rest
+        → pruned_in from.old.now ≡ map.now }
+    ensures accepted { (rest : List ℕ) → from.old.now ≡ pruned_encoding N map.now ++ rest
+        → admits range.now (length map.now.bits) ≡ true
+        → pruned_error N (admits range.now) from.old.now ≡ None }
+    ensures found { (rest : List ℕ) → from.old.now ≡ pruned_encoding N map.now ++ rest
+        → IfOk result (λ b. (b ≡ map.now) × (from.new.now ≡ rest)) }
+    ensures refused { (rest : List ℕ) → from.old.now ≡ pruned_encoding N map.now ++ rest
+        → admits range.now (length map.now.bits) ≡ true
+        → IfErr result (λ e. e ≡ CodecError.OutOfMemory) }
     ensures unmoved { OnErr result (from.new ≡ from.old) }
 {
     let _ = map.len();

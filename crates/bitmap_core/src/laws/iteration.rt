@@ -26,7 +26,8 @@ pub fn bits_collected<const N: usize>(
 /// If `next` returns `None`, no bit was left, and a second call returns `None` too.
 pub fn bits_stay_ended<const N: usize>(bits: &mut Iterator<'_, N>) -> (Option<bool>, Option<bool>)
     ensures ends { result.0 ≡ None → (bits.old ≡ []) × (result.1 ≡ None) × (bits.new ≡ []) }
-    ensures steps { (between : List Bool) × YieldsFirst (λ left. left) bits.old result.0 between × YieldsFirst (λ left. left) between result.1 bits.new }
+    ensures steps { (between : List Bool) × YieldsFirst (λ left. left) bits.old result.0 between
+        × YieldsFirst (λ left. left) between result.1 bits.new }
 {
     (bits.next(), bits.next())
 }
@@ -58,7 +59,8 @@ pub fn last_positions_collected<B: Readable<N>, const N: usize>(
     readable: &B,
     from: u64,
 ) -> Result<Vec<u64>, AllocError>
-    ensures { IfOk result (λ v. v.items ≡ ones N (B.meaning readable.now) from (B.meaning readable.now).len) }
+    ensures { IfOk result (λ v.
+        v.items ≡ ones N (B.meaning readable.now) from (B.meaning readable.now).len) }
 {
     let _ = readable.len();
     readable.ones_iter_from(from).collect(alloc)
@@ -70,7 +72,8 @@ pub fn first_position<B: Readable<N>, const N: usize>(
     from: u64,
     to: u64,
 ) -> Option<u64>
-    ensures { MatchOption result (ones N (B.meaning readable.now) from to ≡ []) (λ k. (rest : List ℕ) × (ones N (B.meaning readable.now) from to ≡ k ∷ rest)) }
+    ensures { MatchOption result (ones N (B.meaning readable.now) from to ≡ [])
+        (λ k. (rest : List ℕ) × (ones N (B.meaning readable.now) from to ≡ k ∷ rest)) }
 {
     let _ = readable.len();
     readable.ones_iter_range(from..to).next()
@@ -80,8 +83,10 @@ pub fn first_position<B: Readable<N>, const N: usize>(
 pub fn positions_stay_ended<B: Readable<N>, const N: usize>(
     positions: &mut OnesIter<'_, B, N>,
 ) -> (Option<u64>, Option<u64>)
-    ensures ends { result.0 ≡ None → (positions.old.left ≡ []) × (result.1 ≡ None) × (positions.new.left ≡ []) }
-    ensures steps { (between : Scan) × YieldsFirst (λ s. s.left) positions.old result.0 between × YieldsFirst (λ s. s.left) between result.1 positions.new }
+    ensures ends { result.0 ≡ None
+        → (positions.old.left ≡ []) × (result.1 ≡ None) × (positions.new.left ≡ []) }
+    ensures steps { (between : Scan) × YieldsFirst (λ s. s.left) positions.old result.0 between
+        × YieldsFirst (λ s. s.left) between result.1 positions.new }
 {
     (positions.next(), positions.next())
 }

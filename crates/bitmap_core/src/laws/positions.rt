@@ -11,7 +11,8 @@ use std::alloc::{AllocError, Global};
 /// The set positions of a range ascend strictly. They are exactly the retained positions in the range whose bit is true.
 pub fn set_positions()
     ensures ascend { (n : ℕ) (m : Meaning) (a b : ℕ) → IsStrictlyIncreasing (ones n m a b) }
-    ensures exact { (n : ℕ) (m : Meaning) (a b k : ℕ) → Contains (ones n m a b) k ↔ ((a ≤ k) × (k < b) × IsRetained n m k × (m.bit k ≡ true)) }
+    ensures exact { (n : ℕ) (m : Meaning) (a b k : ℕ)
+        → Contains (ones n m a b) k ↔ ((a ≤ k) × (k < b) × IsRetained n m k × (m.bit k ≡ true)) }
 {}
 
 /// The set positions of a bitmap ascend strictly. They are exactly the positions whose bit is true, and as many as `count_ones` counts.
@@ -24,7 +25,9 @@ pub fn set_positions_of_a_bitmap<const N: usize>(
     bitmap: &BitMap<N>,
 ) -> Result<Vec<u64>, AllocError>
     ensures ascend { IfOk result (λ v. IsStrictlyIncreasing v.items) }
-    ensures exact { IfOk result (λ v. (k : ℕ) → Contains v.items k ↔ ((k < length bitmap.now) × (slice_index_or bitmap.now k false ≡ true))) }
+    ensures exact { IfOk result
+        (λ v. (k : ℕ) → Contains v.items k ↔
+        ((k < length bitmap.now) × (slice_index_or bitmap.now k false ≡ true))) }
     ensures count { IfOk result (λ v. length v.items ≡ count_by (λ b. b) bitmap.now) }
 {
     let _ = bitmap.len();

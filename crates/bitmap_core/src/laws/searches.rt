@@ -23,28 +23,32 @@ pub fn next_one_is_first<B: Readable<N>, const N: usize>(
 
 /// `next_one(from)` is the least retained position at or above `from` whose bit is set.
 pub fn next_one_is_least<B: Readable<N>, const N: usize>(readable: &B, from: u64) -> Option<u64>
-    ensures { MatchOption result (HasNoNext N (B.meaning readable.now) true from) (IsNext N (B.meaning readable.now) true from) }
+    ensures { MatchOption result (HasNoNext N (B.meaning readable.now) true from)
+        (IsNext N (B.meaning readable.now) true from) }
 {
     readable.next_one(from)
 }
 
 /// `next_zero(from)` is the least retained position at or above `from` whose bit is not set.
 pub fn next_zero_is_least<B: Readable<N>, const N: usize>(readable: &B, from: u64) -> Option<u64>
-    ensures { MatchOption result (HasNoNext N (B.meaning readable.now) false from) (IsNext N (B.meaning readable.now) false from) }
+    ensures { MatchOption result (HasNoNext N (B.meaning readable.now) false from)
+        (IsNext N (B.meaning readable.now) false from) }
 {
     readable.next_zero(from)
 }
 
 /// `prev_one(end)` is the greatest retained position below `end` whose bit is set.
 pub fn prev_one_is_greatest<B: Readable<N>, const N: usize>(readable: &B, end: u64) -> Option<u64>
-    ensures { MatchOption result (HasNoPrevious N (B.meaning readable.now) true end) (IsPrevious N (B.meaning readable.now) true end) }
+    ensures { MatchOption result (HasNoPrevious N (B.meaning readable.now) true end)
+        (IsPrevious N (B.meaning readable.now) true end) }
 {
     readable.prev_one(end)
 }
 
 /// `prev_zero(end)` is the greatest retained position below `end` whose bit is not set.
 pub fn prev_zero_is_greatest<B: Readable<N>, const N: usize>(readable: &B, end: u64) -> Option<u64>
-    ensures { MatchOption result (HasNoPrevious N (B.meaning readable.now) false end) (IsPrevious N (B.meaning readable.now) false end) }
+    ensures { MatchOption result (HasNoPrevious N (B.meaning readable.now) false end)
+        (IsPrevious N (B.meaning readable.now) false end) }
 {
     readable.prev_zero(end)
 }
@@ -56,7 +60,10 @@ pub fn select_one_has_k_below<B: Readable<N>, const N: usize>(
     readable: &B,
     k: u64,
 ) -> Option<(u64, u64)>
-    ensures found { MatchOption result (ones_count N (B.meaning readable.now) 0 (B.meaning readable.now).len ≤ k) (λ r. IsRetained N (B.meaning readable.now) r.0 × ((B.meaning readable.now).bit r.0 ≡ true) × (r.1 ≡ k)) }
+    ensures found { MatchOption result
+        (ones_count N (B.meaning readable.now) 0 (B.meaning readable.now).len ≤ k)
+        (λ r. IsRetained N (B.meaning readable.now) r.0 × ((B.meaning readable.now).bit r.0 ≡ true)
+        × (r.1 ≡ k)) }
     ensures counted { IfSome result (λ r. r.1 ≡ ones_count N (B.meaning readable.now) 0 r.0) }
 {
     let position = readable.select_one(k)?;

@@ -35,7 +35,8 @@ pub fn push_then_pop<const N: usize>(bitmap: &mut BitMap<N>, bit: bool) -> Resul
     requires space { length bitmap.old + 1 < 2 ^ 64 }
     ensures ok { IfOk result (λ b. b ≡ bit) }
     ensures same { bitmap.new ≡ bitmap.old }
-    ensures inverse { (v w : List Bool) (x y : Bool) → v ++ x ∷ [] ≡ w ++ y ∷ [] → (w ≡ v) × (y ≡ x) }
+    ensures inverse { (v w : List Bool) (x y : Bool) → v ++ x ∷ [] ≡ w ++ y ∷ []
+        → (w ≡ v) × (y ≡ x) }
 {
     bitmap.push(bit)?;
     Ok(bitmap.pop())

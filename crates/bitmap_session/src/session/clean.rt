@@ -26,7 +26,8 @@ fn start<const N: usize>(
     chunks: usize,
 ) -> (Reply<N>, State<N>)
     requires width { IsWidth N }
-    ensures { StepTo N Agrees (clean N bitmap.entry) (Command.Start chunks) (value_of result.0) (machine_of result.1) }
+    ensures { StepTo N Agrees (clean N bitmap.entry) (Command.Start chunks) (value_of result.0)
+        (machine_of result.1) }
 {
     match CleanBitMap::new_with_pruned_chunks(alloc, chunks) {
         Ok(empty) => (Reply::Done, State::Clean(empty)),
@@ -38,13 +39,15 @@ fn start<const N: usize>(
 }
 
 fn begin<const N: usize>(bitmap: CleanBitMap<N>) -> (Reply<N>, State<N>)
-    ensures { StepTo N Agrees (clean N bitmap.entry) Command.Begin (value_of result.0) (machine_of result.1) }
+    ensures { StepTo N Agrees (clean N bitmap.entry) Command.Begin (value_of result.0)
+        (machine_of result.1) }
 {
     (Reply::Done, State::Dirty(bitmap.into_dirty()))
 }
 
 fn rewind<const N: usize>(bitmap: CleanBitMap<N>, number: u64) -> (Reply<N>, State<N>)
-    ensures { StepTo N Agrees (clean N bitmap.entry) (Command.Rewind number) (value_of result.0) (machine_of result.1) }
+    ensures { StepTo N Agrees (clean N bitmap.entry) (Command.Rewind number) (value_of result.0)
+        (machine_of result.1) }
 {
     match bitmap.rewind_to(number) {
         Ok(bitmap) => (Reply::Done, State::Clean(bitmap)),
@@ -53,20 +56,23 @@ fn rewind<const N: usize>(bitmap: CleanBitMap<N>, number: u64) -> (Reply<N>, Sta
 }
 
 pub fn len<const N: usize>(bitmap: &CleanBitMap<N>) -> Reply<N>
-    ensures { StepTo N Agrees (clean N bitmap.now) Command.Len (value_of result) (clean N bitmap.now) }
+    ensures { StepTo N Agrees (clean N bitmap.now) Command.Len (value_of result)
+        (clean N bitmap.now) }
 {
     Reply::Number(bitmap.len())
 }
 
 pub fn pruned_chunks<const N: usize>(bitmap: &CleanBitMap<N>) -> Reply<N>
-    ensures { StepTo N Agrees (clean N bitmap.now) Command.PrunedChunks (value_of result) (clean N bitmap.now) }
+    ensures { StepTo N Agrees (clean N bitmap.now) Command.PrunedChunks (value_of result)
+        (clean N bitmap.now) }
 {
     Reply::Number(bitmap.pruned_chunks() as u64)
 }
 
 #[inline(always)]
 pub fn get<const N: usize>(bitmap: &CleanBitMap<N>, position: u64) -> Reply<N>
-    ensures { StepTo N Agrees (clean N bitmap.now) (Command.Get position) (value_of result) (clean N bitmap.now) }
+    ensures { StepTo N Agrees (clean N bitmap.now) (Command.Get position) (value_of result)
+        (clean N bitmap.now) }
 {
     match check_position(bitmap.len(), bitmap.current().pruned_bits(), position) {
         Ok(()) => Reply::Bit(bitmap.get_bit(position)),
@@ -75,7 +81,8 @@ pub fn get<const N: usize>(bitmap: &CleanBitMap<N>, position: u64) -> Reply<N>
 }
 
 pub fn chunk<const N: usize>(bitmap: &CleanBitMap<N>, position: u64) -> Reply<N>
-    ensures { StepTo N Agrees (clean N bitmap.now) (Command.Chunk position) (value_of result) (clean N bitmap.now) }
+    ensures { StepTo N Agrees (clean N bitmap.now) (Command.Chunk position) (value_of result)
+        (clean N bitmap.now) }
 {
     match check_position(bitmap.len(), bitmap.current().pruned_bits(), position) {
         Ok(()) => Reply::Chunk(*bitmap.get_chunk_containing(position)),
@@ -98,7 +105,8 @@ fn set_positions<B: Readable<N>, const N: usize>(
 }
 
 pub fn ones<const N: usize>(bitmap: &CleanBitMap<N>, alloc: Global, from: u64, to: u64) -> Reply<N>
-    ensures { StepTo N Agrees (clean N bitmap.now) (Command.Ones from to) (value_of result) (clean N bitmap.now) }
+    ensures { StepTo N Agrees (clean N bitmap.now) (Command.Ones from to) (value_of result)
+        (clean N bitmap.now) }
 {
     match set_positions(bitmap.current(), alloc, from, to) {
         Ok(positions) => Reply::Positions(Some(positions)),
@@ -116,7 +124,8 @@ fn encoded<const N: usize>(bitmap: &Prunable<N>, alloc: Global) -> Result<Vec<u8
 }
 
 pub fn encode<const N: usize>(bitmap: &CleanBitMap<N>, alloc: Global) -> Reply<N>
-    ensures { StepTo N Agrees (clean N bitmap.now) Command.Encode (value_of result) (clean N bitmap.now) }
+    ensures { StepTo N Agrees (clean N bitmap.now) Command.Encode (value_of result)
+        (clean N bitmap.now) }
 {
     match encoded(bitmap.current(), alloc) {
         Ok(bytes) => Reply::Bytes(Some(bytes)),
@@ -125,7 +134,8 @@ pub fn encode<const N: usize>(bitmap: &CleanBitMap<N>, alloc: Global) -> Reply<N
 }
 
 pub fn at<const N: usize>(bitmap: &CleanBitMap<N>, number: u64) -> Reply<N>
-    ensures { StepTo N Agrees (clean N bitmap.now) (Command.At number) (value_of result) (clean N bitmap.now) }
+    ensures { StepTo N Agrees (clean N bitmap.now) (Command.At number) (value_of result)
+        (clean N bitmap.now) }
 {
     match bitmap.get_at_commit(number) {
         Ok(found) => Reply::Snapshot(found),
@@ -141,7 +151,9 @@ fn kept_positions<const N: usize>(
     from: u64,
     to: u64,
 ) -> Result<Option<Vec<u64>>, AllocError>
-    ensures ok { IfOk result (λ found. option_map (λ v. v.items) found ≡ option_map (ones_of N from to) (kept_under (history_of N bitmap.now) number)) }
+    ensures ok { IfOk result
+        (λ found. option_map (λ v. v.items) found
+        ≡ option_map (ones_of N from to) (kept_under (history_of N bitmap.now) number)) }
     ensures absent { kept_under (history_of N bitmap.now) number ≡ None → result ≡ Ok None }
 {
     let Some(version) = bitmap.at_for(number, to.saturating_sub(from)) else {
@@ -157,7 +169,8 @@ pub fn ones_at<const N: usize>(
     from: u64,
     to: u64,
 ) -> Reply<N>
-    ensures { StepTo N Agrees (clean N bitmap.now) (Command.OnesAt number from to) (value_of result) (clean N bitmap.now) }
+    ensures { StepTo N Agrees (clean N bitmap.now) (Command.OnesAt number from to) (value_of result)
+        (clean N bitmap.now) }
 {
     match kept_positions(bitmap, alloc, number, from, to) {
         Ok(positions) => Reply::Positions(positions),
@@ -171,7 +184,9 @@ fn kept_encoding<const N: usize>(
     alloc: Global,
     number: u64,
 ) -> Result<Option<Vec<u8>>, AllocError>
-    ensures ok { IfOk result (λ found. option_map (λ v. v.items) found ≡ option_map (pruned_encoding N) (kept_under (history_of N bitmap.now) number)) }
+    ensures ok { IfOk result
+        (λ found. option_map (λ v. v.items) found
+        ≡ option_map (pruned_encoding N) (kept_under (history_of N bitmap.now) number)) }
     ensures absent { kept_under (history_of N bitmap.now) number ≡ None → result ≡ Ok None }
 {
     match bitmap.get_at_commit(number)? {
@@ -181,7 +196,8 @@ fn kept_encoding<const N: usize>(
 }
 
 pub fn encode_at<const N: usize>(bitmap: &CleanBitMap<N>, alloc: Global, number: u64) -> Reply<N>
-    ensures { StepTo N Agrees (clean N bitmap.now) (Command.EncodeAt number) (value_of result) (clean N bitmap.now) }
+    ensures { StepTo N Agrees (clean N bitmap.now) (Command.EncodeAt number) (value_of result)
+        (clean N bitmap.now) }
 {
     match kept_encoding(bitmap, alloc, number) {
         Ok(bytes) => Reply::Bytes(bytes),
@@ -200,7 +216,8 @@ fn kept_numbers<const N: usize>(
 }
 
 pub fn commits<const N: usize>(bitmap: &CleanBitMap<N>, alloc: Global) -> Reply<N>
-    ensures { StepTo N Agrees (clean N bitmap.now) Command.Commits (value_of result) (clean N bitmap.now) }
+    ensures { StepTo N Agrees (clean N bitmap.now) Command.Commits (value_of result)
+        (clean N bitmap.now) }
 {
     match kept_numbers(bitmap, alloc) {
         Ok(numbers) => Reply::Positions(Some(numbers)),
@@ -209,38 +226,44 @@ pub fn commits<const N: usize>(bitmap: &CleanBitMap<N>, alloc: Global) -> Reply<
 }
 
 pub fn exists<const N: usize>(bitmap: &CleanBitMap<N>, number: u64) -> Reply<N>
-    ensures { StepTo N Agrees (clean N bitmap.now) (Command.Exists number) (value_of result) (clean N bitmap.now) }
+    ensures { StepTo N Agrees (clean N bitmap.now) (Command.Exists number) (value_of result)
+        (clean N bitmap.now) }
 {
     Reply::Bit(bitmap.commit_exists(number))
 }
 
 pub fn latest<const N: usize>(bitmap: &CleanBitMap<N>) -> Reply<N>
-    ensures { StepTo N Agrees (clean N bitmap.now) Command.Latest (value_of result) (clean N bitmap.now) }
+    ensures { StepTo N Agrees (clean N bitmap.now) Command.Latest (value_of result)
+        (clean N bitmap.now) }
 {
     Reply::Maybe(bitmap.latest_commit())
 }
 
 pub fn earliest<const N: usize>(bitmap: &CleanBitMap<N>) -> Reply<N>
-    ensures { StepTo N Agrees (clean N bitmap.now) Command.Earliest (value_of result) (clean N bitmap.now) }
+    ensures { StepTo N Agrees (clean N bitmap.now) Command.Earliest (value_of result)
+        (clean N bitmap.now) }
 {
     Reply::Maybe(bitmap.earliest_commit())
 }
 
 pub fn drop_before<const N: usize>(bitmap: &mut CleanBitMap<N>, number: u64) -> Reply<N>
-    ensures { StepTo N Agrees (clean N bitmap.old) (Command.DropBefore number) (value_of result) (clean N bitmap.new) }
+    ensures { StepTo N Agrees (clean N bitmap.old) (Command.DropBefore number) (value_of result)
+        (clean N bitmap.new) }
 {
     Reply::Number(bitmap.prune_commits_before(number) as u64)
 }
 
 pub fn clear<const N: usize>(bitmap: &mut CleanBitMap<N>) -> Reply<N>
-    ensures { StepTo N Agrees (clean N bitmap.old) Command.Clear (value_of result) (clean N bitmap.new) }
+    ensures { StepTo N Agrees (clean N bitmap.old) Command.Clear (value_of result)
+        (clean N bitmap.new) }
 {
     bitmap.clear_history();
     Reply::Done
 }
 
 pub fn entries<const N: usize>(bitmap: &CleanBitMap<N>) -> Reply<N>
-    ensures { StepTo N Agrees (clean N bitmap.now) Command.Entries (value_of result) (clean N bitmap.now) }
+    ensures { StepTo N Agrees (clean N bitmap.now) Command.Entries (value_of result)
+        (clean N bitmap.now) }
 {
     Reply::Wide(bitmap.reverse_entries())
 }
@@ -254,7 +277,8 @@ pub fn step<const N: usize>(
 ) -> (Reply<N>, State<N>)
     requires width { IsWidth N }
     requires replaces { ReplacesState command.now }
-    ensures { StepTo N Agrees (clean N bitmap.entry) command.now (value_of result.0) (machine_of result.1) }
+    ensures { StepTo N Agrees (clean N bitmap.entry) command.now (value_of result.0)
+        (machine_of result.1) }
 {
     match command {
         Command::Start(chunks) => start(bitmap, alloc, *chunks),

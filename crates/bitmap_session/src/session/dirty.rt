@@ -31,7 +31,8 @@ pub fn has_space<const N: usize>(bitmap: &DirtyBitMap<N>, more: u64) -> bool
 }
 
 pub fn push<const N: usize>(bitmap: &mut DirtyBitMap<N>, value: bool) -> Reply<N>
-    ensures { StepTo N Agrees (dirty N bitmap.old) (Command.Push value) (value_of result) (dirty N bitmap.new) }
+    ensures { StepTo N Agrees (dirty N bitmap.old) (Command.Push value) (value_of result)
+        (dirty N bitmap.new) }
 {
     if !has_space(bitmap, 1) {
         return Reply::Refused(Refusal::TooLong);
@@ -43,7 +44,8 @@ pub fn push<const N: usize>(bitmap: &mut DirtyBitMap<N>, value: bool) -> Reply<N
 }
 
 pub fn push_byte<const N: usize>(bitmap: &mut DirtyBitMap<N>, byte: u8) -> Reply<N>
-    ensures { StepTo N Agrees (dirty N bitmap.old) (Command.PushByte byte) (value_of result) (dirty N bitmap.new) }
+    ensures { StepTo N Agrees (dirty N bitmap.old) (Command.PushByte byte) (value_of result)
+        (dirty N bitmap.new) }
 {
     if !has_space(bitmap, 8) {
         return Reply::Refused(Refusal::TooLong);
@@ -55,7 +57,8 @@ pub fn push_byte<const N: usize>(bitmap: &mut DirtyBitMap<N>, byte: u8) -> Reply
 }
 
 pub fn push_chunk<const N: usize>(bitmap: &mut DirtyBitMap<N>, bytes: &[u8; N]) -> Reply<N>
-    ensures { StepTo N Agrees (dirty N bitmap.old) (Command.PushChunk bytes.now) (value_of result) (dirty N bitmap.new) }
+    ensures { StepTo N Agrees (dirty N bitmap.old) (Command.PushChunk bytes.now) (value_of result)
+        (dirty N bitmap.new) }
 {
     // The call shows the prover that 8 * N fits u64.
     let _ = bitmap.len();
@@ -69,7 +72,8 @@ pub fn push_chunk<const N: usize>(bitmap: &mut DirtyBitMap<N>, bytes: &[u8; N]) 
 }
 
 pub fn pop<const N: usize>(bitmap: &mut DirtyBitMap<N>) -> Reply<N>
-    ensures { StepTo N Agrees (dirty N bitmap.old) Command.Pop (value_of result) (dirty N bitmap.new) }
+    ensures { StepTo N Agrees (dirty N bitmap.old) Command.Pop (value_of result)
+        (dirty N bitmap.new) }
 {
     if bitmap.len() == pruned_bits(bitmap) {
         return Reply::Refused(Refusal::NoRetainedBit);
@@ -78,7 +82,8 @@ pub fn pop<const N: usize>(bitmap: &mut DirtyBitMap<N>) -> Reply<N>
 }
 
 pub fn set<const N: usize>(bitmap: &mut DirtyBitMap<N>, position: u64, value: bool) -> Reply<N>
-    ensures { StepTo N Agrees (dirty N bitmap.old) (Command.Set position value) (value_of result) (dirty N bitmap.new) }
+    ensures { StepTo N Agrees (dirty N bitmap.old) (Command.Set position value) (value_of result)
+        (dirty N bitmap.new) }
 {
     if let Err(refusal) = check_position(bitmap.len(), pruned_bits(bitmap), position) {
         return Reply::Refused(refusal);
@@ -90,7 +95,8 @@ pub fn set<const N: usize>(bitmap: &mut DirtyBitMap<N>, position: u64, value: bo
 }
 
 pub fn prune<const N: usize>(bitmap: &mut DirtyBitMap<N>, position: u64) -> Reply<N>
-    ensures { StepTo N Agrees (dirty N bitmap.old) (Command.Prune position) (value_of result) (dirty N bitmap.new) }
+    ensures { StepTo N Agrees (dirty N bitmap.old) (Command.Prune position) (value_of result)
+        (dirty N bitmap.new) }
 {
     if position > bitmap.len() {
         return Reply::Refused(Refusal::OutOfBounds);
@@ -102,7 +108,8 @@ pub fn prune<const N: usize>(bitmap: &mut DirtyBitMap<N>, position: u64) -> Repl
 }
 
 fn commit<const N: usize>(bitmap: DirtyBitMap<N>, number: u64) -> (Reply<N>, State<N>)
-    ensures { StepTo N Agrees (dirty N bitmap.entry) (Command.Commit number) (value_of result.0) (machine_of result.1) }
+    ensures { StepTo N Agrees (dirty N bitmap.entry) (Command.Commit number) (value_of result.0)
+        (machine_of result.1) }
 {
     match bitmap.commit(number) {
         Ok(bitmap) => (Reply::Done, State::Clean(bitmap)),
@@ -111,25 +118,29 @@ fn commit<const N: usize>(bitmap: DirtyBitMap<N>, number: u64) -> (Reply<N>, Sta
 }
 
 fn abort<const N: usize>(bitmap: DirtyBitMap<N>) -> (Reply<N>, State<N>)
-    ensures { StepTo N Agrees (dirty N bitmap.entry) Command.Abort (value_of result.0) (machine_of result.1) }
+    ensures { StepTo N Agrees (dirty N bitmap.entry) Command.Abort (value_of result.0)
+        (machine_of result.1) }
 {
     (Reply::Done, State::Clean(bitmap.abort()))
 }
 
 pub fn len<const N: usize>(bitmap: &DirtyBitMap<N>) -> Reply<N>
-    ensures { StepTo N Agrees (dirty N bitmap.now) Command.Len (value_of result) (dirty N bitmap.now) }
+    ensures { StepTo N Agrees (dirty N bitmap.now) Command.Len (value_of result)
+        (dirty N bitmap.now) }
 {
     Reply::Number(bitmap.len())
 }
 
 pub fn pruned_chunks<const N: usize>(bitmap: &DirtyBitMap<N>) -> Reply<N>
-    ensures { StepTo N Agrees (dirty N bitmap.now) Command.PrunedChunks (value_of result) (dirty N bitmap.now) }
+    ensures { StepTo N Agrees (dirty N bitmap.now) Command.PrunedChunks (value_of result)
+        (dirty N bitmap.now) }
 {
     Reply::Number(bitmap.pruned_chunks() as u64)
 }
 
 pub fn get<const N: usize>(bitmap: &DirtyBitMap<N>, position: u64) -> Reply<N>
-    ensures { StepTo N Agrees (dirty N bitmap.now) (Command.Get position) (value_of result) (dirty N bitmap.now) }
+    ensures { StepTo N Agrees (dirty N bitmap.now) (Command.Get position) (value_of result)
+        (dirty N bitmap.now) }
 {
     match check_position(bitmap.len(), pruned_bits(bitmap), position) {
         Ok(()) => Reply::Bit(bitmap.get_bit(position)),
@@ -138,7 +149,8 @@ pub fn get<const N: usize>(bitmap: &DirtyBitMap<N>, position: u64) -> Reply<N>
 }
 
 pub fn chunk<const N: usize>(bitmap: &DirtyBitMap<N>, position: u64) -> Reply<N>
-    ensures { StepTo N Agrees (dirty N bitmap.now) (Command.Chunk position) (value_of result) (dirty N bitmap.now) }
+    ensures { StepTo N Agrees (dirty N bitmap.now) (Command.Chunk position) (value_of result)
+        (dirty N bitmap.now) }
 {
     match check_position(bitmap.len(), pruned_bits(bitmap), position) {
         Ok(()) => Reply::Chunk(bitmap.get_chunk(position)),
@@ -150,7 +162,8 @@ pub fn chunk<const N: usize>(bitmap: &DirtyBitMap<N>, position: u64) -> Reply<N>
 /// unchanged.
 pub fn step<const N: usize>(bitmap: DirtyBitMap<N>, command: &Command<N>) -> (Reply<N>, State<N>)
     requires replaces { ReplacesState command.now }
-    ensures { StepTo N Agrees (dirty N bitmap.entry) command.now (value_of result.0) (machine_of result.1) }
+    ensures { StepTo N Agrees (dirty N bitmap.entry) command.now (value_of result.0)
+        (machine_of result.1) }
 {
     match command {
         Command::Commit(number) => commit(bitmap, *number),

@@ -24,7 +24,8 @@ use std::alloc::Global;
 #[inline(always)]
 pub fn check_position(len: u64, pruned_bits: u64, position: u64) -> Result<(), Refusal>
     ensures why { option_map reason (result_err result)
-        ≡ first (when (nat_le len position) replies.Refusal.OutOfBounds ∷ when (nat_lt position pruned_bits) replies.Refusal.Pruned ∷ []) }
+        ≡ first (when (nat_le len position) replies.Refusal.OutOfBounds
+        ∷ when (nat_lt position pruned_bits) replies.Refusal.Pruned ∷ []) }
     ensures retained { OnOk result ((pruned_bits ≤ position) × (position < len)) }
 {
     if position >= len {

@@ -163,7 +163,12 @@ impl<const N: usize, S: State> Model for BitMap<N, S> {
 
     ghost Value = { View S };
 
-    ghost view = { λ b. record { current = b.current; commits = b.commits; last = b.last; state = b.state } };
+    ghost view = { λ b. record {
+      current = b.current;
+      commits = b.commits;
+      last = b.last;
+      state = b.state;
+    } };
 
     ghost invariant = { λ b. S.fits N b.current b.state × AreKept N b.current b.commits b.last };
 }

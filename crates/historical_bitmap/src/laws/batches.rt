@@ -22,8 +22,10 @@ pub fn begun_is_a_batch<const N: usize>(bitmap: CleanBitMap<N>) -> DirtyBitMap<N
 ///
 /// The body is empty: a caller only uses the contract. Does not allocate; constant time.
 pub fn edited_is_a_batch()
-    ensures edit { (n : ℕ) (begun : View ⊤) (old new : View PendingEdits) (edit : Edit) → IsBatchOn begun old → IsEditOf n old edit new → IsBatchOn begun new }
-    ensures run { (n : ℕ) (begun : View ⊤) (old new : View PendingEdits) (edits : List Edit) → IsBatchOn begun old → IsRunOf n old edits new → IsBatchOn begun new }
+    ensures edit { (n : ℕ) (begun : View ⊤) (old new : View PendingEdits) (edit : Edit)
+        → IsBatchOn begun old → IsEditOf n old edit new → IsBatchOn begun new }
+    ensures run { (n : ℕ) (begun : View ⊤) (old new : View PendingEdits) (edits : List Edit)
+        → IsBatchOn begun old → IsRunOf n old edits new → IsBatchOn begun new }
 {}
 
 /// Aborts a batch, and returns the bitmap that the batch is on, unchanged.

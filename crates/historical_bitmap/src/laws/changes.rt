@@ -27,10 +27,14 @@ pub fn changes_make_the_newer_state<'a, const N: usize>(
     from: u64,
     to: u64,
 ) -> Option<(AtCommit<'a, N>, AtCommit<'a, N>, ChangedChunks<'a, N>)>
-    ensures value { option_map (λ found. found.2) result ≡ changed_between N (history_of N bitmap.now) from to }
-    ensures older { IfSome result (λ found. kept_under (history_of N bitmap.now) from ≡ Some found.0) }
-    ensures newer { IfSome result (λ found. kept_under (history_of N bitmap.now) to ≡ Some found.1) }
-    ensures exactly { IfSome result (λ found. (i : ℕ) → is_member nat_eq found.2 i ≡ differs N found.0 found.1 i) }
+    ensures value { option_map (λ found. found.2) result
+        ≡ changed_between N (history_of N bitmap.now) from to }
+    ensures older { IfSome result
+        (λ found. kept_under (history_of N bitmap.now) from ≡ Some found.0) }
+    ensures newer { IfSome result
+        (λ found. kept_under (history_of N bitmap.now) to ≡ Some found.1) }
+    ensures exactly { IfSome result
+        (λ found. (i : ℕ) → is_member nat_eq found.2 i ≡ differs N found.0 found.1 i) }
     ensures ascending { IfSome result (λ found. IsStrictlyIncreasing found.2) }
     ensures patched { IfSome result (λ found. patched N found.0 found.1 found.2 ≡ found.1) }
 {
@@ -50,9 +54,11 @@ pub fn changes_make_the_newer_state<'a, const N: usize>(
 pub fn changes_make_the_pending_bitmap<'a, const N: usize>(
     batch: &'a DirtyBitMap<N>,
 ) -> PendingChanges<'a, N>
-    ensures exactly { (i : ℕ) → is_member nat_eq result i ≡ differs N batch.now.current (pending_of N batch.now) i }
+    ensures exactly { (i : ℕ)
+        → is_member nat_eq result i ≡ differs N batch.now.current (pending_of N batch.now) i }
     ensures ascending { IsStrictlyIncreasing result }
-    ensures patched { patched N batch.now.current (pending_of N batch.now) result ≡ pending_of N batch.now }
+    ensures patched { patched N batch.now.current (pending_of N batch.now) result
+        ≡ pending_of N batch.now }
 {
     let _ = batch.len();
     batch.changed_chunks()
@@ -68,7 +74,8 @@ pub fn changes_stay_ended<const N: usize>(
     changes: &mut ChangedChunks<'_, N>,
 ) -> (Option<usize>, Option<usize>)
     ensures ends { result.0 ≡ None → (changes.old ≡ []) × (result.1 ≡ None) × (changes.new ≡ []) }
-    ensures steps { (between : List ℕ) × YieldsFirst (λ left. left) changes.old result.0 between × YieldsFirst (λ left. left) between result.1 changes.new }
+    ensures steps { (between : List ℕ) × YieldsFirst (λ left. left) changes.old result.0 between
+        × YieldsFirst (λ left. left) between result.1 changes.new }
 {
     (changes.next(), changes.next())
 }

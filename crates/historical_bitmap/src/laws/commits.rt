@@ -37,7 +37,8 @@ pub fn numbers_stay_ended<const N: usize>(
     numbers: &mut Commits<'_, N>,
 ) -> (Option<u64>, Option<u64>)
     ensures ends { result.0 ≡ None → (numbers.old ≡ []) × (result.1 ≡ None) × (numbers.new ≡ []) }
-    ensures steps { (between : List ℕ) × YieldsFirst (λ left. left) numbers.old result.0 between × YieldsFirst (λ left. left) between result.1 numbers.new }
+    ensures steps { (between : List ℕ) × YieldsFirst (λ left. left) numbers.old result.0 between
+        × YieldsFirst (λ left. left) between result.1 numbers.new }
 {
     (numbers.next(), numbers.next())
 }
@@ -52,7 +53,9 @@ pub fn numbers_stay_ended<const N: usize>(
 /// # Complexity
 /// That of `prune_commits_before`.
 pub fn drop_leaves_the_later<const N: usize>(bitmap: &mut CleanBitMap<N>, number: u64) -> usize
-    ensures states { (k : ℕ) → kept_under (history_of N bitmap.new) k ≡ (if nat_le number k then kept_under (history_of N bitmap.old) k else None) }
+    ensures states { (k : ℕ)
+        → kept_under (history_of N bitmap.new) k
+        ≡ (if nat_le number k then kept_under (history_of N bitmap.old) k else None) }
     ensures current { bitmap.new.current ≡ bitmap.old.current }
     ensures count { result + length (history_of N bitmap.new) ≡ length (history_of N bitmap.old) }
 {

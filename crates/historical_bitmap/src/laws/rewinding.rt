@@ -46,7 +46,9 @@ pub fn rewinding_leaves_the_earlier<const N: usize>(
     bitmap: CleanBitMap<N>,
     number: u64,
 ) -> Result<CleanBitMap<N>, (CleanBitMap<N>, RewindError)>
-    ensures { IfOk result (λ back. (k : ℕ) → kept_under (history_of N back) k ≡ (if nat_le k number then kept_under (history_of N bitmap.entry) k else None)) }
+    ensures { IfOk result (λ back.
+        (k : ℕ) → kept_under (history_of N back) k
+        ≡ (if nat_le k number then kept_under (history_of N bitmap.entry) k else None)) }
 {
     bitmap.rewind_to(number)
 }
@@ -68,7 +70,8 @@ pub fn next_number_is_above<const N: usize>(
     next: u64,
 ) -> Result<Result<CleanBitMap<N>, (DirtyBitMap<N>, Error)>, (CleanBitMap<N>, RewindError)>
     ensures accepted { IfOk result (λ committed. OnOk committed (number < next)) }
-    ensures refused { next ≤ number → IfOk result (λ committed. IfErr committed (λ e. e.1 ≡ NonMonotonicCommit number next)) }
+    ensures refused { next ≤ number
+        → IfOk result (λ committed. IfErr committed (λ e. e.1 ≡ NonMonotonicCommit number next)) }
 {
     let back = bitmap.rewind_to(number)?;
     Ok(back.into_dirty().commit(next))

@@ -28,7 +28,8 @@ fn chunks_of<const N: usize>(bytes: &[u8], count: usize) -> &[[u8; N]]
 fn is_set_past<const N: usize>(chunks: &[[u8; N]], len: u64) -> bool
     requires width { IsWidth N }
     requires count { IsChunkCount N (length chunks.now) len }
-    ensures { result ≡ list_any (chunks_bit N chunks.now) (range_with_len len (8 * N * length chunks.now - len)) }
+    ensures { result ≡ list_any (chunks_bit N chunks.now)
+        (range_with_len len (8 * N * length chunks.now - len)) }
 {
     let from = len % chunk_width::<N>();
     if from == 0 {
@@ -46,9 +47,12 @@ pub fn parts<'a, const N: usize>(
     requires width { IsWidth N }
     ensures accepted { OnOk result (bits_error N (admits range.now) text.now ≡ None) }
     ensures len { IfOk result (λ p. p.0 ≡ number text.now) }
-    ensures chunks { IfOk result (λ p. p.1.now ≡ first_chunks N (chunk_count N (number text.now)) (take (chunk_bytes N text.now) (drop 8 text.now))) }
+    ensures chunks { IfOk result
+        (λ p. p.1.now ≡ first_chunks N (chunk_count N (number text.now))
+        (take (chunk_bytes N text.now) (drop 8 text.now))) }
     ensures rest { IfOk result (λ p. p.2.now ≡ drop (8 + chunk_bytes N text.now) text.now) }
-    ensures refused { IfErr result (λ e. bits_error N (admits range.now) text.now ≡ decode_error e) }
+    ensures refused { IfErr result
+        (λ e. bits_error N (admits range.now) text.now ≡ decode_error e) }
     ensures named { IfErr result (λ e. IsSome (decode_error e)) }
     ensures bytes { (k : ℕ) → slice_index text.now k < 256 }
 {

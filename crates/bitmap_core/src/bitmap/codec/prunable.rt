@@ -26,7 +26,8 @@ fn count_part<const N: usize>(text: &[u8]) -> Result<(usize, u64, &[u8]), CodecE
     ensures pruned { IfOk result (λ p. p.1 ≡ 8 * N * number text.now) }
     ensures fits { OnOk result (8 * N * number text.now < 2 ^ 64) }
     ensures body { IfOk result (λ p. p.2.now ≡ drop 8 text.now) }
-    ensures refused { IfErr result (λ e. (range : ℕ → Bool) → pruned_error N range text.now ≡ decode_error e) }
+    ensures refused { IfErr result
+        (λ e. (range : ℕ → Bool) → pruned_error N range text.now ≡ decode_error e) }
     ensures bytes { (k : ℕ) → slice_index text.now k < 256 }
 {
     let (front, body) = text
@@ -53,10 +54,14 @@ fn pruned_parts<'a, const N: usize>(
     ensures long { OnOk result (8 ≤ length text.now) }
     ensures pruned { IfOk result (λ p. p.0 ≡ number text.now) }
     ensures len { IfOk result (λ p. p.1 ≡ number (drop 8 text.now)) }
-    ensures chunks { IfOk result (λ p. p.2.now ≡ first_chunks N (chunk_count N (number (drop 8 text.now))) (take (chunk_bytes N (drop 8 text.now)) (drop 8 (drop 8 text.now)))) }
-    ensures rest { IfOk result (λ p. p.3.now ≡ drop (8 + chunk_bytes N (drop 8 text.now)) (drop 8 text.now)) }
+    ensures chunks { IfOk result
+        (λ p. p.2.now ≡ first_chunks N (chunk_count N (number (drop 8 text.now)))
+        (take (chunk_bytes N (drop 8 text.now)) (drop 8 (drop 8 text.now)))) }
+    ensures rest { IfOk result
+        (λ p. p.3.now ≡ drop (8 + chunk_bytes N (drop 8 text.now)) (drop 8 text.now)) }
     ensures total { IfOk result (λ p. 8 * N * p.0 + p.1 < 2 ^ 64) }
-    ensures refused { IfErr result (λ e. pruned_error N (admits range.now) text.now ≡ decode_error e) }
+    ensures refused { IfErr result
+        (λ e. pruned_error N (admits range.now) text.now ≡ decode_error e) }
     ensures bytes { (k : ℕ) → slice_index text.now k < 256 }
 {
     let (pruned_chunks, pruned_bits, body) = count_part::<N>(text)?;

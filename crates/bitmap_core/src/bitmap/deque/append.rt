@@ -17,8 +17,10 @@ fn fill_open<const N: usize>(chunks: &mut VecDeque<[u8; N]>, len: u64, front: &[
     requires count { IsChunkCount N (length chunks.old.items) len }
     ensures count { length chunks.new.items ≡ length chunks.old.items }
     ensures capacity { deque_capacity chunks.new ≡ deque_capacity chunks.old }
-    ensures kept { (i : ℕ) → i < len → chunks_bit N chunks.new.items i ≡ chunks_bit N chunks.old.items i }
-    ensures joined { (i : ℕ) → len ≤ i → i / (8 * N) < length chunks.old.items → chunks_bit N chunks.new.items i ≡ bytes_bit (front.now ++ back.now) (i - len) }
+    ensures kept { (i : ℕ) → i < len
+        → chunks_bit N chunks.new.items i ≡ chunks_bit N chunks.old.items i }
+    ensures joined { (i : ℕ) → len ≤ i → i / (8 * N) < length chunks.old.items
+        → chunks_bit N chunks.new.items i ≡ bytes_bit (front.now ++ back.now) (i - len) }
 {
     if len % chunk_width::<N>() != 0 {
         join(&mut chunks[chunk_index::<N>(len)], len, front, back);
@@ -38,8 +40,11 @@ fn push_whole<const N: usize>(
     requires fewer { length chunks.old.items ≤ div_ceil total (8 * N) }
     requires capacity { div_ceil total (8 * N) ≤ deque_capacity chunks.old }
     ensures count { length chunks.new.items ≡ div_ceil total (8 * N) }
-    ensures kept { (i : ℕ) → i / (8 * N) < length chunks.old.items → chunks_bit N chunks.new.items i ≡ chunks_bit N chunks.old.items i }
-    ensures joined { (i : ℕ) → length chunks.old.items ≤ i / (8 * N) → i / (8 * N) < length chunks.new.items → chunks_bit N chunks.new.items i ≡ bytes_bit (front.now ++ back.now) (i - len) }
+    ensures kept { (i : ℕ) → i / (8 * N) < length chunks.old.items
+        → chunks_bit N chunks.new.items i ≡ chunks_bit N chunks.old.items i }
+    ensures joined { (i : ℕ) → length chunks.old.items ≤ i / (8 * N)
+        → i / (8 * N) < length chunks.new.items
+        → chunks_bit N chunks.new.items i ≡ bytes_bit (front.now ++ back.now) (i - len) }
 {
     let count = chunk_count::<N>(total);
     while chunks.len() < count {
@@ -60,8 +65,11 @@ pub fn append_run<const N: usize>(
     requires order { len ≤ total }
     requires count { IsChunkCount N (length chunks.old.items) len }
     ensures count { OnOk result (IsChunkCount N (length chunks.new.items) total) }
-    ensures kept { OnOk result ((i : ℕ) → i < len → chunks_bit N chunks.new.items i ≡ chunks_bit N chunks.old.items i) }
-    ensures joined { OnOk result ((i : ℕ) → len ≤ i → i / (8 * N) < length chunks.new.items → chunks_bit N chunks.new.items i ≡ bytes_bit (front.now ++ back.now) (i - len)) }
+    ensures kept { OnOk result
+        ((i : ℕ) → i < len → chunks_bit N chunks.new.items i ≡ chunks_bit N chunks.old.items i) }
+    ensures joined { OnOk result
+        ((i : ℕ) → len ≤ i → i / (8 * N) < length chunks.new.items
+        → chunks_bit N chunks.new.items i ≡ bytes_bit (front.now ++ back.now) (i - len)) }
     ensures err { OnErr result (chunks.new.items ≡ chunks.old.items) }
     ensures has_capacity { total ≤ 8 * N * length chunks.old.items → IsOk result }
 {

@@ -39,7 +39,8 @@ pub fn set_bit<const N: usize>(chunks: &mut VecDeque<[u8; N]>, bit: u64, value: 
 pub fn flip_bit<const N: usize>(chunks: &mut VecDeque<[u8; N]>, bit: u64)
     requires width { IsWidth N }
     requires within { bit / (8 * N) < length chunks.old.items }
-    ensures { IsBitPut N chunks.old.items chunks.new.items bit (not (chunks_bit N chunks.old.items bit)) }
+    ensures { IsBitPut N chunks.old.items chunks.new.items bit
+        (not (chunks_bit N chunks.old.items bit)) }
 {
     chunk::flip_bit(&mut chunks[chunk_index::<N>(bit)], bit);
 }
@@ -58,7 +59,8 @@ pub fn clear_tail<const N: usize>(chunks: &mut VecDeque<[u8; N]>, len: u64)
     requires width { IsWidth N }
     requires count { IsChunkCount N (length chunks.old.items) len }
     ensures count { length chunks.new.items ≡ length chunks.old.items }
-    ensures below { (i : ℕ) → i < len → chunks_bit N chunks.new.items i ≡ chunks_bit N chunks.old.items i }
+    ensures below { (i : ℕ) → i < len
+        → chunks_bit N chunks.new.items i ≡ chunks_bit N chunks.old.items i }
     ensures zero { IsZeroFrom N chunks.new.items len }
 {
     let from = len % chunk_width::<N>();

@@ -16,7 +16,8 @@ pub fn from_bools<const N: usize>(
 ) -> Result<VecDeque<[u8; N]>, AllocError>
     requires width { IsWidth N }
     ensures count { IfOk result (λ q. IsChunkCount N (length q.items) (length bools.now)) }
-    ensures bits { IfOk result (λ q. (i : ℕ) → chunks_bit N q.items i ≡ slice_index_or bools.now i false) }
+    ensures bits { IfOk result
+        (λ q. (i : ℕ) → chunks_bit N q.items i ≡ slice_index_or bools.now i false) }
     ensures none { length bools.now ≡ 0 → IsOk result }
 {
     let width = chunk_width::<N>() as usize;

@@ -11,8 +11,10 @@ use std::collections::VecDeque;
 // The number of set bits of some chunks.
 pub fn count_ones<const N: usize>(chunks: &VecDeque<[u8; N]>) -> u64
     requires positive { 0 < N }
-    requires fits { count_by (λ b. b) (bits N chunks.now.items (8 * N * length chunks.now.items)) < 2 ^ 64 }
-    ensures { result ≡ count_by (λ b. b) (bits N chunks.now.items (8 * N * length chunks.now.items)) }
+    requires fits { count_by (λ b. b) (bits N chunks.now.items (8 * N * length chunks.now.items))
+        < 2 ^ 64 }
+    ensures { result ≡ count_by (λ b. b)
+        (bits N chunks.now.items (8 * N * length chunks.now.items)) }
 {
     let (front, back) = bytes(chunks);
     words::count_ones(front) + words::count_ones(back)
@@ -22,7 +24,8 @@ pub fn count_ones<const N: usize>(chunks: &VecDeque<[u8; N]>) -> u64
 pub fn is_unset<const N: usize>(chunks: &VecDeque<[u8; N]>, from: u64, to: u64) -> bool
     requires positive { 0 < N }
     requires within { to ≤ 8 * N * length chunks.now.items }
-    ensures { result ≡ list_all (λ i. not (chunks_bit N chunks.now.items i)) (range_with_len from (to - from)) }
+    ensures { result ≡ list_all (λ i. not (chunks_bit N chunks.now.items i))
+        (range_with_len from (to - from)) }
 {
     let (front, back) = bytes(chunks);
     let split = (front.len() as u64).saturating_mul(8);

@@ -21,7 +21,8 @@ const WIDE: usize = 32;
 pub fn flip<const N: usize>(chunks: &mut VecDeque<[u8; N]>)
     requires { 0 < N }
     ensures count { length chunks.new.items ≡ length chunks.old.items }
-    ensures bits { (k : ℕ) → k / (8 * N) < length chunks.old.items → chunks_bit N chunks.new.items k ≡ not (chunks_bit N chunks.old.items k) }
+    ensures bits { (k : ℕ) → k / (8 * N) < length chunks.old.items
+        → chunks_bit N chunks.new.items k ≡ not (chunks_bit N chunks.old.items k) }
 {
     flip_slice(chunks.make_contiguous());
 }
@@ -31,7 +32,9 @@ pub fn flip<const N: usize>(chunks: &mut VecDeque<[u8; N]>)
 fn flip_slice<const N: usize>(chunks: &mut [[u8; N]])
     requires { 0 < N }
     ensures count { length chunks.new ≡ length chunks.old }
-    ensures bits { (k : ℕ) → k < length chunks.old → (t : ℕ) → chunk_bit N (slice_index_or chunks.new k []) t ≡ not (chunk_bit N (slice_index_or chunks.old k []) t) }
+    ensures bits { (k : ℕ) → k < length chunks.old → (t : ℕ)
+        → chunk_bit N (slice_index_or chunks.new k []) t
+        ≡ not (chunk_bit N (slice_index_or chunks.old k []) t) }
 {
     if N >= WIDE {
         let count = chunks.len();
@@ -52,9 +55,13 @@ fn flip_some<const N: usize>(chunks: &mut [[u8; N]], from: usize, count: usize)
     requires positive { 0 < N }
     requires within { from + count ≤ length chunks.old }
     ensures count { length chunks.new ≡ length chunks.old }
-    ensures bits { (k : ℕ) → from ≤ k → k < from + count → (t : ℕ) → chunk_bit N (slice_index_or chunks.new k []) t ≡ not (chunk_bit N (slice_index_or chunks.old k []) t) }
-    ensures below { (k : ℕ) → k < from → slice_index_or chunks.new k [] ≡ slice_index_or chunks.old k [] }
-    ensures above { (k : ℕ) → from + count ≤ k → slice_index_or chunks.new k [] ≡ slice_index_or chunks.old k [] }
+    ensures bits { (k : ℕ) → from ≤ k → k < from + count → (t : ℕ)
+        → chunk_bit N (slice_index_or chunks.new k []) t
+        ≡ not (chunk_bit N (slice_index_or chunks.old k []) t) }
+    ensures below { (k : ℕ) → k < from
+        → slice_index_or chunks.new k [] ≡ slice_index_or chunks.old k [] }
+    ensures above { (k : ℕ) → from + count ≤ k
+        → slice_index_or chunks.new k [] ≡ slice_index_or chunks.old k [] }
 {
     for i in from..from + count {
         whole::flip(&mut chunks[i]);
@@ -65,7 +72,8 @@ fn flip_some<const N: usize>(chunks: &mut [[u8; N]], from: usize, count: usize)
 pub fn fill<const N: usize>(chunks: &mut VecDeque<[u8; N]>, value: bool)
     requires { 0 < N }
     ensures count { length chunks.new.items ≡ length chunks.old.items }
-    ensures bits { (k : ℕ) → k / (8 * N) < length chunks.old.items → chunks_bit N chunks.new.items k ≡ value }
+    ensures bits { (k : ℕ) → k / (8 * N) < length chunks.old.items
+        → chunks_bit N chunks.new.items k ≡ value }
 {
     for chunk in chunks.make_contiguous().iter_mut() {
         whole::fill(chunk, value);
@@ -113,9 +121,14 @@ fn combine_some<B: Bitwise, const N: usize>(chunks: &mut [[u8; N]], others: &[[u
     requires positive { 0 < N }
     requires within { from + length others.now ≤ length chunks.old }
     ensures count { length chunks.new ≡ length chunks.old }
-    ensures bits { (k : ℕ) → k < length others.now → (t : ℕ) → chunk_bit N (slice_index_or chunks.new (from + k) []) t ≡ B.gives (chunk_bit N (slice_index_or chunks.old (from + k) []) t) (chunk_bit N (slice_index_or others.now k []) t) }
-    ensures below { (k : ℕ) → k < from → slice_index_or chunks.new k [] ≡ slice_index_or chunks.old k [] }
-    ensures above { (k : ℕ) → from + length others.now ≤ k → slice_index_or chunks.new k [] ≡ slice_index_or chunks.old k [] }
+    ensures bits { (k : ℕ) → k < length others.now → (t : ℕ)
+        → chunk_bit N (slice_index_or chunks.new (from + k) []) t
+        ≡ B.gives (chunk_bit N (slice_index_or chunks.old (from + k) []) t)
+        (chunk_bit N (slice_index_or others.now k []) t) }
+    ensures below { (k : ℕ) → k < from
+        → slice_index_or chunks.new k [] ≡ slice_index_or chunks.old k [] }
+    ensures above { (k : ℕ) → from + length others.now ≤ k
+        → slice_index_or chunks.new k [] ≡ slice_index_or chunks.old k [] }
 {
     for i in 0..others.len() {
         let theirs = others[i];

@@ -91,7 +91,8 @@ pub fn shorten<const N: usize>(chunks: &mut VecDeque<[u8; N]>, shorter: u64)
     requires width { IsWidth N }
     requires order { shorter ≤ 8 * N * length chunks.old.items }
     ensures count { IsChunkCount N (length chunks.new.items) shorter }
-    ensures below { (i : ℕ) → i < shorter → chunks_bit N chunks.new.items i ≡ chunks_bit N chunks.old.items i }
+    ensures below { (i : ℕ) → i < shorter
+        → chunks_bit N chunks.new.items i ≡ chunks_bit N chunks.old.items i }
     ensures zero { IsZeroFrom N chunks.new.items shorter }
 {
     chunks.truncate(chunk_count::<N>(shorter));

@@ -14,7 +14,8 @@ use std::collections::VecDeque;
 pub fn gives_none<B: Bitwise, const N: usize>(a: &VecDeque<[u8; N]>, b: &VecDeque<[u8; N]>) -> bool
     requires positive { 0 < N }
     requires same { length a.now.items ≡ length b.now.items }
-    ensures { Decides result ((i : ℕ) → B.gives (chunks_bit N a.now.items i) (chunks_bit N b.now.items i) ≡ false) }
+    ensures { Decides result
+        ((i : ℕ) → B.gives (chunks_bit N a.now.items i) (chunks_bit N b.now.items i) ≡ false) }
 {
     let (a_front, a_back) = bytes(a);
     let (b_front, b_back) = bytes(b);
@@ -28,7 +29,8 @@ pub fn gives_none<B: Bitwise, const N: usize>(a: &VecDeque<[u8; N]>, b: &VecDequ
 // The same for a run of bytes beside `front` followed by `back`, which have as many bytes together.
 fn run_gives_none<B: Bitwise>(run: &[u8], front: &[u8], back: &[u8]) -> bool
     requires { length run.now ≡ length front.now + length back.now }
-    ensures { Decides result ((i : ℕ) → B.gives (bytes_bit run.now i) (bytes_bit (front.now ++ back.now) i) ≡ false) }
+    ensures { Decides result
+        ((i : ℕ) → B.gives (bytes_bit run.now i) (bytes_bit (front.now ++ back.now) i) ≡ false) }
 {
     let (low, high) = run.split_at(front.len());
     pairs::gives_none::<B>(low, front) && pairs::gives_none::<B>(high, back)

@@ -41,9 +41,12 @@ fn set_in_chunk<const N: usize>(
     requires width { IsWidth N }
     requires here { index < length chunks.old.items }
     requires within { to ≤ 8 * N }
-    ensures inside { (i : ℕ) → i / (8 * N) ≡ index → from ≤ i % (8 * N) → i % (8 * N) < to → chunks_bit N chunks.new.items i ≡ value }
-    ensures outside { (i : ℕ) → i / (8 * N) ≡ index → (i % (8 * N) < from) ⊎ (to ≤ i % (8 * N)) → chunks_bit N chunks.new.items i ≡ chunks_bit N chunks.old.items i }
-    ensures others { (i : ℕ) → (i / (8 * N) ≡ index → ⊥) → chunks_bit N chunks.new.items i ≡ chunks_bit N chunks.old.items i }
+    ensures inside { (i : ℕ) → i / (8 * N) ≡ index → from ≤ i % (8 * N) → i % (8 * N) < to
+        → chunks_bit N chunks.new.items i ≡ value }
+    ensures outside { (i : ℕ) → i / (8 * N) ≡ index → (i % (8 * N) < from) ⊎ (to ≤ i % (8 * N))
+        → chunks_bit N chunks.new.items i ≡ chunks_bit N chunks.old.items i }
+    ensures others { (i : ℕ) → (i / (8 * N) ≡ index → ⊥)
+        → chunks_bit N chunks.new.items i ≡ chunks_bit N chunks.old.items i }
     ensures count { length chunks.new.items ≡ length chunks.old.items }
 {
     range::set_in(&mut chunks[index], from, to, value);
@@ -54,8 +57,10 @@ fn fill_chunks<const N: usize>(chunks: &mut VecDeque<[u8; N]>, from: usize, to: 
     requires positive { 0 < N }
     requires order { from ≤ to }
     requires within { to ≤ length chunks.old.items }
-    ensures inside { (i : ℕ) → from ≤ i / (8 * N) → i / (8 * N) < to → chunks_bit N chunks.new.items i ≡ value }
-    ensures outside { (i : ℕ) → (i / (8 * N) < from) ⊎ (to ≤ i / (8 * N)) → chunks_bit N chunks.new.items i ≡ chunks_bit N chunks.old.items i }
+    ensures inside { (i : ℕ) → from ≤ i / (8 * N) → i / (8 * N) < to
+        → chunks_bit N chunks.new.items i ≡ value }
+    ensures outside { (i : ℕ) → (i / (8 * N) < from) ⊎ (to ≤ i / (8 * N))
+        → chunks_bit N chunks.new.items i ≡ chunks_bit N chunks.old.items i }
     ensures count { length chunks.new.items ≡ length chunks.old.items }
 {
     let is_contiguous = chunks.as_slices().1.is_empty();
@@ -71,8 +76,10 @@ fn fill_each<const N: usize>(chunks: &mut VecDeque<[u8; N]>, from: usize, to: us
     requires positive { 0 < N }
     requires order { from ≤ to }
     requires within { to ≤ length chunks.old.items }
-    ensures inside { (i : ℕ) → from ≤ i / (8 * N) → i / (8 * N) < to → chunks_bit N chunks.new.items i ≡ value }
-    ensures outside { (i : ℕ) → (i / (8 * N) < from) ⊎ (to ≤ i / (8 * N)) → chunks_bit N chunks.new.items i ≡ chunks_bit N chunks.old.items i }
+    ensures inside { (i : ℕ) → from ≤ i / (8 * N) → i / (8 * N) < to
+        → chunks_bit N chunks.new.items i ≡ value }
+    ensures outside { (i : ℕ) → (i / (8 * N) < from) ⊎ (to ≤ i / (8 * N))
+        → chunks_bit N chunks.new.items i ≡ chunks_bit N chunks.old.items i }
     ensures count { length chunks.new.items ≡ length chunks.old.items }
 {
     for i in from..to {
@@ -86,9 +93,12 @@ fn fill_slice<const N: usize>(chunks: &mut [[u8; N]], from: usize, to: usize, va
     requires order { from ≤ to }
     requires within { to ≤ length chunks.old }
     ensures count { length chunks.new ≡ length chunks.old }
-    ensures inside { (k : ℕ) → from ≤ k → k < to → (t : ℕ) → chunk_bit N (slice_index_or chunks.new k []) t ≡ value }
-    ensures below { (k : ℕ) → k < from → slice_index_or chunks.new k [] ≡ slice_index_or chunks.old k [] }
-    ensures above { (k : ℕ) → to ≤ k → slice_index_or chunks.new k [] ≡ slice_index_or chunks.old k [] }
+    ensures inside { (k : ℕ) → from ≤ k → k < to → (t : ℕ)
+        → chunk_bit N (slice_index_or chunks.new k []) t ≡ value }
+    ensures below { (k : ℕ) → k < from
+        → slice_index_or chunks.new k [] ≡ slice_index_or chunks.old k [] }
+    ensures above { (k : ℕ) → to ≤ k
+        → slice_index_or chunks.new k [] ≡ slice_index_or chunks.old k [] }
 {
     for i in from..to {
         whole::fill(&mut chunks[i], value);

@@ -32,7 +32,8 @@ pub fn slice_around<const N: usize>(chunks: &VecDeque<[u8; N]>, index: usize) ->
     requires { index < length chunks.now.items }
     ensures included { (result.1 ≤ index) × (index < result.1 + length result.0.now) }
     ensures within { result.1 + length result.0.now ≤ length chunks.now.items }
-    ensures items { (i : ℕ) → i < length result.0.now → slice_index_or result.0.now i [] ≡ slice_index_or chunks.now.items (result.1 + i) [] }
+    ensures items { (i : ℕ) → i < length result.0.now
+        → slice_index_or result.0.now i [] ≡ slice_index_or chunks.now.items (result.1 + i) [] }
 {
     let (front, back) = slices(chunks);
     if index < front.len() {

@@ -15,7 +15,8 @@ const FEW: usize = 8;
 pub fn chunk_at<const N: usize>(chunks: &VecDeque<[u8; N]>, index: usize) -> &[u8; N]
     requires { index < length chunks.now.items }
     ensures same { result.now ≡ slice_index_or chunks.now.items index [] }
-    ensures bytes { result.now ≡ map (λ j. byte_of (λ t. chunk_bit N result.now (8 * j + t))) (range_with_len 0 N) }
+    ensures bytes { result.now
+        ≡ map (λ j. byte_of (λ t. chunk_bit N result.now (8 * j + t))) (range_with_len 0 N) }
 {
     from_own_bits(&chunks[index])
 }

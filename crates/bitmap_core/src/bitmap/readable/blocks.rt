@@ -15,7 +15,8 @@ const BLOCK: usize = 256;
 pub fn wanted_in<const N: usize>(chunks: &[[u8; N]], wanted: bool) -> u64
     requires width { IsWidth N }
     requires fits { 8 * N * length chunks.now < 2 ^ 64 }
-    ensures { result ≡ count_by (λ i. is_wanted wanted (chunks_bit N chunks.now i)) (range_with_len 0 (8 * N * length chunks.now)) }
+    ensures { result ≡ count_by (λ i. is_wanted wanted (chunks_bit N chunks.now i))
+        (range_with_len 0 (8 * N * length chunks.now)) }
 {
     all_known(chunks);
     let ones = words::count_ones(chunks.as_flattened());
@@ -33,7 +34,9 @@ pub fn leading<const N: usize>(chunks: &[[u8; N]], wanted: bool, k: u64) -> (usi
     requires width { IsWidth N }
     requires fits { 8 * N * length chunks.now < 2 ^ 64 }
     ensures within { result.0 ≤ length chunks.now }
-    ensures counted { result.1 ≡ count_by (λ i. is_wanted wanted (chunks_bit N chunks.now i)) (range_with_len 0 (8 * N * result.0)) }
+    ensures counted { result.1
+        ≡ count_by (λ i. is_wanted wanted (chunks_bit N chunks.now i))
+        (range_with_len 0 (8 * N * result.0)) }
     ensures few { result.1 ≤ k }
 {
     let mut count = 0;
@@ -57,7 +60,8 @@ pub fn trailing<const N: usize>(chunks: &[[u8; N]], wanted: bool) -> usize
     requires width { IsWidth N }
     requires fits { 8 * N * length chunks.now < 2 ^ 64 }
     ensures within { result ≤ length chunks.now }
-    ensures none { (i : ℕ) → 8 * N * (length chunks.now - result) ≤ i → i < 8 * N * length chunks.now → is_wanted wanted (chunks_bit N chunks.now i) ≡ false }
+    ensures none { (i : ℕ) → 8 * N * (length chunks.now - result) ≤ i
+        → i < 8 * N * length chunks.now → is_wanted wanted (chunks_bit N chunks.now i) ≡ false }
 {
     let mut left = chunks.len();
     let mut size = left.min(1);

@@ -28,7 +28,8 @@ fn words_of<const N: usize>(chunks: &[[u8; N]]) -> &[[u8; 8]]
     ensures most { 8 * N * length chunks.now ≤ 64 * length result.now + 56 * N }
     ensures all { N % 8 ≡ 0 → 64 * length result.now ≡ 8 * N * length chunks.now }
     ensures whole { 64 * length result.now % (8 * N) ≡ 0 }
-    ensures bits { (i : ℕ) → i < 64 * length result.now → chunks_bit 8 result.now i ≡ chunks_bit N chunks.now i }
+    ensures bits { (i : ℕ) → i < 64 * length result.now
+        → chunks_bit 8 result.now i ≡ chunks_bit N chunks.now i }
 {
     let part = &chunks[..whole_count::<N>(chunks.len())];
     all_known(part);
@@ -48,7 +49,8 @@ pub(crate) fn run_from<B: Readable<N>, const N: usize>(
     requires within { end ≤ (B.meaning readable.now).len }
     ensures within { at + 64 * length result.now ≤ end }
     ensures whole { 0 < length result.now → (at + 64 * length result.now) % (8 * N) ≡ 0 }
-    ensures bits { (i : ℕ) → i < 64 * length result.now → chunks_bit 8 result.now i ≡ (B.meaning readable.now).bit (at + i) }
+    ensures bits { (i : ℕ) → i < 64 * length result.now
+        → chunks_bit 8 result.now i ≡ (B.meaning readable.now).bit (at + i) }
 {
     words_of(slice_from(readable, 8 * N as u64, at, end))
 }
@@ -59,8 +61,10 @@ pub(crate) fn run_from<B: Readable<N>, const N: usize>(
 pub(crate) fn first_wanted(words: &[[u8; 8]], wanted: bool, loads: &mut u64) -> (usize, u64)
     requires space { loads.old + length words.now < 2 ^ 64 }
     ensures within { result.0 ≤ length words.now }
-    ensures none { (i : ℕ) → i < 64 * result.0 → is_wanted wanted (chunks_bit 8 words.now i) ≡ false }
-    ensures bits { result.0 < length words.now → (t : ℕ) → t < 64 → (bit_at result.1 t == 1) ≡ is_wanted wanted (chunks_bit 8 words.now (64 * result.0 + t)) }
+    ensures none { (i : ℕ) → i < 64 * result.0
+        → is_wanted wanted (chunks_bit 8 words.now i) ≡ false }
+    ensures bits { result.0 < length words.now → (t : ℕ) → t < 64
+        → (bit_at result.1 t == 1) ≡ is_wanted wanted (chunks_bit 8 words.now (64 * result.0 + t)) }
     ensures some { result.0 < length words.now → 0 < result.1 }
     ensures counted { loads.new ≡ loads.old + min (result.0 + 1) (length words.now) }
 {

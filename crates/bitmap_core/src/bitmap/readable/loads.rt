@@ -19,8 +19,10 @@ pub(crate) fn load_word<const N: usize>(
     requires start { starts_word N base ≡ true }
     requires below { base < end }
     requires space { loads.old + 1 < 2 ^ 64 }
-    ensures inside { (i : ℕ) → i < 64 → base + i < end → base % (8 * N) + i < 8 * N → (bit_at result i == 1) ≡ is_wanted wanted (chunk_bit N chunk.now (base % (8 * N) + i)) }
-    ensures past_chunk { (i : ℕ) → i < 64 → 8 * N ≤ base % (8 * N) + i → (bit_at result i == 1) ≡ false }
+    ensures inside { (i : ℕ) → i < 64 → base + i < end → base % (8 * N) + i < 8 * N
+        → (bit_at result i == 1) ≡ is_wanted wanted (chunk_bit N chunk.now (base % (8 * N) + i)) }
+    ensures past_chunk { (i : ℕ) → i < 64 → 8 * N ≤ base % (8 * N) + i
+        → (bit_at result i == 1) ≡ false }
     ensures past_end { IsCut base result end }
     ensures counted { loads.new ≡ loads.old + 1 }
 {

@@ -65,7 +65,9 @@ impl<'a, B: Readable<N>, const N: usize> Model for OnesIter<'a, B, N> {
       ahead = words_between N s.cursor.next s.end;
     } };
 
-    ghost invariant = { λ s. IsIterating N (B.meaning s.readable.now) s.cursor.base s.cursor.word s.cursor.next s.end s.run.now s.cursor.chunk s.cursor.loads s.cursor.first };
+    ghost invariant = { λ s. IsIterating N
+        (B.meaning s.readable.now) s.cursor.base s.cursor.word s.cursor.next s.end s.run.now
+        s.cursor.chunk s.cursor.loads s.cursor.first };
 }
 
 // The position at which the next word begins after the word at `base`, or `end` if that is less.
@@ -87,14 +89,22 @@ fn advance<'a, B: Readable<N>, const N: usize>(
     run: &'a [[u8; 8]],
     cursor: &mut Cursor<N>,
 ) -> &'a [[u8; 8]]
-    requires scan { IsScan N (B.meaning readable.now) cursor.old.next end run.now cursor.old.chunk cursor.old.loads cursor.old.first }
+    requires scan { IsScan N
+        (B.meaning readable.now) cursor.old.next end run.now cursor.old.chunk cursor.old.loads
+        cursor.old.first }
     requires cut { IsCut cursor.old.base cursor.old.word end }
-    ensures scan { IsScan N (B.meaning readable.now) cursor.new.next end result.now cursor.new.chunk cursor.new.loads cursor.new.first }
+    ensures scan { IsScan N (B.meaning readable.now) cursor.new.next end result.now cursor.new.chunk
+        cursor.new.loads cursor.new.first }
     ensures cut { IsCut cursor.new.base cursor.new.word end }
     ensures first { cursor.new.first ≡ cursor.old.first }
     ensures counted { cursor.old.loads ≤ cursor.new.loads }
-    ensures left { left_from (seen_as wanted (B.meaning readable.now)) cursor.new.base cursor.new.word cursor.new.next end ≡ left_from (seen_as wanted (B.meaning readable.now)) cursor.old.base cursor.old.word cursor.old.next end }
-    ensures ended { cursor.new.word ≡ 0 → left_from (seen_as wanted (B.meaning readable.now)) cursor.new.base cursor.new.word cursor.new.next end ≡ [] }
+    ensures left { left_from
+        (seen_as wanted (B.meaning readable.now)) cursor.new.base cursor.new.word cursor.new.next
+        end ≡ left_from (seen_as wanted (B.meaning readable.now)) cursor.old.base cursor.old.word
+        cursor.old.next end }
+    ensures ended { cursor.new.word ≡ 0
+        → left_from (seen_as wanted (B.meaning readable.now)) cursor.new.base cursor.new.word
+        cursor.new.next end ≡ [] }
 {
     let mut rest = run;
     while cursor.word == 0 {
@@ -116,15 +126,21 @@ fn load_more<'a, B: Readable<N>, const N: usize>(
     run: &'a [[u8; 8]],
     cursor: &mut Cursor<N>,
 ) -> &'a [[u8; 8]]
-    requires scan { IsScan N (B.meaning readable.now) cursor.old.next end run.now cursor.old.chunk cursor.old.loads cursor.old.first }
+    requires scan { IsScan N
+        (B.meaning readable.now) cursor.old.next end run.now cursor.old.chunk cursor.old.loads
+        cursor.old.first }
     requires used { cursor.old.word ≡ 0 }
     requires below { cursor.old.next < end }
-    ensures scan { IsScan N (B.meaning readable.now) cursor.new.next end result.now cursor.new.chunk cursor.new.loads cursor.new.first }
+    ensures scan { IsScan N (B.meaning readable.now) cursor.new.next end result.now cursor.new.chunk
+        cursor.new.loads cursor.new.first }
     ensures cut { IsCut cursor.new.base cursor.new.word end }
     ensures first { cursor.new.first ≡ cursor.old.first }
     ensures counted { cursor.old.loads ≤ cursor.new.loads }
-    ensures left { left_from (seen_as wanted (B.meaning readable.now)) cursor.new.base cursor.new.word cursor.new.next end ≡ ones_between (seen_as wanted (B.meaning readable.now)).bit cursor.old.next end }
-    ensures moves { 2 * (end - cursor.new.next) + (1 - length result.now) < 2 * (end - cursor.old.next) + (1 - length run.now) }
+    ensures left { left_from
+        (seen_as wanted (B.meaning readable.now)) cursor.new.base cursor.new.word cursor.new.next
+        end ≡ ones_between (seen_as wanted (B.meaning readable.now)).bit cursor.old.next end }
+    ensures moves { 2 * (end - cursor.new.next) + (1 - length result.now)
+        < 2 * (end - cursor.old.next) + (1 - length run.now) }
 {
     if run.is_empty() {
         return refill(readable, end, wanted, cursor);
@@ -148,15 +164,21 @@ fn refill<'a, B: Readable<N>, const N: usize>(
     wanted: bool,
     cursor: &mut Cursor<N>,
 ) -> &'a [[u8; 8]]
-    requires scan { IsScan N (B.meaning readable.now) cursor.old.next end [] cursor.old.chunk cursor.old.loads cursor.old.first }
+    requires scan { IsScan N
+        (B.meaning readable.now) cursor.old.next end [] cursor.old.chunk cursor.old.loads
+        cursor.old.first }
     requires used { cursor.old.word ≡ 0 }
     requires below { cursor.old.next < end }
-    ensures scan { IsScan N (B.meaning readable.now) cursor.new.next end result.now cursor.new.chunk cursor.new.loads cursor.new.first }
+    ensures scan { IsScan N (B.meaning readable.now) cursor.new.next end result.now cursor.new.chunk
+        cursor.new.loads cursor.new.first }
     ensures cut { IsCut cursor.new.base cursor.new.word end }
     ensures first { cursor.new.first ≡ cursor.old.first }
     ensures counted { cursor.old.loads ≤ cursor.new.loads }
-    ensures left { left_from (seen_as wanted (B.meaning readable.now)) cursor.new.base cursor.new.word cursor.new.next end ≡ ones_between (seen_as wanted (B.meaning readable.now)).bit cursor.old.next end }
-    ensures moves { 2 * (end - cursor.new.next) + (1 - length result.now) < 2 * (end - cursor.old.next) + 1 }
+    ensures left { left_from
+        (seen_as wanted (B.meaning readable.now)) cursor.new.base cursor.new.word cursor.new.next
+        end ≡ ones_between (seen_as wanted (B.meaning readable.now)).bit cursor.old.next end }
+    ensures moves { 2 * (end - cursor.new.next) + (1 - length result.now)
+        < 2 * (end - cursor.old.next) + 1 }
 {
     let run = run_from(readable, cursor.next, end);
     if !run.is_empty() {
@@ -173,13 +195,18 @@ fn load_copied<B: Readable<N>, const N: usize>(
     wanted: bool,
     cursor: &mut Cursor<N>,
 )
-    requires scan { IsScan N (B.meaning readable.now) cursor.old.next end [] cursor.old.chunk cursor.old.loads cursor.old.first }
+    requires scan { IsScan N
+        (B.meaning readable.now) cursor.old.next end [] cursor.old.chunk cursor.old.loads
+        cursor.old.first }
     requires below { cursor.old.next < end }
-    ensures scan { IsScan N (B.meaning readable.now) cursor.new.next end [] cursor.new.chunk cursor.new.loads cursor.new.first }
+    ensures scan { IsScan N (B.meaning readable.now) cursor.new.next end [] cursor.new.chunk
+        cursor.new.loads cursor.new.first }
     ensures cut { IsCut cursor.new.base cursor.new.word end }
     ensures first { cursor.new.first ≡ cursor.old.first }
     ensures counted { cursor.new.loads ≡ cursor.old.loads + 1 }
-    ensures left { left_from (seen_as wanted (B.meaning readable.now)) cursor.new.base cursor.new.word cursor.new.next end ≡ ones_between (seen_as wanted (B.meaning readable.now)).bit cursor.old.next end }
+    ensures left { left_from
+        (seen_as wanted (B.meaning readable.now)) cursor.new.base cursor.new.word cursor.new.next
+        end ≡ ones_between (seen_as wanted (B.meaning readable.now)).bit cursor.old.next end }
     ensures moves { cursor.old.next < cursor.new.next }
     ensures within { cursor.new.next ≤ end }
 {
@@ -194,7 +221,8 @@ fn load_copied<B: Readable<N>, const N: usize>(
 fn turn_chunk<B: Readable<N>, const N: usize>(readable: &B, base: u64, chunk: &mut [u8; N])
     requires lawful { IsLawful N (B.meaning readable.now) }
     requires retained { IsRetained N (B.meaning readable.now) base }
-    requires shown { base % (8 * N) ≢ 0 → ShowsChunk N (B.meaning readable.now) (base / (8 * N)) chunk.old }
+    requires shown { base % (8 * N) ≢ 0
+        → ShowsChunk N (B.meaning readable.now) (base / (8 * N)) chunk.old }
     ensures shown { ShowsChunk N (B.meaning readable.now) (base / (8 * N)) chunk.new }
     ensures len { length chunk.new ≡ N }
 {
@@ -208,7 +236,8 @@ impl<'a, B: Readable<N>, const N: usize> OnesIter<'a, B, N> {
     pub(crate) fn over(readable: &'a B, len: u64, range: Range<u64>, wanted: bool) -> Self
         requires lawful { IsLawful N (B.meaning readable.now) }
         requires len { len ≡ (B.meaning readable.now).len }
-        ensures positions { result.left ≡ ones N (seen_as wanted (B.meaning readable.now)) range.start range.end }
+        ensures positions { result.left
+            ≡ ones N (seen_as wanted (B.meaning readable.now)) range.start range.end }
         ensures words { result.words ≡ words N (B.meaning readable.now) range.start range.end }
         ensures loads { result.loads ≤ result.words }
         ensures bound { length result.left < 2 ^ 64 }

@@ -31,7 +31,8 @@ pub(crate) fn slice_from<B: Readable<N>, const N: usize>(
     requires within { end ≤ (B.meaning readable.now).len }
     ensures aligned { 0 < length result.now → at % (8 * N) ≡ 0 }
     ensures within { at + 8 * N * length result.now ≤ end }
-    ensures bits { (i : ℕ) → i < 8 * N * length result.now → chunks_bit N result.now i ≡ (B.meaning readable.now).bit (at + i) }
+    ensures bits { (i : ℕ) → i < 8 * N * length result.now
+        → chunks_bit N result.now i ≡ (B.meaning readable.now).bit (at + i) }
 {
     let width = 8 * N as u64;
     if read < width || at % width != 0 || end - at < width {
@@ -62,7 +63,9 @@ fn slice_below<B: Readable<N>, const N: usize>(
     requires aligned { top % (8 * N) ≡ 0 }
     requires within { top ≤ (B.meaning readable.now).len }
     ensures within { low + 8 * N * length result.now ≤ top }
-    ensures bits { (i : ℕ) → i < 8 * N * length result.now → chunks_bit N result.now i ≡ (B.meaning readable.now).bit (top - 8 * N * length result.now + i) }
+    ensures bits { (i : ℕ) → i < 8 * N * length result.now
+        → chunks_bit N result.now i
+        ≡ (B.meaning readable.now).bit (top - 8 * N * length result.now + i) }
 {
     if read < 8 * N as u64 || low == top {
         return &[];
@@ -103,7 +106,8 @@ pub(crate) fn first_from<B: Readable<N>, const N: usize>(
 ) -> Option<u64>
     requires lawful { IsLawful N (B.meaning readable.now) }
     requires len { len ≡ (B.meaning readable.now).len }
-    ensures { result ≡ first (ones N (seen_as wanted (B.meaning readable.now)) from (B.meaning readable.now).len) }
+    ensures { result ≡ first
+        (ones N (seen_as wanted (B.meaning readable.now)) from (B.meaning readable.now).len) }
 {
     let width = 8 * N as u64;
     let first = from.max(readable.pruned_bits());
@@ -190,7 +194,8 @@ pub(crate) fn last_below<B: Readable<N>, const N: usize>(
 ) -> Option<u64>
     requires lawful { IsLawful N (B.meaning readable.now) }
     requires within { end ≤ (B.meaning readable.now).len }
-    ensures { result ≡ last (ones_between (seen_as wanted (B.meaning readable.now)).bit (8 * N * (B.meaning readable.now).pruned) end) }
+    ensures { result ≡ last (ones_between (seen_as wanted (B.meaning readable.now)).bit
+        (8 * N * (B.meaning readable.now).pruned) end) }
 {
     let width = 8 * N as u64;
     let first = readable.pruned_bits();

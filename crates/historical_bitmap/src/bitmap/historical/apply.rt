@@ -23,8 +23,12 @@ pub(crate) fn grow<const N: usize>(current: &mut Prunable<N>, len: u64) -> Resul
     ensures before { IfOk result (λ before. before ≡ bit_len N current.old) }
     ensures ok { OnOk result (current.new ≡ extended N current.old len) }
     ensures err { OnErr result (current.new ≡ current.old) }
-    ensures ready { OnOk result ((l : PendingEdits) → l.len ≡ len → PendingFits N current.old l → CanApply N current.new (uncaptured l.len l.pruned l.edited)) }
-    ensures pending { OnOk result ((l : PendingEdits) → l.len ≡ len → PendingFits N current.old l → pending_bits N current.new l ≡ pending_bits N current.old l) }
+    ensures ready { OnOk result
+        ((l : PendingEdits) → l.len ≡ len → PendingFits N current.old l
+        → CanApply N current.new (uncaptured l.len l.pruned l.edited)) }
+    ensures pending { OnOk result
+        ((l : PendingEdits) → l.len ≡ len → PendingFits N current.old l
+        → pending_bits N current.new l ≡ pending_bits N current.old l) }
 {
     let before = current.len();
     current.extend_to(len)?;
@@ -36,7 +40,8 @@ pub(crate) fn shrink_back<const N: usize>(current: &mut Prunable<N>, before: u64
     requires from { pruned_bits N current.old ≤ before }
     requires to { before ≤ bit_len N current.old }
     ensures value { current.new ≡ truncated N current.old before }
-    ensures undoes { (b : PrunedBits) (len : ℕ) → before ≡ bit_len N b → current.old ≡ extended N b len → current.new ≡ b }
+    ensures undoes { (b : PrunedBits) (len : ℕ) → before ≡ bit_len N b
+        → current.old ≡ extended N b len → current.new ≡ b }
 {
     current.truncate(before);
 }
@@ -60,8 +65,10 @@ pub(crate) fn overwrite<const N: usize>(
 // Replaces the bits of edited chunks. Does not allocate.
 fn write_all<const N: usize>(current: &mut Prunable<N>, edited: EditedChunks<N>)
     requires width { IsWidth N }
-    requires retained { (i : ℕ) → MatchOption (lookup (nat_eq i) edited) (Unit {0}) (λ bytes. current.old.pruned ≤ i) }
-    requires fits { (i : ℕ) → MatchOption (lookup (nat_eq i) edited) (Unit {0}) (IsOldChunk N (bit_len N current.old) i) }
+    requires retained { (i : ℕ)
+        → MatchOption (lookup (nat_eq i) edited) (Unit {0}) (λ bytes. current.old.pruned ≤ i) }
+    requires fits { (i : ℕ) → MatchOption (lookup (nat_eq i) edited) (Unit {0})
+        (IsOldChunk N (bit_len N current.old) i) }
     ensures value { current.new ≡ put_back N current.old (edits_of edited.entry) }
     ensures sorted { IsStrictlySortedBy nat_cmp (keys_of edited.entry) }
 {
@@ -74,8 +81,10 @@ fn write_all<const N: usize>(current: &mut Prunable<N>, edited: EditedChunks<N>)
 fn write_run<const N: usize>(current: &mut Prunable<N>, from: usize, run: &Vec<[u8; N]>)
     requires width { IsWidth N }
     requires retained { (at : ℕ) → at < length run.now.items → current.old.pruned ≤ from + at }
-    requires fits { (at : ℕ) (other : List ℕ) → at < length run.now.items → IsOldChunk N (bit_len N current.old) (from + at) (get_or run.now.items at other) }
-    ensures value { current.new ≡ put_back N current.old (edits_of (appended_entries from run.now.items)) }
+    requires fits { (at : ℕ) (other : List ℕ) → at < length run.now.items
+        → IsOldChunk N (bit_len N current.old) (from + at) (get_or run.now.items at other) }
+    ensures value { current.new
+        ≡ put_back N current.old (edits_of (appended_entries from run.now.items)) }
 {
     let _ = current.len();
     for at in 0..run.len() {
@@ -86,8 +95,11 @@ fn write_run<const N: usize>(current: &mut Prunable<N>, from: usize, run: &Vec<[
 // Replaces the bits of chunks, in any order. Does not allocate.
 fn write_chunks<const N: usize>(current: &mut Prunable<N>, edited: &ChunkMap<N>)
     requires width { IsWidth N }
-    requires retained { (i : ℕ) → MatchOption (lookup (nat_eq i) edited.now.entries) (Unit {0}) (λ bytes. current.old.pruned ≤ i) }
-    requires fits { (i : ℕ) → MatchOption (lookup (nat_eq i) edited.now.entries) (Unit {0}) (IsOldChunk N (bit_len N current.old) i) }
+    requires retained { (i : ℕ)
+        → MatchOption (lookup (nat_eq i) edited.now.entries) (Unit {0})
+        (λ bytes. current.old.pruned ≤ i) }
+    requires fits { (i : ℕ) → MatchOption (lookup (nat_eq i) edited.now.entries) (Unit {0})
+        (IsOldChunk N (bit_len N current.old) i) }
     ensures value { current.new ≡ put_back N current.old (edits_of edited.now.entries) }
     ensures sorted { IsStrictlySortedBy nat_cmp (keys_of edited.now.entries) }
 {

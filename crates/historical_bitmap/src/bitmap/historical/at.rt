@@ -48,7 +48,8 @@ impl<'a, const N: usize> Model for AtCommit<'a, N> {
 
     ghost view = { λ a. left_by N a.number a.of.now.commits a.of.now.current };
 
-    ghost invariant = { λ a. IsLeftBy N a.number a.of.now.commits a.of.now.current a.len a.pruned × (drop a.past a.of.now.commits ≡ past_number a.number a.of.now.commits) };
+    ghost invariant = { λ a. IsLeftBy N a.number a.of.now.commits a.of.now.current a.len a.pruned
+        × (drop a.past a.of.now.commits ≡ past_number a.number a.of.now.commits) };
 }
 
 // Returns the first reverse record from a position on.
@@ -221,8 +222,10 @@ impl<const N: usize> BitMap<N, Clean> {
     // Bits past the length at that commit may have any value.
     fn chunk_at(&self, number: u64, past: usize, chunk: usize) -> [u8; N]
         requires past { drop past self.now.commits ≡ past_number number self.now.commits }
-        requires retained { IsRetainedChunk N (left_by N number self.now.commits self.now.current) chunk }
-        ensures { ShowsChunk N (pruned_meaning N (left_by N number self.now.commits self.now.current)) chunk result }
+        requires retained { IsRetainedChunk N
+            (left_by N number self.now.commits self.now.current) chunk }
+        ensures { ShowsChunk N (pruned_meaning N
+            (left_by N number self.now.commits self.now.current)) chunk result }
     {
         let _ = self.current.len();
         let kept = kept_past(&self.commits, number, past, chunk);
@@ -236,9 +239,12 @@ impl<const N: usize> BitMap<N, Clean> {
         chunk: usize,
         kept: Option<&[u8; N]>,
     ) -> [u8; N]
-        requires retained { IsRetainedChunk N (left_by N number self.now.commits self.now.current) chunk }
-        requires kept { option_copied kept ≡ first_kept_of (past_number number self.now.commits) chunk }
-        ensures { ShowsChunk N (pruned_meaning N (left_by N number self.now.commits self.now.current)) chunk result }
+        requires retained { IsRetainedChunk N
+            (left_by N number self.now.commits self.now.current) chunk }
+        requires kept { option_copied kept
+            ≡ first_kept_of (past_number number self.now.commits) chunk }
+        ensures { ShowsChunk N (pruned_meaning N
+            (left_by N number self.now.commits self.now.current)) chunk result }
     {
         let _ = self.current.len();
         match kept {

@@ -15,7 +15,8 @@ mod private {
         ghost is_begun: { ℕ → Self → D → Type 0 };
 
         // What `finish` returns for the batch that a closure left, the closure's result, and a number.
-        ghost batch_gives: { {E : Type 0} → ℕ → D → Result (Unit {0}) E → ℕ → Result Self (Self × ApplyError E) → Type 0 };
+        ghost batch_gives: { {E : Type 0} → ℕ → D → Result (Unit {0}) E → ℕ
+            → Result Self (Self × ApplyError E) → Type 0 };
 
         // Begins a batch.
         fn begin(self) -> D
@@ -122,8 +123,11 @@ impl<const N: usize> BitMap<N, Clean> {
     ) -> Result<CleanBitMap<N>, (CleanBitMap<N>, ApplyError<E>)>
     where
         CleanBitMap<N>: Batches<N, D>,
-        requires accepts { AcceptsBegun (⟦<CleanBitMap<N> as Batches<N, D>>⟧.is_begun N self) (F.pre edit) }
-        ensures applied { IsApplied (⟦<CleanBitMap<N> as Batches<N, D>>⟧.is_begun N self.entry) (F.post edit) (λ left answer. ⟦<CleanBitMap<N> as Batches<N, D>>⟧.batch_gives N left answer number result) }
+        requires accepts { AcceptsBegun (⟦<CleanBitMap<N> as Batches<N, D>>⟧.is_begun N self)
+            (F.pre edit) }
+        ensures applied { IsApplied (⟦<CleanBitMap<N> as Batches<N, D>>⟧.is_begun N self.entry)
+            (F.post edit) (λ left answer.
+            ⟦<CleanBitMap<N> as Batches<N, D>>⟧.batch_gives N left answer number result) }
     {
         let mut batch = self.begin();
         let answer = edit(&mut batch);

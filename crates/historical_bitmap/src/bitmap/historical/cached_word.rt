@@ -167,7 +167,8 @@ pub(crate) fn get_bit<const N: usize>(
     bit: u64,
 ) -> Option<bool>
     requires cached { IsCached N chunks.now cache.now }
-    ensures { result ≡ option_map (λ chunk. chunk_bit N chunk bit) (lookup (nat_eq (bit / (8 * N))) (with_cached N chunks.now cache.now)) }
+    ensures { result ≡ option_map (λ chunk. chunk_bit N chunk bit)
+        (lookup (nat_eq (bit / (8 * N))) (with_cached N chunks.now cache.now)) }
 {
     if is_within(cache.base, cache.count, bit) {
         return Some(cache.word & mask_if(bit - cache.base, true) != 0);
@@ -212,9 +213,14 @@ pub(crate) fn write_bit<const N: usize>(
     requires width { IsWidth N }
     requires from { current.now.pruned ≤ index }
     requires fits { 8 * N * index < 2 ^ 64 }
-    ensures ok { OnOk result ((bytes : List ℕ) × SetsIn N (chunk N (truncated N current.now len) index) (with_cached N chunks.old cache.old) (with_cached N chunks.new cache.new) index bit value bytes) }
-    ensures err { OnErr result (with_cached N chunks.new cache.new ≡ with_cached N chunks.old cache.old) }
-    ensures edited { IsSome (lookup (nat_eq index) (with_cached N chunks.old cache.old)) → IsOk result }
+    ensures ok { OnOk result
+        ((bytes : List ℕ) × SetsIn N (chunk N (truncated N current.now len) index)
+        (with_cached N chunks.old cache.old)
+        (with_cached N chunks.new cache.new) index bit value bytes) }
+    ensures err { OnErr result
+        (with_cached N chunks.new cache.new ≡ with_cached N chunks.old cache.old) }
+    ensures edited { IsSome (lookup (nat_eq index) (with_cached N chunks.old cache.old))
+        → IsOk result }
     ensures cached { IsCached N chunks.new cache.new }
 {
     if cache.chunk.is_some() {
@@ -241,9 +247,14 @@ fn write_settled<const N: usize>(
     requires width { IsWidth N }
     requires from { current.now.pruned ≤ index }
     requires fits { 8 * N * index < 2 ^ 64 }
-    ensures ok { OnOk result ((bytes : List ℕ) × SetsIn N (chunk N (truncated N current.now len) index) (with_cached N chunks.old cache.old) (with_cached N chunks.new cache.new) index bit value bytes) }
-    ensures err { OnErr result (with_cached N chunks.new cache.new ≡ with_cached N chunks.old cache.old) }
-    ensures edited { IsSome (lookup (nat_eq index) (with_cached N chunks.old cache.old)) → IsOk result }
+    ensures ok { OnOk result
+        ((bytes : List ℕ) × SetsIn N (chunk N (truncated N current.now len) index)
+        (with_cached N chunks.old cache.old)
+        (with_cached N chunks.new cache.new) index bit value bytes) }
+    ensures err { OnErr result
+        (with_cached N chunks.new cache.new ≡ with_cached N chunks.old cache.old) }
+    ensures edited { IsSome (lookup (nat_eq index) (with_cached N chunks.old cache.old))
+        → IsOk result }
     ensures cached { IsCached N chunks.new cache.new }
 {
     settle(chunks, cache);
@@ -263,11 +274,18 @@ pub(crate) fn push_bit<const N: usize>(
     requires cached { IsCached N chunks.old cache.old }
     requires width { IsWidth N }
     requires from { current.now.pruned ≤ bit / (8 * N) }
-    requires zero { IfSome (lookup (nat_eq (bit / (8 * N))) (with_cached N chunks.old cache.old)) (IsClearFrom N (bit / (8 * N)) bit) }
-    requires first { bit % (8 * N) ≡ 0 → lookup (nat_eq (bit / (8 * N))) (with_cached N chunks.old cache.old) ≡ None }
-    ensures ok { OnOk result ((bytes : List ℕ) × SetsIn N (chunk N (truncated N current.now bit) (bit / (8 * N))) (with_cached N chunks.old cache.old) (with_cached N chunks.new cache.new) (bit / (8 * N)) bit value bytes) }
-    ensures err { OnErr result (with_cached N chunks.new cache.new ≡ with_cached N chunks.old cache.old) }
-    ensures edited { IsSome (lookup (nat_eq (bit / (8 * N))) (with_cached N chunks.old cache.old)) → IsOk result }
+    requires zero { IfSome (lookup (nat_eq (bit / (8 * N))) (with_cached N chunks.old cache.old))
+        (IsClearFrom N (bit / (8 * N)) bit) }
+    requires first { bit % (8 * N) ≡ 0
+        → lookup (nat_eq (bit / (8 * N))) (with_cached N chunks.old cache.old) ≡ None }
+    ensures ok { OnOk result
+        ((bytes : List ℕ) × SetsIn N (chunk N (truncated N current.now bit) (bit / (8 * N)))
+        (with_cached N chunks.old cache.old) (with_cached N chunks.new cache.new)
+        (bit / (8 * N)) bit value bytes) }
+    ensures err { OnErr result
+        (with_cached N chunks.new cache.new ≡ with_cached N chunks.old cache.old) }
+    ensures edited { IsSome (lookup (nat_eq (bit / (8 * N))) (with_cached N chunks.old cache.old))
+        → IsOk result }
     ensures cached { IsCached N chunks.new cache.new }
 {
     if is_within(cache.base, cache.count, bit) {
@@ -290,11 +308,18 @@ fn push_other<const N: usize>(
     requires cached { IsCached N chunks.old cache.old }
     requires width { IsWidth N }
     requires from { current.now.pruned ≤ bit / (8 * N) }
-    requires zero { IfSome (lookup (nat_eq (bit / (8 * N))) (with_cached N chunks.old cache.old)) (IsClearFrom N (bit / (8 * N)) bit) }
-    requires first { bit % (8 * N) ≡ 0 → lookup (nat_eq (bit / (8 * N))) (with_cached N chunks.old cache.old) ≡ None }
-    ensures ok { OnOk result ((bytes : List ℕ) × SetsIn N (chunk N (truncated N current.now bit) (bit / (8 * N))) (with_cached N chunks.old cache.old) (with_cached N chunks.new cache.new) (bit / (8 * N)) bit value bytes) }
-    ensures err { OnErr result (with_cached N chunks.new cache.new ≡ with_cached N chunks.old cache.old) }
-    ensures edited { IsSome (lookup (nat_eq (bit / (8 * N))) (with_cached N chunks.old cache.old)) → IsOk result }
+    requires zero { IfSome (lookup (nat_eq (bit / (8 * N))) (with_cached N chunks.old cache.old))
+        (IsClearFrom N (bit / (8 * N)) bit) }
+    requires first { bit % (8 * N) ≡ 0
+        → lookup (nat_eq (bit / (8 * N))) (with_cached N chunks.old cache.old) ≡ None }
+    ensures ok { OnOk result
+        ((bytes : List ℕ) × SetsIn N (chunk N (truncated N current.now bit) (bit / (8 * N)))
+        (with_cached N chunks.old cache.old) (with_cached N chunks.new cache.new)
+        (bit / (8 * N)) bit value bytes) }
+    ensures err { OnErr result
+        (with_cached N chunks.new cache.new ≡ with_cached N chunks.old cache.old) }
+    ensures edited { IsSome (lookup (nat_eq (bit / (8 * N))) (with_cached N chunks.old cache.old))
+        → IsOk result }
     ensures cached { IsCached N chunks.new cache.new }
 {
     let index = chunk_index::<N>(bit);
@@ -324,8 +349,11 @@ fn push_first<const N: usize>(
     requires start { bit % (8 * N) ≡ 0 }
     requires fits { next_word N bit ≤ 2 ^ 64 }
     requires absent { lookup (nat_eq index) (with_cached N chunks.old cache.old) ≡ None }
-    ensures ok { OnOk result ((bytes : List ℕ) × SetsIn N (replicate N 0) (with_cached N chunks.old cache.old) (with_cached N chunks.new cache.new) index bit value bytes) }
-    ensures err { OnErr result (with_cached N chunks.new cache.new ≡ with_cached N chunks.old cache.old) }
+    ensures ok { OnOk result
+        ((bytes : List ℕ) × SetsIn N (replicate N 0) (with_cached N chunks.old cache.old)
+        (with_cached N chunks.new cache.new) index bit value bytes) }
+    ensures err { OnErr result
+        (with_cached N chunks.new cache.new ≡ with_cached N chunks.old cache.old) }
     ensures cached { IsCached N chunks.new cache.new }
 {
     settle(chunks, cache);
@@ -349,9 +377,13 @@ fn push_next<const N: usize>(
     requires index { index ≡ bit / (8 * N) }
     requires starts { bit % (8 * N) % 64 ≡ 0 }
     requires fits { next_word N bit ≤ 2 ^ 64 }
-    requires zero { IfSome (lookup (nat_eq index) (with_cached N chunks.old cache.old)) (IsClearFrom N index bit) }
-    ensures written { result ≡ true → (first : List ℕ) → (bytes : List ℕ) × SetsIn N first (with_cached N chunks.old cache.old) (with_cached N chunks.new cache.new) index bit value bytes }
-    ensures other { result ≡ false → with_cached N chunks.new cache.new ≡ with_cached N chunks.old cache.old }
+    requires zero { IfSome (lookup (nat_eq index) (with_cached N chunks.old cache.old))
+        (IsClearFrom N index bit) }
+    ensures written { result ≡ true → (first : List ℕ)
+        → (bytes : List ℕ) × SetsIn N first (with_cached N chunks.old cache.old)
+        (with_cached N chunks.new cache.new) index bit value bytes }
+    ensures other { result ≡ false
+        → with_cached N chunks.new cache.new ≡ with_cached N chunks.old cache.old }
     ensures cached { IsCached N chunks.new cache.new }
 {
     if !is_cached(cache.chunk, index) {
@@ -376,9 +408,14 @@ fn push_inside<const N: usize>(
     requires width { IsWidth N }
     requires index { index ≡ bit / (8 * N) }
     requires from { current.now.pruned ≤ index }
-    ensures ok { OnOk result ((bytes : List ℕ) × SetsIn N (chunk N (truncated N current.now bit) index) (with_cached N chunks.old cache.old) (with_cached N chunks.new cache.new) index bit value bytes) }
-    ensures err { OnErr result (with_cached N chunks.new cache.new ≡ with_cached N chunks.old cache.old) }
-    ensures edited { IsSome (lookup (nat_eq index) (with_cached N chunks.old cache.old)) → IsOk result }
+    ensures ok { OnOk result
+        ((bytes : List ℕ) × SetsIn N (chunk N (truncated N current.now bit) index)
+        (with_cached N chunks.old cache.old)
+        (with_cached N chunks.new cache.new) index bit value bytes) }
+    ensures err { OnErr result
+        (with_cached N chunks.new cache.new ≡ with_cached N chunks.old cache.old) }
+    ensures edited { IsSome (lookup (nat_eq index) (with_cached N chunks.old cache.old))
+        → IsOk result }
     ensures cached { IsCached N chunks.new cache.new }
 {
     settle(chunks, cache);
@@ -396,9 +433,15 @@ pub(crate) fn clear_cached<const N: usize>(
 ) -> Option<bool>
     requires cached { IsCached N chunks.old cache.old }
     requires width { IsWidth N }
-    ensures bit { IfSome result (λ old. Some old ≡ option_map (λ chunk. chunk_bit N chunk bit) (lookup (nat_eq (bit / (8 * N))) (with_cached N chunks.old cache.old))) }
-    ensures none { result ≡ None → with_cached N chunks.new cache.new ≡ with_cached N chunks.old cache.old }
-    ensures some { IfSome result (λ old. IfSome (lookup (nat_eq (bit / (8 * N))) (with_cached N chunks.old cache.old)) (λ chunk. IsSetIn N (with_cached N chunks.old cache.old) (with_cached N chunks.new cache.new) (bit / (8 * N)) chunk bit false)) }
+    ensures bit { IfSome result
+        (λ old. Some old ≡ option_map (λ chunk. chunk_bit N chunk bit)
+        (lookup (nat_eq (bit / (8 * N))) (with_cached N chunks.old cache.old))) }
+    ensures none { result ≡ None
+        → with_cached N chunks.new cache.new ≡ with_cached N chunks.old cache.old }
+    ensures some { IfSome result
+        (λ old. IfSome (lookup (nat_eq (bit / (8 * N))) (with_cached N chunks.old cache.old))
+        (λ chunk. IsSetIn N (with_cached N chunks.old cache.old)
+        (with_cached N chunks.new cache.new) (bit / (8 * N)) chunk bit false)) }
     ensures cached { IsCached N chunks.new cache.new }
 {
     if is_within(cache.base, cache.count, bit) {
@@ -418,9 +461,13 @@ pub(crate) fn clear_bit<const N: usize>(
 ) -> Option<bool>
     requires cached { IsCached N chunks.old cache.old }
     requires width { IsWidth N }
-    ensures bit { result ≡ option_map (λ chunk. chunk_bit N chunk bit) (lookup (nat_eq (bit / (8 * N))) (with_cached N chunks.old cache.old)) }
-    ensures none { lookup (nat_eq (bit / (8 * N))) (with_cached N chunks.old cache.old) ≡ None → with_cached N chunks.new cache.new ≡ with_cached N chunks.old cache.old }
-    ensures some { IfSome (lookup (nat_eq (bit / (8 * N))) (with_cached N chunks.old cache.old)) (λ chunk. IsSetIn N (with_cached N chunks.old cache.old) (with_cached N chunks.new cache.new) (bit / (8 * N)) chunk bit false) }
+    ensures bit { result ≡ option_map (λ chunk. chunk_bit N chunk bit)
+        (lookup (nat_eq (bit / (8 * N))) (with_cached N chunks.old cache.old)) }
+    ensures none { lookup (nat_eq (bit / (8 * N))) (with_cached N chunks.old cache.old) ≡ None
+        → with_cached N chunks.new cache.new ≡ with_cached N chunks.old cache.old }
+    ensures some { IfSome (lookup (nat_eq (bit / (8 * N))) (with_cached N chunks.old cache.old))
+        (λ chunk. IsSetIn N (with_cached N chunks.old cache.old)
+        (with_cached N chunks.new cache.new) (bit / (8 * N)) chunk bit false) }
     ensures cached { IsCached N chunks.new cache.new }
 {
     settle(chunks, cache);
@@ -446,9 +493,13 @@ pub(crate) fn join_byte<const N: usize>(
     requires index { index ≡ bit / (8 * N) }
     requires space { bit % (8 * N) + 8 ≤ 8 * N }
     requires fits { bit + 8 < 2 ^ 64 }
-    ensures written { result ≡ true → IsByteSetIn N (with_cached N chunks.old cache.old) (with_cached N chunks.new cache.new) index bit byte }
-    ensures other { result ≡ false → with_cached N chunks.new cache.new ≡ with_cached N chunks.old cache.old }
-    ensures none { result ≡ false → lookup (nat_eq index) (with_cached N chunks.old cache.old) ≡ None }
+    ensures written { result ≡ true
+        → IsByteSetIn N (with_cached N chunks.old cache.old)
+        (with_cached N chunks.new cache.new) index bit byte }
+    ensures other { result ≡ false
+        → with_cached N chunks.new cache.new ≡ with_cached N chunks.old cache.old }
+    ensures none { result ≡ false
+        → lookup (nat_eq index) (with_cached N chunks.old cache.old) ≡ None }
     ensures cached { IsCached N chunks.new cache.new }
 {
     if has_byte(cache.base, cache.count, bit) {
@@ -473,9 +524,13 @@ fn join_other<const N: usize>(
     requires index { index ≡ bit / (8 * N) }
     requires space { bit % (8 * N) + 8 ≤ 8 * N }
     requires fits { bit + 8 < 2 ^ 64 }
-    ensures written { result ≡ true → IsByteSetIn N (with_cached N chunks.old cache.old) (with_cached N chunks.new cache.new) index bit byte }
-    ensures other { result ≡ false → with_cached N chunks.new cache.new ≡ with_cached N chunks.old cache.old }
-    ensures none { result ≡ false → lookup (nat_eq index) (with_cached N chunks.old cache.old) ≡ None }
+    ensures written { result ≡ true
+        → IsByteSetIn N (with_cached N chunks.old cache.old)
+        (with_cached N chunks.new cache.new) index bit byte }
+    ensures other { result ≡ false
+        → with_cached N chunks.new cache.new ≡ with_cached N chunks.old cache.old }
+    ensures none { result ≡ false
+        → lookup (nat_eq index) (with_cached N chunks.old cache.old) ≡ None }
     ensures cached { IsCached N chunks.new cache.new }
 {
     settle(chunks, cache);
@@ -510,9 +565,12 @@ pub(crate) fn cross_byte<const N: usize>(
     requires fits { bit + 8 < 2 ^ 64 }
     requires last { lookup (nat_eq (index + 1)) (with_cached N chunks.old cache.old) ≡ None }
     ensures written { result ≡ Ok true
-        → CrossesByte N (with_cached N chunks.old cache.old) (with_cached N chunks.new cache.new) index bit byte next.entry }
-    ensures other { result ≡ Ok false → with_cached N chunks.new cache.new ≡ with_cached N chunks.old cache.old }
-    ensures err { OnErr result (with_cached N chunks.new cache.new ≡ with_cached N chunks.old cache.old) }
+        → CrossesByte N (with_cached N chunks.old cache.old)
+        (with_cached N chunks.new cache.new) index bit byte next.entry }
+    ensures other { result ≡ Ok false
+        → with_cached N chunks.new cache.new ≡ with_cached N chunks.old cache.old }
+    ensures err { OnErr result
+        (with_cached N chunks.new cache.new ≡ with_cached N chunks.old cache.old) }
     ensures cached { IsCached N chunks.new cache.new }
 {
     if !is_within(cache.base, cache.count, bit) {
@@ -534,7 +592,8 @@ pub(crate) fn cut_to<const N: usize>(
 )
     requires cached { IsCached N chunks.old cache.old }
     requires width { IsWidth N }
-    ensures cuts { CutsChunks N (with_cached N chunks.old cache.old) (with_cached N chunks.new cache.new) total }
+    ensures cuts { CutsChunks N (with_cached N chunks.old cache.old)
+        (with_cached N chunks.new cache.new) total }
     ensures cached { IsCached N chunks.new cache.new }
 {
     settle(chunks, cache);

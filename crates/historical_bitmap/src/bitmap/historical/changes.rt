@@ -80,7 +80,8 @@ impl<'a, const N: usize> Model for Comparison<'a, N> {
 
 // Returns the lesser of two numbers, or the only one.
 fn least(left: Option<usize>, right: Option<usize>) -> Option<usize>
-    ensures { (from : ℕ) (xs ys : List ℕ) → IsNextMember xs from left → IsNextMember ys from right → IsNextMember (xs ++ ys) from result }
+    ensures { (from : ℕ) (xs ys : List ℕ) → IsNextMember xs from left → IsNextMember ys from right
+        → IsNextMember (xs ++ ys) from result }
 {
     match (left, right) {
         (None, None) => None,

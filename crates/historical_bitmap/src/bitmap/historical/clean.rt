@@ -21,7 +21,12 @@ impl<const N: usize> BitMap<N, Clean> {
     /// `N`, the width of a chunk in bytes, has to be at least 1, and `8 * N` has to fit `u64`. Does not allocate; constant time.
     pub fn new(alloc: Global) -> Self
         requires width { IsWidth N }
-        ensures { result ≡ record { current = record { pruned = 0; bits = [] }; commits = []; last = None; state = tt } }
+        ensures { result ≡ record {
+          current = record { pruned = 0; bits = [] };
+          commits = [];
+          last = None;
+          state = tt;
+        } }
     {
         Self::from_bitmap(alloc, Prunable::new(alloc))
     }
@@ -31,7 +36,12 @@ impl<const N: usize> BitMap<N, Clean> {
     /// Does not allocate; constant time.
     pub fn default(alloc: Global) -> Self
         requires width { IsWidth N }
-        ensures { result ≡ record { current = record { pruned = 0; bits = [] }; commits = []; last = None; state = tt } }
+        ensures { result ≡ record {
+          current = record { pruned = 0; bits = [] };
+          commits = [];
+          last = None;
+          state = tt;
+        } }
     {
         Self::new(alloc)
     }
@@ -44,7 +54,13 @@ impl<const N: usize> BitMap<N, Clean> {
     /// `PrunedChunksOverflow`, exactly if the length does not fit `u64`.
     pub fn new_with_pruned_chunks(alloc: Global, pruned_chunks: usize) -> Result<Self, Error>
         requires width { IsWidth N }
-        ensures ok { IfOk result (λ b. b ≡ record { current = record { pruned = pruned_chunks; bits = [] }; commits = []; last = None; state = tt }) }
+        ensures ok { IfOk result
+            (λ b. b ≡ record {
+              current = record { pruned = pruned_chunks; bits = [] };
+              commits = [];
+              last = None;
+              state = tt;
+            }) }
         ensures err { IfErr result (λ e. e ≡ PrunedChunksOverflow) }
         ensures exact { IsOk result ↔ (8 * N * pruned_chunks < 2 ^ 64) }
     {
@@ -62,7 +78,12 @@ impl<const N: usize> BitMap<N, Clean> {
     ///
     /// Constant.
     pub fn from_bitmap(alloc: Global, bitmap: Prunable<N>) -> Self
-        ensures { result ≡ record { current = bitmap.entry; commits = []; last = None; state = tt } }
+        ensures { result ≡ record {
+          current = bitmap.entry;
+          commits = [];
+          last = None;
+          state = tt;
+        } }
     {
         // The prover learns the width from this call.
         let _ = bitmap.len();
@@ -79,7 +100,12 @@ impl<const N: usize> BitMap<N, Clean> {
     /// Does not allocate; constant time.
     #[inline]
     pub fn into_dirty(self) -> BitMap<N, Dirty<N>>
-        ensures value { result ≡ record { current = self.entry.current; commits = self.entry.commits; last = self.entry.last; state = unedited N self.entry.current } }
+        ensures value { result ≡ record {
+          current = self.entry.current;
+          commits = self.entry.commits;
+          last = self.entry.last;
+          state = unedited N self.entry.current;
+        } }
         ensures pending { pending_of N result ≡ self.entry.current }
         ensures marks { marked_of N result ≡ [] }
     {

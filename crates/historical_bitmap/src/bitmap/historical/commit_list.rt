@@ -53,7 +53,8 @@ fn search_past<const N: usize>(commits: &VecDeque<(u64, CommitDiff<N>)>, number:
     requires { RiseInNumber commits.now.items }
     ensures within { result ≤ length commits.now.items }
     ensures earlier { (i : ℕ) → i < result → slice_index (keys_of commits.now.items) i ≤ number }
-    ensures later { (i : ℕ) → result ≤ i → i < length commits.now.items → number < slice_index (keys_of commits.now.items) i }
+    ensures later { (i : ℕ) → result ≤ i → i < length commits.now.items
+        → number < slice_index (keys_of commits.now.items) i }
 {
     let mut start = 0;
     let mut end = commits.len();
@@ -75,7 +76,8 @@ fn first_past<const N: usize>(commits: &VecDeque<(u64, CommitDiff<N>)>, number: 
     requires { RiseInNumber commits.now.items }
     ensures within { result ≤ length commits.now.items }
     ensures earlier { (i : ℕ) → i < result → slice_index (keys_of commits.now.items) i ≤ number }
-    ensures later { (i : ℕ) → result ≤ i → i < length commits.now.items → number < slice_index (keys_of commits.now.items) i }
+    ensures later { (i : ℕ) → result ≤ i → i < length commits.now.items
+        → number < slice_index (keys_of commits.now.items) i }
 {
     let count = commits.len();
     if count == 0 {

@@ -244,7 +244,8 @@ impl<const N: usize> BitMap<N, Clean> {
     /// # Complexity
     /// At most linear in the dropped commits and the entries of their reverse records, which are freed. The other commits are not visited.
     pub fn prune_commits_before(&mut self, number: u64) -> usize
-        ensures value { self.new ≡ record self.old { commits = from_number number self.old.commits } }
+        ensures value { self.new
+            ≡ record self.old { commits = from_number number self.old.commits } }
         ensures history { history_of N self.new ≡ from_number number (history_of N self.old) }
         ensures costs { costs_of self.new ≡ from_number number (costs_of self.old) }
         ensures count { result + length (history_of N self.new) ≡ length (history_of N self.old) }
@@ -295,10 +296,14 @@ impl<const N: usize> BitMap<N, Clean> {
     /// }
     /// ```
     pub fn rewind_to(mut self, number: u64) -> Result<CleanBitMap<N>, (CleanBitMap<N>, RewindError)>
-        ensures refused { IfErr result (λ e. e.1 ≡ (if is_some (kept_under (history_of N self.entry) number) then Memory alloc_error else NoSuchCommit)) }
+        ensures refused { IfErr result
+            (λ e. e.1 ≡ (if is_some (kept_under (history_of N self.entry) number)
+            then Memory alloc_error else NoSuchCommit)) }
         ensures unchanged { IfErr result (λ e. e.0 ≡ self.entry) }
-        ensures current { IfOk result (λ b. kept_under (history_of N self.entry) number ≡ Some b.current) }
-        ensures history { IfOk result (λ b. history_of N b ≡ up_to_number number (history_of N self.entry)) }
+        ensures current { IfOk result
+            (λ b. kept_under (history_of N self.entry) number ≡ Some b.current) }
+        ensures history { IfOk result
+            (λ b. history_of N b ≡ up_to_number number (history_of N self.entry)) }
         ensures commits { IfOk result (λ b. b.commits ≡ up_to_number number self.entry.commits) }
         ensures costs { IfOk result (λ b. costs_of b ≡ up_to_number number (costs_of self.entry)) }
         ensures last { IfOk result (λ b. b.last ≡ Some number) }

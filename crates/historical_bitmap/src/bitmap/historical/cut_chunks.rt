@@ -12,7 +12,8 @@ use bitmap_core::chunk::{chunk_width, clear_from};
 pub(crate) fn cut<const N: usize>(bytes: &mut [u8; N], from: u64)
     requires width { IsWidth N }
     ensures known { IsChunk N bytes.new }
-    ensures bits { (k : ℕ) → chunk_bit N bytes.new k ≡ (if nat_lt (k % (8 * N)) from then chunk_bit N bytes.old k else false) }
+    ensures bits { (k : ℕ) → chunk_bit N bytes.new k
+        ≡ (if nat_lt (k % (8 * N)) from then chunk_bit N bytes.old k else false) }
 {
     if from < chunk_width::<N>() {
         clear_from(bytes, from);

@@ -50,7 +50,16 @@ fn keep_current<const N: usize>(
     alloc: Global,
 ) -> Result<(), AllocError>
     requires { All (λ kept. kept < number) (keys_of commits.old) }
-    ensures ok { OnOk result (commits.new ≡ commits.old ++ (number, record { len = bit_len N current.now; pruned = current.now.pruned; entries = [] }) ∷ []) }
+    ensures ok { OnOk result
+        (commits.new ≡ commits.old
+        ++ (
+          number,
+          record {
+            len = bit_len N current.now;
+            pruned = current.now.pruned;
+            entries = [];
+          },
+        ) ∷ []) }
     ensures err { OnErr result (commits.new ≡ commits.old) }
 {
     let record = CommitDiff::with_capacity(alloc, current.len(), current.pruned_chunks(), 0)?;
@@ -155,7 +164,8 @@ impl<const N: usize> BitMap<N, Dirty<N>> {
         ensures ok { OnOk result (IsEditOf N self.old (Set bit value) self.new) }
         ensures err { OnErr result (self.new ≡ self.old) }
         ensures holds { OnOk result (KeepsEdited N self.old bit self.new) }
-        ensures keeps { OnOk result (LeavesEdited N (IsEditedAt N self.old) bit (bit + 1) self.new) }
+        ensures keeps { OnOk result
+            (LeavesEdited N (IsEditedAt N self.old) bit (bit + 1) self.new) }
         ensures edited { IsEditedAt N self.old bit → IsOk result }
     {
         let _ = self.current.len();
@@ -182,9 +192,13 @@ impl<const N: usize> BitMap<N, Dirty<N>> {
         requires to { range.end ≤ bit_len N (pending_of N self.old) }
         ensures ok { OnOk result (IsRunOf N self.old (sets range.start range.end value) self.new) }
         ensures err { OnErr result (self.new ≡ self.old) }
-        ensures holds { OnOk result ((bit : ℕ) → range.start ≤ bit → bit < range.end → KeepsEdited N self.old bit self.new) }
-        ensures keeps { OnOk result (LeavesEdited N (IsEditedAt N self.old) range.start range.end self.new) }
-        ensures edited { ((bit : ℕ) → range.start ≤ bit → bit < range.end → IsEditedAt N self.old bit) → IsOk result }
+        ensures holds { OnOk result
+            ((bit : ℕ) → range.start ≤ bit → bit < range.end
+            → KeepsEdited N self.old bit self.new) }
+        ensures keeps { OnOk result
+            (LeavesEdited N (IsEditedAt N self.old) range.start range.end self.new) }
+        ensures edited { ((bit : ℕ) → range.start ≤ bit → bit < range.end
+            → IsEditedAt N self.old bit) → IsOk result }
     {
         let _ = self.current.len();
         self.state
@@ -211,8 +225,11 @@ impl<const N: usize> BitMap<N, Dirty<N>> {
         requires { bit_len N (pending_of N self.old) + 1 < 2 ^ 64 }
         ensures ok { OnOk result (IsEditOf N self.old (Push value) self.new) }
         ensures err { OnErr result (self.new ≡ self.old) }
-        ensures holds { OnOk result (KeepsEdited N self.old (bit_len N (pending_of N self.old)) self.new) }
-        ensures keeps { OnOk result (LeavesEdited N (IsEditedAt N self.old) (bit_len N (pending_of N self.old)) (bit_len N (pending_of N self.old) + 1) self.new) }
+        ensures holds { OnOk result
+            (KeepsEdited N self.old (bit_len N (pending_of N self.old)) self.new) }
+        ensures keeps { OnOk result
+            (LeavesEdited N (IsEditedAt N self.old) (bit_len N (pending_of N self.old))
+            (bit_len N (pending_of N self.old) + 1) self.new) }
         ensures edited { IsEditedAt N self.old (bit_len N (pending_of N self.old)) → IsOk result }
     {
         let _ = self.current.len();
@@ -238,9 +255,13 @@ impl<const N: usize> BitMap<N, Dirty<N>> {
         requires { bit_len N (pending_of N self.old) + 8 < 2 ^ 64 }
         ensures ok { OnOk result (IsRunOf N self.old (pushes (byte_bits byte)) self.new) }
         ensures err { OnErr result (self.new ≡ self.old) }
-        ensures holds { OnOk result (KeepsEdited N self.old (bit_len N (pending_of N self.old)) self.new) }
-        ensures keeps { OnOk result (LeavesEdited N (IsEditedAt N self.old) (bit_len N (pending_of N self.old)) (bit_len N (pending_of N self.old) + 8) self.new) }
-        ensures edited { IsEditedAt N self.old (bit_len N (pending_of N self.old)) → bit_len N (pending_of N self.old) % (8 * N) + 8 ≤ 8 * N → IsOk result }
+        ensures holds { OnOk result
+            (KeepsEdited N self.old (bit_len N (pending_of N self.old)) self.new) }
+        ensures keeps { OnOk result
+            (LeavesEdited N (IsEditedAt N self.old) (bit_len N (pending_of N self.old))
+            (bit_len N (pending_of N self.old) + 8) self.new) }
+        ensures edited { IsEditedAt N self.old (bit_len N (pending_of N self.old))
+            → bit_len N (pending_of N self.old) % (8 * N) + 8 ≤ 8 * N → IsOk result }
     {
         let _ = self.current.len();
         self.state.push_byte(&self.current, byte)
@@ -265,8 +286,11 @@ impl<const N: usize> BitMap<N, Dirty<N>> {
         requires { bit_len N (pending_of N self.old) + 8 * N < 2 ^ 64 }
         ensures ok { OnOk result (IsRunOf N self.old (pushes (chunk_bits N chunk.now)) self.new) }
         ensures err { OnErr result (self.new ≡ self.old) }
-        ensures holds { OnOk result (KeepsEdited N self.old (bit_len N (pending_of N self.old)) self.new) }
-        ensures keeps { OnOk result (LeavesEdited N (IsEditedAt N self.old) (bit_len N (pending_of N self.old)) (bit_len N (pending_of N self.old) + 8 * N) self.new) }
+        ensures holds { OnOk result
+            (KeepsEdited N self.old (bit_len N (pending_of N self.old)) self.new) }
+        ensures keeps { OnOk result
+            (LeavesEdited N (IsEditedAt N self.old) (bit_len N (pending_of N self.old))
+            (bit_len N (pending_of N self.old) + 8 * N) self.new) }
     {
         let _ = self.current.len();
         self.state.push_chunk(&self.current, chunk)
@@ -364,7 +388,12 @@ impl<const N: usize> BitMap<N, Dirty<N>> {
     ///
     /// At most linear in the edited and captured chunks, which are freed. Captured chunks are the copies that pruning makes.
     pub fn abort(self) -> CleanBitMap<N>
-        ensures { result ≡ record { current = self.entry.current; commits = self.entry.commits; last = self.entry.last; state = tt } }
+        ensures { result ≡ record {
+          current = self.entry.current;
+          commits = self.entry.commits;
+          last = self.entry.last;
+          state = tt;
+        } }
     {
         let state = Clean::new(self.state.allocator());
         BitMap {
@@ -402,10 +431,13 @@ impl<const N: usize> BitMap<N, Dirty<N>> {
     #[inline(always)]
     pub fn commit(mut self, number: u64) -> Result<CleanBitMap<N>, (DirtyBitMap<N>, Error)>
         ensures accepted { OnOk result (commit_error self.entry.last number ≡ None) }
-        ensures refused { IfErr result (λ e. e.1 ≡ unwrap_or (commit_error self.entry.last number) (Memory alloc_error)) }
+        ensures refused { IfErr result
+            (λ e. e.1 ≡ unwrap_or (commit_error self.entry.last number) (Memory alloc_error)) }
         ensures unchanged { IfErr result (λ e. e.0 ≡ self.entry) }
         ensures current { IfOk result (λ b. b.current ≡ pending_of N self.entry) }
-        ensures history { IfOk result (λ b. history_of N b ≡ history_of N self.entry ++ (number, pending_of N self.entry) ∷ []) }
+        ensures history { IfOk result
+            (λ b. history_of N b ≡ history_of N self.entry
+            ++ (number, pending_of N self.entry) ∷ []) }
         ensures earlier { IfOk result (λ b. before_latest b.commits ≡ self.entry.commits) }
         ensures last { IfOk result (λ b. b.last ≡ Some number) }
         ensures costs { IfOk result (AddsCost N self.entry number) }
@@ -435,7 +467,9 @@ impl<const N: usize> BitMap<N, Dirty<N>> {
         ensures refused { IfErr result (λ e. e.1 ≡ Memory alloc_error) }
         ensures unchanged { IfErr result (λ e. e.0 ≡ self.entry) }
         ensures current { IfOk result (λ b. b.current ≡ pending_of N self.entry) }
-        ensures history { IfOk result (λ b. history_of N b ≡ history_of N self.entry ++ (number, pending_of N self.entry) ∷ []) }
+        ensures history { IfOk result
+            (λ b. history_of N b ≡ history_of N self.entry
+            ++ (number, pending_of N self.entry) ∷ []) }
         ensures earlier { IfOk result (λ b. before_latest b.commits ≡ self.entry.commits) }
         ensures last { IfOk result (λ b. b.last ≡ Some number) }
         ensures costs { IfOk result (AddsCost N self.entry number) }
@@ -483,7 +517,8 @@ impl<const N: usize> BitMap<N, Dirty<N>> {
         ensures same_reference { IfOk result (IsOf self.entry) }
         ensures ok { IfOk result (λ e. IsEditOf N self.old (Set bit value) e.on.now) }
         ensures holds { IfOk result (λ e. KeepsEdited N self.old bit e.on.now) }
-        ensures keeps { IfOk result (λ e. LeavesEdited N (IsEditedAt N self.old) bit (bit + 1) e.on.now) }
+        ensures keeps { IfOk result
+            (λ e. LeavesEdited N (IsEditedAt N self.old) bit (bit + 1) e.on.now) }
         ensures edited { IsEditedAt N self.old bit → IsOk result }
     {
         self.try_set_bit(bit, value)?;
@@ -512,10 +547,15 @@ impl<const N: usize> BitMap<N, Dirty<N>> {
         requires to { range.end ≤ bit_len N (pending_of N self.old) }
         ensures* refused { sem 𝓛 (rests_if_refused N.row self.entry result) }
         ensures same_reference { IfOk result (IsOf self.entry) }
-        ensures ok { IfOk result (λ e. IsRunOf N self.old (sets range.start range.end value) e.on.now) }
-        ensures holds { IfOk result (λ e. (bit : ℕ) → range.start ≤ bit → bit < range.end → KeepsEdited N self.old bit e.on.now) }
-        ensures keeps { IfOk result (λ e. LeavesEdited N (IsEditedAt N self.old) range.start range.end e.on.now) }
-        ensures edited { ((bit : ℕ) → range.start ≤ bit → bit < range.end → IsEditedAt N self.old bit) → IsOk result }
+        ensures ok { IfOk result
+            (λ e. IsRunOf N self.old (sets range.start range.end value) e.on.now) }
+        ensures holds { IfOk result
+            (λ e. (bit : ℕ) → range.start ≤ bit → bit < range.end
+            → KeepsEdited N self.old bit e.on.now) }
+        ensures keeps { IfOk result
+            (λ e. LeavesEdited N (IsEditedAt N self.old) range.start range.end e.on.now) }
+        ensures edited { ((bit : ℕ) → range.start ≤ bit → bit < range.end
+            → IsEditedAt N self.old bit) → IsOk result }
     {
         self.try_set_range(range, value)?;
         Ok(Lent::new(self))
@@ -541,8 +581,11 @@ impl<const N: usize> BitMap<N, Dirty<N>> {
         ensures* refused { sem 𝓛 (rests_if_refused N.row self.entry result) }
         ensures same_reference { IfOk result (IsOf self.entry) }
         ensures ok { IfOk result (λ e. IsEditOf N self.old (Push value) e.on.now) }
-        ensures holds { IfOk result (λ e. KeepsEdited N self.old (bit_len N (pending_of N self.old)) e.on.now) }
-        ensures keeps { IfOk result (λ e. LeavesEdited N (IsEditedAt N self.old) (bit_len N (pending_of N self.old)) (bit_len N (pending_of N self.old) + 1) e.on.now) }
+        ensures holds { IfOk result
+            (λ e. KeepsEdited N self.old (bit_len N (pending_of N self.old)) e.on.now) }
+        ensures keeps { IfOk result
+            (λ e. LeavesEdited N (IsEditedAt N self.old) (bit_len N (pending_of N self.old))
+            (bit_len N (pending_of N self.old) + 1) e.on.now) }
         ensures edited { IsEditedAt N self.old (bit_len N (pending_of N self.old)) → IsOk result }
     {
         self.try_push(value)?;
@@ -568,9 +611,13 @@ impl<const N: usize> BitMap<N, Dirty<N>> {
         ensures* refused { sem 𝓛 (rests_if_refused N.row self.entry result) }
         ensures same_reference { IfOk result (IsOf self.entry) }
         ensures ok { IfOk result (λ e. IsRunOf N self.old (pushes (byte_bits byte)) e.on.now) }
-        ensures holds { IfOk result (λ e. KeepsEdited N self.old (bit_len N (pending_of N self.old)) e.on.now) }
-        ensures keeps { IfOk result (λ e. LeavesEdited N (IsEditedAt N self.old) (bit_len N (pending_of N self.old)) (bit_len N (pending_of N self.old) + 8) e.on.now) }
-        ensures edited { IsEditedAt N self.old (bit_len N (pending_of N self.old)) → bit_len N (pending_of N self.old) % (8 * N) + 8 ≤ 8 * N → IsOk result }
+        ensures holds { IfOk result
+            (λ e. KeepsEdited N self.old (bit_len N (pending_of N self.old)) e.on.now) }
+        ensures keeps { IfOk result
+            (λ e. LeavesEdited N (IsEditedAt N self.old) (bit_len N (pending_of N self.old))
+            (bit_len N (pending_of N self.old) + 8) e.on.now) }
+        ensures edited { IsEditedAt N self.old (bit_len N (pending_of N self.old))
+            → bit_len N (pending_of N self.old) % (8 * N) + 8 ≤ 8 * N → IsOk result }
     {
         self.try_push_byte(byte)?;
         Ok(Lent::new(self))
@@ -593,9 +640,13 @@ impl<const N: usize> BitMap<N, Dirty<N>> {
         requires { bit_len N (pending_of N self.old) + 8 * N < 2 ^ 64 }
         ensures* refused { sem 𝓛 (rests_if_refused N.row self.entry result) }
         ensures same_reference { IfOk result (IsOf self.entry) }
-        ensures ok { IfOk result (λ e. IsRunOf N self.old (pushes (chunk_bits N chunk.now)) e.on.now) }
-        ensures holds { IfOk result (λ e. KeepsEdited N self.old (bit_len N (pending_of N self.old)) e.on.now) }
-        ensures keeps { IfOk result (λ e. LeavesEdited N (IsEditedAt N self.old) (bit_len N (pending_of N self.old)) (bit_len N (pending_of N self.old) + 8 * N) e.on.now) }
+        ensures ok { IfOk result
+            (λ e. IsRunOf N self.old (pushes (chunk_bits N chunk.now)) e.on.now) }
+        ensures holds { IfOk result
+            (λ e. KeepsEdited N self.old (bit_len N (pending_of N self.old)) e.on.now) }
+        ensures keeps { IfOk result
+            (λ e. LeavesEdited N (IsEditedAt N self.old) (bit_len N (pending_of N self.old))
+            (bit_len N (pending_of N self.old) + 8 * N) e.on.now) }
     {
         self.try_push_chunk(chunk)?;
         Ok(Lent::new(self))

@@ -59,7 +59,8 @@ impl<'a, const N: usize> Edit<'a, N> {
         ensures same_reference { IfOk result (IsOf self.entry.on) }
         ensures ok { IfOk result (λ e. IsEditOf N self.entry.on.now (Set bit value) e.on.now) }
         ensures holds { IfOk result (λ e. KeepsEdited N self.entry.on.now bit e.on.now) }
-        ensures keeps { IfOk result (λ e. LeavesEdited N (IsEditedAt N self.entry.on.now) bit (bit + 1) e.on.now) }
+        ensures keeps { IfOk result
+            (λ e. LeavesEdited N (IsEditedAt N self.entry.on.now) bit (bit + 1) e.on.now) }
         ensures edited { IsEditedAt N self.entry.on.now bit → IsOk result }
     {
         let Lent { on } = self;
@@ -87,10 +88,15 @@ impl<'a, const N: usize> Edit<'a, N> {
         requires to { range.end ≤ bit_len N (pending_of N self.on.now) }
         ensures* refused { sem 𝓛 (rests_if_refused N.row self.entry.on result) }
         ensures same_reference { IfOk result (IsOf self.entry.on) }
-        ensures ok { IfOk result (λ e. IsRunOf N self.entry.on.now (sets range.start range.end value) e.on.now) }
-        ensures holds { IfOk result (λ e. (bit : ℕ) → range.start ≤ bit → bit < range.end → KeepsEdited N self.entry.on.now bit e.on.now) }
-        ensures keeps { IfOk result (λ e. LeavesEdited N (IsEditedAt N self.entry.on.now) range.start range.end e.on.now) }
-        ensures edited { ((bit : ℕ) → range.start ≤ bit → bit < range.end → IsEditedAt N self.entry.on.now bit) → IsOk result }
+        ensures ok { IfOk result
+            (λ e. IsRunOf N self.entry.on.now (sets range.start range.end value) e.on.now) }
+        ensures holds { IfOk result
+            (λ e. (bit : ℕ) → range.start ≤ bit → bit < range.end
+            → KeepsEdited N self.entry.on.now bit e.on.now) }
+        ensures keeps { IfOk result
+            (λ e. LeavesEdited N (IsEditedAt N self.entry.on.now) range.start range.end e.on.now) }
+        ensures edited { ((bit : ℕ) → range.start ≤ bit → bit < range.end
+            → IsEditedAt N self.entry.on.now bit) → IsOk result }
     {
         let Lent { on } = self;
         on.set_range(range, value)
@@ -114,9 +120,15 @@ impl<'a, const N: usize> Edit<'a, N> {
         ensures* refused { sem 𝓛 (rests_if_refused N.row self.entry.on result) }
         ensures same_reference { IfOk result (IsOf self.entry.on) }
         ensures ok { IfOk result (λ e. IsEditOf N self.entry.on.now (Push value) e.on.now) }
-        ensures holds { IfOk result (λ e. KeepsEdited N self.entry.on.now (bit_len N (pending_of N self.entry.on.now)) e.on.now) }
-        ensures keeps { IfOk result (λ e. LeavesEdited N (IsEditedAt N self.entry.on.now) (bit_len N (pending_of N self.entry.on.now)) (bit_len N (pending_of N self.entry.on.now) + 1) e.on.now) }
-        ensures edited { IsEditedAt N self.entry.on.now (bit_len N (pending_of N self.entry.on.now)) → IsOk result }
+        ensures holds { IfOk result
+            (λ e. KeepsEdited N self.entry.on.now
+            (bit_len N (pending_of N self.entry.on.now)) e.on.now) }
+        ensures keeps { IfOk result
+            (λ e. LeavesEdited N (IsEditedAt N self.entry.on.now)
+            (bit_len N (pending_of N self.entry.on.now))
+            (bit_len N (pending_of N self.entry.on.now) + 1) e.on.now) }
+        ensures edited { IsEditedAt N self.entry.on.now (bit_len N (pending_of N self.entry.on.now))
+            → IsOk result }
     {
         let Lent { on } = self;
         on.push(value)
@@ -139,10 +151,17 @@ impl<'a, const N: usize> Edit<'a, N> {
         requires { bit_len N (pending_of N self.on.now) + 8 < 2 ^ 64 }
         ensures* refused { sem 𝓛 (rests_if_refused N.row self.entry.on result) }
         ensures same_reference { IfOk result (IsOf self.entry.on) }
-        ensures ok { IfOk result (λ e. IsRunOf N self.entry.on.now (pushes (byte_bits byte)) e.on.now) }
-        ensures holds { IfOk result (λ e. KeepsEdited N self.entry.on.now (bit_len N (pending_of N self.entry.on.now)) e.on.now) }
-        ensures keeps { IfOk result (λ e. LeavesEdited N (IsEditedAt N self.entry.on.now) (bit_len N (pending_of N self.entry.on.now)) (bit_len N (pending_of N self.entry.on.now) + 8) e.on.now) }
-        ensures edited { IsEditedAt N self.entry.on.now (bit_len N (pending_of N self.entry.on.now)) → bit_len N (pending_of N self.entry.on.now) % (8 * N) + 8 ≤ 8 * N → IsOk result }
+        ensures ok { IfOk result
+            (λ e. IsRunOf N self.entry.on.now (pushes (byte_bits byte)) e.on.now) }
+        ensures holds { IfOk result
+            (λ e. KeepsEdited N self.entry.on.now
+            (bit_len N (pending_of N self.entry.on.now)) e.on.now) }
+        ensures keeps { IfOk result
+            (λ e. LeavesEdited N (IsEditedAt N self.entry.on.now)
+            (bit_len N (pending_of N self.entry.on.now))
+            (bit_len N (pending_of N self.entry.on.now) + 8) e.on.now) }
+        ensures edited { IsEditedAt N self.entry.on.now (bit_len N (pending_of N self.entry.on.now))
+            → bit_len N (pending_of N self.entry.on.now) % (8 * N) + 8 ≤ 8 * N → IsOk result }
     {
         let Lent { on } = self;
         on.push_byte(byte)
@@ -165,9 +184,15 @@ impl<'a, const N: usize> Edit<'a, N> {
         requires { bit_len N (pending_of N self.on.now) + 8 * N < 2 ^ 64 }
         ensures* refused { sem 𝓛 (rests_if_refused N.row self.entry.on result) }
         ensures same_reference { IfOk result (IsOf self.entry.on) }
-        ensures ok { IfOk result (λ e. IsRunOf N self.entry.on.now (pushes (chunk_bits N chunk.now)) e.on.now) }
-        ensures holds { IfOk result (λ e. KeepsEdited N self.entry.on.now (bit_len N (pending_of N self.entry.on.now)) e.on.now) }
-        ensures keeps { IfOk result (λ e. LeavesEdited N (IsEditedAt N self.entry.on.now) (bit_len N (pending_of N self.entry.on.now)) (bit_len N (pending_of N self.entry.on.now) + 8 * N) e.on.now) }
+        ensures ok { IfOk result
+            (λ e. IsRunOf N self.entry.on.now (pushes (chunk_bits N chunk.now)) e.on.now) }
+        ensures holds { IfOk result
+            (λ e. KeepsEdited N self.entry.on.now
+            (bit_len N (pending_of N self.entry.on.now)) e.on.now) }
+        ensures keeps { IfOk result
+            (λ e. LeavesEdited N (IsEditedAt N self.entry.on.now)
+            (bit_len N (pending_of N self.entry.on.now))
+            (bit_len N (pending_of N self.entry.on.now) + 8 * N) e.on.now) }
     {
         let Lent { on } = self;
         on.push_chunk(chunk)
@@ -191,7 +216,8 @@ impl<'a, const N: usize> Edit<'a, N> {
         ensures* refused { sem 𝓛 (rests_if_refused N.row self.entry.on result) }
         ensures same_reference { IfOk result (IsOf self.entry.on) }
         ensures ok { IfOk result (λ e. IsEditOf N self.entry.on.now (Prune bit) e.on.now) }
-        ensures keeps { IfOk result (λ e. LeavesEdited N (IsEditedAt N self.entry.on.now) 0 0 e.on.now) }
+        ensures keeps { IfOk result
+            (λ e. LeavesEdited N (IsEditedAt N self.entry.on.now) 0 0 e.on.now) }
         ensures nothing { bit / (8 * N) ≤ (pending_of N self.entry.on.now).pruned → IsOk result }
     {
         let Lent { on } = self;

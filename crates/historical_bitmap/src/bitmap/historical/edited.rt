@@ -77,7 +77,8 @@ fn is_next(first: usize, count: usize, index: usize) -> bool
 // Returns the place of the chunk at an index, if there is one. Does not search if that is the place `recent`.
 #[inline]
 fn place_of<const N: usize>(chunks: &ChunkMap<N>, recent: usize, index: usize) -> Option<usize>
-    ensures place { MatchOption result (lookup (nat_eq index) chunks.now.entries ≡ None) (IsAt chunks.now.indices index) }
+    ensures place { MatchOption result (lookup (nat_eq index) chunks.now.entries ≡ None)
+        (IsAt chunks.now.indices index) }
 {
     if recent < chunks.len() {
         if chunks.index_at(recent) == index {
@@ -96,7 +97,9 @@ fn slot_of<const N: usize>(
     count: usize,
     index: usize,
 ) -> Option<Slot>
-    ensures { MatchOption result (IsBeside first count index × (lookup (nat_eq index) stored.now.entries ≡ None)) (IsSlot stored.now.indices first count index) }
+    ensures { MatchOption result
+        (IsBeside first count index × (lookup (nat_eq index) stored.now.entries ≡ None))
+        (IsSlot stored.now.indices first count index) }
 {
     if is_in(first, count, index) {
         return Some(Slot::Appended(index - first));
@@ -165,7 +168,8 @@ fn remove_from<const N: usize>(chunks: &mut ChunkMap<N>, from: usize)
 fn remove_each<const N: usize>(stored: &mut ChunkMap<N>, indices: &[usize], count: usize)
     requires width { IsWidth N }
     requires within { count ≤ length indices.now }
-    ensures removed { PutsEach stored.old.entries stored.new.entries (take count indices.now) (λ q. None) }
+    ensures removed { PutsEach stored.old.entries stored.new.entries (take count indices.now)
+        (λ q. None) }
     ensures sorted { IsStrictlySortedBy nat_cmp (keys_of stored.new.entries) }
 {
     for at in 0..count {
@@ -184,8 +188,11 @@ fn insert_each<const N: usize>(
 ) -> Result<(), AllocError>
     requires from { (q : ℕ) → is_member nat_eq indices.now q ≡ true → current.now.pruned ≤ q }
     requires fits { (q : ℕ) → is_member nat_eq indices.now q ≡ true → 8 * N * q < 2 ^ 64 }
-    requires absent { (q : ℕ) → is_member nat_eq indices.now q ≡ true → lookup (nat_eq q) stored.old.entries ≡ None }
-    ensures ok { OnOk result (PutsEach stored.old.entries stored.new.entries indices.now (λ q. Some (chunk N (truncated N current.now len) q))) }
+    requires absent { (q : ℕ) → is_member nat_eq indices.now q ≡ true
+        → lookup (nat_eq q) stored.old.entries ≡ None }
+    ensures ok { OnOk result
+        (PutsEach stored.old.entries stored.new.entries indices.now
+        (λ q. Some (chunk N (truncated N current.now len) q))) }
     ensures err { OnErr result (stored.new.entries ≡ stored.old.entries) }
     ensures none { length indices.now ≡ 0 → IsOk result }
 {
@@ -245,7 +252,9 @@ impl<const N: usize> EditedChunks<N> {
     // Returns the chunk at an index, if there is one, to be changed in its place.
     #[inline]
     pub(crate) fn get_mut(&mut self, index: usize) -> Option<&mut [u8; N]>
-        ensures* writes_back { sem 𝓛 (LendsIf (the_row N.row) (Array byte_row N) self.entry result (with_chunk self.old index) self.old) }
+        ensures* writes_back { sem 𝓛
+            (LendsIf (the_row N.row) (Array byte_row N) self.entry result
+            (with_chunk self.old index) self.old) }
         ensures value { option_map (λ chunk. chunk.now) result ≡ lookup (nat_eq index) self.old }
         ensures sorted { IsStrictlySortedBy nat_cmp (keys_of self.old) }
     {
@@ -360,7 +369,10 @@ impl<const N: usize> EditedChunks<N> {
         requires width { IsWidth N }
         requires from { current.now.pruned ≤ index }
         requires fits { 8 * N * index < 2 ^ 64 }
-        ensures ok { OnOk result ((bytes : List ℕ) × SetsIn N (chunk N (truncated N current.now len) index) self.old self.new index bit value bytes) }
+        ensures ok { OnOk result
+            ((bytes : List ℕ) × SetsIn N
+            (chunk N (truncated N current.now len) index) self.old self.new index bit value
+            bytes) }
         ensures err { OnErr result (self.new ≡ self.old) }
         ensures edited { IsSome (lookup (nat_eq index) self.old) → IsOk result }
     {
@@ -385,7 +397,10 @@ impl<const N: usize> EditedChunks<N> {
         requires width { IsWidth N }
         requires index { index ≡ bit / (8 * N) }
         requires from { current.now.pruned ≤ index }
-        ensures ok { OnOk result ((bytes : List ℕ) × SetsIn N (chunk N (truncated N current.now bit) index) self.old self.new index bit value bytes) }
+        ensures ok { OnOk result
+            ((bytes : List ℕ) × SetsIn N
+            (chunk N (truncated N current.now bit) index) self.old self.new index bit value
+            bytes) }
         ensures err { OnErr result (self.new ≡ self.old) }
         ensures edited { IsSome (lookup (nat_eq index) self.old) → IsOk result }
     {
@@ -402,9 +417,11 @@ impl<const N: usize> EditedChunks<N> {
     #[inline]
     pub(crate) fn replace_bit(&mut self, index: usize, bit: u64, value: bool) -> Option<bool>
         requires width { IsWidth N }
-        ensures bit { result ≡ option_map (λ chunk. chunk_bit N chunk bit) (lookup (nat_eq index) self.old) }
+        ensures bit { result ≡ option_map (λ chunk. chunk_bit N chunk bit)
+            (lookup (nat_eq index) self.old) }
         ensures none { lookup (nat_eq index) self.old ≡ None → self.new ≡ self.old }
-        ensures some { IfSome (lookup (nat_eq index) self.old) (λ chunk. IsSetIn N self.old self.new index chunk bit value) }
+        ensures some { IfSome (lookup (nat_eq index) self.old)
+            (λ chunk. IsSetIn N self.old self.new index chunk bit value) }
         ensures sorted { IsStrictlySortedBy nat_cmp (keys_of self.new) }
     {
         match self.get_mut(index) {
@@ -459,8 +476,10 @@ impl<const N: usize> EditedChunks<N> {
     // Clears the bits of the chunk at an index from bit `from` on, counted from its start, if there is a chunk. Does not allocate.
     pub(crate) fn cut(&mut self, index: usize, from: u64)
         requires width { IsWidth N }
-        ensures here { IsCut N from (lookup (nat_eq index) self.old) (lookup (nat_eq index) self.new) }
-        ensures others { (q : ℕ) → q ≢ index → lookup (nat_eq q) self.new ≡ lookup (nat_eq q) self.old }
+        ensures here { IsCut N from (lookup (nat_eq index) self.old)
+            (lookup (nat_eq index) self.new) }
+        ensures others { (q : ℕ) → q ≢ index
+            → lookup (nat_eq q) self.new ≡ lookup (nat_eq q) self.old }
     {
         if self.get(index).is_some() {
             self.set_in(index, from, chunk_width::<N>(), false);
@@ -487,8 +506,11 @@ impl<const N: usize> EditedChunks<N> {
     ) -> Result<(), AllocError>
         requires from { (q : ℕ) → is_member nat_eq indices.now q ≡ true → current.now.pruned ≤ q }
         requires fits { (q : ℕ) → is_member nat_eq indices.now q ≡ true → 8 * N * q < 2 ^ 64 }
-        requires absent { (q : ℕ) → is_member nat_eq indices.now q ≡ true → lookup (nat_eq q) self.old ≡ None }
-        ensures ok { OnOk result (PutsEach self.old self.new indices.now (λ q. Some (chunk N (truncated N current.now len) q))) }
+        requires absent { (q : ℕ) → is_member nat_eq indices.now q ≡ true
+            → lookup (nat_eq q) self.old ≡ None }
+        ensures ok { OnOk result
+            (PutsEach self.old self.new indices.now
+            (λ q. Some (chunk N (truncated N current.now len) q))) }
         ensures err { OnErr result (self.new ≡ self.old) }
         ensures none { length indices.now ≡ 0 → IsOk result }
     {
@@ -525,7 +547,10 @@ impl<const N: usize> EditedChunks<N> {
         ensures from { from ≤ result.1 }
         ensures rises { result.1 ≤ result.2 }
         ensures to { result.2 ≤ to }
-        ensures indices { members_between (keys_of self.now) from to ≡ members_between (keys_of result.0.now.entries) from result.1 ++ (from_to result.1 result.2 ++ members_between (keys_of result.0.now.entries) result.2 to) }
+        ensures indices { members_between (keys_of self.now) from to
+            ≡ members_between (keys_of result.0.now.entries) from result.1
+            ++ (from_to result.1 result.2
+            ++ members_between (keys_of result.0.now.entries) result.2 to) }
     {
         let first = self.first.clamp(from, to);
         let past = self
@@ -573,7 +598,8 @@ impl<const N: usize> EditedChunks<N> {
     // Returns the map, the index of the first appended chunk, and the appended chunks. Does not allocate.
     pub(crate) fn into_parts(self) -> (ChunkMap<N>, usize, Vec<[u8; N]>)
         ensures entries { with_appended result.1 result.2.items result.0.entries ≡ self.entry }
-        ensures apart { (q : ℕ) → result.1 ≤ q → q < result.1 + length result.2.items → lookup (nat_eq q) result.0.entries ≡ None }
+        ensures apart { (q : ℕ) → result.1 ≤ q → q < result.1 + length result.2.items
+            → lookup (nat_eq q) result.0.entries ≡ None }
         ensures sorted { IsStrictlySortedBy nat_cmp (keys_of self.entry) }
     {
         self.stored.order();

@@ -248,7 +248,8 @@ impl<const N: usize> BitMap<N, Clean> {
         ensures included { 0 < length result.0.now
             → (result.1 ≤ chunk) × (chunk < result.1 + length result.0.now) }
         ensures retained { (i : ℕ) → i < length result.0.now
-            → IsRetainedChunk N (left_by N number self.now.commits self.now.current) (result.1 + i) }
+            → IsRetainedChunk N (left_by N number self.now.commits self.now.current)
+            (result.1 + i) }
         ensures shown { (i : ℕ) → i < length result.0.now
             → ShowsChunk N (pruned_meaning N (left_by N number self.now.commits self.now.current))
             (result.1 + i) (slice_index_or result.0.now i []) }

@@ -158,7 +158,8 @@ pub(crate) fn index_last<const N: usize>(
     requires entries { LatestRises commits.now.items }
     requires index { IfSome index.old (λ rows. IsIndexOf rows (before_latest commits.now.items)) }
     ensures ok { OnOk result (IfSome index.new (λ rows. IsIndexOf rows commits.now.items)) }
-    ensures err { OnErr result (IfSome index.new (λ rows. IsIndexOf rows (before_latest commits.now.items))) }
+    ensures err { OnErr result
+        (IfSome index.new (λ rows. IsIndexOf rows (before_latest commits.now.items))) }
 {
     match index {
         Some(rows) => add_last(rows, commits),

@@ -47,7 +47,8 @@ fn push_at<const N: usize>(
     requires width { IsWidth N }
     requires place { place < length rows.old.items }
     requires past { All (λ kept. kept < number) (keys_of (row_at rows.old.items place)) }
-    ensures ok { OnOk result (rows.new.items ≡ appended_at rows.old.items place number bytes.entry) }
+    ensures ok { OnOk result
+        (rows.new.items ≡ appended_at rows.old.items place number bytes.entry) }
     ensures err { OnErr result (rows.new.items ≡ rows.old.items) }
 {
     let row = &mut rows[place];

@@ -35,7 +35,8 @@ fn search_past<const N: usize>(bytes: &VecDeque<(u64, [u8; N])>, number: u64) ->
     requires rise { RiseInNumber bytes.now.items }
     ensures within { result ≤ length bytes.now.items }
     ensures earlier { (i : ℕ) → i < result → slice_index (keys_of bytes.now.items) i ≤ number }
-    ensures later { (i : ℕ) → result ≤ i → i < length bytes.now.items → number < slice_index (keys_of bytes.now.items) i }
+    ensures later { (i : ℕ) → result ≤ i → i < length bytes.now.items
+        → number < slice_index (keys_of bytes.now.items) i }
 {
     let mut start = 0;
     let mut end = bytes.len();

@@ -55,7 +55,12 @@ impl<const N: usize> Model for Dirty<N> {
 
     ghost Value = { PendingEdits };
 
-    ghost view = { λ d. record { len = d.len; pruned = d.pruned; edited = with_cached N d.edited d.cache; captured = d.captured.items } };
+    ghost view = { λ d. record {
+      len = d.len;
+      pruned = d.pruned;
+      edited = with_cached N d.edited d.cache;
+      captured = d.captured.items;
+    } };
 
     ghost invariant = { λ d. IsCached N d.edited d.cache };
 }
@@ -71,7 +76,8 @@ fn chunk_with<const N: usize>(
     requires cached { IsCached N edited.now cache.now }
     requires from { current.now.pruned ≤ index }
     requires fits { 8 * N * index < 2 ^ 64 }
-    ensures value { result ≡ unwrap_or (lookup (nat_eq index) (with_cached N edited.now cache.now)) (chunk N (truncated N current.now len) index) }
+    ensures value { result ≡ unwrap_or (lookup (nat_eq index) (with_cached N edited.now cache.now))
+        (chunk N (truncated N current.now len) index) }
     ensures known { IsChunk N result }
 {
     match chunk_of(edited, cache, index) {
@@ -91,7 +97,13 @@ fn chunk_before<const N: usize>(
     requires cached { IsCached N edited.now cache.now }
     requires from { current.now.pruned ≤ index }
     requires fits { 8 * N * index < 2 ^ 64 }
-    ensures { result ≡ old_chunk N current.now (record { len = len; pruned = 0; edited = with_cached N edited.now cache.now; captured = [] }) index }
+    ensures { result ≡ old_chunk N current.now
+        (record {
+          len = len;
+          pruned = 0;
+          edited = with_cached N edited.now cache.now;
+          captured = [];
+        }) index }
 {
     let total = current.len();
     if chunk_width::<N>() * (index as u64) < total {
@@ -116,7 +128,15 @@ fn capture<const N: usize>(
     requires rises { from ≤ to }
     requires fits { 8 * N * to < 2 ^ 64 }
     requires space { vec_len captured.old + (to - from) ≤ vec_capacity captured.old }
-    ensures { captured.new.items ≡ captured.old.items ++ map (old_chunk N current.now (record { len = len; pruned = 0; edited = with_cached N edited.now cache.now; captured = [] })) (from_to from to) }
+    ensures { captured.new.items
+        ≡ captured.old.items ++ map
+        (old_chunk N current.now
+        (record {
+          len = len;
+          pruned = 0;
+          edited = with_cached N edited.now cache.now;
+          captured = [];
+        })) (from_to from to) }
 {
     let _ = current.len();
     for index in from..to {
@@ -136,7 +156,8 @@ fn record_range<const N: usize>(
     requires low { current.now.pruned ≤ from }
     requires count { length edits.now.captured ≡ edits.now.pruned - current.now.pruned }
     requires fits { (i : ℕ) → i < to → 8 * N * i < 2 ^ 64 }
-    ensures { OnOk result (AddsEntries N current.now edits.now (from_to from to) record.old record.new) }
+    ensures { OnOk result (AddsEntries N current.now edits.now
+        (from_to from to) record.old record.new) }
 {
     let _ = current.len();
     for index in from..to {
@@ -158,7 +179,8 @@ fn record_between<const N: usize>(
     requires low { current.now.pruned ≤ from }
     requires count { length edits.now.captured ≡ edits.now.pruned - current.now.pruned }
     requires fits { (i : ℕ) → i < to → 8 * N * i < 2 ^ 64 }
-    ensures { OnOk result (AddsEntries N current.now edits.now (picked_between (index ∷ []) from to) record.old record.new) }
+    ensures { OnOk result (AddsEntries N current.now edits.now
+        (picked_between (index ∷ []) from to) record.old record.new) }
 {
     let _ = current.len();
     if from <= index && index < to {
@@ -194,7 +216,8 @@ fn record_places<const N: usize>(
     requires low { current.now.pruned ≤ from }
     requires count { length edits.now.captured ≡ edits.now.pruned - current.now.pruned }
     requires fits { (i : ℕ) → i < to → 8 * N * i < 2 ^ 64 }
-    ensures { OnOk result (AddsEntries N current.now edits.now (picked_between chunks.now.indices from to) record.old record.new) }
+    ensures { OnOk result (AddsEntries N current.now edits.now
+        (picked_between chunks.now.indices from to) record.old record.new) }
 {
     let _ = current.len();
     for place in 0..chunks.len() {
@@ -215,7 +238,8 @@ fn record_sorted<const N: usize>(
     requires low { current.now.pruned ≤ from }
     requires count { length edits.now.captured ≡ edits.now.pruned - current.now.pruned }
     requires fits { (i : ℕ) → i < to → 8 * N * i < 2 ^ 64 }
-    ensures { OnOk result (AddsEntries N current.now edits.now (members_between (keys_of chunks.now.entries) from to) record.old record.new) }
+    ensures { OnOk result (AddsEntries N current.now edits.now
+        (members_between (keys_of chunks.now.entries) from to) record.old record.new) }
 {
     let _ = current.len();
     chunks.order();
@@ -240,7 +264,8 @@ fn record_map<const N: usize>(
     requires low { current.now.pruned ≤ from }
     requires count { length edits.now.captured ≡ edits.now.pruned - current.now.pruned }
     requires fits { (i : ℕ) → i < to → 8 * N * i < 2 ^ 64 }
-    ensures { OnOk result (AddsEntries N current.now edits.now (members_between (keys_of chunks.now.entries) from to) record.old record.new) }
+    ensures { OnOk result (AddsEntries N current.now edits.now
+        (members_between (keys_of chunks.now.entries) from to) record.old record.new) }
 {
     if from == to {
         return Ok(());
@@ -264,7 +289,8 @@ fn record_edited<const N: usize>(
     requires low { current.now.pruned ≤ from }
     requires count { length edits.now.captured ≡ edits.now.pruned - current.now.pruned }
     requires fits { (i : ℕ) → i < to → 8 * N * i < 2 ^ 64 }
-    ensures { OnOk result (AddsEntries N current.now edits.now (members_between (keys_of edits.now.edited) from to) record.old record.new) }
+    ensures { OnOk result (AddsEntries N current.now edits.now
+        (members_between (keys_of edits.now.edited) from to) record.old record.new) }
 {
     let (others, first, past) = edits.edited_between(from, to);
     record_map(record, edits, current, others, from, first)?;
@@ -397,9 +423,12 @@ impl<const N: usize> Dirty<N> {
     pub(crate) fn push(&mut self, current: &Prunable<N>, value: bool) -> Result<(), AllocError>
         requires low { pruned_bits N current.now ≤ self.old.len }
         requires fits { self.old.len + 1 < 2 ^ 64 }
-        requires zero { IfSome (edited_chunk self.old (self.old.len / (8 * N))) (IsClearFrom N (self.old.len / (8 * N)) self.old.len) }
-        requires first { self.old.len % (8 * N) ≡ 0 → edited_chunk self.old (self.old.len / (8 * N)) ≡ None }
-        ensures ok { OnOk result (Writes N current.now self.old self.old.len value (self.old.len + 1) self.new) }
+        requires zero { IfSome (edited_chunk self.old (self.old.len / (8 * N)))
+            (IsClearFrom N (self.old.len / (8 * N)) self.old.len) }
+        requires first { self.old.len % (8 * N) ≡ 0
+            → edited_chunk self.old (self.old.len / (8 * N)) ≡ None }
+        ensures ok { OnOk result
+            (Writes N current.now self.old self.old.len value (self.old.len + 1) self.new) }
         ensures err { OnErr result (self.new ≡ self.old) }
         ensures edited { IsSome (edited_chunk self.old (self.old.len / (8 * N))) → IsOk result }
     {
@@ -414,7 +443,9 @@ impl<const N: usize> Dirty<N> {
     pub(crate) fn pop_cached(&mut self) -> Option<bool>
         requires some { 0 < self.old.len }
         ensures pops { IfSome result (λ bit. Pops N self.old self.new) }
-        ensures bit { IfSome result (λ bit. Some bit ≡ option_map (λ bytes. chunk_bit N bytes (self.old.len - 1)) (edited_chunk self.old ((self.old.len - 1) / (8 * N)))) }
+        ensures bit { IfSome result
+            (λ bit. Some bit ≡ option_map (λ bytes. chunk_bit N bytes (self.old.len - 1))
+            (edited_chunk self.old ((self.old.len - 1) / (8 * N)))) }
         ensures none { result ≡ None → self.new ≡ self.old }
     {
         let last = self.len - 1;
@@ -431,7 +462,8 @@ impl<const N: usize> Dirty<N> {
     pub(crate) fn pop_unedited(&mut self) -> bool
         requires some { 0 < self.old.len }
         ensures pops { result ≡ true → Pops N self.old self.new }
-        ensures unedited { result ≡ true → edited_chunk self.old ((self.old.len - 1) / (8 * N)) ≡ None }
+        ensures unedited { result ≡ true
+            → edited_chunk self.old ((self.old.len - 1) / (8 * N)) ≡ None }
         ensures other { result ≡ false → self.new ≡ self.old }
     {
         if !self.edited.is_empty() {
@@ -446,7 +478,8 @@ impl<const N: usize> Dirty<N> {
         requires some { 0 < self.old.len }
         requires last { (q : ℕ) → self.old.len ≤ 8 * N * q → edited_chunk self.old q ≡ None }
         ensures pops { Pops N self.old self.new }
-        ensures bit { result ≡ option_map (λ bytes. chunk_bit N bytes (self.old.len - 1)) (edited_chunk self.old ((self.old.len - 1) / (8 * N))) }
+        ensures bit { result ≡ option_map (λ bytes. chunk_bit N bytes (self.old.len - 1))
+            (edited_chunk self.old ((self.old.len - 1) / (8 * N))) }
     {
         let last = self.len - 1;
         let index = chunk_index::<N>(last);
@@ -482,7 +515,8 @@ impl<const N: usize> Dirty<N> {
         requires low { pruned_bits N current.now ≤ from }
         ensures ok { OnOk result (SetsRange N current.now self.old from to value self.new) }
         ensures err { OnErr result (self.new ≡ self.old) }
-        ensures edited { ((k : ℕ) → from ≤ k → k < to → IsSome (edited_chunk self.old (k / (8 * N)))) → IsOk result }
+        ensures edited { ((k : ℕ) → from ≤ k → k < to
+            → IsSome (edited_chunk self.old (k / (8 * N)))) → IsOk result }
     {
         let len = self.len;
         if from >= to {
@@ -588,7 +622,8 @@ impl<const N: usize> Dirty<N> {
         requires fits { self.old.len + 8 * length bytes.now < 2 ^ 64 }
         ensures ok { OnOk result (Appends N current.now self.old (run_bits bytes.now) self.new) }
         ensures err { OnErr result (self.new ≡ self.old) }
-        ensures edited { IsSome (edited_chunk self.old (self.old.len / (8 * N))) → self.old.len % (8 * N) + 8 * length bytes.now ≤ 8 * N → IsOk result }
+        ensures edited { IsSome (edited_chunk self.old (self.old.len / (8 * N)))
+            → self.old.len % (8 * N) + 8 * length bytes.now ≤ 8 * N → IsOk result }
     {
         let len = self.len();
         let count = 8 * bytes.len() as u64;
@@ -613,7 +648,8 @@ impl<const N: usize> Dirty<N> {
     // Appends a byte if the last chunk is edited and has space for it. Returns whether it did. Does not allocate.
     fn put_byte(&mut self, byte: u8) -> bool
         requires fits { self.old.len + 8 < 2 ^ 64 }
-        ensures done { result ≡ true → (b : PrunedBits) → PendingFits N b self.old → Appends N b self.old (byte_bits byte) self.new }
+        ensures done { result ≡ true → (b : PrunedBits) → PendingFits N b self.old
+            → Appends N b self.old (byte_bits byte) self.new }
         ensures other { result ≡ false → self.new ≡ self.old }
     {
         let len = self.len;
@@ -659,7 +695,8 @@ impl<const N: usize> Dirty<N> {
         requires fits { self.old.len + 8 < 2 ^ 64 }
         ensures ok { OnOk result (Appends N current.now self.old (byte_bits byte) self.new) }
         ensures err { OnErr result (self.new ≡ self.old) }
-        ensures edited { IsSome (edited_chunk self.old (self.old.len / (8 * N))) → self.old.len % (8 * N) + 8 ≤ 8 * N → IsOk result }
+        ensures edited { IsSome (edited_chunk self.old (self.old.len / (8 * N)))
+            → self.old.len % (8 * N) + 8 ≤ 8 * N → IsOk result }
     {
         let _ = self.len();
         if self.put_byte(byte) {
@@ -680,7 +717,8 @@ impl<const N: usize> Dirty<N> {
     ) -> Result<(), AllocError>
         requires edits_fit { PendingFits N current.now self.old }
         requires fits { self.old.len + 8 * N < 2 ^ 64 }
-        ensures ok { OnOk result (Appends N current.now self.old (chunk_bits N chunk.now) self.new) }
+        ensures ok { OnOk result
+            (Appends N current.now self.old (chunk_bits N chunk.now) self.new) }
         ensures err { OnErr result (self.new ≡ self.old) }
     {
         let _ = self.len();
@@ -758,7 +796,10 @@ impl<const N: usize> Dirty<N> {
         ensures from { from ≤ result.1 }
         ensures rises { result.1 ≤ result.2 }
         ensures to { result.2 ≤ to }
-        ensures indices { members_between (keys_of self.now.edited) from to ≡ members_between (keys_of result.0.now.entries) from result.1 ++ (from_to result.1 result.2 ++ members_between (keys_of result.0.now.entries) result.2 to) }
+        ensures indices { members_between (keys_of self.now.edited) from to
+            ≡ members_between (keys_of result.0.now.entries) from result.1
+            ++ (from_to result.1 result.2
+            ++ members_between (keys_of result.0.now.entries) result.2 to) }
     {
         self.edited.parts_between(from, to)
     }
@@ -782,9 +823,11 @@ impl<const N: usize> Dirty<N> {
     ) -> Result<CommitDiff<N>, AllocError>
         requires edits_fit { PendingFits N current.now self.now }
         ensures reverses { IfOk result (λ r. IsRecordOf N current.now self.now r) }
-        ensures leads_back { IfOk result (λ r. LeadsBack N r current.now (pending_bits N current.now self.now)) }
+        ensures leads_back { IfOk result
+            (λ r. LeadsBack N r current.now (pending_bits N current.now self.now)) }
         ensures can_undo { IfOk result (λ r. CanUndo N r (pending_bits N current.now self.now)) }
-        ensures bound { IfOk result (λ r. length r.entries ≤ distinct_count nat_eq (marked_chunks N current.now self.now)) }
+        ensures bound { IfOk result
+            (λ r. length r.entries ≤ distinct_count nat_eq (marked_chunks N current.now self.now)) }
     {
         let _ = self.len();
         let total = current.len();

@@ -41,7 +41,8 @@ impl<'a, const N: usize> Model for PendingChanges<'a, N> {
 
     ghost Value = { List ℕ };
 
-    ghost view = { λ c. changed_from N c.current.now (pending_bits N c.current.now c.edits.now) c.next c.end };
+    ghost view = { λ c. changed_from N c.current.now
+        (pending_bits N c.current.now c.edits.now) c.next c.end };
 
     ghost invariant = { λ c. IsComparingPending N c.current.now c.edits.now c.next c.end };
 }
@@ -85,7 +86,8 @@ fn next_pending<const N: usize>(
     end: usize,
 ) -> Option<usize>
     requires { IsComparingPending N current.now edits.now first end }
-    ensures next { IsNextChange N current.now (pending_bits N current.now edits.now) first end result }
+    ensures next { IsNextChange N current.now
+        (pending_bits N current.now edits.now) first end result }
     ensures after { IfSome result (λ i. first ≤ i) }
 {
     let mut at = first;

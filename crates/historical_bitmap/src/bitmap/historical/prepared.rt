@@ -48,7 +48,15 @@ impl<const N: usize> Model for PreparedBitMap<N> {
 
     ghost Value = { PreparedView };
 
-    ghost view = { λ p. record { batch = record { current = truncated N p.current p.old_len; commits = before_latest p.commits; last = p.last; state = p.edits }; number = p.number } };
+    ghost view = { λ p. record {
+      batch = record {
+        current = truncated N p.current p.old_len;
+        commits = before_latest p.commits;
+        last = p.last;
+        state = p.edits;
+      };
+      number = p.number;
+    } };
 
     ghost invariant = { λ p. CanFinish N p.current p.old_len p.commits p.last p.edits p.number };
 }
@@ -65,7 +73,8 @@ pub(crate) fn add_commit<const N: usize>(
     requires edits_fit { PendingFits N current.old edits.now }
     requires above { All (λ kept. kept < number) (keys_of commits.old) }
     ensures old_len { IfOk result (λ old_len. old_len ≡ bit_len N current.old) }
-    ensures prepared { OnOk result (IsPrepared N current.old commits.old edits.now number current.new commits.new) }
+    ensures prepared { OnOk result
+        (IsPrepared N current.old commits.old edits.now number current.new commits.new) }
     ensures same_bitmap { OnErr result (current.new ≡ current.old) }
     ensures same_commits { OnErr result (commits.new ≡ commits.old) }
 {
@@ -92,7 +101,8 @@ impl<const N: usize> BitMap<N, Dirty<N>> {
     pub fn prepare(mut self, number: u64) -> Result<PreparedBitMap<N>, (DirtyBitMap<N>, Error)>
         ensures accepted { OnOk result (commit_error self.entry.last number ≡ None) }
         ensures prepared { IfOk result (λ p. p ≡ record { batch = self.entry; number = number }) }
-        ensures refused { IfErr result (λ e. e.1 ≡ unwrap_or (commit_error self.entry.last number) (Memory alloc_error)) }
+        ensures refused { IfErr result
+            (λ e. e.1 ≡ unwrap_or (commit_error self.entry.last number) (Memory alloc_error)) }
         ensures unchanged { IfErr result (λ e. e.0 ≡ self.entry) }
     {
         let _ = self.current.len();
@@ -124,7 +134,9 @@ impl<const N: usize> PreparedBitMap<N> {
     /// At most that of `commit`.
     pub fn commit(mut self) -> CleanBitMap<N>
         ensures current { result.current ≡ pending_of N self.entry.batch }
-        ensures history { history_of N result ≡ history_of N self.entry.batch ++ (self.entry.number, pending_of N self.entry.batch) ∷ [] }
+        ensures history { history_of N result
+            ≡ history_of N self.entry.batch
+            ++ (self.entry.number, pending_of N self.entry.batch) ∷ [] }
         ensures earlier { before_latest result.commits ≡ self.entry.batch.commits }
         ensures last { result.last ≡ Some self.entry.number }
         ensures costs { AddsCost N self.entry.batch self.entry.number result }

@@ -46,9 +46,13 @@ impl<'a, const N: usize> Model for PreparedChanges<'a, N> {
 
     ghost Value = { List (ℕ × List ℕ) };
 
-    ghost view = { λ c. let old = truncated N c.grown.now c.old_len in changes_in N old (pending_bits N old c.edits.now) (drop c.at (keys_of (entry_values c.entries.now))) };
+    ghost view = { λ c. let old = truncated N c.grown.now c.old_len
+        in changes_in N old (pending_bits N old c.edits.now)
+        (drop c.at (keys_of (entry_values c.entries.now))) };
 
-    ghost invariant = { λ c. IsExtended N c.grown.now c.old_len c.edits.now × AreIndices N c.grown.now (keys_of (entry_values c.entries.now)) × (c.at ≤ length c.entries.now) };
+    ghost invariant = { λ c. IsExtended N c.grown.now c.old_len c.edits.now
+        × AreIndices N c.grown.now (keys_of (entry_values c.entries.now))
+        × (c.at ≤ length c.entries.now) };
 }
 
 // Returns the pending bytes of a chunk, if the pending bitmap retains it and the bitmap before had other bytes there, or none.

@@ -22,7 +22,8 @@ fn missing<const N: usize>(
     requires width { IsWidth N }
     requires order { first ≤ past }
     ensures indices { IfOk result (λ indices. AreMissing chunks.now first past indices.items) }
-    ensures edited { ((q : ℕ) → first ≤ q → q < past → IsSome (lookup (nat_eq q) chunks.now)) → IsOk result }
+    ensures edited { ((q : ℕ) → first ≤ q → q < past → IsSome (lookup (nat_eq q) chunks.now))
+        → IsOk result }
 {
     let mut indices = Vec::new(alloc);
     for index in first..past {
@@ -44,7 +45,9 @@ fn fill_chunk<const N: usize>(
     requires width { IsWidth N }
     requires fits { 8 * N * index < 2 ^ 64 }
     requires edited { IsSome (lookup (nat_eq index) chunks.old) }
-    ensures { (bytes : List ℕ) × IsRangeSet N (unwrap_or (lookup (nat_eq index) chunks.old) []) from to value index bytes × Puts chunks.old chunks.new index (Some bytes) }
+    ensures { (bytes : List ℕ)
+        × IsRangeSet N (unwrap_or (lookup (nat_eq index) chunks.old) []) from to value index bytes
+        × Puts chunks.old chunks.new index (Some bytes) }
 {
     let width = chunk_width::<N>();
     let start = width * index as u64;
@@ -86,9 +89,12 @@ pub(crate) fn set_range<const N: usize>(
 ) -> Result<(), AllocError>
     requires some { from < to }
     requires low { current.now.pruned ≤ from / (8 * N) }
-    ensures ok { OnOk result (SetsChunks N (chunk N (truncated N current.now len)) chunks.old chunks.new (from / (8 * N)) ((to - 1) / (8 * N) + 1) from to value) }
+    ensures ok { OnOk result
+        (SetsChunks N (chunk N (truncated N current.now len)) chunks.old chunks.new (from / (8 * N))
+        ((to - 1) / (8 * N) + 1) from to value) }
     ensures err { OnErr result (chunks.new ≡ chunks.old) }
-    ensures edited { ((q : ℕ) → from / (8 * N) ≤ q → q ≤ (to - 1) / (8 * N) → IsSome (lookup (nat_eq q) chunks.old)) → IsOk result }
+    ensures edited { ((q : ℕ) → from / (8 * N) ≤ q → q ≤ (to - 1) / (8 * N)
+        → IsSome (lookup (nat_eq q) chunks.old)) → IsOk result }
 {
     let _ = current.len();
     let first = chunk_index::<N>(from);

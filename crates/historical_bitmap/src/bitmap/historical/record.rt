@@ -61,7 +61,11 @@ impl<const N: usize> Model for CommitDiff<N> {
 
     ghost invariant = { λ r. IsWidth N };
 
-    ghost view = { λ r. record { len = r.len; pruned = r.pruned_chunks; entries = entry_values r.chunk_diffs.items } };
+    ghost view = { λ r. record {
+      len = r.len;
+      pruned = r.pruned_chunks;
+      entries = entry_values r.chunk_diffs.items;
+    } };
 }
 
 impl<const N: usize> CommitDiff<N> {
@@ -73,7 +77,8 @@ impl<const N: usize> CommitDiff<N> {
         count: usize,
     ) -> Result<Self, AllocError>
         requires width { IsWidth N }
-        ensures { IfOk result (λ r. r ≡ record { len = len; pruned = pruned_chunks; entries = [] }) }
+        ensures { IfOk result (λ r.
+            r ≡ record { len = len; pruned = pruned_chunks; entries = [] }) }
     {
         Ok(CommitDiff {
             len,
@@ -84,7 +89,9 @@ impl<const N: usize> CommitDiff<N> {
 
     // Appends an entry. If an allocation fails, the record is unchanged.
     pub(crate) fn push(&mut self, chunk: usize, diff: ChunkDiff<N>) -> Result<(), AllocError>
-        ensures ok { OnOk result (self.new ≡ record self.old { entries = self.old.entries ++ (chunk, diff_value diff.entry) ∷ [] }) }
+        ensures ok { OnOk result
+            (self.new ≡ record self.old
+            { entries = self.old.entries ++ (chunk, diff_value diff.entry) ∷ [] }) }
         ensures err { OnErr result (self.new ≡ self.old) }
     {
         self.chunk_diffs.push((chunk, diff))?;
@@ -153,7 +160,8 @@ impl<const N: usize> CommitDiff<N> {
 // Returns the entry of a chunk among ascending ones, by binary search.
 fn find<const N: usize>(entries: &[(usize, ChunkDiff<N>)], chunk: usize) -> Option<&ChunkDiff<N>>
     requires { IsStrictlySortedBy nat_cmp (keys_of (entry_values entries.now)) }
-    ensures { option_map (λ diff. diff_value diff.now) result ≡ lookup (nat_eq chunk) (entry_values entries.now) }
+    ensures { option_map (λ diff. diff_value diff.now) result
+        ≡ lookup (nat_eq chunk) (entry_values entries.now) }
 {
     let mut start = 0;
     let mut end = entries.len();
@@ -203,7 +211,8 @@ fn collect_between<const N: usize>(
     to: usize,
 ) -> Result<(), AllocError>
     requires { IsStrictlySortedBy nat_cmp (keys_of (entry_values entries.now)) }
-    ensures { OnOk result (chunks.new.items ≡ chunks.old.items ++ kept_between from to (entry_values entries.now)) }
+    ensures { OnOk result (chunks.new.items
+        ≡ chunks.old.items ++ kept_between from to (entry_values entries.now)) }
 {
     for entry in entries {
         if to <= entry.0 {

@@ -79,7 +79,9 @@ fn gather_record<const N: usize>(
     end: usize,
 ) -> Result<(), AllocError>
     requires { IsStrictlySortedBy nat_cmp (keys_of (entry_values entries.now)) }
-    ensures { OnOk result (Gathers (λ i. bytes_of (lookup (nat_eq i) (entry_values entries.now))) first end chunks.old.entries chunks.new.entries) }
+    ensures { OnOk result (Gathers
+        (λ i. bytes_of (lookup (nat_eq i) (entry_values entries.now))) first end chunks.old.entries
+        chunks.new.entries) }
 {
     for entry in entries {
         gather_entry(chunks, entry.0, &entry.1, first, end)?;
@@ -95,7 +97,9 @@ fn gather_entry<const N: usize>(
     first: usize,
     end: usize,
 ) -> Result<(), AllocError>
-    ensures { OnOk result (Gathers (λ i. bytes_of (lookup (nat_eq i) ((chunk, diff_value diff.now) ∷ []))) first end chunks.old.entries chunks.new.entries) }
+    ensures { OnOk result (Gathers
+        (λ i. bytes_of (lookup (nat_eq i) ((chunk, diff_value diff.now) ∷ []))) first end
+        chunks.old.entries chunks.new.entries) }
 {
     if chunk < first || end <= chunk {
         return Ok(());
@@ -166,7 +170,8 @@ fn widen<const N: usize>(
     requires width { IsWidth N }
     requires pruned { length prefix.now ≤ current.old.pruned }
     requires within { 8 * N * (current.old.pruned - length prefix.now) ≤ len }
-    ensures ok { OnOk result (HasExtent N current.old (current.old.pruned - length prefix.now) len current.new) }
+    ensures ok { OnOk result
+        (HasExtent N current.old (current.old.pruned - length prefix.now) len current.new) }
     ensures err { OnErr result (current.new ≡ current.old) }
 {
     let before = grow(current, len)?;
@@ -181,7 +186,9 @@ fn widen<const N: usize>(
 // Replaces the bits of chunks, all of which are retained, in any order. Does not allocate.
 fn write_back<const N: usize>(current: &mut Prunable<N>, chunks: &ChunkMap<N>)
     requires width { IsWidth N }
-    requires retained { (i : ℕ) → MatchOption (lookup (nat_eq i) chunks.now.entries) (Unit {0}) (λ bytes. IsRetainedChunk N current.old i) }
+    requires retained { (i : ℕ)
+        → MatchOption (lookup (nat_eq i) chunks.now.entries) (Unit {0})
+        (λ bytes. IsRetainedChunk N current.old i) }
     ensures { IsWrittenBack N current.old chunks.now.entries current.new }
 {
     chunks.order();

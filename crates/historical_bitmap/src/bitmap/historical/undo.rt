@@ -75,7 +75,8 @@ fn restore_front<const N: usize>(
 ) -> Result<(), AllocError>
     requires undo { CanUndo N diff.now newer.old }
     requires short { newer.old.pruned ≤ div_ceil diff.now.len (8 * N) }
-    ensures { OnOk result (newer.new ≡ unpruned N newer.old (pruned_chunk_bytes diff.now newer.old.pruned)) }
+    ensures { OnOk result (newer.new
+        ≡ unpruned N newer.old (pruned_chunk_bytes diff.now newer.old.pruned)) }
 {
     let pruned = newer.pruned_chunks();
     if diff.pruned_chunks() == pruned {
@@ -110,8 +111,11 @@ fn put_back_from<const N: usize>(
     requires width { IsWidth N }
     requires sorted { IsStrictlySortedBy nat_cmp (keys_of (entry_values entries.now)) }
     requires retained { bitmap.old.pruned ≤ from }
-    requires old { (i : ℕ) → from ≤ i → MatchOption (bytes_of (lookup (nat_eq i) (entry_values entries.now))) (Unit {0}) (IsOldChunk N (bit_len N bitmap.old) i) }
-    ensures { bitmap.new ≡ put_back N bitmap.old (filter (λ entry. nat_le from entry.0) (entry_values entries.now)) }
+    requires old { (i : ℕ) → from ≤ i
+        → MatchOption (bytes_of (lookup (nat_eq i) (entry_values entries.now))) (Unit {0})
+        (IsOldChunk N (bit_len N bitmap.old) i) }
+    ensures { bitmap.new ≡ put_back N bitmap.old
+        (filter (λ entry. nat_le from entry.0) (entry_values entries.now)) }
 {
     for entry in entries {
         if from <= entry.0 {
@@ -124,7 +128,8 @@ fn put_back_from<const N: usize>(
 fn put_back_chunk<const N: usize>(bitmap: &mut Prunable<N>, chunk: usize, bytes: Option<&[u8; N]>)
     requires width { IsWidth N }
     requires retained { bitmap.old.pruned ≤ chunk }
-    requires old { MatchOption (option_copied bytes) (Unit {0}) (IsOldChunk N (bit_len N bitmap.old) chunk) }
+    requires old { MatchOption (option_copied bytes) (Unit {0})
+        (IsOldChunk N (bit_len N bitmap.old) chunk) }
     ensures { bitmap.new ≡ put_back_one N bitmap.old chunk (option_copied bytes.entry) }
 {
     if let Some(bytes) = bytes {

@@ -83,11 +83,16 @@ impl<const N: usize> BitMap<N, Dirty<N>> {
     /// As `set_chunk`.
     pub fn try_set_chunk(&mut self, index: usize, chunk: &[u8; N]) -> Result<(), AllocError>
         requires retained { IsRetainedChunk N (pending_of N self.old) index }
-        ensures ok { OnOk result (IsRunOf N self.old (sets_of N chunk.now (8 * N * index) (chunk_end N (pending_of N self.old) index)) self.new) }
-        ensures whole { OnOk result (pending_of N self.new ≡ with_chunk N (pending_of N self.old) index chunk.now) }
+        ensures ok { OnOk result
+            (IsRunOf N self.old (sets_of N chunk.now (8 * N * index)
+            (chunk_end N (pending_of N self.old) index)) self.new) }
+        ensures whole { OnOk result
+            (pending_of N self.new ≡ with_chunk N (pending_of N self.old) index chunk.now) }
         ensures err { OnErr result (self.new ≡ self.old) }
         ensures holds { OnOk result (KeepsEdited N self.old (8 * N * index) self.new) }
-        ensures keeps { OnOk result (LeavesEdited N (IsEditedAt N self.old) (8 * N * index) (chunk_end N (pending_of N self.old) index) self.new) }
+        ensures keeps { OnOk result
+            (LeavesEdited N (IsEditedAt N self.old) (8 * N * index)
+            (chunk_end N (pending_of N self.old) index) self.new) }
         ensures edited { IsEditedAt N self.old (8 * N * index) → IsOk result }
     {
         let _ = self.current.len();
@@ -119,10 +124,16 @@ impl<const N: usize> BitMap<N, Dirty<N>> {
         requires retained { IsRetainedChunk N (pending_of N self.old) index }
         ensures* refused { sem 𝓛 (rests_if_refused N.row self.entry result) }
         ensures same_reference { IfOk result (IsOf self.entry) }
-        ensures ok { IfOk result (λ e. IsRunOf N self.old (sets_of N chunk.now (8 * N * index) (chunk_end N (pending_of N self.old) index)) e.on.now) }
-        ensures whole { IfOk result (λ e. pending_of N e.on.now ≡ with_chunk N (pending_of N self.old) index chunk.now) }
+        ensures ok { IfOk result
+            (λ e. IsRunOf N self.old
+            (sets_of N chunk.now (8 * N * index) (chunk_end N (pending_of N self.old) index))
+            e.on.now) }
+        ensures whole { IfOk result
+            (λ e. pending_of N e.on.now ≡ with_chunk N (pending_of N self.old) index chunk.now) }
         ensures holds { IfOk result (λ e. KeepsEdited N self.old (8 * N * index) e.on.now) }
-        ensures keeps { IfOk result (λ e. LeavesEdited N (IsEditedAt N self.old) (8 * N * index) (chunk_end N (pending_of N self.old) index) e.on.now) }
+        ensures keeps { IfOk result
+            (λ e. LeavesEdited N (IsEditedAt N self.old) (8 * N * index)
+            (chunk_end N (pending_of N self.old) index) e.on.now) }
         ensures edited { IsEditedAt N self.old (8 * N * index) → IsOk result }
     {
         self.try_set_chunk(index, chunk)?;
@@ -153,10 +164,18 @@ impl<'a, const N: usize> Edit<'a, N> {
         requires retained { IsRetainedChunk N (pending_of N self.on.now) index }
         ensures* refused { sem 𝓛 (rests_if_refused N.row self.entry.on result) }
         ensures same_reference { IfOk result (IsOf self.entry.on) }
-        ensures ok { IfOk result (λ e. IsRunOf N self.entry.on.now (sets_of N chunk.now (8 * N * index) (chunk_end N (pending_of N self.entry.on.now) index)) e.on.now) }
-        ensures whole { IfOk result (λ e. pending_of N e.on.now ≡ with_chunk N (pending_of N self.entry.on.now) index chunk.now) }
-        ensures holds { IfOk result (λ e. KeepsEdited N self.entry.on.now (8 * N * index) e.on.now) }
-        ensures keeps { IfOk result (λ e. LeavesEdited N (IsEditedAt N self.entry.on.now) (8 * N * index) (chunk_end N (pending_of N self.entry.on.now) index) e.on.now) }
+        ensures ok { IfOk result
+            (λ e. IsRunOf N self.entry.on.now
+            (sets_of N chunk.now (8 * N * index)
+            (chunk_end N (pending_of N self.entry.on.now) index)) e.on.now) }
+        ensures whole { IfOk result
+            (λ e. pending_of N e.on.now
+            ≡ with_chunk N (pending_of N self.entry.on.now) index chunk.now) }
+        ensures holds { IfOk result
+            (λ e. KeepsEdited N self.entry.on.now (8 * N * index) e.on.now) }
+        ensures keeps { IfOk result
+            (λ e. LeavesEdited N (IsEditedAt N self.entry.on.now) (8 * N * index)
+            (chunk_end N (pending_of N self.entry.on.now) index) e.on.now) }
         ensures edited { IsEditedAt N self.entry.on.now (8 * N * index) → IsOk result }
     {
         let Lent { on } = self;
