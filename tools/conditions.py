@@ -61,6 +61,9 @@ FORMS = [
         ("self.pruned_chunks() <= $1", '"chunk {} is pruned (pruned_chunks: {})", $1, self.pruned_chunks()'),
         (f"($1 as u64) < self.len().div_ceil({WIDTH})", f'"chunk {{}} out of bounds (chunks: {{}})", $1, self.len().div_ceil({WIDTH})')],
         "the chunk `$1` has no retained bit"),
+    Form("chunk_of_current", r"([a-z]\w*) < chunk_total N self\.bits\.current",
+         [("$1 < self.bits.current().chunks_len()", '"chunk {} out of bounds (chunks: {})", $1, self.bits.current().chunks_len()')],
+         "the current bitmap has no chunk `$1`"),
     Form("not_pruned", r"pruned_bits N self ≤ (\w+)", [(f"{PRUNED_BITS} <= $1", '"bit {} is pruned", $1')],
          "`$1` is below the first position that is not pruned"),
     Form("past_the_end", r"bit_len N self ≤ pruned_bits N (\w+)",
@@ -114,6 +117,7 @@ FORMS = [
 WITHOUT_TEST = {
     r"length \(encoded self\) < 2 \^ 64": "an encoding is at most eight or sixteen bytes longer than the memory of the bitmap",
     r"AcceptsBegun .*": "it is the condition of the closure, which is Rust: the calls in it have assertions",
+    r"Follows .*": "native/src/roots/versions.rs lends no bitmap of a batch that a caller could replace, and no edit breaks it",
 }
 
 # The original's messages, by type, function as it is named in the source, and form: one message per assertion of the form.

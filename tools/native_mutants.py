@@ -12,6 +12,7 @@ class Mutant(NamedTuple):
 
 
 SUPPORT = "native/src/support"
+ROOTS = "native/src/roots"
 STORE = "native/src/store"
 
 HAND_WRITTEN = [
@@ -42,6 +43,10 @@ HAND_WRITTEN = [
     Mutant("a range of lengths has the end that it leaves out", "api", "native/src/bitmap/ranges.rs", "above.checked_sub(1)", "above.checked_sub(0)"),
     Mutant("a root has the digests of the retained chunks alone", "roots", "native/src/roots.rs", "    digests.extend_from_slice(pruned);\n", ""),
     Mutant("a root counts no pruned chunk", "roots", "native/src/roots.rs", "bitmap.len(), bitmap.pruned_chunks() as u64, &", "bitmap.len(), 0, &"),
+    Mutant("a version has the root of the current bitmap", "kept_roots", f"{ROOTS}/versions.rs", "self.0.root_at(number)", "self.0.root_at(number).map(|_| self.0.root())"),
+    Mutant("a batch with roots appends another bit", "kept_roots", f"{ROOTS}/batch.rs", "self.0.edits().push(bit)", "self.0.edits().push(!bit)"),
+    Mutant("a batch with roots that is out of memory reports a number", "allocation_failures", f"{ROOTS}/batch.rs",
+           "            Err((_, Error::Memory(_))) => out_of_memory(),\n", ""),
     Mutant("a store acknowledges before the sync", "store_crashes", f"{STORE}/stored_log.rs",
            "        self.files.sync(Name::Log)?;\n        self.write_receipt(Kind::Kept, place)?;\n", "        self.write_receipt(Kind::Kept, place)?;\n"),
     Mutant("a store writes no receipt", "store_crashes", f"{STORE}/stored_log.rs",
@@ -117,6 +122,9 @@ ERASER = [
     Mutant("the eraser exchanges two digests", "log", *rewriting(r"digest_of_replaced\(older, chunks\)", "digest_of(chunks)")),
     Mutant("the eraser exchanges the digests of a node", "roots", *rewriting(r"node_digest\(hash, beside, &right\)", "node_digest(hash, &right, beside)")),
     Mutant("the eraser takes too many digests of a proof", "roots", *rewriting(r"if count > 64 \{", "if count > 65 {")),
+    Mutant("the eraser rewinds no digests", "kept_roots", *rewriting(r"let Ok\(digests\) = copy\.rewind_to\(number\)", "let Ok(digests) = copy.try_clone()")),
+    Mutant("the eraser writes no assertion of the chunk of a bitmap with roots", "panics", "tools/conditions.py",
+           '[("$1 < self.bits.current().chunks_len()",', '0 * [("$1 < self.bits.current().chunks_len()",'),
     Mutant("the eraser writes no assertion of the index of a leaf", "panics", "tools/conditions.py",
            """[("$1 < $2", '"index {} out of bounds (len: {})", $1, $2')]""", "[]"),
     Mutant("the eraser writes another default width", "api", "tools/erase.py", '("bitmap_core", "BitMap"): "DEFAULT_CHUNK_SIZE"', '("bitmap_core", "BitMap"): "4"'),

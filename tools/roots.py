@@ -19,6 +19,7 @@ from replay import TOP, report
 PAGE = TOP / "docs/FORMATS.md"
 CONSTANTS = [TOP / f"crates/{crate}/src/known.rt" for crate in ("conformance_authenticated", "conformance_authenticated_history")]
 RUST_TESTS = TOP / "native/tests/roots.rs"
+RUST_TESTS_OF_VERSIONS = TOP / "native/tests/kept_roots.rs"
 CONSTANT = re.compile(r"pub const (\w+): \[u8; 32\] = \[([\d,\s]*)\];")
 LEAVES = ["", "00", "10", "2021", "3031", "40414243", "5051525354555657", "606162636465666768696a6b6c6d6e6f"]
 ROUNDS = 300
@@ -244,8 +245,9 @@ def constant_cases():
         wanted = values.pop(name, None)
         yield name, None if found == wanted else "has another value"
     yield "constants", f"there is no {' '.join(values)}" if values else None
-    for name, wanted in (("OF_MANY", digest_of_many()), ("RANGES_OF_MANY", digest_of_ranges())):
-        yield f"{name} of native/tests/roots.rs", None if f'const {name}: &str = "{wanted}";' in RUST_TESTS.read_text() else f"it is not {wanted}"
+    hashed = [(RUST_TESTS, "OF_MANY", digest_of_many()), (RUST_TESTS, "RANGES_OF_MANY", digest_of_ranges())]
+    for path, name, wanted in [*hashed, (RUST_TESTS_OF_VERSIONS, "OF_VERSIONS", digest_of_versions())]:
+        yield f"{name} of native/tests/{path.name}", None if f'const {name}: &str = "{wanted}";' in path.read_text() else f"it is not {wanted}"
 
 
 def digest_of_many():
@@ -282,6 +284,56 @@ def digest_of_ranges():
         for first, end in itertools.combinations(range(len(chunks) + 1), 2):
             siblings = range_siblings(first, end - first, digests)
             hashed.update(range_encoding(3, length, length // 48, first, chunks[first:end], siblings))
+    return hashed.hexdigest()
+
+
+def chunks_of(bits):
+    """The chunks of three bytes of a list of bits, zero past its end."""
+    data = sum(1 << k for k, bit in enumerate(bits) if bit).to_bytes(3 * -(-len(bits) // 24), "little")
+    return [data[at : at + 3] for at in range(0, len(data), 3)]
+
+
+def edited(bits, pruned, k):
+    """The bits and the number of pruned chunks after the edits of version k, each of which depends on k alone."""
+    bits = bits[: len(bits) - min(7 * (k % 4), len(bits) - 24 * pruned)]
+    bits += [place * k % 7 < 3 for place in range(len(bits), len(bits) + 11 * (k % 6))]
+    if len(bits) > 24 * pruned:
+        bits[24 * pruned + 5 * k % (len(bits) - 24 * pruned)] = k % 2 == 1
+    if k % 13 == 0:
+        # Chunks that the version appends and prunes.
+        bits += [True] * 60
+    bound = len(bits) if k % 13 == 0 else len(bits) - 40 if k % 5 == 0 else 0
+    return bits, max(pruned, bound // 24)
+
+
+def committed(before, bits, pruned):
+    """The digests of the chunks of a version. A pruned chunk keeps its digest, and one that no version has had that of zeros."""
+    kept = before + [leaf(bytes(3))] * pruned
+    return [kept[at] if at < pruned else leaf(chunk) for at, chunk in enumerate(chunks_of(bits))]
+
+
+def digest_of_versions():
+    """The digest of the roots and the encodings of proofs with which native/tests/kept_roots.rs compares those of the Rust crate.
+
+    A bitmap with chunks of three bytes has the versions 1 to 30, is rewound to version 24, and then has the versions 31 to 40. Those before version
+    5 are dropped. Each kept version has its root, then the proofs of its retained chunks, and then the proof of all of them if there are any.
+    """
+    versions, state = {}, ([], 0, [])
+    for k in range(1, 41):
+        if k == 31:
+            versions = {number: version for number, version in versions.items() if number <= 24}
+            state = versions[24]
+        bits, pruned = edited(state[0][:], state[1], k)
+        state = versions[k] = bits, pruned, committed(state[2], bits, pruned)
+    hashed = sha256()
+    for number in (number for number in versions if number >= 5):
+        bits, pruned, digests = versions[number]
+        chunks, shape = chunks_of(bits), (3, len(bits), pruned)
+        hashed.update(root(*shape, tree(digests)))
+        for index in range(pruned, len(chunks)):
+            hashed.update(encoding(*shape, index, chunks[index], audit_path(index, digests)))
+        if len(chunks) > pruned:
+            hashed.update(range_encoding(*shape, pruned, chunks[pruned:], range_siblings(pruned, len(chunks) - pruned, digests)))
     return hashed.hexdigest()
 
 

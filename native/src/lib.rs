@@ -2,8 +2,8 @@
 //! read the list as it was under that number, or go back to it.
 //!
 //! The module [`bitmap`] has the types of `commonware_utils::bitmap`, under the same names. The module [`log`] has the bytes from which such a
-//! bitmap is made again after a restart, and the module `store` keeps them in a file. The module [`roots`] has proofs of single bits. The module
-//! [`prelude`] has what most programs import. The crate has no dependency and no `unsafe`.
+//! bitmap is made again after a restart, and the module `store` keeps them in a file. The module [`roots`] has roots of versions and proofs of single
+//! bits. The module [`prelude`] has what most programs import. The crate has no dependency and no `unsafe`.
 //!
 //! ```
 //! use mortarpink::bitmap::Readable;

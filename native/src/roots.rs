@@ -18,6 +18,7 @@
 //! | [`append_leaf_in_batch`], [`replace_leaf_in_batch`], [`truncate_leaves_in_batch`] | do the same if the stored digests are the chunks of a batch |
 //! | [`update_digests`] | makes the stored digests in a batch follow a prepared commit of the bitmap whose tree they are |
 //! | [`tree_from_bitmap`], [`prove_from_bitmap`], [`prove_range_from_bitmap`] | do the same with stored digests that are the chunks of a bitmap, such as a past version of one with history |
+//! | [`AuthenticatedBitMap`], [`DirtyAuthenticatedBitMap`] | are a historical bitmap that stores its digests, and a batch of it: each version that it keeps has a root and proofs |
 //!
 //! ```
 //! use mortarpink::bitmap::{BitMap, Readable};
@@ -54,6 +55,12 @@
 //! takes these digests. So pruning changes the root by the number of pruned chunks alone, and an audit path from before stays good.
 //!
 //! `docs/FORMATS.md` of the repository describes the tree, the root and the encoding of a proof.
+
+mod batch;
+mod versions;
+
+pub use batch::DirtyAuthenticatedBitMap;
+pub use versions::AuthenticatedBitMap;
 
 use crate::bitmap::Readable;
 use crate::bitmap::historical::DirtyBitMap;

@@ -11,8 +11,9 @@ use mortarpink::log::{
     read_history, recover, rewind_logged, write_history,
 };
 use mortarpink::roots::{
-    Proof, RangeProof, append_leaf, chunk_digests, leaf_digests, prove, prove_from_stored, prove_range, prove_range_from_stored,
-    try_append_leaf, try_chunk_digests, try_leaf_digests, try_prove, try_prove_from_stored, try_prove_range, try_prove_range_from_stored,
+    AuthenticatedBitMap, DirtyAuthenticatedBitMap, Proof, RangeProof, append_leaf, chunk_digests, leaf_digests, prove, prove_from_stored,
+    prove_range, prove_range_from_stored, try_append_leaf, try_chunk_digests, try_leaf_digests, try_prove, try_prove_from_stored,
+    try_prove_range, try_prove_range_from_stored,
 };
 use mortarpink::store::files::{Files, Name};
 use mortarpink::store::{OpenError, Options, Start, Store, StoreError};
@@ -229,6 +230,116 @@ fn of_roots() {
     assert!(made(&|| range.try_write().is_err()) > 1);
 }
 
+type WithRoots = AuthenticatedBitMap<4, Sha256>;
+
+/// Three commits of a bitmap with roots, which append, set a bit and prune.
+fn with_roots() -> WithRoots {
+    (1..=3).fold(AuthenticatedBitMap::new(Sha256), |bitmap, number| {
+        let mut batch = bitmap.into_dirty();
+        batch.extend_to(150 * number).set_bit(150 * number - 20, true).prune_to_bit(40 * number);
+        batch.commit(number).unwrap()
+    })
+}
+
+/// The same with pending edits.
+fn batch_with_roots() -> DirtyAuthenticatedBitMap<4, Sha256> {
+    let mut batch = with_roots().into_dirty();
+    batch.set_bit(300, true).extend_to(600).prune_to_bit(200);
+    batch
+}
+
+/// All that users can read of a bitmap with roots.
+#[derive(Debug, PartialEq)]
+struct ImageWithRoots {
+    bits: (Vec<u8>, Vec<(u64, Vec<u8>)>),
+    root: [u8; 32],
+    past: Vec<Option<[u8; 32]>>,
+}
+
+fn image_with_roots(bitmap: &WithRoots) -> ImageWithRoots {
+    let past = bitmap.bits().commits().map(|number| bitmap.root_at(number));
+    ImageWithRoots { bits: clean_image(bitmap.bits()), root: bitmap.root(), past: past.collect() }
+}
+
+/// A commit takes memory for its bits and for its digests. If any of it is missing, the batch can be aborted, or committed later.
+#[test]
+fn of_commits_with_roots() {
+    let (before, after) = (image_with_roots(&with_roots()), image_with_roots(&batch_with_roots().commit(9).unwrap()));
+    let pending = batch_image(batch_with_roots().bits());
+    let mut count = 0;
+    loop {
+        let batch = batch_with_roots();
+        let (left, failed) = with_failure(count, || batch.try_commit(9).err());
+        let Some((batch, error)) = left else {
+            assert!(!failed, "allocation {count}");
+            break;
+        };
+        assert!(failed && error == Error::Memory(AllocError), "allocation {count}");
+        assert_eq!(batch_image(batch.bits()), pending, "allocation {count}");
+        match count % 2 {
+            0 => assert_eq!(image_with_roots(&batch.abort()), before, "allocation {count}"),
+            _ => assert_eq!(image_with_roots(&batch.commit(9).unwrap()), after, "allocation {count}"),
+        }
+        count += 1;
+    }
+    let of_bits = each(
+        || batch_with_roots().bits().clone(),
+        batch_image,
+        |bits| match bits.try_commit(9) {
+            Ok(bitmap) => (bitmap.into_dirty(), false),
+            Err((bits, _)) => (bits, true),
+        },
+    );
+    assert!(count > of_bits, "{count} allocations, of which {of_bits} are for the bits");
+}
+
+#[test]
+fn of_rewinds_and_proofs_with_roots() {
+    let rewind = |bitmap: WithRoots| match bitmap.rewind_to(1) {
+        Ok(bitmap) => (bitmap, false),
+        Err((bitmap, error)) => (bitmap, error == RewindError::Memory(AllocError)),
+    };
+    assert!(each(with_roots, image_with_roots, rewind) > 3);
+    let failures = |read: fn(&WithRoots) -> bool| {
+        each(with_roots, image_with_roots, |bitmap| {
+            let is_error = read(&bitmap);
+            (bitmap, is_error)
+        })
+    };
+    assert_eq!(failures(|bitmap| bitmap.try_prove(13).is_err()), 1);
+    assert_eq!(failures(|bitmap| bitmap.try_prove_at(1, 4).is_err()), 1);
+    assert_eq!(failures(|bitmap| bitmap.try_prove_range_at(2, 5, 2).is_err()), 1);
+    assert_eq!(failures(|bitmap| bitmap.try_prove_at(1, 5).is_err() || bitmap.root_at(2).is_none()), 0);
+}
+
+/// The edits that chain and return an error, with their names, for a type of batches whose bitmap is as long as that of `versions`, or nearly so.
+macro_rules! chained_edits {
+    ($batch:ty) => {{
+        type Edit = fn(&mut $batch) -> Result<(), AllocError>;
+        let edits: [(&str, Edit); 9] = [
+            ("try_push", |batch| batch.try_push(true).map(drop)),
+            ("try_push_byte", |batch| batch.try_push_byte(1).map(drop)),
+            ("try_push_chunk", |batch| batch.try_push_chunk(&[1; 4]).map(drop)),
+            ("try_set_bit", |batch| batch.try_set_bit(250, true).map(drop)),
+            ("try_set_chunk", |batch| batch.try_set_chunk(8, &[9; 4]).map(drop)),
+            ("try_set_range", |batch| batch.try_set_range(210..450, true).map(drop)),
+            ("try_extend_to", |batch| batch.try_extend_to(700).map(drop)),
+            ("try_extend_from_bitmap", |batch| batch.try_extend_from_bitmap(&ONES).map(drop)),
+            ("try_prune_to_bit", |batch| batch.try_prune_to_bit(400).map(drop)),
+        ];
+        edits
+    }};
+}
+
+#[test]
+fn of_edits_with_roots() {
+    assert_eq!(ONES.len(), 100);
+    for (name, edit) in chained_edits!(DirtyAuthenticatedBitMap<4, Sha256>) {
+        let failed = each_edit(|| with_roots().into_dirty(), |batch| batch_image(batch.bits()), edit);
+        assert!(failed > 0, "{name} allocates in a batch without edits");
+    }
+}
+
 /// The calls over Rust's collections, of which each has no capacity left.
 #[test]
 fn of_the_support() {
@@ -263,7 +374,7 @@ fn of_pruned_bitmaps() {
 #[test]
 fn of_edits_of_a_batch() {
     type Edit = fn(&mut DirtyBitMap<4>) -> Result<(), AllocError>;
-    let edits: [(&str, Edit); 18] = [
+    let unchained: [(&str, Edit); 9] = [
         ("push", |batch| batch.push_unchained(true)),
         ("push_byte", |batch| batch.push_byte_unchained(1)),
         ("push_chunk", |batch| batch.push_chunk_unchained(&[1; 4])),
@@ -273,18 +384,9 @@ fn of_edits_of_a_batch() {
         ("extend_to", |batch| batch.extend_to_unchained(700)),
         ("extend_from_bitmap", |batch| batch.extend_from_bitmap_unchained(&ONES)),
         ("prune_to_bit", |batch| batch.prune_to_bit_unchained(400)),
-        ("try_push", |batch| batch.try_push(true).map(drop)),
-        ("try_push_byte", |batch| batch.try_push_byte(1).map(drop)),
-        ("try_push_chunk", |batch| batch.try_push_chunk(&[1; 4]).map(drop)),
-        ("try_set_bit", |batch| batch.try_set_bit(250, true).map(drop)),
-        ("try_set_chunk", |batch| batch.try_set_chunk(8, &[9; 4]).map(drop)),
-        ("try_set_range", |batch| batch.try_set_range(210..450, true).map(drop)),
-        ("try_extend_to", |batch| batch.try_extend_to(700).map(drop)),
-        ("try_extend_from_bitmap", |batch| batch.try_extend_from_bitmap(&ONES).map(drop)),
-        ("try_prune_to_bit", |batch| batch.try_prune_to_bit(400).map(drop)),
     ];
     assert_eq!(ONES.len(), 100);
-    for (name, edit) in edits {
+    for (name, edit) in unchained.into_iter().chain(chained_edits!(DirtyBitMap<4>)) {
         let failed = each_edit(|| versions().into_dirty(), batch_image, edit);
         assert!(failed > 0, "{name} allocates in a batch without edits");
         each_edit(batch, batch_image, edit);
@@ -567,6 +669,12 @@ fn of_calls_that_return_no_error() {
     assert!(panics(&|| drop(prove_range_from_stored(&Sha256, &digests, 2, 1, 1))));
     assert!(panics(&|| drop(RangeProof { len: 8, pruned: 0, first: 0, chunks: &[[1]], siblings: &digests }.write())));
     assert!(panics(&|| drop(Proof { len: 8, pruned: 0, index: 0, chunk: &[1], path: &digests }.write())));
+    let bitmap = with_roots();
+    assert!(panics(&|| drop(bitmap.prove(13))));
+    assert!(panics(&|| drop(bitmap.prove_at(1, 4))));
+    assert!(panics(&|| drop(bitmap.prove_range_at(2, 5, 2))));
+    assert!(panics(&|| _ = WithRoots::new(Sha256).into_dirty().push(true)));
+    assert!(panics(&|| drop(WithRoots::new(Sha256).into_dirty().commit(1))));
 }
 
 /// Files in memory. To read them returns an error if memory runs out, and what is written is lost.

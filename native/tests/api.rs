@@ -1,5 +1,8 @@
 //! What Rust users expect of the types: traits, conversions and operators, and that code is generic over any bitmap.
 
+#[path = "../examples/sha256/mod.rs"]
+mod sha256;
+
 use mortarpink::bitmap::codec::{CodecError, EncodeSize, RangeCfg};
 use mortarpink::bitmap::historical::{
     ApplyError, AtCommit, ChangedChunks, CleanBitMap, Commits, DirtyBitMap, Edit, Error, Gathered, PendingChanges, PreparedBitMap,
@@ -7,6 +10,7 @@ use mortarpink::bitmap::historical::{
 };
 use mortarpink::bitmap::{BitMap, DEFAULT_CHUNK_SIZE, Iterator as Bits, OnesIter, Prunable, Readable, prunable};
 use mortarpink::{AllocError, TryClone, log, roots};
+use sha256::Sha256;
 use std::collections::hash_map::DefaultHasher;
 use std::fmt::Debug;
 use std::hash::{Hash, Hasher};
@@ -46,6 +50,7 @@ fn all_types_have_the_usual_traits() {
     is_usual::<(log::Log<8>, log::Recovered<8>)>();
     is_usual::<(log::Damage, log::RecoverError, log::HistoryError, log::DeltaError)>();
     is_usual::<(roots::Proof<'_, 8>, roots::DecodeError)>();
+    is_usual::<(roots::AuthenticatedBitMap<8, Sha256>, roots::DirtyAuthenticatedBitMap<8, Sha256>)>();
 }
 
 /// A proof has all its fields in its text, and differs from one with another field.

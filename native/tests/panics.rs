@@ -10,10 +10,10 @@ use mortarpink::bitmap::{BitMap, Prunable, Readable};
 use mortarpink::log::frames::{Place, next_frame, push_frame};
 use mortarpink::log::{Past, from_base};
 use mortarpink::roots::{
-    append_leaf, append_leaf_in_batch, bitmap_root, chunk_digests, node_count, node_position, prove, prove_from_bitmap, prove_from_stored,
-    prove_range, prove_range_from_bitmap, prove_range_from_stored, replace_leaf, replace_leaf_in_batch, tree_from_bitmap, tree_from_stored,
-    truncate_leaves, truncate_leaves_in_batch, try_append_leaf, try_chunk_digests, try_prove, try_prove_from_stored, try_prove_range,
-    try_prove_range_from_stored, update_digests,
+    AuthenticatedBitMap, append_leaf, append_leaf_in_batch, bitmap_root, chunk_digests, node_count, node_position, prove,
+    prove_from_bitmap, prove_from_stored, prove_range, prove_range_from_bitmap, prove_range_from_stored, replace_leaf,
+    replace_leaf_in_batch, tree_from_bitmap, tree_from_stored, truncate_leaves, truncate_leaves_in_batch, try_append_leaf,
+    try_chunk_digests, try_prove, try_prove_from_stored, try_prove_range, try_prove_range_from_stored, update_digests,
 };
 use sha256::Sha256;
 use std::panic::{AssertUnwindSafe, catch_unwind};
@@ -347,4 +347,29 @@ fn of_stored_digests_in_batches() {
     assert_eq!(panic_of(|| truncate_leaves_in_batch(&mut batch, 1, 0)), "stored has pruned chunks");
     assert_eq!(panic_of(|| update_digests(&Sha256, &prepared, &mut batch, 1).is_ok()), "stored has pruned chunks");
     assert_eq!(batch.len(), 256);
+}
+
+/// Bitmaps with a root for each version, and their batches, whose edits have the conditions of `DirtyBitMap`.
+#[test]
+fn of_bitmaps_with_roots() {
+    let mut batch = AuthenticatedBitMap::<1, _>::new(Sha256).into_dirty();
+    batch.extend_to(26).set_bit(20, true).prune_to_bit(17);
+    let map = batch.commit(1).unwrap();
+    let root = map.root();
+    assert_eq!(panic_of(|| map.prove(4)), "chunk 4 out of bounds (chunks: 4)");
+    assert_eq!(panic_of(|| map.try_prove(usize::MAX)), "chunk 18446744073709551615 out of bounds (chunks: 4)");
+    let mut batch = map.into_dirty();
+    assert_eq!(panic_of(|| batch.bits().get_bit(15)), "cannot get bit 15: chunk 1 is pruned (pruned up to chunk 2)");
+    assert_eq!(panic_of(|| _ = batch.set_bit(15, true)), "cannot set bit 15: chunk 1 is pruned (pruned up to chunk 2)");
+    assert_eq!(panic_of(|| batch.try_set_bit(26, true).is_ok()), "cannot set bit 26: out of bounds (len: 26)");
+    assert_eq!(panic_of(|| _ = batch.set_range(15..20, true)), "range start 15 is pruned");
+    assert_eq!(panic_of(|| batch.try_set_range(16..27, true).is_ok()), "range end 27 out of bounds (len: 26)");
+    assert_eq!(panic_of(|| _ = batch.set_chunk(1, &[0])), "chunk 1 is pruned (pruned_chunks: 2)");
+    assert_eq!(panic_of(|| batch.try_set_chunk(4, &[0]).is_ok()), "chunk 4 out of bounds (chunks: 4)");
+    assert_eq!(panic_of(|| batch.truncate(15)), "bit 15 is pruned");
+    assert_eq!(panic_of(|| batch.truncate(27)), "bit 27 out of bounds (len: 26)");
+    assert_eq!(panic_of(|| _ = batch.prune_to_bit(27)), "cannot prune to bit 27: beyond projected length (26)");
+    assert_eq!(panic_of(|| batch.try_prune_to_bit(27).is_ok()), "cannot prune to bit 27: beyond projected length (26)");
+    assert_eq!(batch.bits().changed_chunks().count(), 0);
+    assert_eq!(batch.commit(2).unwrap().root(), root);
 }

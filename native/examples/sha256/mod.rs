@@ -3,6 +3,7 @@
 use mortarpink::roots::Digest;
 
 /// SHA-256 as the hash of roots.
+#[derive(Clone, Copy, Debug, Default)]
 pub struct Sha256;
 
 impl Digest for Sha256 {

@@ -3,6 +3,7 @@
 #![allow(dead_code, unused_imports, unused_variables, clippy::style, clippy::complexity, clippy::perf)]
 
 pub mod authenticated_bitmap;
+pub mod authenticated_history;
 pub mod bitmap_bytes;
 pub mod bitmap_core;
 pub mod chunk_map;
