@@ -72,7 +72,7 @@ TESTS = [
     "conformance_versions", "uses", "replay",
 ]
 LEFT_OUT = [
-    "authenticated_history", "bench", "bitmap_c", "conformance_authenticated_history", "conformance_store", "log_runs", "log_store", "store_runs",
+    "authenticated_history", "bench", "bitmap_c", "conformance_authenticated_history", "conformance_store", "log_runs", "log_store", "root_runs", "store_runs",
 ]
 
 # The lints that are off in the generated modules: some items are for proofs alone, and the layout and the idioms are those of Rattle.
