@@ -2,7 +2,7 @@
 """Checks the documents and doc comments.
 
 - Each Rattle example is in the crate `uses`, `store_runs` or `conformance_authenticated`, word for word and with its imports, so that it is proved
-  and tested.
+  and tested. A clause may be broken at other places.
 - Each example in C, Rust or Python is in a tested file of `bindings`, or in an example of `native`.
 - Each relative link of a document leads to a file, and to a heading if it names one.
 - Each file that a document names exists.
@@ -53,6 +53,24 @@ def lines_of(path):
     return path.read_text().split("\n")
 
 
+def is_open(line):
+    """Whether a line begins a clause whose end is on a later one."""
+    return line.strip().startswith(("requires", "ensures")) and line.count("{") > line.count("}")
+
+
+def with_whole_clauses(lines):
+    """The lines, with each clause on one of them, as if it had not been broken."""
+    whole = []
+    for line in lines:
+        if not whole or not is_open(whole[-1]):
+            whole.append(line)
+            continue
+        whole[-1] += f" {line.strip()}"
+        if not is_open(whole[-1]):
+            whole[-1] = re.sub(r"[,;]? ([)}])", r" \1", whole[-1]).replace("( ", "(").replace(" )", ")")
+    return whole
+
+
 def doc_lines(path):
     """The numbered lines of a document, or those of a source's doc comments without their marks."""
     for number, line in enumerate(lines_of(path), 1):
@@ -81,7 +99,7 @@ def fences(path):
 
 def examples(path, word):
     """The examples whose fence has the word."""
-    return [Example(f"{path.relative_to(TOP)}:{number}", lines) for found, number, lines in fences(path) if found == word]
+    return [Example(f"{path.relative_to(TOP)}:{number}", with_whole_clauses(lines)) for found, number, lines in fences(path) if found == word]
 
 
 def rattle_examples(path):
@@ -198,7 +216,7 @@ def known_labels():
 
 def main():
     texts = [path for path in sources(TOP / "crates") if not any(crate in path.parents for crate in USES)] + documents()
-    callers = [lines_of(path) for crate in USES for path in sources(crate / "src")]
+    callers = [with_whole_clauses(lines_of(path)) for crate in USES for path in sources(crate / "src")]
     all_examples = [example for path in texts for example in rattle_examples(path)]
     all_links = [(path, link) for path in linked_pages() for link in links(path)]
     files = [str(path.relative_to(TOP)) for path in TOP.rglob("*") if path.is_file() and "out" not in path.relative_to(TOP).parts]

@@ -15,7 +15,8 @@ pub fn append_version(
 ) -> Result<CleanBitMap<8>, (CleanBitMap<8>, ApplyError<AllocError>)>
     requires { bit_len 8 map.current + 1 < 2 ^ 64 }
     ensures current { IfOk result (λ new. new.current ≡ pushed map.current bit) }
-    ensures history { IfOk result (λ new. history_of 8 new ≡ history_of 8 map ++ (number, new.current) ∷ []) }
+    ensures history { IfOk result
+        (λ new. history_of 8 new ≡ history_of 8 map ++ (number, new.current) ∷ []) }
     ensures unchanged { IfErr result (λ e. e.0 ≡ map) }
 {
     map.apply_batch(number, |batch| -> Result<(), AllocError> {

@@ -11,8 +11,10 @@ pub fn commit_both(
     two: DirtyBitMap<8>,
     number: u64,
 ) -> Result<(CleanBitMap<8>, CleanBitMap<8>), (DirtyBitMap<8>, DirtyBitMap<8>, Error)>
-    ensures first { IfOk result (λ both. history_of 8 both.0 ≡ history_of 8 one ++ (number, pending_of 8 one) ∷ []) }
-    ensures second { IfOk result (λ both. history_of 8 both.1 ≡ history_of 8 two ++ (number, pending_of 8 two) ∷ []) }
+    ensures first { IfOk result
+        (λ both. history_of 8 both.0 ≡ history_of 8 one ++ (number, pending_of 8 one) ∷ []) }
+    ensures second { IfOk result
+        (λ both. history_of 8 both.1 ≡ history_of 8 two ++ (number, pending_of 8 two) ∷ []) }
     ensures first_unchanged { IfErr result (λ e. e.0 ≡ one) }
     ensures second_unchanged { IfErr result (λ e. e.1 ≡ two) }
 {

@@ -12,7 +12,8 @@ pub fn chunks_to_change<const N: usize>(
     alloc: Global,
     batch: &DirtyBitMap<N>,
 ) -> Result<Vec<usize>, AllocError>
-    ensures { IfOk result (λ chunks. chunks.items ≡ changed N batch.now.current (pending_of N batch.now)) }
+    ensures { IfOk result (λ chunks.
+        chunks.items ≡ changed N batch.now.current (pending_of N batch.now)) }
 {
     batch.changed_chunks().collect(alloc)
 }

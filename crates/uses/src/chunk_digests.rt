@@ -52,7 +52,10 @@ pub fn all_digests<D: Digest<N>, const N: usize>(
     versions: &CleanBitMap<N>,
     number: u64,
 ) -> Result<Option<Vec<Option<u64>>>, AllocError>
-    ensures { IfOk result (λ found. option_map (λ digests. digests.items) found ≡ option_map (digests_of N (D.of digest.now)) (kept_under (history_of N versions.now) number)) }
+    ensures { IfOk result (λ found.
+        option_map (λ digests. digests.items) found
+        ≡ option_map (digests_of N (D.of digest.now))
+        (kept_under (history_of N versions.now) number)) }
 {
     let Some(version) = versions.at(number) else {
         return Ok(None);
@@ -77,9 +80,14 @@ pub fn update_digests<D: Digest<N>, const N: usize>(
     from: u64,
     to: u64,
 ) -> Result<Option<()>, AllocError>
-    requires { IfSome (kept_under (history_of N versions.now) from) (λ version. digests.old.items ≡ digests_of N (D.of digest.now) version) }
-    ensures updated { IfOk result (λ done. IfSome done (λ _. IfSome (kept_under (history_of N versions.now) to) (λ version. digests.new.items ≡ digests_of N (D.of digest.now) version))) }
-    ensures done { IfOk result (λ done. is_some done ≡ is_some (changed_between N (history_of N versions.now) from to)) }
+    requires { IfSome (kept_under (history_of N versions.now) from)
+        (λ version. digests.old.items ≡ digests_of N (D.of digest.now) version) }
+    ensures updated { IfOk result
+        (λ done. IfSome done (λ _.
+        IfSome (kept_under (history_of N versions.now) to)
+        (λ version. digests.new.items ≡ digests_of N (D.of digest.now) version))) }
+    ensures done { IfOk result
+        (λ done. is_some done ≡ is_some (changed_between N (history_of N versions.now) from to)) }
     ensures absent { result ≡ Ok None → digests.new.items ≡ digests.old.items }
     ensures err { OnErr result (digests.new.items ≡ digests.old.items) }
 {

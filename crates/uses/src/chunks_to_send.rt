@@ -13,7 +13,8 @@ pub fn chunks_to_send<const N: usize>(
     from: u64,
     to: u64,
 ) -> Option<usize>
-    ensures { result ≡ option_map (λ chunks. length chunks) (changed_between N (history_of N versions.now) from to) }
+    ensures { result ≡ option_map (λ chunks. length chunks)
+        (changed_between N (history_of N versions.now) from to) }
 {
     let changes = versions.changed_chunks(from, to)?;
     Some(changes.count())

@@ -11,7 +11,8 @@ use bitmap_core::laws::searches::next_zero_is_least;
 pub fn take_slot(slots: &mut BitMap<8>) -> Option<u64>
     ensures first { IfSome result (λ slot. IsNext 8 (plain_meaning slots.old) false 0 slot) }
     ensures taken { IfSome result (λ slot. slots.new ≡ slice_set slots.old slot true) }
-    ensures full { IfNone result (HasNoNext 8 (plain_meaning slots.old) false 0 × (slots.new ≡ slots.old)) }
+    ensures full { IfNone result
+        (HasNoNext 8 (plain_meaning slots.old) false 0 × (slots.new ≡ slots.old)) }
 {
     let slot = next_zero_is_least(slots, 0)?;
     slots.set(slot, true);

@@ -9,7 +9,9 @@ use std::alloc::AllocError;
 /// Appends an event, and prunes the chunks that end before the last 1024 bits. On an error the log is unchanged.
 pub fn append(log: &mut Prunable<8>, event: bool) -> Result<(), AllocError>
     requires { bit_len 8 log.old + 1 < 2 ^ 64 }
-    ensures ok { OnOk result (log.new ≡ pruned_to 8 (pushed log.old event) ((bit_len 8 (pushed log.old event) - 1024) / 64)) }
+    ensures ok { OnOk result
+        (log.new ≡ pruned_to 8 (pushed log.old event)
+        ((bit_len 8 (pushed log.old event) - 1024) / 64)) }
     ensures err { OnErr result (log.new ≡ log.old) }
 {
     log.push(event)?;

@@ -8,7 +8,8 @@ use bitmap_core::bitmap::Readable;
 
 /// Returns the first set position from `from` on, or the first of all if there is none.
 pub fn next_around<B: Readable<N>, const N: usize>(bitmap: &B, from: u64) -> Option<u64>
-    ensures { result ≡ option_or (next_one N (B.meaning bitmap.now) from) (next_one N (B.meaning bitmap.now) 0) }
+    ensures { result ≡ option_or (next_one N (B.meaning bitmap.now) from)
+        (next_one N (B.meaning bitmap.now) 0) }
 {
     bitmap.next_one(from).or(bitmap.next_one(0))
 }

@@ -16,7 +16,9 @@ pub fn count_in_version<const N: usize>(
     number: u64,
     range: Range<u64>,
 ) -> Option<usize>
-    ensures { result ≡ option_map (λ version. length (ones N (pruned_meaning N version) range.start range.end)) (kept_under (history_of N versions.now) number) }
+    ensures { result ≡ option_map
+        (λ version. length (ones N (pruned_meaning N version) range.start range.end))
+        (kept_under (history_of N versions.now) number) }
 {
     let version = versions.at(number)?;
     Some(version.ones_iter_range(range).count())

@@ -10,7 +10,8 @@ pub fn note(outcomes: &mut BitMap<8>, outcome: bool) -> Result<(), AllocError>
     requires some { 0 < length outcomes.old }
     requires space { length outcomes.old + 1 < 2 ^ 64 }
     ensures ok { OnOk result (outcomes.new ≡ outcomes.old ++ outcome ∷ []) }
-    ensures err { OnErr result (outcomes.new ≡ slice_set outcomes.old (length outcomes.old - 1) outcome) }
+    ensures err { OnErr result
+        (outcomes.new ≡ slice_set outcomes.old (length outcomes.old - 1) outcome) }
 {
     let noted = outcomes.push(outcome);
     if noted.is_err() {

@@ -12,8 +12,11 @@ pub fn missing_at_peer(
     theirs: &BitMap<8>,
 ) -> Result<Option<BitMap<8>>, AllocError>
     requires { length ours.now ≡ length theirs.now }
-    ensures some { IfOk result (λ found. IfSome found (λ missing. missing ≡ map (λ p. p.0 && not p.1) (zip ours.now theirs.now))) }
-    ensures none { IfOk result (λ found. IfNone found (list_all (λ p. not p.0 || p.1) (zip ours.now theirs.now) ≡ true)) }
+    ensures some { IfOk result
+        (λ found. IfSome found (λ missing.
+        missing ≡ map (λ p. p.0 && not p.1) (zip ours.now theirs.now))) }
+    ensures none { IfOk result
+        (λ found. IfNone found (list_all (λ p. not p.0 || p.1) (zip ours.now theirs.now) ≡ true)) }
 {
     if ours.is_subset(theirs) {
         return Ok(None);

@@ -12,9 +12,14 @@ use std::alloc::AllocError;
 
 /// Takes the first free slot of a batch, or returns `None` if all are taken. After an error the batch is unchanged.
 pub fn take_pending_slot(batch: &mut DirtyBitMap<8>) -> Result<Option<u64>, AllocError>
-    ensures first { IfOk result (λ taken. IfSome taken (IsNext 8 (pruned_meaning 8 (pending_of 8 batch.old)) false 0)) }
-    ensures taken { IfOk result (λ taken. IfSome taken (λ slot. pending_of 8 batch.new ≡ set_at 8 (pending_of 8 batch.old) slot true)) }
-    ensures full { IfOk result (λ taken. IfNone taken (HasNoNext 8 (pruned_meaning 8 (pending_of 8 batch.old)) false 0 × (batch.new ≡ batch.old))) }
+    ensures first { IfOk result
+        (λ taken. IfSome taken (IsNext 8 (pruned_meaning 8 (pending_of 8 batch.old)) false 0)) }
+    ensures taken { IfOk result
+        (λ taken. IfSome taken (λ slot.
+        pending_of 8 batch.new ≡ set_at 8 (pending_of 8 batch.old) slot true)) }
+    ensures full { IfOk result
+        (λ taken. IfNone taken (HasNoNext 8 (pruned_meaning 8 (pending_of 8 batch.old)) false 0
+        × (batch.new ≡ batch.old))) }
     ensures err { OnErr result (batch.new ≡ batch.old) }
 {
     let Some(slot) = next_zero_is_least(batch, 0) else {

@@ -23,7 +23,8 @@ pub fn first_version(alloc: Global) -> Option<CleanBitMap<8>>
 /// Commits two versions, reads the first one, and rewinds to it. Returns `None` if an allocation fails.
 pub fn first_again(alloc: Global) -> Option<(bool, CleanBitMap<8>)>
     ensures read { IfSome result (λ found. found.0 ≡ true) }
-    ensures rewound { IfSome result (λ found. found.1.current ≡ record { pruned = 0; bits = true ∷ [] }) }
+    ensures rewound { IfSome result
+        (λ found. found.1.current ≡ record { pruned = 0; bits = true ∷ [] }) }
     ensures dropped { IfSome result (λ found. history_of 8 found.1 ≡ (1, found.1.current) ∷ []) }
 {
     // Version 2 clears the bit of version 1 and appends another one.

@@ -9,9 +9,11 @@ use historical_bitmap::bitmap::historical::{CleanBitMap, RewindError};
 
 /// Rewinds flags to a checkpoint. On an error they are unchanged.
 pub fn restored(flags: CleanBitMap<8>, checkpoint: u64) -> (CleanBitMap<8>, Result<(), RewindError>)
-    ensures back { OnOk result.1 (kept_under (history_of 8 flags) checkpoint ≡ Some result.0.current) }
+    ensures back { OnOk result.1
+        (kept_under (history_of 8 flags) checkpoint ≡ Some result.0.current) }
     ensures stay { OnErr result.1 (result.0 ≡ flags) }
-    ensures unknown { kept_under (history_of 8 flags) checkpoint ≡ None → result.1 ≡ Err NoSuchCommit }
+    ensures unknown { kept_under (history_of 8 flags) checkpoint ≡ None
+        → result.1 ≡ Err NoSuchCommit }
 {
     match flags.rewind_to(checkpoint) {
         Ok(flags) => (flags, Ok(())),

@@ -17,7 +17,9 @@ pub fn version_bytes(
     versions: &CleanBitMap<8>,
     number: u64,
 ) -> Result<Option<Vec<u8>>, AllocError>
-    ensures { IfOk result (λ found. option_map (λ bytes. bytes.items) found ≡ option_map (pruned_encoding 8) (kept_under (history_of 8 versions.now) number)) }
+    ensures { IfOk result (λ found.
+        option_map (λ bytes. bytes.items) found
+        ≡ option_map (pruned_encoding 8) (kept_under (history_of 8 versions.now) number)) }
 {
     let Some(version) = versions.get_at_commit(number)? else {
         return Ok(None);

@@ -15,14 +15,17 @@ pub fn append_two(
 ) -> Result<CleanBitMap<4>, (CleanBitMap<4>, ApplyError<AllocError>)>
     requires { bit_len 4 bitmap.current + 2 < 2 ^ 64 }
     ensures current { IfOk result (λ b. b.current ≡ pushed (pushed bitmap.current true) false) }
-    ensures history { IfOk result (λ b. history_of 4 b ≡ history_of 4 bitmap ++ (number, b.current) ∷ []) }
+    ensures history { IfOk result
+        (λ b. history_of 4 b ≡ history_of 4 bitmap ++ (number, b.current) ∷ []) }
     ensures refused { IfErr result (λ e. e.0 ≡ bitmap) }
 {
     bitmap.apply_batch(
         number,
         |batch| -> Result<(), AllocError>
             requires { bit_len 4 (pending_of 4 batch.now) + 2 < 2 ^ 64 }
-            ensures bits { OnOk result (pending_of 4 batch.exit.now ≡ pushed (pushed (pending_of 4 batch.entry.now) true) false) }
+            ensures bits { OnOk result
+                (pending_of 4 batch.exit.now
+                ≡ pushed (pushed (pending_of 4 batch.entry.now) true) false) }
             ensures others { aborted batch.exit.now ≡ aborted batch.entry.now }
         {
             batch.push(true)?.push(false)?;

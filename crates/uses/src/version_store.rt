@@ -37,7 +37,9 @@ fn appended(
     flag: bool,
     number: u64,
 ) -> Result<CleanBitMap<8>, CleanBitMap<8>>
-    ensures kept { IfOk result (λ more. history_of 8 more ≡ history_of 8 versions ++ (number, pushed versions.current flag) ∷ []) }
+    ensures kept { IfOk result
+        (λ more. history_of 8 more
+        ≡ history_of 8 versions ++ (number, pushed versions.current flag) ∷ []) }
     ensures unchanged { IfErr result (λ same. same ≡ versions) }
 {
     if versions.len() == u64::MAX {
@@ -68,7 +70,8 @@ impl VersionStore {
     ///
     /// On an error the store is returned unchanged: the number is not above the last one, or memory or the length is exhausted.
     pub fn append(self, flag: bool, number: u64) -> Result<Self, Self>
-        ensures kept { IfOk result (λ s. history_of 8 s ≡ history_of 8 self ++ (number, pushed self.current flag) ∷ []) }
+        ensures kept { IfOk result
+            (λ s. history_of 8 s ≡ history_of 8 self ++ (number, pushed self.current flag) ∷ []) }
         ensures unchanged { IfErr result (λ s. s ≡ self) }
     {
         match appended(self.versions, flag, number) {
@@ -120,7 +123,9 @@ impl VersionStore {
 
     /// Returns how many flags of a version are set in a range, or `None` if that version is not kept.
     pub fn count(&self, number: u64, range: Range<u64>) -> Option<usize>
-        ensures { result ≡ option_map (λ version. length (ones 8 (pruned_meaning 8 version) range.start range.end)) (kept_under (history_of 8 self.now) number) }
+        ensures { result ≡ option_map
+            (λ version. length (ones 8 (pruned_meaning 8 version) range.start range.end))
+            (kept_under (history_of 8 self.now) number) }
     {
         let version = self.versions.at(number)?;
         Some(version.ones_iter_range(range).count())

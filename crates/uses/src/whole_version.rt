@@ -16,7 +16,9 @@ pub fn population_of_version<const N: usize>(
     versions: &CleanBitMap<N>,
     number: u64,
 ) -> Result<Option<u64>, AllocError>
-    ensures { IfOk result (λ count. count ≡ option_map (λ version. ones_count N (pruned_meaning N version) 0 (pruned_meaning N version).len) (kept_under (history_of N versions.now) number)) }
+    ensures { IfOk result (λ count.
+        count ≡ option_map (λ version. ones_count N (pruned_meaning N version) 0
+        (pruned_meaning N version).len) (kept_under (history_of N versions.now) number)) }
 {
     let Some(version) = versions.gathered(number)? else {
         return Ok(None);
