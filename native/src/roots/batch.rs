@@ -462,8 +462,8 @@ impl<const N: usize, D: Digest> DirtyAuthenticatedBitMap<N, D> {
 
     /// Drops the chunks before the one of the absolute position `bit`. Changes nothing if they are already pruned.
     ///
-    /// The digests of these chunks stay, so a path from before stays good. A chunk that the batch itself has appended gets the digest of a chunk of zero
-    /// bytes, since no version has its bytes.
+    /// A dropped chunk keeps the digest that it had when the batch began, so a path from before stays good. One that the batch itself has appended gets
+    /// the digest of a chunk of zero bytes, since no version has its bytes.
     ///
     /// # Complexity
     ///
