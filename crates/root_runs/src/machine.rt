@@ -4,6 +4,7 @@ ghost use Rattle.bitmap_bytes.specs.Chunk.{IsWidth};
 
 use crate::batch::Batch;
 use crate::command::{Command, command_of};
+use crate::proofs::proof_at;
 use crate::shown::{push_proof, push_roots};
 use authenticated_history::AuthenticatedBitMap;
 use conformance_authenticated::sha::Sha;
@@ -66,7 +67,9 @@ fn outside<const N: usize>(
         }
         Command::Clear => map.clear_history(),
         Command::Roots => push_roots(alloc, &map, out)?,
-        Command::Prove(number, position) => push_proof(alloc, &map, number, position, out)?,
+        Command::Prove(number, position) => {
+            push_proof(alloc, proof_at(alloc, &map, number, position)?, out)?;
+        }
         _ => out.push_str("refused\n")?,
     }
     Ok(Bits::Clean(map))
