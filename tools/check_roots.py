@@ -5,8 +5,8 @@ usage: check_roots.py [COUNT [SEED]]   COUNT random histories of an authenticate
 
 Each history has edits, commits and aborts, and at least one pop, one pruned chunk, one rewind, one drop of old versions, one clear, and one
 command that is refused. After each change of what is kept, the current root and the root of every kept version are compared, and with each commit
-the proof of a chunk of the new version. At the end of a history, and before its rewind, its drop and its clear, a proof for every kept version is
-compared. Each proof is read and verified by tools/roots.py, which must refuse a copy with a flipped bit.
+the proof of a chunk of the new version. At the end of a history, and before its rewind, its drop and its clear, proofs of a chunk and of a range of
+every kept version are compared. Each proof is read and verified by tools/roots.py, which must refuse a copy with a flipped bit.
 
 The bits of every version are lists, which tools/model.py edits. Roots and proofs are computed from these lists with Python's hashlib. The program is
 the one that the gate has built, or the one that the environment variable ROOT_RUNS_PROGRAM names. Random histories have fixed seeds.
@@ -25,7 +25,7 @@ from typing import NamedTuple, Optional
 from check_runs import RandomScript
 from model import LAST, Bitmap, Model, Refused, bits_of, bytes_of
 from replay import SECONDS, TOP, report, stop_without
-from roots import audit_path, encoding, leaf, read, root, tree, verifies
+from roots import audit_path, encoding, leaf, range_encoding, range_siblings, range_verifies, read, read_range, root, tree, verifies
 
 PROGRAM = Path(os.environ.get("ROOT_RUNS_PROGRAM", TOP / "crates/root_runs/out/root_runs")).resolve()
 
@@ -43,14 +43,18 @@ KEEPING = {"commit", "rewind", "drop-before", "clear"}
 
 # What is counted, in the order in which it is printed.
 COUNTED = (
-    "edits", "pops", "pruned chunks", "commits", "aborts", "rewinds", "drops", "clears", "dropped versions", "refused commands", "roots", "proofs", "changed proofs",
+    "edits", "pops", "pruned chunks", "commits", "aborts", "rewinds", "drops", "clears", "dropped versions", "refused commands", "roots", "proofs of chunks",
+    "proofs of ranges", "changed proofs",
 )
 
 # What each history has.
 IN_EACH = ("pops", "pruned chunks", "rewinds", "clears", "dropped versions", "refused commands")
 
-# The index of a proof is in these bytes of its encoding. A chunk may also be at another index, so no bit of it is flipped.
+# The index of the first chunk of a proof is in these bytes of its encoding. Chunks may also be at another index, so no bit of it is flipped.
 INDEX = range(24, 32)
+
+# How the proof that a command prints is read and verified, and as what it is counted.
+PROOFS = {"prove": (read, verifies, "proofs of chunks"), "prove-range": (read_range, range_verifies, "proofs of ranges")}
 
 
 class RootModel(Model):
@@ -87,11 +91,11 @@ class Version(NamedTuple):
 
 
 class Asked(NamedTuple):
-    """A command, the lines that it has to print, and for the proof of a chunk its version."""
+    """A command, the lines that it has to print, and for a proof the root against which it verifies."""
 
     command: str
     lines: tuple = ()
-    version: Optional[Version] = None
+    root: Optional[bytes] = None
 
 
 def is_refused(reply):
@@ -169,17 +173,36 @@ class RootScript(RandomScript):
         position = self.random.randrange(first, length)
         index = position // self.model.chunk_bits
         data = encoding(self.model.width, length, pruned, index, version.chunks[index - pruned], audit_path(index, version.digests))
-        self.asked.append(Asked(f"prove {number} {position}", (data.hex(),), version))
+        self.asked.append(Asked(f"prove {number} {position}", (data.hex(),), version.root))
+
+    def ask_range(self, number):
+        """Asks for the proof of a random range of chunks of a version. There is none if the version retains no chunk."""
+        version, pruned = self.versions[number], self.versions[number].bitmap.pruned
+        if not version.chunks:
+            self.ask(f"prove-range {number} {pruned} 1", "refused")
+            return
+        start = self.random.randrange(len(version.chunks))
+        chunks = version.chunks[start : self.random.randint(start + 1, len(version.chunks))]
+        first, length = pruned + start, self.model.length(version.bitmap)
+        data = range_encoding(self.model.width, length, pruned, first, chunks, range_siblings(first, len(chunks), version.digests))
+        self.asked.append(Asked(f"prove-range {number} {first} {len(chunks)}", (data.hex(),), version.root))
 
     def ask_proofs(self):
-        """Asks for a proof for each kept version, and for proofs that there are not."""
+        """Asks for proofs of each kept version, and for proofs that there are not."""
         for number in self.state.history:
             self.ask_proof(number)
-            bitmap = self.versions[number].bitmap
-            absent = [self.model.length(bitmap), LAST, *([self.model.first(bitmap) - 1] if bitmap.pruned else [])]
-            self.ask(f"prove {number} {self.random.choice(absent)}", "refused")
-        absent = [number for number in (*self.versions, LAST) if number not in self.state.history]
-        self.ask(f"prove {self.random.choice(absent)} {self.position()}", "refused")
+            self.ask_range(number)
+            bitmap, count = self.versions[number].bitmap, self.model.chunks(self.versions[number].bitmap)
+            positions, ranges = [self.model.length(bitmap), LAST], [(bitmap.pruned, 0), (count - 1, 2), (count, 1), (bitmap.pruned, LAST), (LAST, LAST)]
+            if bitmap.pruned:
+                positions.append(self.model.first(bitmap) - 1)
+                ranges.append((bitmap.pruned - 1, 1))
+            first, length = self.random.choice(ranges)
+            self.ask(f"prove {number} {self.random.choice(positions)}", "refused")
+            self.ask(f"prove-range {number} {max(first, 0)} {length}", "refused")
+        absent = self.random.choice([number for number in (*self.versions, LAST) if number not in self.state.history])
+        self.ask(f"prove {absent} {self.position()}", "refused")
+        self.ask(f"prove-range {absent} {self.state.current.pruned} 1", "refused")
 
     # Random steps
 
@@ -287,26 +310,30 @@ def first_difference(script, printed):
             return f"command {at}: {recent}: {found}, not {line}"
     if len(printed) != len(expected):
         return f"{len(printed)} lines, not {len(expected)}"
-    proofs = [(script.asked[at], found) for (at, _), found in zip(expected, printed) if script.asked[at].version]
+    proofs = [(script.asked[at], found) for (at, _), found in zip(expected, printed) if script.asked[at].root]
     return next(filter(None, (proof_failure(script, asked, found) for asked, found in proofs)), None)
 
 
 def proof_failure(script, asked, printed):
     """What is wrong with a printed proof, or None: it has to verify, and a copy with a flipped bit must not."""
-    width, wanted, data = script.model.width, asked.version.root, bytes.fromhex(printed)
-    script.counts["proofs"] += 1
-    if not is_proof(width, wanted, data):
-        return f"{asked.command}: {printed} does not verify against {wanted.hex()}"
+    name = asked.command.split(" ")[0]
+    data = bytes.fromhex(printed)
+    script.counts[PROOFS[name][2]] += 1
+    if not is_proof(name, script.model.width, asked.root, data):
+        return f"{asked.command}: {printed} does not verify against {asked.root.hex()}"
     byte = script.random.choice([script.random.randrange(INDEX.start), script.random.randrange(INDEX.stop, len(data))])
     changed = data[:byte] + bytes([data[byte] ^ 1 << script.random.randrange(8)]) + data[byte + 1 :]
     script.counts["changed proofs"] += 1
-    return f"{asked.command}: {changed.hex()} verifies against {wanted.hex()}" if is_proof(width, wanted, changed) else None
+    if is_proof(name, script.model.width, asked.root, changed):
+        return f"{asked.command}: {changed.hex()} verifies against {asked.root.hex()}"
+    return None
 
 
-def is_proof(width, wanted, data):
-    """Whether bytes are the encoding of a proof that verifies against a root."""
-    proof = read(width, data)
-    return not isinstance(proof, str) and verifies(wanted, *proof)
+def is_proof(name, width, wanted, data):
+    """Whether bytes are the encoding of a proof that verifies against a root. The proof is of the kind that a command prints."""
+    read_proof, verifies_proof, _ = PROOFS[name]
+    proof = read_proof(width, data)
+    return not isinstance(proof, str) and verifies_proof(wanted, *proof)
 
 
 def run(width, lines):

@@ -1,4 +1,4 @@
-//! The commands of a script. A line has the name of a command and at most two words after it, with one space before each.
+//! The commands of a script. A line has the name of a command and at most three words after it, with one space before each.
 
 use hex::FromHex;
 
@@ -32,6 +32,8 @@ pub enum Command<const N: usize> {
     Roots,
     /// Prints the encoding of a proof: for the version with the first number, of the chunk of the position in bits.
     Prove(u64, u64),
+    /// Prints the encoding of the proof of a range: for the version with the number, from the chunk with an index on, of so many chunks.
+    ProveRange(u64, usize, usize),
 }
 
 // Returns the value of a decimal number that fits `u64`.
@@ -69,7 +71,7 @@ fn edit_of<const N: usize>(
 pub fn command_of<const N: usize>(line: &str) -> Option<Command<N>> {
     let mut words = line.split(' ');
     let name = words.next()?;
-    let (first, second) = (words.next(), words.next());
+    let (first, second, third) = (words.next(), words.next(), words.next());
     let command = match (name, number(first), number(second)) {
         ("new", ..) => Command::New,
         ("begin", ..) => Command::Begin,
@@ -80,6 +82,9 @@ pub fn command_of<const N: usize>(line: &str) -> Option<Command<N>> {
         ("clear", ..) => Command::Clear,
         ("roots", ..) => Command::Roots,
         ("prove", Some(version), Some(position)) => Command::Prove(version, position),
+        ("prove-range", Some(version), Some(index)) => {
+            Command::ProveRange(version, index as usize, number(third)? as usize)
+        }
         _ => Command::Edit(edit_of(name, first, second)?),
     };
     Some(command)

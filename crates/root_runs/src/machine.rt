@@ -4,6 +4,7 @@ ghost use Rattle.bitmap_bytes.specs.Chunk.{IsWidth};
 
 use crate::batch::Batch;
 use crate::command::{Command, command_of};
+use crate::proofs::{proof_at, range_proof_at};
 use crate::shown::{push_proof, push_roots};
 use authenticated_history::AuthenticatedBitMap;
 use conformance_authenticated::sha::Sha;
@@ -66,7 +67,13 @@ fn outside<const N: usize>(
         }
         Command::Clear => map.clear_history(),
         Command::Roots => push_roots(alloc, &map, out)?,
-        Command::Prove(number, position) => push_proof(alloc, &map, number, position, out)?,
+        Command::Prove(number, position) => {
+            push_proof(alloc, proof_at(alloc, &map, number, position)?, out)?;
+        }
+        Command::ProveRange(number, first, count) => {
+            let proof = range_proof_at(alloc, &map, number, first, count)?;
+            push_proof(alloc, proof, out)?;
+        }
         _ => out.push_str("refused\n")?,
     }
     Ok(Bits::Clean(map))
@@ -115,8 +122,8 @@ fn step<const N: usize>(
     }
 }
 
-/// Runs a script, and returns what it prints: `refused` for each line that is no command, or whose command is not allowed, and what `roots` and
-/// `prove` print.
+/// Runs a script, and returns what it prints: `refused` for each line that is no command, or whose command is not allowed, and what `roots`,
+/// `prove` and `prove-range` print.
 pub fn run<const N: usize>(alloc: Global, script: &str) -> io::Result<String>
     requires { IsWidth N }
 {

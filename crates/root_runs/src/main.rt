@@ -5,7 +5,9 @@
 
 mod batch;
 mod command;
+mod edits;
 mod machine;
+mod proofs;
 mod shown;
 
 use crate::machine::run;
