@@ -147,7 +147,7 @@ impl<const N: usize> EditedChunks<N> {
     }
 
     // Returns the chunk at an index, if there is one, to be changed in its place.
-    // It is always inlined: as a call it makes `set_bit` slower by a tenth.
+    // It is always inlined: as a call it makes `set_bit` near the last position take a fifth more instructions.
     #[inline(always)]
     pub(crate) fn get_mut(&mut self, index: usize) -> Option<&mut [u8; N]> {
         self.order();
