@@ -599,7 +599,8 @@ impl Bitmap {
     ///
     /// # Complexity
     ///
-    /// Per chunk whose old bytes a kept commit has, logarithmic in their number.
+    /// Amortized linear in the commits and in the entries of their records. Linear in the index if it
+    /// is dropped.
     ///
     /// # Examples
     ///
@@ -791,8 +792,8 @@ impl Bitmap {
     ///
     /// # Complexity
     ///
-    /// Per chunk that the dropped commits changed, logarithmic in their number. If the bitmap grows,
-    /// it may also move in memory.
+    /// Logarithmic in the commits, and amortized linear in the dropped commits and in the entries of
+    /// their records. If the bitmap grows, it may also move in memory.
     ///
     /// # Examples
     ///

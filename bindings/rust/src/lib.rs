@@ -54,11 +54,11 @@
 //! | [`Bitmap::read_bytes`], [`Bitmap::packed`] | linear in the bytes of the range |
 //! | searches and counts of a [`Bitmap`] | linear in the chunks that are read |
 //! | [`Bitmap::commit_exists`], [`Bitmap::at`] | logarithmic in the commits |
-//! | [`Bitmap::rewind_to`] | per chunk that the dropped commits changed, logarithmic in their number |
+//! | [`Bitmap::rewind_to`] | amortized linear in the dropped commits and in the entries of their records; logarithmic in the commits |
 //! | [`Bitmap::drop_before`], [`Bitmap::clear`] | linear in what is dropped |
 //! | [`Bitmap::entries`] | linear in the commits |
 //! | [`Bitmap::checkout`] | linear in the current bitmap, plus the later commits and the chunks that they changed |
-//! | [`Bitmap::set_indexed`] | per chunk whose old bytes a kept commit has, logarithmic in their number |
+//! | [`Bitmap::set_indexed`] | amortized linear in the commits and in the entries of their records |
 //! | [`Bitmap::save`] | linear in the current bitmap and the history, plus per chunk in the history a read through a [`Version`] |
 //! | [`Bitmap::load`] | linear in the history |
 //! | [`Bitmap::delta`] | as [`Bitmap::changed_chunks`], plus per chunk in the delta two reads through a [`Version`] |
