@@ -243,6 +243,8 @@ impl<const N: usize> BitMap<N, Clean> {
     ///
     /// # Complexity
     /// At most linear in the dropped commits and the entries of their reverse records, which are freed. The other commits are not visited.
+    /// If the bitmap is indexed, per entry also at most three searches in the index, each of which visits at most 16 nodes, and one that is
+    /// logarithmic in the kept commits that changed the chunk.
     pub fn prune_commits_before(&mut self, number: u64) -> usize
         ensures value { self.new
             ≡ record self.old { commits = from_number number self.old.commits } }
@@ -273,6 +275,8 @@ impl<const N: usize> BitMap<N, Clean> {
     /// A search among the kept commits. Amortized, per entry of the reverse records past the number: at most two searches among the restored
     /// chunks, each of which visits at most 16 nodes. Per dropped commit, constant. The length of the bitmap does not matter, except that the
     /// retained chunks may be moved in memory if the bitmap grows.
+    /// If the bitmap is indexed, per entry also at most three searches in the index, each of which visits at most 16 nodes, and one that is
+    /// logarithmic in the kept commits that changed the chunk.
     ///
     /// # Examples
     /// ```
@@ -332,6 +336,7 @@ impl<const N: usize> BitMap<N, Clean> {
     ///
     /// # Complexity
     /// At most linear in the kept commits and the entries of their reverse records, which are freed.
+    /// If the bitmap is indexed, the entries of the index are freed too.
     pub fn clear_history(&mut self)
         ensures value { self.new ≡ record self.old { commits = [] } }
         ensures history { history_of N self.new ≡ [] }

@@ -412,7 +412,8 @@ impl<const N: usize> BitMap<N, Dirty<N>> {
     ///
     /// - `ReservedCommitNumber` if `number` is `u64::MAX`;
     /// - `NonMonotonicCommit` if `number` is not above the last number (last committed or rewound to);
-    /// - `Memory` if an allocation fails.
+    /// - `Memory` if an allocation fails, or, if the bitmap is indexed, if more than 2^31 - 1 chunks would have old bytes in the index, or its trie
+    ///   would have more nodes than that, with those that dropped commits have left.
     ///
     /// # Memory
     ///
@@ -421,10 +422,12 @@ impl<const N: usize> BitMap<N, Dirty<N>> {
     /// It is allocated once, with capacity for at most one more entry per edited chunk that is also pruned or cut off.
     /// Unless the edited chunks outside the appended run were first edited in ascending order, also allocates at most twice for their indices.
     /// Frees these before it returns.
+    /// If the bitmap is indexed, also allocates the entries of the index, and a new trie for it if dropped commits have left many nodes in the old one.
     ///
     /// # Complexity
     ///
     /// Per entry of the record, and per edited chunk. Amortized, since the current bitmap and the list of commits may have to reallocate to grow.
+    /// If the bitmap is indexed, per entry also at most two searches, each of which visits at most 16 nodes.
     /// Unless the edited chunks outside the appended run were first edited in ascending order, also one pass over the nodes of the trie that finds them.
     /// A `set_range` that ran out of memory leaves the nodes of the chunks that it had inserted, which are visited too.
     /// Independent of the bitmap's length and of the number of kept commits.
@@ -574,7 +577,7 @@ impl<const N: usize> BitMap<N, Dirty<N>> {
     /// # Complexity
     ///
     /// Amortized constant in the appended run.
-    /// Else a copy of the chunk, with a few searches among the edited chunks.
+    /// Else a copy of the chunk, with a few searches among the edited chunks. Amortized, if it allocates.
     #[inline]
     pub fn push(&mut self, value: bool) -> Result<Edit<'_, N>, AllocError>
         requires { bit_len N (pending_of N self.old) + 1 < 2 ^ 64 }
@@ -605,7 +608,7 @@ impl<const N: usize> BitMap<N, Dirty<N>> {
     /// # Complexity
     ///
     /// Amortized constant within one chunk of the appended run.
-    /// Else at most two chunks are copied, with a few searches among the edited chunks for each.
+    /// Else at most two chunks are copied, with a few searches among the edited chunks for each. Amortized, if it allocates.
     pub fn push_byte(&mut self, byte: u8) -> Result<Edit<'_, N>, AllocError>
         requires { bit_len N (pending_of N self.old) + 8 < 2 ^ 64 }
         ensures* refused { sem 𝓛 (rests_if_refused N.row self.entry result) }
@@ -636,6 +639,7 @@ impl<const N: usize> BitMap<N, Dirty<N>> {
     /// # Complexity
     ///
     /// At most two chunks are written: amortized constant per byte in the appended run, else with a few searches among the edited chunks for each.
+    /// Amortized, if it allocates.
     pub fn push_chunk(&mut self, chunk: &[u8; N]) -> Result<Edit<'_, N>, AllocError>
         requires { bit_len N (pending_of N self.old) + 8 * N < 2 ^ 64 }
         ensures* refused { sem 𝓛 (rests_if_refused N.row self.entry result) }

@@ -90,7 +90,8 @@ impl<const N: usize> BitMap<N, Clean> {
     ///
     /// # Errors
     ///
-    /// `AllocError` if an allocation fails. The bitmap is returned unchanged with the error, without an index.
+    /// `AllocError` if an allocation fails, or if more than 2^31 - 1 chunks have old bytes in the kept records. The bitmap is returned unchanged
+    /// with the error, without an index.
     ///
     /// # Memory
     ///
@@ -100,7 +101,7 @@ impl<const N: usize> BitMap<N, Clean> {
     ///
     /// # Complexity
     ///
-    /// Per kept commit, constant; per entry of the kept reverse records, a search that visits at most 16 nodes. Amortized.
+    /// Per kept commit, constant; per entry of the kept reverse records, at most two searches, each of which visits at most 16 nodes. Amortized.
     ///
     /// # Examples
     ///

@@ -448,7 +448,8 @@ impl<const N: usize> BitMap<N, Dirty<N>> {
     ///
     /// - `ReservedCommitNumber` if `number` is `u64::MAX`;
     /// - `NonMonotonicCommit` if `number` is not above the last number (last committed or rewound to);
-    /// - `Memory` if an allocation fails.
+    /// - `Memory` if an allocation fails, or, if the bitmap is indexed, if more than 2^31 - 1 chunks would have old bytes in the index, or its trie
+    ///   would have more nodes than that, with those that dropped commits have left.
     ///
     /// # Memory
     ///
@@ -457,10 +458,12 @@ impl<const N: usize> BitMap<N, Dirty<N>> {
     /// It is allocated once, with capacity for at most one more entry per edited chunk that is also pruned or cut off.
     /// Unless the edited chunks outside the appended run were first edited in ascending order, also allocates at most twice for their indices.
     /// Frees these before it returns.
+    /// If the bitmap is indexed, also allocates the entries of the index, and a new trie for it if dropped commits have left many nodes in the old one.
     ///
     /// # Complexity
     ///
     /// Per entry of the record, and per edited chunk. Amortized, since the current bitmap and the list of commits may have to reallocate to grow.
+    /// If the bitmap is indexed, per entry also at most two searches, each of which visits at most 16 nodes.
     /// Unless the edited chunks outside the appended run were first edited in ascending order, also one pass over the nodes of the trie that finds them.
     /// A `set_range` that ran out of memory leaves the nodes of the chunks that it had inserted, which are visited too.
     /// Independent of the bitmap's length and of the number of kept commits.
@@ -610,7 +613,7 @@ impl<const N: usize> BitMap<N, Dirty<N>> {
     /// # Complexity
     ///
     /// Amortized constant in the appended run.
-    /// Else a copy of the chunk, with a few searches among the edited chunks.
+    /// Else a copy of the chunk, with a few searches among the edited chunks. Amortized, if it allocates.
     ///
     /// # Panics
     ///
@@ -647,7 +650,7 @@ impl<const N: usize> BitMap<N, Dirty<N>> {
     /// # Complexity
     ///
     /// Amortized constant within one chunk of the appended run.
-    /// Else at most two chunks are copied, with a few searches among the edited chunks for each.
+    /// Else at most two chunks are copied, with a few searches among the edited chunks for each. Amortized, if it allocates.
     ///
     /// # Panics
     ///
@@ -683,6 +686,7 @@ impl<const N: usize> BitMap<N, Dirty<N>> {
     /// # Complexity
     ///
     /// At most two chunks are written: amortized constant per byte in the appended run, else with a few searches among the edited chunks for each.
+    /// Amortized, if it allocates.
     ///
     /// # Panics
     ///
