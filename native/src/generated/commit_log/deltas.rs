@@ -166,9 +166,8 @@ fn delta_bytes<const N: usize>(
 /// Allocates the encoding: 88 bytes, and `8 + N` bytes per listed chunk. A chunk is listed if it differs and the newer state retains it.
 ///
 /// # Complexity
-/// That of `changed_chunks`: it examines the chunks with an entry in a reverse record between the two states, and for each it takes two searches
-/// among the kept commits, one binary search per such record, and two reads through `AtCommit`. In addition, a read of the newer state per chunk
-/// that differs, a read of the older state per listed chunk, and the digests, which are linear in the bytes of the delta.
+/// That of `changed_chunks` and of its iterator, as `ChangedChunks` says. In addition, a read of the newer state per chunk that differs, a read of
+/// the older state per listed chunk, and the digests, which are linear in the bytes of the delta.
 ///
 /// # Examples
 ///
