@@ -238,14 +238,14 @@ impl<const N: usize, D: Device> BufferedStore<N, D> {
     /// Returns the first error that applies, with the bitmap unchanged:
     ///
     /// - `ReadOnly` if an earlier call failed after it had begun to write;
-    /// - `Memory` if an allocation fails. Nothing was written then, and a later sync writes the entries.
-    /// - `Device` if the device fails. The store is then read-only.
+    /// - `Memory` if an allocation fails before the device is called. Nothing was written then, and a later sync writes the entries.
+    /// - `Device` if the device fails or runs out of memory. The store is then read-only.
     ///
     /// # Memory
     /// What the calls of the device allocate. Also allocates if there is no capacity for one byte more than those that wait. The capacity is kept.
     ///
     /// # Complexity
-    /// One append of the bytes that wait, one byte set and two syncs of the device.
+    /// One append of the bytes that wait, one byte set and two syncs of the device. Constant if nothing waits.
     pub fn sync(&mut self) -> Result<(), StoreError>
         // The entries that waited are kept, and make the state.
         ensures keeps { (base : Base) (begun waiting : List Entry) (kept : ℕ)

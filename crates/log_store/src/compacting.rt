@@ -27,8 +27,8 @@ impl<const N: usize, D: Replaceable> Store<N, D> {
     /// Returns the first error that applies:
     ///
     /// - `ReadOnly` if an earlier call failed after it had begun to write;
-    /// - `Memory` if an allocation fails, or if the new log would have 2^64 bytes or more. Nothing was written.
-    /// - `Device` if the device fails. The store is then read-only.
+    /// - `Memory` if an allocation fails before the device is called, or if the new log would have 2^64 bytes or more. Nothing was written.
+    /// - `Device` if the device fails or runs out of memory. The store is then read-only.
     ///
     /// # Memory
     /// Temporarily the bytes of the new log, and what the calls of the device allocate.

@@ -24,7 +24,7 @@ pub enum StoreError {
     #[error("out of memory")]
     Memory(AllocError),
 
-    /// The device failed. The entry may be kept or not. The store is read-only from now on.
+    /// The device failed or ran out of memory. The entry may be kept or not. The store is read-only from now on.
     #[error("the entry was not written: {0}")]
     Device(DeviceError),
 

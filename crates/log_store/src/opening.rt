@@ -33,11 +33,11 @@ pub enum CreateError {
     #[error("the device is not empty")]
     NotEmpty,
 
-    /// An allocation failed. The device was not written to.
+    /// An allocation for the log failed. The device was not written to.
     #[error("out of memory")]
     Memory(AllocError),
 
-    /// The device failed. It may have some first bytes of a log.
+    /// The device failed or ran out of memory. It may have some first bytes of a log.
     #[error("{0}")]
     Device(DeviceError),
 }
@@ -49,7 +49,7 @@ pub enum OpenError {
     #[error("{0}")]
     Log(RecoverError),
 
-    /// The device failed.
+    /// The device failed or ran out of memory.
     #[error("{0}")]
     Device(DeviceError),
 }
@@ -108,9 +108,10 @@ impl<const N: usize, D: Device> Store<N, D> {
     /// # Errors
     /// Returns the device with the first error that applies:
     ///
+    /// - `Device` if the read of the device fails, also because it runs out of memory. The device was not written to.
     /// - `NotEmpty` if the device has bytes. It was not written to.
-    /// - `Memory` if an allocation fails. The device was not written to.
-    /// - `Device` if the device fails.
+    /// - `Memory` if an allocation for the log fails. The device was not written to.
+    /// - `Device` if a write or a sync of the device fails, also because it runs out of memory.
     ///
     /// # Memory
     /// Temporarily the bytes of the log, and what the calls of the device allocate.
@@ -164,10 +165,11 @@ impl<const N: usize, D: Device> Store<N, D> {
     /// # Errors
     /// Returns the device with the first error that applies:
     ///
+    /// - `Device` if the read of the device fails, also because it runs out of memory. The device was not written to.
     /// - `Log` with the error of [`recover`](commit_log::recover) if the bytes are not recovered. The device was not written to. So damage is
     ///   reported with its position, and is not cut off, unless it makes the first byte of a frame a closed gate: such a frame, and those after it,
     ///   are taken for one that was not finished. What a crash leaves is not damaged: the error is then that an allocation failed.
-    /// - `Device` if the device fails.
+    /// - `Device` if another call of the device fails, also because it runs out of memory.
     ///
     /// # Memory
     /// As [`recover`](commit_log::recover), and temporarily all bytes of the device.

@@ -140,8 +140,9 @@ impl<const N: usize, D: Device> Store<N, D> {
     ///
     /// - `ReadOnly` if an earlier call failed after it had begun to write;
     /// - `NoSuchCommit` if no commit is kept under the number;
-    /// - `Memory` if an allocation fails before anything is written, or if the entry is too long: a frame of 2^56 bytes, or a log of 2^64;
-    /// - `Device` if the device fails, and `NotApplied` if an allocation fails once the entry is kept. The store is then read-only.
+    /// - `Memory` if an allocation fails before the device is called, or if the entry is too long: a frame of 2^56 bytes, or a log of 2^64;
+    /// - `Device` if the device fails or runs out of memory, and `NotApplied` if an allocation fails once the entry is kept. The store is then
+    ///   read-only.
     ///
     /// # Memory
     /// As `rewind_to` of the bitmap. Temporarily also the entry and its frame, and what the calls of the device allocate.
@@ -197,8 +198,8 @@ impl<const N: usize, D: Device> Store<N, D> {
     /// Returns the first error that applies, with the bitmap unchanged:
     ///
     /// - `ReadOnly` if an earlier call failed after it had begun to write;
-    /// - `Memory` if an allocation fails before anything is written, or if the entry is too long: a frame of 2^56 bytes, or a log of 2^64;
-    /// - `Device` if the device fails. The store is then read-only.
+    /// - `Memory` if an allocation fails before the device is called, or if the entry is too long: a frame of 2^56 bytes, or a log of 2^64;
+    /// - `Device` if the device fails or runs out of memory. The store is then read-only.
     ///
     /// # Memory
     /// Temporarily the entry and its frame, and what the calls of the device allocate.
@@ -328,8 +329,9 @@ impl<const N: usize, D: Device> StoreBatch<N, D> {
     ///
     /// - `ReadOnly` if an earlier call failed after it had begun to write;
     /// - `Number` if the number is `u64::MAX`, or if it is not above the last number;
-    /// - `Memory` if an allocation fails before anything is written, or if the entry is too long: a frame of 2^56 bytes, or a log of 2^64;
-    /// - `Device` if the device fails, and `NotApplied` if an allocation fails once the entry is kept. The store is then read-only.
+    /// - `Memory` if an allocation fails before the device is called, or if the entry is too long: a frame of 2^56 bytes, or a log of 2^64;
+    /// - `Device` if the device fails or runs out of memory, and `NotApplied` if an allocation fails once the entry is kept. The store is then
+    ///   read-only.
     ///
     /// # Memory
     /// As `commit` of `DirtyBitMap`. Temporarily also the entry and its frame, and what the calls of the device allocate.
