@@ -189,12 +189,12 @@ mortarpink_status mortarpink_begin(mortarpink_bitmap *bitmap);
 /* Appends a bit: 0 if `bit` is 0, and otherwise 1.
  * Errors: returns MORTARPINK_NOT_IN_BATCH outside a batch, MORTARPINK_TOO_LONG if the length would pass 2^64 - 1,
  *   and MORTARPINK_NO_MEMORY if an allocation fails.
- * Cost: amortized constant. May allocate. */
+ * Cost: amortized constant. Allocates the chunk of the new bit if the batch has not edited it yet. */
 mortarpink_status mortarpink_push(mortarpink_bitmap *bitmap, uint8_t bit);
 
 /* Appends the eight bits of a byte, the lowest first.
  * Errors: as mortarpink_push.
- * Cost: amortized constant. May allocate. */
+ * Cost: amortized constant. Allocates the chunks of the new bits that the batch has not edited yet. */
 mortarpink_status mortarpink_push_byte(mortarpink_bitmap *bitmap, uint8_t byte);
 
 /* Appends the bits of the bytes in order, up to the first byte that is refused. *count becomes the number of bytes
@@ -202,12 +202,12 @@ mortarpink_status mortarpink_push_byte(mortarpink_bitmap *bitmap, uint8_t byte);
  * the rest. If there are no bytes, the status is MORTARPINK_DONE, also outside a batch.
  * Errors: returns the status of the first byte that is refused, as mortarpink_push_byte. The bytes before it are
  *   appended.
- * Cost: linear in the bytes. May allocate. */
+ * Cost: linear in the bytes. Allocates the chunks of the new bits that the batch has not edited yet. */
 mortarpink_status mortarpink_push_bytes(mortarpink_bitmap *bitmap, const uint8_t *bytes, size_t len, size_t *count);
 
 /* Appends the bits of one chunk, the lowest bit of its first byte first.
  * Errors: returns MORTARPINK_WRONG_SIZE if the length of `bytes` is not the width. Otherwise as mortarpink_push.
- * Cost: amortized linear in the width. May allocate. */
+ * Cost: amortized linear in the width. Allocates the chunks of the new bits that the batch has not edited yet. */
 mortarpink_status mortarpink_push_chunk(mortarpink_bitmap *bitmap, const uint8_t *bytes, size_t len);
 
 /* Appends a bit per byte of `bits`, in order: 0 if the byte is 0, and otherwise 1. Appends all of them, or none.
@@ -225,7 +225,7 @@ mortarpink_status mortarpink_pop(mortarpink_bitmap *bitmap, uint8_t *bit);
 /* Replaces the bit at an absolute position: by 0 if `bit` is 0, and otherwise by 1.
  * Errors: returns MORTARPINK_NOT_IN_BATCH outside a batch, MORTARPINK_OUT_OF_BOUNDS if the position is not below the
  *   length, MORTARPINK_PRUNED if it is pruned, and MORTARPINK_NO_MEMORY if an allocation fails.
- * Cost: amortized constant. May allocate. */
+ * Cost: amortized constant. Allocates the chunk of the position if the batch has not edited it yet. */
 mortarpink_status mortarpink_set(mortarpink_bitmap *bitmap, uint64_t position, uint8_t bit);
 
 /* Replaces the bit at each position in order, up to the first position that is refused: by 0 if `bit` is 0, and
@@ -234,7 +234,7 @@ mortarpink_status mortarpink_set(mortarpink_bitmap *bitmap, uint64_t position, u
  * are no positions, the status is MORTARPINK_DONE, also outside a batch.
  * Errors: returns the status of the first position that is refused, as mortarpink_set. The bits at the positions
  *   before it are replaced.
- * Cost: amortized linear in the positions. May allocate. */
+ * Cost: amortized linear in the positions. Allocates the chunks of the positions that the batch has not edited yet. */
 mortarpink_status mortarpink_set_many(mortarpink_bitmap *bitmap, const uint64_t *positions, size_t len, uint8_t bit,
                                       size_t *count);
 
@@ -246,7 +246,7 @@ mortarpink_status mortarpink_set_many(mortarpink_bitmap *bitmap, const uint64_t 
  * - MORTARPINK_OUT_OF_BOUNDS if no bit of the chunk is below the length
  * - MORTARPINK_PRUNED if the chunk is pruned
  * - MORTARPINK_NO_MEMORY if an allocation fails
- * Cost: linear in the width. May allocate. */
+ * Cost: linear in the width. Allocates the chunk if the batch has not edited it yet. */
 mortarpink_status mortarpink_set_chunk(mortarpink_bitmap *bitmap, size_t index, const uint8_t *bytes, size_t len);
 
 /* Replaces each bit from `from` up to `to`: by 0 if `bit` is 0, and otherwise by 1. `to` is excluded. If `to` is not
@@ -275,7 +275,7 @@ mortarpink_status mortarpink_extend_to(mortarpink_bitmap *bitmap, uint64_t lengt
 /* Prunes the chunks before the chunk of an absolute position, which may be the length.
  * Errors: returns MORTARPINK_NOT_IN_BATCH outside a batch, MORTARPINK_OUT_OF_BOUNDS if the position is above the
  *   length, and MORTARPINK_NO_MEMORY if an allocation fails.
- * Cost: amortized linear in the chunks pruned. May allocate. */
+ * Cost: amortized linear in the chunks pruned. Allocates a copy of each chunk that it prunes. */
 mortarpink_status mortarpink_prune(mortarpink_bitmap *bitmap, uint64_t position);
 
 /* Ends the batch: the pending bitmap becomes the current one, and is kept under the number. The number has to be
@@ -405,7 +405,7 @@ mortarpink_status mortarpink_pruned_chunks_at(const mortarpink_bitmap *bitmap, u
  * - MORTARPINK_NO_SUCH_COMMIT if no commit is kept under `number`
  * - MORTARPINK_OUT_OF_BOUNDS if the position is not below the length
  * - MORTARPINK_PRUNED if the position is pruned
- * Cost: a search of each commit after `number`. */
+ * Cost: a search of each commit after `number`, or, with an index, one search. */
 mortarpink_status mortarpink_get_at(const mortarpink_bitmap *bitmap, uint64_t number, uint64_t position, uint8_t *bit);
 
 /* Fills `out` with the chunk of a position of the bitmap at commit `number`. Bits of the chunk past the length are
@@ -416,7 +416,7 @@ mortarpink_status mortarpink_get_at(const mortarpink_bitmap *bitmap, uint64_t nu
  * - MORTARPINK_WRONG_SIZE if the length of `out` is not the width
  * - MORTARPINK_OUT_OF_BOUNDS if the position is not below the length
  * - MORTARPINK_PRUNED if the position is pruned
- * Cost: a search of each commit after `number`. */
+ * Cost: a search of each commit after `number`, or, with an index, one search. */
 mortarpink_status mortarpink_chunk_at(const mortarpink_bitmap *bitmap, uint64_t number, uint64_t position, uint8_t *out,
                                       size_t len);
 
@@ -453,28 +453,32 @@ mortarpink_status mortarpink_ones_at(const mortarpink_bitmap *bitmap, uint64_t n
 /* Writes the least retained position, from `from` on, whose bit at commit `number` is 1, to *position.
  * Errors: returns MORTARPINK_IN_BATCH in a batch, MORTARPINK_NO_SUCH_COMMIT if no commit is kept under `number`, and
  *   MORTARPINK_NONE if there is no such position. *position is then unchanged.
- * Cost: linear in the chunks that are read. Each chunk that is read costs a search of each commit after `number`. */
+ * Cost: linear in the chunks that are read. Each chunk that is read costs a search of each commit after `number`,
+ *   or, with an index, one search. */
 mortarpink_status mortarpink_next_one_at(const mortarpink_bitmap *bitmap, uint64_t number, uint64_t from,
                                          uint64_t *position);
 
 /* Writes the least retained position, from `from` on, whose bit at commit `number` is 0, to *position.
  * Errors: returns MORTARPINK_IN_BATCH in a batch, MORTARPINK_NO_SUCH_COMMIT if no commit is kept under `number`, and
  *   MORTARPINK_NONE if there is no such position. *position is then unchanged.
- * Cost: linear in the chunks that are read. Each chunk that is read costs a search of each commit after `number`. */
+ * Cost: linear in the chunks that are read. Each chunk that is read costs a search of each commit after `number`,
+ *   or, with an index, one search. */
 mortarpink_status mortarpink_next_zero_at(const mortarpink_bitmap *bitmap, uint64_t number, uint64_t from,
                                           uint64_t *position);
 
 /* Writes the greatest retained position, below `end`, whose bit at commit `number` is 1, to *position.
  * Errors: returns MORTARPINK_IN_BATCH in a batch, MORTARPINK_NO_SUCH_COMMIT if no commit is kept under `number`, and
  *   MORTARPINK_NONE if there is no such position. *position is then unchanged.
- * Cost: linear in the chunks that are read. Each chunk that is read costs a search of each commit after `number`. */
+ * Cost: linear in the chunks that are read. Each chunk that is read costs a search of each commit after `number`,
+ *   or, with an index, one search. */
 mortarpink_status mortarpink_prev_one_at(const mortarpink_bitmap *bitmap, uint64_t number, uint64_t end,
                                          uint64_t *position);
 
 /* Writes the greatest retained position, below `end`, whose bit at commit `number` is 0, to *position.
  * Errors: returns MORTARPINK_IN_BATCH in a batch, MORTARPINK_NO_SUCH_COMMIT if no commit is kept under `number`, and
  *   MORTARPINK_NONE if there is no such position. *position is then unchanged.
- * Cost: linear in the chunks that are read. Each chunk that is read costs a search of each commit after `number`. */
+ * Cost: linear in the chunks that are read. Each chunk that is read costs a search of each commit after `number`,
+ *   or, with an index, one search. */
 mortarpink_status mortarpink_prev_zero_at(const mortarpink_bitmap *bitmap, uint64_t number, uint64_t end,
                                           uint64_t *position);
 
@@ -516,9 +520,9 @@ mortarpink_status mortarpink_encode_at(const mortarpink_bitmap *bitmap, uint64_t
  * log, the entry of the rewind is appended to it. With another status than MORTARPINK_DONE the log is unchanged.
  * Errors: returns MORTARPINK_IN_BATCH in a batch, MORTARPINK_NO_SUCH_COMMIT if no commit is kept under the number,
  *   and MORTARPINK_NO_MEMORY if an allocation fails, or the log would have 2^64 bytes or more.
- * Cost: per chunk that the dropped commits changed, logarithmic in their number. If the bitmap grows, it may also
- *   move in memory. Allocates the old bytes of the chunks that change, temporarily, and space by which the bitmap
- *   and the log grow. */
+ * Cost: logarithmic in the kept commits, and amortized linear in the dropped commits and in the entries of their
+ *   records. If the bitmap grows, it may also move in memory. Allocates the old bytes of the chunks that change,
+ *   temporarily, and space by which the bitmap and the log grow. */
 mortarpink_status mortarpink_rewind(mortarpink_bitmap *bitmap, uint64_t number);
 
 /* Writes a page of the kept commit numbers from `from` on, ascending. *count becomes how many are written. Pages are
@@ -577,7 +581,7 @@ mortarpink_status mortarpink_clear(mortarpink_bitmap *bitmap);
  * also allocates the entries of the index, and returns MORTARPINK_NO_MEMORY if that fails.
  * Errors: returns MORTARPINK_IN_BATCH in a batch, and MORTARPINK_NO_MEMORY if an allocation fails. Nothing has
  *   changed then.
- * Cost: per chunk whose old bytes a kept commit has, logarithmic in their number. Linear in the index if it is
+ * Cost: amortized linear in the kept commits and in the entries of their records. Linear in the index if it is
  *   dropped. Allocates the index: an entry per chunk whose old bytes a kept commit has, with these bytes. Does not
  *   allocate if `on` is 0. */
 mortarpink_status mortarpink_index(mortarpink_bitmap *bitmap, uint8_t on);

@@ -63,7 +63,7 @@ fn set_chunk(any: &mut AnySession, index: usize, bytes: &[u8]) -> u32
 ///
 /// # Memory
 ///
-/// May allocate.
+/// Allocates the chunk if the batch has not edited it yet.
 ///
 /// # Complexity
 ///

@@ -57,7 +57,7 @@ fn push(any: &mut AnySession, bit: bool) -> u32
 ///
 /// # Memory
 ///
-/// May allocate.
+/// Allocates the chunk of the new bit if the batch has not edited it yet.
 ///
 /// # Complexity
 ///
@@ -85,7 +85,7 @@ fn push_byte(any: &mut AnySession, byte: u8) -> u32
 ///
 /// # Memory
 ///
-/// May allocate.
+/// Allocates the chunks of the new bits that the batch has not edited yet.
 ///
 /// # Complexity
 ///
@@ -114,7 +114,7 @@ fn push_chunk(any: &mut AnySession, bytes: &[u8]) -> u32
 ///
 /// # Memory
 ///
-/// May allocate.
+/// Allocates the chunks of the new bits that the batch has not edited yet.
 ///
 /// # Complexity
 ///
@@ -171,7 +171,7 @@ fn set(any: &mut AnySession, position: u64, bit: bool) -> u32
 ///
 /// # Memory
 ///
-/// May allocate.
+/// Allocates the chunk of the position if the batch has not edited it yet.
 ///
 /// # Complexity
 ///
@@ -200,7 +200,7 @@ fn prune(any: &mut AnySession, position: u64) -> u32
 ///
 /// # Memory
 ///
-/// May allocate.
+/// Allocates a copy of each chunk that it prunes.
 ///
 /// # Complexity
 ///

@@ -35,7 +35,8 @@ fn rewind(any: &mut AnySession, number: u64) -> u32
 ///
 /// # Complexity
 ///
-/// Per chunk that the dropped commits changed, logarithmic in their number. If the bitmap grows, it may also move in memory.
+/// Logarithmic in the kept commits, and amortized linear in the dropped commits and in the entries of their records. If the bitmap grows,
+/// it may also move in memory.
 #[unsafe(no_mangle)]
 pub extern "C" fn mortarpink_rewind(bitmap: &mut Handle, number: u64) -> u32
     ensures step { CallsLogged bitmap.old.value (λ N. Command.Rewind number) (Reports result)

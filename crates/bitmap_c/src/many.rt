@@ -45,7 +45,7 @@ fn push_bytes(any: &mut AnySession, bytes: &[u8], count: &mut usize) -> u32
 ///
 /// # Memory
 ///
-/// May allocate.
+/// Allocates the chunks of the new bits that the batch has not edited yet.
 ///
 /// # Complexity
 ///
@@ -98,7 +98,7 @@ fn set_many(any: &mut AnySession, positions: &[u64], bit: bool, count: &mut usiz
 ///
 /// # Memory
 ///
-/// May allocate.
+/// Allocates the chunks of the positions that the batch has not edited yet.
 ///
 /// # Complexity
 ///

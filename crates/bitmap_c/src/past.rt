@@ -245,7 +245,7 @@ pub extern "C" fn mortarpink_pruned_chunks_at(
 ///
 /// # Complexity
 ///
-/// A search of each commit after `number`.
+/// A search of each commit after `number`, or, with an index, one search.
 #[unsafe(no_mangle)]
 pub extern "C" fn mortarpink_get_at(
     bitmap: &mut Handle,
@@ -282,7 +282,7 @@ pub extern "C" fn mortarpink_get_at(
 ///
 /// # Complexity
 ///
-/// A search of each commit after `number`.
+/// A search of each commit after `number`, or, with an index, one search.
 #[unsafe(no_mangle)]
 pub extern "C" fn mortarpink_chunk_at(
     bitmap: &mut Handle,
@@ -389,7 +389,8 @@ pub extern "C" fn mortarpink_ones_at(
 ///
 /// # Complexity
 ///
-/// Linear in the chunks that are read. Each chunk that is read costs a search of each commit after `number`.
+/// Linear in the chunks that are read. Each chunk that is read costs a search of each commit after `number`, or, with
+/// an index, one search.
 #[unsafe(no_mangle)]
 pub extern "C" fn mortarpink_next_one_at(
     bitmap: &mut Handle,
@@ -419,7 +420,8 @@ pub extern "C" fn mortarpink_next_one_at(
 ///
 /// # Complexity
 ///
-/// Linear in the chunks that are read. Each chunk that is read costs a search of each commit after `number`.
+/// Linear in the chunks that are read. Each chunk that is read costs a search of each commit after `number`, or, with
+/// an index, one search.
 #[unsafe(no_mangle)]
 pub extern "C" fn mortarpink_next_zero_at(
     bitmap: &mut Handle,
@@ -449,7 +451,8 @@ pub extern "C" fn mortarpink_next_zero_at(
 ///
 /// # Complexity
 ///
-/// Linear in the chunks that are read. Each chunk that is read costs a search of each commit after `number`.
+/// Linear in the chunks that are read. Each chunk that is read costs a search of each commit after `number`, or, with
+/// an index, one search.
 #[unsafe(no_mangle)]
 pub extern "C" fn mortarpink_prev_one_at(
     bitmap: &mut Handle,
@@ -479,7 +482,8 @@ pub extern "C" fn mortarpink_prev_one_at(
 ///
 /// # Complexity
 ///
-/// Linear in the chunks that are read. Each chunk that is read costs a search of each commit after `number`.
+/// Linear in the chunks that are read. Each chunk that is read costs a search of each commit after `number`, or, with
+/// an index, one search.
 #[unsafe(no_mangle)]
 pub extern "C" fn mortarpink_prev_zero_at(
     bitmap: &mut Handle,

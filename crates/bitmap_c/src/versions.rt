@@ -104,7 +104,7 @@ fn index(any: &mut AnySession, on: bool) -> u32
 ///
 /// # Complexity
 ///
-/// Per chunk whose old bytes a kept commit has, logarithmic in their number. Linear in the index if it is dropped.
+/// Amortized linear in the kept commits and in the entries of their records. Linear in the index if it is dropped.
 #[unsafe(no_mangle)]
 pub extern "C" fn mortarpink_index(bitmap: &mut Handle, on: u8) -> u32
     ensures unchanged { bitmap.new.value ≡ bitmap.old.value }
