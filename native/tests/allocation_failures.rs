@@ -308,6 +308,7 @@ fn of_rewinds_and_proofs_with_roots() {
     };
     assert_eq!(failures(|bitmap| bitmap.try_prove(13).is_err()), 1);
     assert_eq!(failures(|bitmap| bitmap.try_prove_at(1, 4).is_err()), 1);
+    assert_eq!(failures(|bitmap| bitmap.try_prove_range(5, 2).is_err()), 1);
     assert_eq!(failures(|bitmap| bitmap.try_prove_range_at(2, 5, 2).is_err()), 1);
     assert_eq!(failures(|bitmap| bitmap.try_prove_at(1, 5).is_err() || bitmap.root_at(2).is_none()), 0);
 }
@@ -672,6 +673,7 @@ fn of_calls_that_return_no_error() {
     let bitmap = with_roots();
     assert!(panics(&|| drop(bitmap.prove(13))));
     assert!(panics(&|| drop(bitmap.prove_at(1, 4))));
+    assert!(panics(&|| drop(bitmap.prove_range(5, 2))));
     assert!(panics(&|| drop(bitmap.prove_range_at(2, 5, 2))));
     assert!(panics(&|| _ = WithRoots::new(Sha256).into_dirty().push(true)));
     assert!(panics(&|| drop(WithRoots::new(Sha256).into_dirty().commit(1))));

@@ -7,7 +7,8 @@ use mortarpink::AllocError;
 use mortarpink::bitmap::historical::{CleanBitMap, DirtyBitMap, Error, RewindError};
 use mortarpink::bitmap::{BitMap, Readable};
 use mortarpink::roots::{
-    AuthenticatedBitMap, DirtyAuthenticatedBitMap, Proof, RangeProof, bitmap_root, chunk_digests, leaf_digest, verify_bit, verify_chunk,
+    AuthenticatedBitMap, DirtyAuthenticatedBitMap, Proof, RangeProof, bitmap_root, chunk_digests, leaf_digest, prove, prove_range,
+    verify_bit, verify_chunk,
 };
 use sha256::{Hasher, Sha256};
 
@@ -238,6 +239,7 @@ impl<const N: usize> History<N> {
             self.check_proofs(version, chance);
             self.check_ranges(version, chance);
         }
+        self.check_current(chance);
     }
 
     /// Computes the root of each version from the chunks that it has now.
@@ -278,6 +280,22 @@ impl<const N: usize> History<N> {
                 let is_shown = proof.verify(&Sha256, &other.root);
                 assert_eq!(is_shown, other.root == *root, "chunk {index} of {number}, by the root of {}", other.number);
             }
+        }
+    }
+
+    /// The proofs of the current bitmap are those of the last version, if it is kept, and those from the digests of all chunks.
+    fn check_current(&self, chance: &mut Chance) {
+        if self.current.is_empty() {
+            return;
+        }
+        let first = chance.below(self.current.len() as u64) as usize;
+        let count = 1 + chance.below((self.current.len() - first) as u64) as usize;
+        let (path, siblings) = (self.map.prove(first), self.map.prove_range(first, count));
+        assert_eq!(path, prove(&Sha256, &self.current, first));
+        assert_eq!(siblings, prove_range(&Sha256, &self.current, first, count));
+        if let Some(Version { number, .. }) = self.versions.last() {
+            assert_eq!(self.map.prove_at(*number, first), Some(path));
+            assert_eq!(self.map.prove_range_at(*number, first, count), Some(siblings));
         }
     }
 

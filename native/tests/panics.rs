@@ -358,6 +358,10 @@ fn of_bitmaps_with_roots() {
     let root = map.root();
     assert_eq!(panic_of(|| map.prove(4)), "chunk 4 out of bounds (chunks: 4)");
     assert_eq!(panic_of(|| map.try_prove(usize::MAX)), "chunk 18446744073709551615 out of bounds (chunks: 4)");
+    assert_eq!(panic_of(|| map.prove_range(1, 0)), "a range has at least one chunk");
+    assert_eq!(panic_of(|| map.prove_range(1, 4)), "range of 4 from 1 out of bounds (chunks: 4)");
+    assert_eq!(panic_of(|| map.prove_range(5, 1)), "range of 1 from 5 out of bounds (chunks: 4)");
+    assert_eq!(panic_of(|| map.try_prove_range(usize::MAX, 2)), "range of 2 from 18446744073709551615 out of bounds (chunks: 4)");
     let mut batch = map.into_dirty();
     assert_eq!(panic_of(|| batch.bits().get_bit(15)), "cannot get bit 15: chunk 1 is pruned (pruned up to chunk 2)");
     assert_eq!(panic_of(|| _ = batch.set_bit(15, true)), "cannot set bit 15: chunk 1 is pruned (pruned up to chunk 2)");

@@ -1,11 +1,12 @@
--- The siblings of consecutive chunks of a version, and that the chunks and the siblings lead to its root.
+-- The siblings of consecutive chunks of the current bitmap or of a version, and that the chunks and the siblings lead to its root.
 use Rattle.std.proofs.Common.{◌≡◌, true, ℕ, zero, suc, ◌+◌, ◌-◌, ◌^◌, ◌<◌, ◌≤◌, List, length, take, drop, map, sym, ap, subst, ◌∙◌, arith}
 use Rattle.std.specs.List.{range_with_len}
-use Rattle.std.specs.Prelude.{⊤, Some, IfSome, nat_le, nat_lt}
+use Rattle.std.specs.Prelude.{⊤, Some, IfOk, IfSome, Result, nat_le, nat_lt}
 use Rattle.std.proofs.lemmas.Bool.{and_parts, leb-true, ltb-true}
 use Rattle.std.proofs.lemmas.List.{drop-map, length-map}
 use Rattle.std.proofs.lemmas.List.FromFn.{length-range_with_len, take-map-range_with_len}
 use Rattle.std.proofs.lemmas.Option.{same_Some}
+use Rattle.std.proofs.lemmas.Result.{IfOk-weaker}
 use Rattle.bitmap_bytes.specs.Chunk.{IsWidth}
 use Rattle.bitmap_core.specs.Meaning.{IsLawful, pruned_meaning}
 use Rattle.bitmap_core.specs.PrunedBits.{PrunedBits, bit_len, chunk}
@@ -66,6 +67,16 @@ range_shown H n s t width small a first count low some within =
 
     inside : first - s.pruned + count ≤ length (bitmap_of n s t).chunks
     inside = omega (arith, length-map (retained_chunks n s) (chunk n s), length-range_with_len s.pruned (chunk_total n s - s.pruned), there)
+
+-- the same of siblings that a call returns
+pub range_shows : {X E : Type 0} (items : X → List (List ℕ)) (r : Result X E) (H : List ℕ → List ℕ) (n : ℕ) (s t : PrunedBits) → IsWidth n → bit_len n s < 2 ^ 64 → Authenticates H n s t → (first count : ℕ)
+    → IfOk r (λ x. items x ≡ range_siblings H first count (chunk_digests H (bitmap_of n s t))) → s.pruned ≤ first → 0 < count → first + count ≤ chunk_total n s
+    → IfOk r (λ x. RangeLeadsTo H (root_of H (bitmap_of n s t)) (bitmap_of n s t).shape first (map (chunk n s) (range_with_len first count)) (items x))
+range_shows items r H n s t width small a first count is low some within =
+    IfOk-weaker r (λ x. items x ≡ range_siblings H first count (chunk_digests H (bitmap_of n s t)))
+    (λ x. RangeLeadsTo H (root_of H (bitmap_of n s t)) (bitmap_of n s t).shape first (map (chunk n s) (range_with_len first count)) (items x))
+    (λ x e. subst (λ siblings. RangeLeadsTo H (root_of H (bitmap_of n s t)) (bitmap_of n s t).shape first (map (chunk n s) (range_with_len first count)) siblings) (sym e)
+    (range_shown H n s t width small a first count low some within)) is
 
 -- a version that is kept under a number
 module _ {D : Type 0} (H : List ℕ → List ℕ) (n number : ℕ) (v : Authenticated D ⊤) (s t : PrunedBits) (f : Follows H n v.bits v.digests) (width : IsWidth n) (lawful : IsLawful n (pruned_meaning n s)) (s_is : Some s ≡ kept_under (history_of n v.bits) number) (t_is : Some t ≡ kept_under (history_of 32 v.digests) number) where

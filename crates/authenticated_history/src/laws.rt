@@ -1,7 +1,8 @@
 //! What follows from the contracts of authenticated bitmaps, each as the contract of a function.
 
-ghost use Rattle.std.specs.Prelude.{◌≡◌, ◌+◌, ◌^◌, ◌<◌, ◌≤◌, ℕ, IfOk, IsTrue, Some};
-ghost use Rattle.bitmap_core.specs.PrunedBits.{bit_len, pushed};
+ghost use Rattle.std.specs.Prelude.{◌≡◌, ◌+◌, ◌^◌, ◌<◌, ◌≤◌, ℕ, IfOk, IsTrue, Some, length, map};
+ghost use Rattle.std.specs.List.{range_with_len};
+ghost use Rattle.bitmap_core.specs.PrunedBits.{bit_len, chunk, pushed};
 ghost use Rattle.historical_bitmap.specs.Changes.{chunk_total};
 ghost use Rattle.historical_bitmap.specs.View.{pending_of};
 ghost use Rattle.authenticated_history.specs.Versions.{Follows};
@@ -9,6 +10,7 @@ ghost use Rattle.authenticated_history.specs.Versions.{Follows};
 use crate::clean::AuthenticatedBitMap;
 use crate::dirty::DirtyAuthenticatedBitMap;
 use authenticated_bitmap::hash::Digest;
+use authenticated_bitmap::range::verify_range;
 use authenticated_bitmap::root::verify_chunk;
 use historical_bitmap::bitmap::historical::Error;
 use std::alloc::AllocError;
@@ -94,5 +96,45 @@ pub fn proofs_verify<const N: usize, D: Digest>(
         index as u64,
         chunk,
         path.as_slice(),
+    ))
+}
+
+/// Makes the siblings of retained chunks of the current bitmap, and verifies the chunks against the root: they always verify.
+///
+/// `chunks` has the bytes of the chunks of the current bitmap from `first` on, of which there is at least one.
+///
+/// # Errors
+/// `AllocError` if an allocation fails.
+///
+/// # Memory
+/// That of `prove_range`.
+///
+/// # Complexity
+/// That of `root`, `prove_range` and `verify_range`.
+pub fn range_proofs_verify<const N: usize, D: Digest>(
+    bitmap: &AuthenticatedBitMap<N, D>,
+    first: usize,
+    chunks: &[[u8; N]],
+) -> Result<bool, AllocError>
+    requires some { 0 < length chunks.now }
+    requires retained { bitmap.now.bits.current.pruned ≤ first }
+    requires within { first + length chunks.now ≤ chunk_total N bitmap.now.bits.current }
+    requires bytes { chunks.now
+        ≡ map (chunk N bitmap.now.bits.current) (range_with_len first (length chunks.now)) }
+    ensures { IfOk result (λ verified. IsTrue verified) }
+{
+    let root = bitmap.root();
+    let siblings = bitmap.prove_range(first, chunks.len())?;
+    let bits = bitmap.bits().current();
+    let len = bits.len();
+    let pruned = bits.pruned_chunks() as u64;
+    Ok(verify_range(
+        bitmap.hash(),
+        &root,
+        len,
+        pruned,
+        first as u64,
+        chunks,
+        siblings.as_slice(),
     ))
 }

@@ -15,8 +15,9 @@
 //! - [`prove`](AuthenticatedBitMap::prove) returns the audit path of a chunk of the current bitmap,
 //!   and [`prove_at`](AuthenticatedBitMap::prove_at) that of a chunk of a kept version.
 //!   `verify_chunk` of the crate `authenticated_bitmap` checks a chunk and its path against a root.
-//! - [`prove_range_at`](AuthenticatedBitMap::prove_range_at) returns the siblings of chunks of a
-//!   kept version that follow one another, and `verify_range` checks the chunks with them.
+//! - [`prove_range`](AuthenticatedBitMap::prove_range) returns the siblings of chunks of the current
+//!   bitmap that follow one another, and [`prove_range_at`](AuthenticatedBitMap::prove_range_at)
+//!   those of chunks of a kept version. `verify_range` checks the chunks with them.
 //!
 //! The tree of a root is over all chunks by their absolute index. The digest of a pruned chunk
 //! stays in it, so a path from before a chunk was pruned stays good.

@@ -7,6 +7,7 @@ ghost use Rattle.std.specs.Option.{option_map};
 ghost use Rattle.bitmap_bytes.specs.Chunk.{IsWidth};
 ghost use Rattle.bitmap_core.specs.Meaning.{pruned_meaning};
 ghost use Rattle.bitmap_core.specs.PrunedBits.{PrunedBits, bit_len, chunk};
+ghost use Rattle.historical_bitmap.specs.Changes.{chunk_total};
 ghost use Rattle.historical_bitmap.specs.History.{kept_under};
 ghost use Rattle.historical_bitmap.specs.View.{history_of};
 ghost use Rattle.authenticated_bitmap.specs.LeafDigests.{Authenticates, bitmap_of};
@@ -14,12 +15,12 @@ ghost use Rattle.authenticated_bitmap.specs.Range.{RangeLeadsTo, range_siblings}
 ghost use Rattle.authenticated_bitmap.specs.Root.{chunk_digests, root_of};
 ghost use Rattle.authenticated_bitmap.specs.Stored.{nodes};
 ghost use Rattle.authenticated_history.specs.Ranges.{has_range as has_range_of, siblings_if};
-ghost use Rattle.authenticated_history.specs.Versions.{version_of};
+ghost use Rattle.authenticated_history.specs.Versions.{current_of, version_of};
 
 use crate::clean::AuthenticatedBitMap;
 use authenticated_bitmap::hash::Digest;
 use authenticated_bitmap::store::prove_range_from_bitmap;
-use bitmap_core::bitmap::Readable;
+use bitmap_core::bitmap::{Prunable, Readable};
 use bitmap_core::chunk::chunk_count;
 use historical_bitmap::bitmap::historical::AtCommit;
 use std::alloc::{AllocError, Global};
@@ -65,6 +66,43 @@ fn siblings_from<D: Digest, const N: usize, T: Readable<32>>(
 }
 
 impl<const N: usize, D: Digest> AuthenticatedBitMap<N, D> {
+    /// Returns the siblings of the `count` chunks from the absolute index `first` on of the current bitmap. The bitmap has these chunks, pruned or not,
+    /// and `count` is at least 1.
+    ///
+    /// If the chunks are retained, they and the siblings lead to the root of the current bitmap. `verify_range` of the crate `authenticated_bitmap`
+    /// checks them. Bits of the last chunk past the length are zero.
+    ///
+    /// # Errors
+    /// `AllocError` if an allocation fails.
+    ///
+    /// # Memory
+    /// Allocates 32 bytes per sibling, of which there are at most 122.
+    ///
+    /// # Complexity
+    /// Linear in `count`, and quadratic in the logarithm of the number of chunks. Most siblings are read and not computed.
+    pub fn prove_range(&self, first: usize, count: usize) -> Result<Vec<[u8; 32]>, AllocError>
+        requires some { 0 < count }
+        requires within { first + count ≤ chunk_total N self.now.bits.current }
+        ensures siblings { IfOk result (λ siblings.
+            siblings.items ≡ range_siblings (D.digest_of self.now.hash) first count
+            (chunk_digests (D.digest_of self.now.hash) (current_of N self.now))) }
+        ensures shows { self.now.bits.current.pruned ≤ first
+            → IfOk result (λ siblings. RangeLeadsTo (D.digest_of self.now.hash)
+            (root_of (D.digest_of self.now.hash) (current_of N self.now))
+            (current_of N self.now).shape first
+            (map (chunk N self.now.bits.current) (range_with_len first count))
+            siblings.items) }
+    {
+        siblings_from::<D, N, Prunable<32>>(
+            self.bits.allocator(),
+            &self.hash,
+            self.bits.len(),
+            self.digests.current(),
+            first,
+            count,
+        )
+    }
+
     /// Returns the siblings of the `count` chunks from the absolute index `first` on of the bitmap at commit `number`. Returns `None` if that commit is
     /// not kept, if the bitmap at it does not have these chunks, or if `count` is 0.
     ///

@@ -2,7 +2,7 @@
 //!
 //! A tool runs each test many times, and makes another allocation fail in each run. As a plain test, no allocation fails.
 
-use crate::checked_calls::{Map, try_push_chunk};
+use crate::checked_calls::{Map, siblings_of, try_push_chunk};
 use crate::known::{NO_BITS, ONE_CHUNK, TWO_CHUNKS, TWO_CHUNKS_PATH_0_0};
 use authenticated_history::AuthenticatedBitMap;
 use conformance_authenticated::sha::Sha;
@@ -64,6 +64,16 @@ fn path(rt: HostRuntime) {
             panic!(rt; "no path");
         };
         assert!(rt; &*path == [TWO_CHUNKS_PATH_0_0].as_slice());
+    }
+}
+
+#[test]
+fn range(rt: HostRuntime) {
+    let Some(map) = two_versions(&rt, rt.alloc()) else {
+        return;
+    };
+    if let Ok(siblings) = siblings_of(&rt, &map, 0, 1) {
+        assert!(rt; &*siblings == [TWO_CHUNKS_PATH_0_0].as_slice());
     }
 }
 

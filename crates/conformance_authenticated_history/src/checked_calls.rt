@@ -69,6 +69,18 @@ pub fn commit(rt: &impl Abort, batch: Batch, number: u64) -> Map
     }
 }
 
+/// Returns the siblings of chunks of the current bitmap, which has them, or an error if an allocation fails.
+pub fn siblings_of(
+    rt: &impl Abort,
+    map: &Map,
+    first: usize,
+    count: usize,
+) -> Result<Vec<[u8; 32]>, AllocError> {
+    let chunks = map.bits().current().chunks_len();
+    assert!(rt; 0 < count && first <= chunks && count <= chunks - first);
+    map.prove_range(first, count)
+}
+
 /// Rewinds to a kept commit.
 pub fn rewind(rt: &impl Abort, map: Map, number: u64) -> Map {
     match map.rewind_to(number) {

@@ -1,10 +1,11 @@
 //! Roots and proofs of the versions that a bitmap keeps.
 
-use crate::checked_calls::{Map, commit, pop, prune_to_bit, push, push_chunk, rewind};
+use crate::checked_calls::{Map, commit, pop, prune_to_bit, push, push_chunk, rewind, siblings_of};
 use crate::known::{
     NO_BITS, VERSION_1, VERSION_2, VERSION_2_PATH_0_0, VERSION_2_PATH_0_1, VERSION_5,
     VERSION_5_PATH_2_0,
 };
+use authenticated_bitmap::range::verify_range;
 use authenticated_bitmap::root::verify_chunk;
 use authenticated_history::AuthenticatedBitMap;
 use conformance_authenticated::sha::Sha;
@@ -54,6 +55,26 @@ fn chunks_of_versions_are_shown(rt: HostRuntime) {
     assert!(rt; verify_chunk(&Sha, &VERSION_5, 95, 1, 2, &[2; 4], &path));
     assert!(rt; map.prove_at(5, 3).is_ok_and(|found| found.is_none()));
     assert!(rt; map.prove_at(3, 0).is_ok_and(|found| found.is_none()));
+}
+
+#[test]
+fn ranges_of_the_current_bitmap_are_those_of_the_last_version(rt: HostRuntime) {
+    let map = three_versions(&rt, AuthenticatedBitMap::new(rt.alloc(), Sha));
+    // Chunk 2 is the right half of the tree. So the only sibling is the left half, as on its path.
+    let Ok(siblings) = siblings_of(&rt, &map, 2, 1) else {
+        panic!(rt; "out of memory");
+    };
+    assert!(rt; &*siblings == [VERSION_5_PATH_2_0].as_slice());
+    let Ok(siblings) = siblings_of(&rt, &map, 1, 2) else {
+        panic!(rt; "out of memory");
+    };
+    let chunks = [[1; 4], [2; 4]];
+    assert!(rt; verify_range(&Sha, &VERSION_5, 95, 1, 1, &chunks, &siblings));
+    assert!(rt; !verify_range(&Sha, &VERSION_5, 95, 1, 0, &chunks, &siblings));
+    let Ok(Some(kept)) = map.prove_range_at(5, 1, 2) else {
+        panic!(rt; "no siblings");
+    };
+    assert!(rt; &*siblings == &*kept);
 }
 
 #[test]

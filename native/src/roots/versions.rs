@@ -303,6 +303,70 @@ impl<const N: usize, D: Digest> AuthenticatedBitMap<N, D> {
         self.0.try_prove_at(number, chunk)
     }
 
+    /// Returns the siblings of the `count` chunks from the absolute index `first` on of the current bitmap. The chunks may be pruned.
+    ///
+    /// The siblings show the bytes that [`retained_bytes`](CleanBitMap::retained_bytes) of the bitmap returns for the chunks.
+    /// [`verify_range`](super::verify_range) checks them.
+    ///
+    /// # Complexity
+    ///
+    /// Time and memory are those of [`try_prove_range`](Self::try_prove_range).
+    ///
+    /// # Panics
+    ///
+    /// Panics if memory runs out; or if `count` is 0; or if the range ends after the last chunk of the current bitmap.
+    ///
+    /// ```
+    /// use mortarpink::roots::{AuthenticatedBitMap, verify_range};
+    /// # mod sha256 { include!(concat!(env!("CARGO_MANIFEST_DIR"), "/examples/sha256/mod.rs")); }
+    /// # use sha256::Sha256;
+    ///
+    /// let mut batch = AuthenticatedBitMap::<4, _>::new(Sha256).into_dirty();
+    /// batch.extend_to(100).set_range(32..96, true);
+    /// let bitmap = batch.commit(1)?;
+    /// let siblings = bitmap.prove_range(1, 2);
+    /// assert!(verify_range(&Sha256, &bitmap.root(), 100, 0, 1, &[[255; 4]; 2], &siblings));
+    /// # Ok::<(), mortarpink::bitmap::historical::Error>(())
+    /// ```
+    #[must_use]
+    pub fn prove_range(&self, first: usize, count: usize) -> Vec<[u8; 32]> {
+        expect_memory(self.try_prove_range(first, count))
+    }
+
+    /// Returns the siblings of chunks of the current bitmap, as `prove_range` does.
+    ///
+    /// # Errors
+    ///
+    /// Returns `AllocError` if an allocation fails.
+    ///
+    /// # Memory
+    ///
+    /// Allocates 32 bytes per sibling, of which there are at most 122.
+    ///
+    /// # Complexity
+    ///
+    /// Linear in `count`, and quadratic in the logarithm of the number of chunks. Most siblings are stored, and are not computed.
+    ///
+    /// # Panics
+    ///
+    /// Panics if `count` is 0; or if the range ends after the last chunk of the current bitmap.
+    ///
+    /// ```
+    /// use mortarpink::roots::AuthenticatedBitMap;
+    /// # mod sha256 { include!(concat!(env!("CARGO_MANIFEST_DIR"), "/examples/sha256/mod.rs")); }
+    /// # use sha256::Sha256;
+    ///
+    /// let mut batch = AuthenticatedBitMap::<4, _>::new(Sha256).into_dirty();
+    /// batch.extend_to(100);
+    /// let bitmap = batch.commit(1)?;
+    /// // The range of all chunks has no sibling.
+    /// assert_eq!(bitmap.try_prove_range(0, 4), Ok(vec![]));
+    /// # Ok::<(), mortarpink::bitmap::historical::Error>(())
+    /// ```
+    pub fn try_prove_range(&self, first: usize, count: usize) -> Result<Vec<[u8; 32]>, AllocError> {
+        self.0.try_prove_range(first, count)
+    }
+
     /// Returns the siblings of the `count` chunks from the absolute index `first` on of the version `number`. Returns `None` if that version is not
     /// kept, if it does not have all of these chunks, or if `count` is 0.
     ///

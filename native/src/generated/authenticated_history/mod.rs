@@ -16,8 +16,9 @@
 //! - [`try_prove`](AuthenticatedBitMap::try_prove) returns the audit path of a chunk of the current bitmap,
 //!   and [`try_prove_at`](AuthenticatedBitMap::try_prove_at) that of a chunk of a kept version.
 //!   `verify_chunk` of the crate `authenticated_bitmap` checks a chunk and its path against a root.
-//! - [`try_prove_range_at`](AuthenticatedBitMap::try_prove_range_at) returns the siblings of chunks of a
-//!   kept version that follow one another, and `verify_range` checks the chunks with them.
+//! - [`try_prove_range`](AuthenticatedBitMap::try_prove_range) returns the siblings of chunks of the current
+//!   bitmap that follow one another, and [`try_prove_range_at`](AuthenticatedBitMap::try_prove_range_at)
+//!   those of chunks of a kept version. `verify_range` checks the chunks with them.
 //!
 //! The tree of a root is over all chunks by their absolute index. The digest of a pruned chunk
 //! stays in it, so a path from before a chunk was pruned stays good.

@@ -4,7 +4,7 @@
 use crate::generated::authenticated_bitmap::hash::Digest;
 use crate::generated::authenticated_bitmap::store::try_prove_range_from_bitmap;
 use crate::generated::authenticated_history::clean::AuthenticatedBitMap;
-use crate::generated::bitmap_core::bitmap::Readable;
+use crate::generated::bitmap_core::bitmap::{Prunable, Readable};
 use crate::generated::bitmap_core::chunk::chunk_count;
 use crate::generated::historical_bitmap::bitmap::historical::AtCommit;
 use crate::support::alloc::{AllocError, Global};
@@ -31,6 +31,37 @@ fn siblings_from<D: Digest, const N: usize, T: Readable<32>>(
 }
 
 impl<const N: usize, D: Digest> AuthenticatedBitMap<N, D> {
+    /// Returns the siblings of the `count` chunks from the absolute index `first` on of the current bitmap. The bitmap has these chunks, pruned or not,
+    /// and `count` is at least 1.
+    ///
+    /// If the chunks are retained, they and the siblings lead to the root of the current bitmap. `verify_range` of the crate `authenticated_bitmap`
+    /// checks them. Bits of the last chunk past the length are zero.
+    ///
+    /// # Errors
+    /// `AllocError` if an allocation fails.
+    ///
+    /// # Memory
+    /// Allocates 32 bytes per sibling, of which there are at most 122.
+    ///
+    /// # Complexity
+    /// Linear in `count`, and quadratic in the logarithm of the number of chunks. Most siblings are read and not computed.
+    ///
+    /// # Panics
+    ///
+    /// Panics if `count` is 0; or if the range ends after the last chunk of the current bitmap.
+    pub fn try_prove_range(&self, first: usize, count: usize) -> Result<Vec<[u8; 32]>, AllocError> {
+        assert!(count > 0, "a range has at least one chunk");
+        assert!(
+            first <= self.bits.current().chunks_len() && count <= self.bits.current().chunks_len() - first,
+            "range of {} from {} out of bounds (chunks: {})",
+            count,
+            first,
+            self.bits.current().chunks_len()
+        );
+
+        siblings_from::<D, N, Prunable<32>>(self.bits.its_allocator(), &self.hash, self.bits.len(), self.digests.current(), first, count)
+    }
+
     /// Returns the siblings of the `count` chunks from the absolute index `first` on of the bitmap at commit `number`. Returns `None` if that commit is
     /// not kept, if the bitmap at it does not have these chunks, or if `count` is 0.
     ///
