@@ -27,8 +27,11 @@ TYPES = {
     "handle": "mortarpink_bitmap *", "read handle": "const mortarpink_bitmap *", "status": "mortarpink_status ", "u8": "uint8_t ", "u32": "uint32_t ",
     "u64": "uint64_t ", "size": "size_t ", "length": "size_t ", "u8 out": "uint8_t *", "u64 out": "uint64_t *", "size out": "size_t *",
     "u8 array in": "const uint8_t *", "u64 array in": "const uint64_t *", "u8 array out": "uint8_t *", "u64 array out": "uint64_t *",
-    "text": "const char *",
+    "32 bytes in": "const uint8_t ", "text": "const char *",
 }
+
+# What follows the name of a parameter of a kind.
+AFTER_NAME = {"32 bytes in": "[32]"}
 
 # The sections that a documentation may have after its text.
 SECTIONS = ("Errors", "Memory", "Complexity")
@@ -129,7 +132,7 @@ def comment(doc):
 def prototype(function):
     """The prototype of a function. Parameters on further lines begin below the first one."""
     start = f"{TYPES[function.result]}{PREFIX}{function.name}("
-    parameters = ", ".join(f"{TYPES[kind]}{name}" for name, kind in function.parameters) or "void"
+    parameters = ", ".join(f"{TYPES[kind]}{name}{AFTER_NAME.get(kind, '')}" for name, kind in function.parameters) or "void"
     # Lines break after commas alone.
     unbroken = f"{start}{parameters});".replace(" ", "\0").replace(",\0", ", ")
     return "\n".join(wrapped(unbroken, " " * len(start), COLUMNS)).replace("\0", " ") + "\n"

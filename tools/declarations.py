@@ -6,8 +6,9 @@ A parameter has one of these kinds:
 - `u8`, `u32`, `u64`, `size`: a value; `status`: a number that may be a status
 - `u8 out`, `u64 out`, `size out`: a pointer to one value
 - `u8 array in`, `u64 array in`, `u8 array out`, `u64 array out`: a pointer to the elements; the next parameter is their `length`
+- `32 bytes in`: a pointer to 32 bytes
 
-A function that takes a handle returns a `status`. tools/interface.py writes the declarations in C, Rust and Python.
+The length of the elements of `NAME` is `len` if they are the only ones, and otherwise `NAME_len`. A function that takes something returns a `status`. tools/interface.py writes the declarations in C, Rust and Python.
 """
 
 import re
@@ -25,6 +26,7 @@ PREFIX = "mortarpink_"
 KINDS = {
     "&mut Handle": "handle", "u8": "u8", "u32": "u32", "u64": "u64", "usize": "size", "&mut u8": "u8 out", "&mut u64": "u64 out",
     "&mut usize": "size out", "&[u8]": "u8 array in", "&[u64]": "u64 array in", "&mut [u8]": "u8 array out", "&mut [u64]": "u64 array out",
+    "&[u8; 32]": "32 bytes in",
 }
 
 # The kinds of handles.
@@ -104,20 +106,27 @@ def reads_of(tokens):
             yield function.name
 
 
-def parameters_of(tokens, opened, is_read):
-    """The parameters in C of a function, whose parenthesis opens at `opened`: the allocator is none, and a slice is two."""
+def kinds_of(tokens, opened):
+    """The names and the kinds of the parameters of a function, whose parenthesis opens at `opened`, without the allocator."""
     for start, end in separated(tokens, opened + 1, closing(tokens, opened)):
         parameter, _, shown = text_of(tokens, start, end).partition(": ")
         if shown == ALLOCATOR:
             continue
         if shown not in KINDS:
             raise Unknown(f"the type `{shown}` of `{parameter}`", tokens[opened].line, "KINDS in tools/declarations.py has the types of parameters")
-        kind = KINDS[shown]
+        yield parameter, KINDS[shown]
+
+
+def parameters_of(tokens, opened, is_read):
+    """The parameters in C of a function, whose parenthesis opens at `opened`: the allocator is none, and a slice is two."""
+    kinds = list(kinds_of(tokens, opened))
+    has_one_array = sum(" array " in kind for _, kind in kinds) == 1
+    for parameter, kind in kinds:
         if kind == "handle":
             kind, is_read = "read handle" if is_read else kind, False
         yield Parameter(parameter, kind)
         if " array " in kind:
-            yield Parameter("len", "length")
+            yield Parameter("len" if has_one_array else f"{parameter}_len", "length")
 
 
 def export_of(tokens, function, start, is_read):
@@ -135,8 +144,7 @@ def export_of(tokens, function, start, is_read):
     }
     for what in [what for what, is_so in wrong.items() if is_so]:
         raise Unknown(f"`{function.name}` has {what}", tokens[function.at].line)
-    takes_handle = any(parameter.kind in HANDLES for parameter in parameters)
-    return Function(name, doc, parameters, "status" if takes_handle else KINDS[RESULT])
+    return Function(name, doc, parameters, "status" if parameters else KINDS[RESULT])
 
 
 def exports_of(tokens):

@@ -25,12 +25,13 @@ PYTHON = "bindings/python/mortarpink/_interface.py"
 RUST_TYPES = {
     "handle": "*mut Handle", "read handle": "*const Handle", "status": "Status", "u8": "u8", "u32": "u32", "u64": "u64", "size": "usize",
     "length": "usize", "u8 out": "*mut u8", "u64 out": "*mut u64", "size out": "*mut usize", "u8 array in": "*const u8",
-    "u64 array in": "*const u64", "u8 array out": "*mut u8", "u64 array out": "*mut u64", "text": "*const c_char",
+    "u64 array in": "*const u64", "u8 array out": "*mut u8", "u64 array out": "*mut u64", "32 bytes in": "*const [u8; 32]",
+    "text": "*const c_char",
 }
 PYTHON_TYPES = {
     "handle": "HANDLE", "read handle": "HANDLE", "status": "U32", "u8": "U8", "u32": "U32", "u64": "U64", "size": "SIZE", "length": "SIZE",
     "u8 out": "OUT_U8", "u64 out": "OUT_U64", "size out": "OUT_SIZE", "u8 array in": "BYTES", "u64 array in": "NUMBERS", "u8 array out": "OUT_U8",
-    "u64 array out": "OUT_U64", "text": "BYTES",
+    "u64 array out": "OUT_U64", "32 bytes in": "BYTES", "text": "BYTES",
 }
 
 RUST_FILE = """\

@@ -6,8 +6,8 @@ usage: interface_runs.py LIBRARY COUNT   COUNT random scripts on the shared libr
 
 The scripts are those of tools/check_runs.py, with fixed seeds. Half of them begin with an index of the kept commits, and each may add or drop one
 later. After each step come reads of the bitmap, of a past one and of the commits, whose values are computed from the model's lists, edits of many bits
-at once, and calls with wrong arguments. Histories, deltas and logs are compared with those of tools/formats.py, also if their bytes are changed. At the
-end of a script the library has freed all its blocks. They are counted by tools/fail_allocations.c, which tools/check_frees.py preloads.
+at once, and calls with wrong arguments. Histories, deltas and logs are compared with those of tools/formats.py, also if their bytes are changed. So are
+checks of proofs of random bitmaps with those of tools/roots.py. At the end of a script the library has freed all its blocks. They are counted by tools/fail_allocations.c, which tools/check_frees.py preloads.
 """
 
 import re
@@ -17,6 +17,7 @@ from concurrent.futures import ProcessPoolExecutor
 from concurrent.futures.process import BrokenProcessPool
 from functools import lru_cache, partial
 
+import roots
 from check_runs import RandomScript
 from counter import blocks_now
 from declarations import HANDLES
@@ -127,10 +128,14 @@ class InterfaceScript(RandomScript):
         self.expect_of(self.handle, name, status, *given, **written)
 
     def expect_of(self, handle, name, status, *given, **written):
-        self.recent.append((name, given))
         if status == "WRONG_MODE":
             status = "NOT_IN_BATCH" if name in EDITS else "IN_BATCH"
-        found, wanted = self.library.call(name, handle, *given), outcome(status, written)
+        self.expect_alone(name, status, handle, *given, **written)
+
+    def expect_alone(self, name, status, *given, **written):
+        """Calls a function with what is given alone. It has to return the status, and to write these outputs and no others."""
+        self.recent.append((name, given))
+        found, wanted = self.library.call(name, *given), outcome(status, written)
         self.calls[name, found.status] += 1
         if found != wanted:
             raise Difference(f"{found}, not {wanted}")
@@ -252,7 +257,7 @@ class InterfaceScript(RandomScript):
 
     def extra_steps(self):
         return [self.search, self.search, self.search, self.count_ones, self.read_bytes, self.read_bytes, self.read_past, self.read_past,
-                self.page_of_commits, self.page_of_changes,
+                self.page_of_commits, self.page_of_changes, self.verify, self.verify_range,
                 self.use_wrong_arguments, self.push_in_one_call, self.set_in_one_call, self.push_bits, self.set_chunk, self.set_range, self.change_length,
                 *[self.read_log, self.recover_log] * (self.handle.log is not None),
                 *[self.clone, self.checkout, self.index, self.save, self.delta, self.apply_delta, self.begin_log, self.begin_log, self.read_log,
@@ -655,6 +660,82 @@ class InterfaceScript(RandomScript):
         """Adds an index of the kept commits, or drops it. The calls after that do what they did without it."""
         self.expect("index", "DONE" if self.state.pending is None else "WRONG_MODE", self.random.choice([0, 1, 1, 255]))
 
+    # Checks of proofs, for which there is no bitmap in the library
+
+    def bitmap_with_root(self):
+        """A random bitmap: its width, its length and its number of pruned chunks, its chunks, and the digests of these."""
+        width = self.random.choice(WIDTHS)
+        length = self.random.randint(1, 9 * 8 * width)
+        count = -(-length // (8 * width))
+        data = self.random.getrandbits(length).to_bytes(width * count, "little")
+        chunks = [data[at : at + width] for at in range(0, len(data), width)]
+        return (width, length, self.random.randint(0, count)), chunks, [roots.leaf(chunk) for chunk in chunks]
+
+    def changed_proofs(self, proof):
+        """The bytes of a proof, and copies of them that are cut off, longer, or have another byte."""
+        flipped = bytearray(proof)
+        flipped[self.random.randrange(len(proof))] ^= self.random.randint(1, 255)
+        return [proof, bytes(flipped), proof[: self.random.randrange(len(proof))], proof + bytes(1), proof + bytes(32)]
+
+    def verify(self):
+        """Checks proofs of a chunk against its root, and against another one, and reads bits of them."""
+        shape, chunks, digests = self.bitmap_with_root()
+        width, index = shape[0], self.random.randrange(len(chunks))
+        wanted = roots.root(*shape, roots.tree(digests))
+        proof = roots.encoding(*shape, index, chunks[index], roots.audit_path(index, digests))
+        for data in self.changed_proofs(proof):
+            self.verify_chunk_and_bits(width, wanted, data)
+        self.expect_alone("verify_chunk", "NOT_VERIFIED", width, roots.digest(wanted), proof, width)
+        self.expect_alone("verify_bit", "NOT_VERIFIED", width, roots.digest(wanted), proof, 8 * width * index)
+        self.expect_alone("verify_chunk", "WRONG_SIZE", width, wanted, proof, self.random.choice([0, width - 1, width + 1]))
+        other = self.random.choice([each for each in WIDTHS + WRONG_WIDTHS if each != width])
+        status = "INVALID" if other in WIDTHS else "NO_SUCH_WIDTH"
+        self.expect_alone("verify_chunk", status, other, wanted, proof, width)
+        self.expect_alone("verify_bit", status, other, wanted, proof, 8 * width * index)
+
+    def verify_chunk_and_bits(self, width, wanted, data):
+        """Checks the bytes of a proof, and reads the bits at some positions of them, as tools/roots.py does."""
+        read = roots.read(width, data)
+        if isinstance(read, str):
+            self.expect_alone("verify_chunk", "INVALID", width, wanted, data, width)
+            return self.expect_alone("verify_bit", "INVALID", width, wanted, data, 0)
+        _, length, pruned, index, chunk, _ = read
+        if not roots.verifies(wanted, *read):
+            self.expect_alone("verify_chunk", "NOT_VERIFIED", width, wanted, data, width)
+            return self.expect_alone("verify_bit", "NOT_VERIFIED", width, wanted, data, min(8 * width * index, LAST))
+        self.expect_alone("verify_chunk", "DONE", width, wanted, data, width, chunk=chunk, length=length, pruned_chunks=pruned, index=index)
+        for position in (self.random.randint(0, length + 8), 8 * width * index + self.random.randrange(8 * width), LAST):
+            at = position // (8 * width)
+            status = ("OUT_OF_BOUNDS" if position >= length else "PRUNED" if at < pruned else "NOT_VERIFIED" if at != index else "DONE")
+            bit = chunk[position // 8 % width] >> position % 8 & 1
+            self.expect_alone("verify_bit", status, width, wanted, data, position, **({"bit": bit} if status == "DONE" else {}))
+
+    def verify_range(self):
+        """Checks proofs of a range against its root, and against another one."""
+        shape, chunks, digests = self.bitmap_with_root()
+        first, end = sorted(self.random.sample(range(len(chunks) + 1), 2))
+        width, wanted = shape[0], roots.root(*shape, roots.tree(digests))
+        proof = roots.range_encoding(*shape, first, chunks[first:end], roots.range_siblings(first, end - first, digests))
+        for data in self.changed_proofs(proof):
+            self.verify_range_of(width, wanted, data)
+        size = width * (end - first)
+        self.expect_alone("verify_range", "NOT_VERIFIED", width, roots.digest(wanted), proof, size)
+        self.expect_alone("verify_range", "WRONG_SIZE", width, wanted, proof, self.random.choice([0, size - 1, size + 1]), size=size)
+        other = self.random.choice([each for each in WIDTHS + WRONG_WIDTHS if each != width])
+        self.expect_alone("verify_range", "INVALID" if other in WIDTHS else "NO_SUCH_WIDTH", other, wanted, proof, size)
+
+    def verify_range_of(self, width, wanted, data):
+        """Checks the bytes of a proof of a range, as tools/roots.py does."""
+        read = roots.read_range(width, data)
+        if isinstance(read, str):
+            return self.expect_alone("verify_range", "INVALID", width, wanted, data, width)
+        _, length, pruned, first, chunks, _ = read
+        size = width * len(chunks)
+        if not roots.range_verifies(wanted, *read):
+            return self.expect_alone("verify_range", "NOT_VERIFIED", width, wanted, data, size)
+        shown = {"chunks": b"".join(chunks), "size": size, "length": length, "pruned_chunks": pruned, "first": first}
+        self.expect_alone("verify_range", "DONE", width, wanted, data, size, **shown)
+
     def check_spare(self):
         """Reads the bitmap that was set aside, with its commits, and frees it."""
         if self.spare is None:
@@ -740,10 +821,10 @@ def text_cases(library):
 
 
 def coverage_cases(library, calls):
-    """Whether each function that has a handle has succeeded, and each status has been returned."""
+    """Whether each function that returns a status has succeeded, and each status has been returned."""
     statuses = {status for _, status in calls}
     for name, function in library.declared.functions.items():
-        if any(kind in HANDLES for _, kind in function.parameters):
+        if function.result == "status":
             yield f"the function {name}", None if calls[name, "DONE"] else "it never succeeds"
     for status in sorted({*library.declared.statuses} - NEVER):
         yield f"the status {status}", None if status in statuses else "no call returns it"

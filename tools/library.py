@@ -14,6 +14,11 @@ AFTER = 16  # the marked bytes after each buffer
 VALUES = {"u8": ctypes.c_uint8, "u32": ctypes.c_uint32, "status": ctypes.c_uint32, "u64": ctypes.c_uint64, "size": ctypes.c_size_t}
 
 
+def element_size(kind):
+    """The bytes of an element of a buffer: the elements of `32 bytes in` are bytes."""
+    return ctypes.sizeof(VALUES.get(kind.split(" ")[0], ctypes.c_uint8))
+
+
 class Handle(ctypes.Structure):
     """A handle of the library. It starts empty."""
 
@@ -78,19 +83,19 @@ class Call:
             elif kind == "length":
                 argument = length
             else:
-                size = next(given) if " array " in kind else 1
+                size = next(given) if " array " in kind or kind.endswith(" in") else 1
                 argument = self.add(name, kind, size)
-                length = len(size) if kind.endswith(" array in") else size
+                length = len(size) if kind.endswith(" in") else size
             self.arguments.append(argument)
 
     def add(self, name, kind, given):
         """Adds a buffer: with the bytes or numbers that are given, or for so many elements."""
-        if kind.endswith(" array in"):
-            size = ctypes.sizeof(VALUES[kind.split(" ")[0]])
+        if kind.endswith(" in"):
+            size = element_size(kind)
             added = buffer(name, b"".join(element.to_bytes(size, "little") for element in given) + marks(AFTER))
             self.inputs.append(added)
         else:
-            size = given * ctypes.sizeof(VALUES[kind.split(" ")[0]])
+            size = given * element_size(kind)
             added = buffer(name, marks(size + AFTER))
             self.outputs.append((added, kind, size))
         return added.memory

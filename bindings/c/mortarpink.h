@@ -25,7 +25,7 @@
  * - Handles: the program keeps the rules of ownership above, and reads or writes a handle only to move it, or to make
  *   an empty one.
  * - Pointers: no pointer is NULL, not even for a length of 0. Each points to memory of its type, with the alignment of
- *   that type: to one value, or to `len` elements if a length follows.
+ *   that type: to one value, to as many elements as the length after it says, or to 32 bytes if it is a root.
  * - Values: all of that memory holds a value when the call begins. Initialize outputs and buffers too.
  * - Overlap: the memory of no two pointers of one call overlaps.
  * - Access: while a call runs, nothing else reads or writes the memory of its outputs, or of its handles and the bitmaps
@@ -48,7 +48,7 @@
  * Units: positions and lengths are in bits. They are absolute: they count from 0, and pruned bits count. Chunks have
  * indices from 0, also absolute. A bit is 0 or 1 as output; as input, any byte but 0 is 1. The lowest bit of a byte
  * comes first. Ranges include `from` and exclude `to`. They may be empty, and those of reads may go past the length.
- * The length of a buffer is the `len` after it.
+ * The length of a buffer is the number after it, whose name is or ends with `len`.
  *
  * Encoding: the number of pruned chunks, then the number of retained bits, then the retained chunks. Both numbers have
  * eight bytes, the most significant first. There are no commits, no width and no checksum in it. Damaged bytes, or
@@ -114,7 +114,8 @@ enum {
     MORTARPINK_NOT_AT_BASE = 24,           /* the delta does not start at the current bitmap */
     MORTARPINK_HAS_LOG = 25,               /* the bitmap keeps a log */
     MORTARPINK_NO_LOG = 26,                /* the bitmap keeps no log */
-    MORTARPINK_NOT_IN_BATCH = 27           /* there is no batch, and the call needs one */
+    MORTARPINK_NOT_IN_BATCH = 27,          /* there is no batch, and the call needs one */
+    MORTARPINK_NOT_VERIFIED = 28           /* the proof does not verify against the root, or it is of another chunk */
 };
 
 /* Returns the MORTARPINK_VERSION of the library. */
@@ -736,6 +737,63 @@ mortarpink_status mortarpink_log_digest(const mortarpink_bitmap *bitmap, uint64_
  *   it may also move in memory. Allocates the bitmap with its commits. */
 mortarpink_status mortarpink_recover(mortarpink_bitmap *bitmap, uint32_t width, const uint8_t *bytes, size_t len,
                                      size_t *good);
+
+
+/* ---- Proofs: checks against a root, with SHA-256, without a bitmap ----
+ *
+ * A root is 32 bytes that stand for one state of a bitmap. A program that has it from someone whom it trusts checks the
+ * chunks that anyone else shows to it, by the bytes of a proof. The library makes no roots and proofs: a server makes them
+ * in Rattle or in Rust, with SHA-256. */
+
+/* Checks a proof of a chunk against a root, and writes what it shows: the chunk, its index, and the length and the
+ * number of pruned chunks of the bitmap. The bytes are those of one proof. No bitmap is needed. `root` has 32 bytes,
+ * and is from someone who computed it of a bitmap with chunks of `width` bytes, with SHA-256. `chunk` has `width`
+ * bytes. With MORTARPINK_DONE, each bitmap with that root has this length, this number of pruned chunks, and this
+ * chunk at this index, unless two different inputs of SHA-256 have one digest. *length counts pruned bits too, and
+ * is in bits. The bits of the last chunk from the length on are not part of the bitmap. Of a pruned chunk the bitmap
+ * has the digest alone, and the chunk has that digest.
+ * Errors: returns the first status that applies. Nothing is written then.
+ * - MORTARPINK_NO_SUCH_WIDTH if the width is not 1, 8, 32 or 64
+ * - MORTARPINK_INVALID if the bytes are not the encoding of a proof of a chunk of this width
+ * - MORTARPINK_WRONG_SIZE if the length of `chunk` is not the width
+ * - MORTARPINK_NOT_VERIFIED if the proof does not verify against the root
+ * Cost: one hash for the chunk, one per digest of the proof, of which there are at most 64, and one for the root. */
+mortarpink_status mortarpink_verify_chunk(uint32_t width, const uint8_t root[32], const uint8_t *proof,
+                                          size_t proof_len, uint8_t *chunk, size_t chunk_len, uint64_t *length,
+                                          uint64_t *pruned_chunks, uint64_t *index);
+
+/* Checks a proof of the chunk of a position against a root, and writes the bit at the position. The bytes are those
+ * of one proof. No bitmap is needed. `root` has 32 bytes, as for mortarpink_verify_chunk. With MORTARPINK_DONE, each
+ * bitmap with that root retains the position, and has this bit there, unless two different inputs of SHA-256 have
+ * one digest. With MORTARPINK_OUT_OF_BOUNDS and MORTARPINK_PRUNED the proof verifies too, so each bitmap with that
+ * root has no such position, or has pruned it, with the same exception.
+ * Errors: returns the first status that applies. Nothing is written then.
+ * - MORTARPINK_NO_SUCH_WIDTH if the width is not 1, 8, 32 or 64
+ * - MORTARPINK_INVALID if the bytes are not the encoding of a proof of a chunk of this width
+ * - MORTARPINK_NOT_VERIFIED if the proof does not verify against the root
+ * - MORTARPINK_OUT_OF_BOUNDS if the position is at or past the length that the proof shows
+ * - MORTARPINK_PRUNED if the position is in a chunk that the proof shows as pruned
+ * - MORTARPINK_NOT_VERIFIED if the proof is of another chunk than that of the position
+ * Cost: as mortarpink_verify_chunk. */
+mortarpink_status mortarpink_verify_bit(uint32_t width, const uint8_t root[32], const uint8_t *proof, size_t len,
+                                        uint64_t position, uint8_t *bit);
+
+/* Checks a proof of a range of chunks against a root, and writes what it shows: the chunks, one after another, the
+ * index of the first one, and the length and the number of pruned chunks of the bitmap. The bytes are those of one
+ * proof. No bitmap is needed. `root` has 32 bytes, as for mortarpink_verify_chunk. *size becomes the size of the
+ * chunks in bytes, which is `width` per chunk and at most that of the proof. A caller that does not know it calls
+ * with an empty `chunks` first, whose pointer is not NULL either. With MORTARPINK_DONE, each bitmap with that root
+ * has what is written, with the exception and in the sense of mortarpink_verify_chunk.
+ * Errors: returns the first status that applies. Nothing is written then, but for *size with MORTARPINK_WRONG_SIZE.
+ * - MORTARPINK_NO_SUCH_WIDTH if the width is not 1, 8, 32 or 64
+ * - MORTARPINK_INVALID if the bytes are not the encoding of a proof of a range of chunks of this width
+ * - MORTARPINK_WRONG_SIZE if the length of `chunks` is not the size of the chunks
+ * - MORTARPINK_NOT_VERIFIED if the proof does not verify against the root, or has no chunk
+ * Cost: one hash per chunk, one per node of the tree above them, and one for the root. There are fewer nodes than
+ *   chunks and digests together. */
+mortarpink_status mortarpink_verify_range(uint32_t width, const uint8_t root[32], const uint8_t *proof,
+                                          size_t proof_len, uint8_t *chunks, size_t chunks_len, size_t *size,
+                                          uint64_t *length, uint64_t *pruned_chunks, uint64_t *first);
 
 #ifdef __cplusplus
 }

@@ -30,6 +30,7 @@ static const char *const texts[] = {
     "the bitmap keeps a log",
     "the bitmap keeps no log",
     "there is no batch, and the call needs one",
+    "the proof does not verify against the root, or it is of another chunk",
 };
 
 const char *mortarpink_status_text(mortarpink_status status) {

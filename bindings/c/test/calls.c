@@ -136,11 +136,11 @@ static void test_texts(void) {
     check(strcmp(mortarpink_status_text(MORTARPINK_NO_MEMORY), "out of memory") == 0);
     check(strcmp(mortarpink_status_text(MORTARPINK_WRONG_SIZE), "the buffer has the wrong size") == 0);
     check(strcmp(mortarpink_status_text(MORTARPINK_NOT_AT_BASE), "the delta does not start at the current bitmap") == 0);
-    check(strcmp(mortarpink_status_text(28), "the number is not a status") == 0);
+    check(strcmp(mortarpink_status_text(29), "the number is not a status") == 0);
     check(strcmp(mortarpink_status_text(UINT32_MAX), "the number is not a status") == 0);
-    for (uint32_t pair = 0; pair < 29 * 29; pair++) {
-        const char *one = mortarpink_status_text(pair / 29), *other = mortarpink_status_text(pair % 29);
-        check((strcmp(one, other) == 0) == (pair / 29 == pair % 29));
+    for (uint32_t pair = 0; pair < 30 * 30; pair++) {
+        const char *one = mortarpink_status_text(pair / 30), *other = mortarpink_status_text(pair % 30);
+        check((strcmp(one, other) == 0) == (pair / 30 == pair % 30));
     }
 }
 
@@ -1891,6 +1891,159 @@ static void test_longest_reads(uint32_t width) {
 }
 
 
+/* ---- Proofs, of the worked root in docs/FORMATS.md: 20 bits in the chunks 01, 80 and 0f, the first of which is pruned ---- */
+
+static const char worked_root[] = "e30df6a24c0a4623dca2543e7d1ae2fd927984e85be2b6771a037ed9ec585591";
+
+static const char proof_of_chunk_2[] =
+    "0000000000000001" "0000000000000014" "0000000000000001" "0000000000000002" "0000000000000001" "0f"
+    "e5b8ce24c2528ae6278fb86b3801653d16e79c75eed7795c3f8846edb783f926";
+
+static const char proof_of_chunks_1_and_2[] =
+    "0000000000000001" "0000000000000014" "0000000000000001" "0000000000000001" "0000000000000002" "0000000000000001"
+    "80" "0f" "b413f47d13ee2fe6c845b2ee141af81de858df4ec549a58b7970bb96645bc8d2";
+
+enum { PROOF = 40 + 1 + 32, RANGE = 48 + 2 + 32 };
+
+/* Checks a proof of a chunk, into a buffer of a size. */
+static mortarpink_status chunk_by(uint32_t width, const uint8_t *root, const uint8_t *proof, size_t len, size_t size) {
+    return mortarpink_verify_chunk(width, root, proof, len, out.bytes, size, &out.numbers[0], &out.numbers[1], &out.numbers[2]);
+}
+
+/* Checks a proof of a range, into a buffer of a size. */
+static mortarpink_status range_by(uint32_t width, const uint8_t *root, const uint8_t *proof, size_t len, size_t size) {
+    return mortarpink_verify_range(width, root, proof, len, out.bytes, size, &out.size, &out.numbers[0], &out.numbers[1],
+                                   &out.numbers[2]);
+}
+
+static void test_verify_chunk(void) {
+    uint8_t root[32], proof[PROOF + 1] = {0};
+    put_hex(root, worked_root);
+    put_hex(proof, proof_of_chunk_2);
+    check_value(chunk_by(1, root, proof, PROOF, 1), out.bytes[0], 0x0F);
+    check(out.numbers[0] == 20 && out.numbers[1] == 1 && out.numbers[2] == 2);
+    check(out.bytes[1] == 0xA5);
+    check_unwritten(chunk_by(3, root, proof, PROOF, 1), MORTARPINK_NO_SUCH_WIDTH);
+    check_unwritten(chunk_by(8, root, proof, PROOF, 8), MORTARPINK_INVALID);
+    check_unwritten(chunk_by(1, root, proof, PROOF, 0), MORTARPINK_WRONG_SIZE);
+    check_unwritten(chunk_by(1, root, proof, PROOF, 2), MORTARPINK_WRONG_SIZE);
+    check_unwritten(chunk_by(1, root, proof, PROOF + 1, 1), MORTARPINK_INVALID);
+    for (size_t len = 0; len < PROOF; len++) check_unwritten(chunk_by(1, root, proof, len, 1), MORTARPINK_INVALID);
+    root[31] ^= 1;
+    check_unwritten(chunk_by(1, root, proof, PROOF, 1), MORTARPINK_NOT_VERIFIED);
+}
+
+static void test_verify_bit(void) {
+    uint8_t root[32], proof[PROOF];
+    put_hex(root, worked_root);
+    put_hex(proof, proof_of_chunk_2);
+    for (uint64_t position = 16; position < 20; position++) {
+        check_bit(mortarpink_verify_bit(1, root, proof, PROOF, position, &out.bit), 1);
+    }
+    check_unwritten(mortarpink_verify_bit(1, root, proof, PROOF, 20, &out.bit), MORTARPINK_OUT_OF_BOUNDS);
+    check_unwritten(mortarpink_verify_bit(1, root, proof, PROOF, UINT64_MAX, &out.bit), MORTARPINK_OUT_OF_BOUNDS);
+    check_unwritten(mortarpink_verify_bit(1, root, proof, PROOF, 7, &out.bit), MORTARPINK_PRUNED);
+    check_unwritten(mortarpink_verify_bit(1, root, proof, PROOF, 8, &out.bit), MORTARPINK_NOT_VERIFIED);
+    check_unwritten(mortarpink_verify_bit(1, root, proof, PROOF, 15, &out.bit), MORTARPINK_NOT_VERIFIED);
+    check_unwritten(mortarpink_verify_bit(3, root, proof, PROOF, 16, &out.bit), MORTARPINK_NO_SUCH_WIDTH);
+    check_unwritten(mortarpink_verify_bit(8, root, proof, PROOF, 16, &out.bit), MORTARPINK_INVALID);
+    check_unwritten(mortarpink_verify_bit(1, root, proof, PROOF - 1, 16, &out.bit), MORTARPINK_INVALID);
+    /* What a proof says of its length and of what is pruned counts only if it verifies. */
+    root[0] ^= 1;
+    check_unwritten(mortarpink_verify_bit(1, root, proof, PROOF, 16, &out.bit), MORTARPINK_NOT_VERIFIED);
+    check_unwritten(mortarpink_verify_bit(1, root, proof, PROOF, 20, &out.bit), MORTARPINK_NOT_VERIFIED);
+    check_unwritten(mortarpink_verify_bit(1, root, proof, PROOF, 7, &out.bit), MORTARPINK_NOT_VERIFIED);
+}
+
+static void test_verify_range(void) {
+    uint8_t root[32], proof[RANGE + 1] = {0}, none[48] = {0};
+    put_hex(root, worked_root);
+    put_hex(proof, proof_of_chunks_1_and_2);
+    put_hex(none, "00000000000000010000000000000014000000000000000100000000000000010000000000000000");
+    check_value(range_by(1, root, proof, RANGE, 2), out.size, 2);
+    check(out.bytes[0] == 0x80 && out.bytes[1] == 0x0F && out.bytes[2] == 0xA5);
+    check(out.numbers[0] == 20 && out.numbers[1] == 1 && out.numbers[2] == 1);
+    check_unwritten(range_by(16, root, proof, RANGE, 2), MORTARPINK_NO_SUCH_WIDTH);
+    check_unwritten(range_by(64, root, proof, RANGE, 2), MORTARPINK_INVALID);
+    check_unwritten(range_by(1, root, proof, RANGE + 1, 2), MORTARPINK_INVALID);
+    for (size_t len = 0; len < RANGE; len++) check_unwritten(range_by(1, root, proof, len, 2), MORTARPINK_INVALID);
+    for (size_t size = 0; size < 5; size += size == 1 ? 2 : 1) {
+        fill_outputs();
+        check_status(range_by(1, root, proof, RANGE, size), MORTARPINK_WRONG_SIZE);
+        check_equal(out.size, 2);
+        memset(&out.size, 0xA5, sizeof out.size);
+        check(outputs_are_filled());
+    }
+    check_unwritten(range_by(1, root, none, sizeof none, 0), MORTARPINK_NOT_VERIFIED);
+    root[31] ^= 1;
+    check_unwritten(range_by(1, root, proof, RANGE, 2), MORTARPINK_NOT_VERIFIED);
+}
+
+/* Checks that no bit of a proof can be another one. The width is in the first eight bytes, and the counts are those from `count` up to
+ * `end`. */
+static void check_each_byte(const uint8_t *root, uint8_t *proof, size_t len, size_t count, size_t end, int is_range) {
+    for (size_t at = 0; at < len; at++) {
+        for (int bit = 0; bit < 8; bit++) {
+            const int is_head = at < 8 || (count <= at && at < end);
+            proof[at] = (uint8_t)(proof[at] ^ 1 << bit);
+            check_unwritten(is_range ? range_by(1, root, proof, len, 2) : chunk_by(1, root, proof, len, 1),
+                            is_head ? MORTARPINK_INVALID : MORTARPINK_NOT_VERIFIED);
+            proof[at] = (uint8_t)(proof[at] ^ 1 << bit);
+        }
+    }
+}
+
+static void test_changed_proofs(void) {
+    uint8_t root[32], proof[PROOF], range[RANGE];
+    put_hex(root, worked_root);
+    put_hex(proof, proof_of_chunk_2);
+    put_hex(range, proof_of_chunks_1_and_2);
+    check_each_byte(root, proof, PROOF, 32, 40, 0);
+    check_each_byte(root, range, RANGE, 32, 48, 1);
+    for (size_t bit = 0; bit < 256; bit++) {
+        root[bit / 8] = (uint8_t)(root[bit / 8] ^ 1 << bit % 8);
+        check_unwritten(chunk_by(1, root, proof, PROOF, 1), MORTARPINK_NOT_VERIFIED);
+        check_unwritten(range_by(1, root, range, RANGE, 2), MORTARPINK_NOT_VERIFIED);
+        root[bit / 8] = (uint8_t)(root[bit / 8] ^ 1 << bit % 8);
+    }
+    check_done(chunk_by(1, root, proof, PROOF, 1));
+    check_done(range_by(1, root, range, RANGE, 2));
+}
+
+/* The root of two chunks at each width, and the digest of the first one. Of it the lowest bit is set, and of the second one each bit. */
+static const struct { uint32_t width; const char *root, *first; } two_chunks[] = {
+    {1, "42d6deae1fb52fc3a6db965ae8002852b068bd61cfc46bff7d638b6c2164fe71",
+     "b413f47d13ee2fe6c845b2ee141af81de858df4ec549a58b7970bb96645bc8d2"},
+    {8, "a283bbdfb63c21d889520a406ed225df7d7f43f7d9d66d6ee1fde362cad7798e",
+     "51b09ceccfbec44595dd4241e6e2a693d279b72c899c8f60ec63524fe58b1d4f"},
+    {32, "5cf9f8641f04c6337b9416d31829240f6dce0d16b64dc110880475d32827679b",
+     "1b7c643b049c11a4fb6b65822e4a5e2a3da54223366c5f453cf376536f9bf42a"},
+    {64, "b0c50ce1c14799545aa41dc064f4e33d2ed04f8577c32a8fd4f57704664d2c54",
+     "ec817ca76a98978fd35c8a49070d06a35c30fe54b17747cef9a8ebdc3210a820"},
+};
+
+static void test_proofs_of_each_width(void) {
+    for (size_t k = 0; k < sizeof two_chunks / sizeof *two_chunks; k++) {
+        const uint32_t width = two_chunks[k].width;
+        uint8_t root[32], proof[40 + 64 + 32] = {0}, all[64];
+        memset(all, 0xFF, sizeof all);
+        put_hex(root, two_chunks[k].root);
+        proof[7] = (uint8_t)width;
+        proof[14] = (uint8_t)(16 * width >> 8);
+        proof[15] = (uint8_t)(16 * width & 0xFF);
+        proof[31] = proof[39] = 1;
+        memset(proof + 40, 0xFF, width);
+        put_hex(proof + 40 + width, two_chunks[k].first);
+        check_value(chunk_by(width, root, proof, 72 + width, width), out.numbers[0], 16 * width);
+        check(memcmp(out.bytes, all, width) == 0 && out.numbers[1] == 0 && out.numbers[2] == 1);
+        check_bit(mortarpink_verify_bit(width, root, proof, 72 + width, 16 * width - 1, &out.bit), 1);
+        check_unwritten(mortarpink_verify_bit(width, root, proof, 72 + width, 8 * width - 1, &out.bit), MORTARPINK_NOT_VERIFIED);
+        proof[40] = 0xFE;
+        check_unwritten(mortarpink_verify_bit(width, root, proof, 72 + width, 16 * width - 1, &out.bit), MORTARPINK_NOT_VERIFIED);
+    }
+}
+
+
 static void test_width(uint32_t width) {
     test_modes(width);
     test_pending_searches(width);
@@ -1949,5 +2102,10 @@ int main(void) {
     test_recover_history();
     test_damaged_log();
     test_changed_log();
+    test_verify_chunk();
+    test_verify_bit();
+    test_verify_range();
+    test_changed_proofs();
+    test_proofs_of_each_width();
     return finish("checks", checks, failures);
 }

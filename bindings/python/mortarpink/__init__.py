@@ -25,6 +25,7 @@ from ._errors import (
     NotAtBaseError,
     NotEmptyError,
     NotInBatchError,
+    NotVerifiedError,
     OtherLogError,
     OutOfBoundsError,
     OutOfRangeError,
@@ -38,6 +39,7 @@ from ._errors import (
     WrongModeError,
     WrongSizeError,
 )
+from ._proofs import ShownChunk, ShownRange, verify_bit, verify_chunk, verify_range
 from ._store import Store
 
 __version__ = "0.1.0"
@@ -68,6 +70,7 @@ __all__ = [
     "NotAtBaseError",
     "NotEmptyError",
     "NotInBatchError",
+    "NotVerifiedError",
     "OtherLogError",
     "OutOfBoundsError",
     "OutOfRangeError",
@@ -75,6 +78,8 @@ __all__ = [
     "PrunedError",
     "ReadOnlyError",
     "ReservedCommitNumberError",
+    "ShownChunk",
+    "ShownRange",
     "Store",
     "StoreError",
     "TooLongError",
@@ -82,4 +87,7 @@ __all__ = [
     "WrongHeaderError",
     "WrongModeError",
     "WrongSizeError",
+    "verify_bit",
+    "verify_chunk",
+    "verify_range",
 ]

@@ -106,7 +106,10 @@ class PrunedChunksOverflowError(Error, OverflowError, status=_interface.PRUNED_C
 
 
 class DecodeError(Error, ValueError):
-    """The base of the errors in the input of `Bitmap.from_bytes`, `decode`, `load`, `decode_history`, `apply_delta` and `recover`."""
+    """The base of the errors in the input of `Bitmap.from_bytes`, `decode`, `load`, `decode_history`, `apply_delta` and `recover`.
+
+    `InvalidError` is also that of bytes that are no proof.
+    """
 
 
 class EndOfBufferError(DecodeError, status=_interface.END_OF_BUFFER):
@@ -171,6 +174,10 @@ class HasLogError(Error, RuntimeError, status=_interface.HAS_LOG):
 
 class NoLogError(Error, RuntimeError, status=_interface.NO_LOG):
     """The bitmap keeps no log. `Bitmap.begin_log` begins one."""
+
+
+class NotVerifiedError(Error, ValueError, status=_interface.NOT_VERIFIED):
+    """The proof does not verify against the root, or it is of another chunk."""
 
 
 class NoSuchCommitError(Error, LookupError, status=_interface.NO_SUCH_COMMIT):

@@ -38,6 +38,7 @@ NOT_AT_BASE = 24
 HAS_LOG = 25
 NO_LOG = 26
 NOT_IN_BATCH = 27
+NOT_VERIFIED = 28
 
 
 class Handle(ctypes.Structure):
@@ -128,6 +129,9 @@ FUNCTIONS: dict[str, tuple[Any, ...]] = {
     "log_position": (HANDLE, OUT_U64),
     "log_digest": (HANDLE, OUT_U64),
     "recover": (HANDLE, U32, BYTES, SIZE, OUT_SIZE),
+    "verify_chunk": (U32, BYTES, BYTES, SIZE, OUT_U8, SIZE, OUT_U64, OUT_U64, OUT_U64),
+    "verify_bit": (U32, BYTES, BYTES, SIZE, U64, OUT_U8),
+    "verify_range": (U32, BYTES, BYTES, SIZE, OUT_U8, SIZE, OUT_SIZE, OUT_U64, OUT_U64, OUT_U64),
 }
 
 # The functions of these whose handle is `const` in C: they write neither the handle nor the bitmap.

@@ -48,6 +48,14 @@ def u64(value: int) -> int:
     raise ValueError(f"{value} is not from 0 to 2^64 - 1")
 
 
+def width_of(value: int) -> int:
+    """Returns a number of bytes per chunk. Raises NoSuchWidthError if it is none that the library offers."""
+    value = index(value)
+    if value in WIDTHS:
+        return value
+    raise NoSuchWidthError()
+
+
 def position_of(value: int) -> int:
     """Returns a position. One that is not from 0 to 2^64 - 1 is out of bounds of any bitmap."""
     value = index(value)
@@ -110,9 +118,7 @@ class Session:
     """
 
     def __init__(self, width: int) -> None:
-        self.width = index(width)
-        if self.width not in WIDTHS:
-            raise NoSuchWidthError()
+        self.width = width_of(width)
         self.handle = Handle()
         self.shared = SharedLock()
         self.lock = self.shared.gate

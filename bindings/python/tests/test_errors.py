@@ -51,6 +51,7 @@ EXPECTED = {
     "HasLogError": (25, RuntimeError, "the bitmap keeps a log"),
     "NoLogError": (26, RuntimeError, "the bitmap keeps no log"),
     "NotInBatchError": (27, WrongModeError, "the batch has ended: Bitmap.batch begins another one"),
+    "NotVerifiedError": (28, ValueError, "the proof does not verify against the root, or it is of another chunk"),
 }
 
 # The same of the exceptions of stores, which have no status.
@@ -85,8 +86,9 @@ class Exceptions(unittest.TestCase):
             self.assertEqual((str(error), str(pickle.loads(pickle.dumps(error)))), (text, text))
 
     def test_exported_names(self):
-        classes = {"Error", "WrongModeError", "DecodeError", "StoreError", "Bitmap", "Version", "Batch", "Store"}
-        self.assertEqual(set(mortarpink.__all__), {*EXPECTED, *OF_STORES, *classes})
+        classes = {"Error", "WrongModeError", "DecodeError", "StoreError", "Bitmap", "Version", "Batch", "Store", "ShownChunk", "ShownRange"}
+        functions = {"verify_bit", "verify_chunk", "verify_range"}
+        self.assertEqual(set(mortarpink.__all__), {*EXPECTED, *OF_STORES, *classes, *functions})
         for name in mortarpink.__all__:
             self.assertTrue(hasattr(mortarpink, name))
 

@@ -21,6 +21,7 @@ TYPES = {
     "mortarpink_bitmap *": _interface.HANDLE,
     "const mortarpink_bitmap *": _interface.HANDLE,
     "const uint8_t *": _interface.BYTES,
+    "const uint8_t [32]": _interface.BYTES,
     "const uint64_t *": _interface.NUMBERS,
     "uint8_t *": _interface.OUT_U8,
     "uint64_t *": _interface.OUT_U64,
@@ -88,7 +89,7 @@ class Header(unittest.TestCase):
     def test_functions(self):
         declared = {}
         for name, arguments in re.findall(r"^mortarpink_status mortarpink_(\w+)\(([^)]*)\);", self.text, re.MULTILINE):
-            declared[name] = tuple(TYPES[re.sub(r"\w+$", "", argument.strip())] for argument in arguments.split(","))
+            declared[name] = tuple(TYPES[re.sub(r"\w+(\[32\])?$", r"\1", argument.strip())] for argument in arguments.split(","))
         self.assertEqual(_interface.FUNCTIONS, declared)
 
     def test_statuses(self):

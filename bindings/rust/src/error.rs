@@ -60,6 +60,8 @@ pub enum Error {
     HasLog,
     /// The bitmap keeps no log.
     NoLog,
+    /// The proof does not verify against the root, or it is of another chunk.
+    NotVerified,
 }
 
 impl fmt::Display for Error {
@@ -99,6 +101,9 @@ impl fmt::Display for Error {
             Error::NotAtBase => "delta does not start at the current bitmap",
             Error::HasLog => "bitmap keeps a log already",
             Error::NoLog => "bitmap keeps no log",
+            Error::NotVerified => {
+                "proof does not verify against the root, or it is of another chunk"
+            }
         })
     }
 }

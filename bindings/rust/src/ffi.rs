@@ -18,7 +18,7 @@
 //!   [`UnsafeCell`], and no reference to it exists at any time. Only [`Session::settle`] makes an edit
 //!   through `&self`, at a time at which no thread reads.
 //! - **Pointers.** Each other pointer comes from a reference or a slice of the caller, so it is not
-//!   null and points to memory of its type. Outputs come from `&mut` references, so they overlap
+//!   null and points to memory of its type. A root is an array of 32 bytes. Outputs come from `&mut` references, so they overlap
 //!   neither each other nor the handle.
 //! - **Bits.** A `bool` has the size and the alignment of a byte, and is the byte 0 or 1. So a slice
 //!   of them is read as one of bytes. Nothing is written through that pointer.
@@ -68,6 +68,11 @@ pub fn version() -> u32 {
     call!(mortarpink_version())
 }
 
+/// Panics unless the library has the version of the interface that this module declares.
+fn check_version() {
+    assert_eq!(version(), VERSION, "the library mortarpink has another version of the interface");
+}
+
 /// Panics because of a status that the library never returns for the call.
 fn unexpected(status: Status) -> ! {
     // SAFETY: The library returns a constant text that ends with a zero byte, for any status.
@@ -105,6 +110,7 @@ fn check(status: Status) -> Result<(), Error> {
         NOT_AT_BASE => Error::NotAtBase,
         HAS_LOG => Error::HasLog,
         NO_LOG => Error::NoLog,
+        NOT_VERIFIED => Error::NotVerified,
         status => unexpected(status),
     })
 }
@@ -139,11 +145,7 @@ impl Drop for Session {
 impl Session {
     /// Returns a session with an empty handle.
     fn empty() -> Session {
-        assert_eq!(
-            version(),
-            VERSION,
-            "the library mortarpink has another version of the interface"
-        );
+        check_version();
         let session = ptr::null_mut();
         Session {
             handle: UnsafeCell::new(Handle { session }),
@@ -545,6 +547,71 @@ impl Session {
     pub fn log_digest(&self) -> Result<u64, Error> {
         self.output(|handle, digest| call!(mortarpink_log_digest(handle, digest)))
     }
+}
+
+/// What a proof shows besides bytes.
+#[derive(Default)]
+pub struct Shown {
+    /// The length of the bitmap in bits.
+    pub len: u64,
+    /// The number of pruned chunks.
+    pub pruned_chunks: u64,
+    /// The index of the chunk, or of the first one of a range.
+    pub first: u64,
+}
+
+/// Checks the bytes of a proof of a chunk, and fills a buffer of the size of a chunk with it.
+pub fn verify_chunk(root: &[u8; 32], proof: &[u8], chunk: &mut [u8]) -> Result<Shown, Error> {
+    check_version();
+    let mut shown = Shown::default();
+    let Shown { len, pruned_chunks, first } = &mut shown;
+    check(call!(mortarpink_verify_chunk(
+        chunk.len() as u32,
+        root,
+        proof.as_ptr(),
+        proof.len(),
+        chunk.as_mut_ptr(),
+        chunk.len(),
+        len,
+        pruned_chunks,
+        first
+    )))?;
+    Ok(shown)
+}
+
+/// Checks the bytes of a proof of a chunk, and returns the bit at a position.
+pub fn verify_bit(width: u32, root: &[u8; 32], proof: &[u8], position: u64) -> Result<bool, Error> {
+    check_version();
+    let (start, len, mut bit) = (proof.as_ptr(), proof.len(), 0);
+    check(call!(mortarpink_verify_bit(width, root, start, len, position, &mut bit)))?;
+    Ok(bit != 0)
+}
+
+/// Checks the bytes of a proof of a range, and fills a buffer with the chunks. With
+/// [`Error::WrongSize`], `size` becomes the size that the buffer has to have.
+pub fn verify_range(
+    width: u32,
+    root: &[u8; 32],
+    proof: &[u8],
+    chunks: &mut [u8],
+    size: &mut usize,
+) -> Result<Shown, Error> {
+    check_version();
+    let mut shown = Shown::default();
+    let Shown { len, pruned_chunks, first } = &mut shown;
+    check(call!(mortarpink_verify_range(
+        width,
+        root,
+        proof.as_ptr(),
+        proof.len(),
+        chunks.as_mut_ptr(),
+        chunks.len(),
+        size,
+        len,
+        pruned_chunks,
+        first
+    )))?;
+    Ok(shown)
 }
 
 #[cfg(test)]

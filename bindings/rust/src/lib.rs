@@ -68,6 +68,8 @@
 //! | [`Bitmap::log_bytes`], [`Bitmap::take_log`] | linear in the bytes |
 //! | [`Bitmap::keeps_log`], [`Bitmap::log_position`], [`Bitmap::log_digest`], [`Bitmap::forget_log`], [`Bitmap::end_log`] | constant |
 //! | [`Bitmap::recover`] | linear in the log, plus what [`Bitmap::rewind_to`] takes for each rewind in it |
+//! | [`verify_chunk`], [`verify_bit`] | one hash per digest of the proof, of which there are at most 64, and two more |
+//! | [`verify_range`] | linear in the bytes of the proof, each of which is hashed at most twice |
 //! | a chunk read through a [`Version`] | a search of each later commit, or one search if the bitmap is indexed |
 //!
 //! # Finding the library
@@ -76,7 +78,7 @@
 //! variable, it uses the folder that `pkg-config` reports. If `MORTARPINK_SHARED` is set, it links
 //! `libmortarpink.so`.
 //!
-//! Making a bitmap panics if the library has another version of the C interface than this crate.
+//! Making a bitmap and checking a proof panic if the library has another version of the C interface than this crate.
 
 #![deny(unsafe_code)]
 #![warn(missing_docs)]
@@ -90,6 +92,7 @@ mod ffi;
 mod log;
 mod packed;
 mod pages;
+mod proof;
 mod range;
 mod version;
 
@@ -99,6 +102,7 @@ pub use chunk::{Chunk, NoSuchWidthError, Width};
 pub use error::{CommitError, Error, PushBytesError, RecoverError, SetManyError};
 pub use log::Recovered;
 pub use pages::{ChangedChunks, Commits, Ones};
+pub use proof::{ShownChunk, ShownRange, verify_bit, verify_chunk, verify_range};
 pub use version::Version;
 
 /// Runs the example of the README as a test.

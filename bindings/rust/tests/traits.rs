@@ -202,11 +202,12 @@ fn errors_have_texts() {
         (Error::NotAtBase, "delta does not start at the current bitmap"),
         (Error::HasLog, "bitmap keeps a log already"),
         (Error::NoLog, "bitmap keeps no log"),
+        (Error::NotVerified, "proof does not verify against the root, or it is of another chunk"),
     ];
     for (error, text) in texts {
         assert_eq!(error.to_string(), text);
     }
-    assert_eq!(HashSet::from(texts.map(|(error, _)| error)).len(), 21);
+    assert_eq!(HashSet::from(texts.map(|(error, _)| error)).len(), 22);
 }
 
 #[test]

@@ -6,6 +6,7 @@ pub mod Logged
 pub mod Making
 pub mod Packed
 pub mod Pages
+pub mod Proofs
 pub mod Reads
 pub mod Recovered
 pub mod Reports

@@ -2,7 +2,7 @@
 //!
 //! A handle is empty, or has a `Session` whose chunks have 1, 8, 32 or 64 bytes. The caller owns the handle. Each function checks
 //! its arguments and returns a status, so none has a `requires`. A call on an empty handle returns `EMPTY_HANDLE` and writes
-//! nothing, unless the call makes a bitmap in it.
+//! nothing, unless the call makes a bitmap in it. The checks of proofs take no handle.
 //!
 //! The functions are declared here alone: `tools/interface.py` writes the declarations in C, Rust and Python, and makes the comments of
 //! the header `bindings/c/mortarpink.h` of the documentation. So it names only what C has too: functions, statuses and parameters.
@@ -54,6 +54,7 @@ mod making;
 mod many;
 mod pages;
 mod past;
+mod proofs;
 mod queries;
 mod reads;
 mod recovery;

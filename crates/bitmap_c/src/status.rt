@@ -94,6 +94,9 @@ pub const NO_LOG: u32 = 26;
 /// There is no batch, and the call needs one.
 pub const NOT_IN_BATCH: u32 = 27;
 
+/// The proof does not verify against the root, or it is of another chunk.
+pub const NOT_VERIFIED: u32 = 28;
+
 /// Returns the status of a decode error.
 pub fn codec_status(error: &CodecError) -> u32
     ensures { result ≡ refusal_status (reason (Refusal.Codec error.now)) }

@@ -44,6 +44,7 @@ pub const NOT_AT_BASE: Status = 24;
 pub const HAS_LOG: Status = 25;
 pub const NO_LOG: Status = 26;
 pub const NOT_IN_BATCH: Status = 27;
+pub const NOT_VERIFIED: Status = 28;
 
 #[rustfmt::skip]
 unsafe extern "C" {
@@ -118,4 +119,7 @@ unsafe extern "C" {
     pub fn mortarpink_log_position(bitmap: *const Handle, position: *mut u64) -> Status;
     pub fn mortarpink_log_digest(bitmap: *const Handle, digest: *mut u64) -> Status;
     pub fn mortarpink_recover(bitmap: *mut Handle, width: u32, bytes: *const u8, len: usize, good: *mut usize) -> Status;
+    pub fn mortarpink_verify_chunk(width: u32, root: *const [u8; 32], proof: *const u8, proof_len: usize, chunk: *mut u8, chunk_len: usize, length: *mut u64, pruned_chunks: *mut u64, index: *mut u64) -> Status;
+    pub fn mortarpink_verify_bit(width: u32, root: *const [u8; 32], proof: *const u8, len: usize, position: u64, bit: *mut u8) -> Status;
+    pub fn mortarpink_verify_range(width: u32, root: *const [u8; 32], proof: *const u8, proof_len: usize, chunks: *mut u8, chunks_len: usize, size: *mut usize, length: *mut u64, pruned_chunks: *mut u64, first: *mut u64) -> Status;
 }
