@@ -1,8 +1,8 @@
 #!/usr/bin/env python3
 """A second computation of roots, audit paths and proofs of chunks and of ranges. It was written from docs/FORMATS.md alone, with Python's hashlib.
 
-    tools/roots.py      compares itself with the page's worked root and with the constants of the tests, also of the Rust crate, and checks random
-                        proofs
+    tools/roots.py      compares itself with the page's worked root and with the constants of the tests, also of the Rust crate and of the bindings,
+                        and checks random proofs
 
 The check of a path goes from the leaf up, as the algorithm of RFC 9162, section 2.1.3.2. The library's goes from the root down. The siblings of a
 range are found level by level, from the leaves up, and the check of a range puts the leaves and the siblings in a row and joins neighbours. The
@@ -21,6 +21,9 @@ CONSTANTS = [TOP / f"crates/{crate}/src/known.rt" for crate in ("conformance_aut
 RUST_TESTS = TOP / "native/tests/roots.rs"
 RUST_TESTS_OF_VERSIONS = TOP / "native/tests/kept_roots.rs"
 CONSTANT = re.compile(r"pub const (\w+): \[u8; 32\] = \[([\d,\s]*)\];")
+# The tests and the examples of the bindings that have roots and proofs as digits.
+TESTS_WITH_DIGITS = ["bindings/c/test/calls.c", "bindings/rust/tests/proofs.rs", "bindings/rust/src/proof.rs", "bindings/python/tests/test_proofs.py"]
+EXAMPLES_WITH_DIGITS = ["bindings/c/examples/light_client.c", "bindings/rust/examples/light_client.rs", "bindings/python/examples/light_client.py"]
 LEAVES = ["", "00", "10", "2021", "3031", "40414243", "5051525354555657", "606162636465666768696a6b6c6d6e6f"]
 ROUNDS = 300
 
@@ -359,6 +362,38 @@ def worked_range_cases():
     yield "the worked range verifies", None if range_verifies(root(1, 20, 1, tree(digests)), *proof) else "it does not"
 
 
+def worked_digits():
+    """The worked root, and the proofs of its chunk 2 and of its chunks 1 and 2."""
+    chunks = [bytes.fromhex(one) for one in ("01", "80", "0f")]
+    digests = [leaf(chunk) for chunk in chunks]
+    yield "the worked root", root(1, 20, 1, tree(digests))
+    yield "the proof of chunk 2", encoding(1, 20, 1, 2, chunks[2], audit_path(2, digests))
+    yield "the proof of the chunks 1 and 2", range_encoding(1, 20, 1, 1, chunks[1:], range_siblings(1, 2, digests))
+
+
+def digits_of_the_light_client():
+    """The roots and the proofs of the example of a light client. Of 200 validators those from 50 to 149 are active at height 1, and at height 2 all of
+    these but 100. Chunks have eight bytes."""
+    for height in (1, 2):
+        active = sum(1 << k for k in range(50, 150) if (height, k) != (2, 100))
+        data = active.to_bytes(32, "little")
+        chunks = [data[at : at + 8] for at in range(0, 32, 8)]
+        digests = [leaf(chunk) for chunk in chunks]
+        yield f"the root of height {height}", root(8, 200, 0, tree(digests))
+        yield f"the proof of validator 100 at height {height}", encoding(8, 200, 0, 1, chunks[1], audit_path(1, digests))
+        if height == 1:
+            yield "the proof of the validators from 64 to 191", range_encoding(8, 200, 0, 1, chunks[1:3], range_siblings(1, 2, digests))
+
+
+def digit_cases():
+    """Whether the tests and the examples of the bindings have these roots and proofs as digits, however these are broken into texts."""
+    for paths, values in ((TESTS_WITH_DIGITS, dict(worked_digits())), (EXAMPLES_WITH_DIGITS, dict(digits_of_the_light_client()))):
+        for path in paths:
+            digits = re.sub(r'["\s,/]', "", (TOP / path).read_text())
+            for name, value in values.items():
+                yield f"{name} in {path}", None if value.hex() in digits else "it is not there"
+
+
 def random_cases(rounds, seed="0"):
     """True proofs verify and false ones do not, paths have the right lengths, and each encoding is read again."""
     source = random.Random(seed)
@@ -413,4 +448,4 @@ def random_ranges(source, number, chunks, wanted, shape):
 
 
 if __name__ == "__main__":
-    raise SystemExit(report("roots", [*constant_cases(), *worked_cases(), *worked_range_cases(), *random_cases(ROUNDS)], "values"))
+    raise SystemExit(report("roots", [*constant_cases(), *worked_cases(), *worked_range_cases(), *digit_cases(), *random_cases(ROUNDS)], "values"))

@@ -15,7 +15,7 @@ EXAMPLES = Path(__file__).parent.parent / "examples"
 class Examples(unittest.TestCase):
     def test_examples(self):
         programs = sorted(EXAMPLES.glob("*.py"))
-        self.assertEqual([program.stem for program in programs], ["replica", "scheduler", "window"])
+        self.assertEqual([program.stem for program in programs], ["light_client", "replica", "scheduler", "window"])
         for program in programs:
             with self.subTest(program=program.name):
                 environment = {**os.environ, "PYTHONPATH": str(PACKAGES)}

@@ -3,6 +3,7 @@
 import tempfile
 import threading
 import unittest
+from hashlib import sha256
 from pathlib import Path
 
 from guide.all_or_none import set_all
@@ -15,6 +16,7 @@ from guide.histories import load_versions, save_versions
 from guide.last_versions import commit_set
 from guide.log import append
 from guide.logged import append_entries, open_log
+from guide.proofs import was_active
 from guide.reads import read_versions
 from guide.replicas import apply_update
 from guide.restarts import restored, saved
@@ -86,6 +88,13 @@ class Tasks(unittest.TestCase):
         bitmap = bitmap_of("0100")
         bitmap.batch().commit(2)
         self.assertEqual([next_around(bits, 2) for bits in (bitmap, bitmap.at(1))], [1, 1])
+
+    def test_a_proof(self):
+        chunk, numbers = bytes([0b101, *bytes(7)]), b"".join(number.to_bytes(8, "big") for number in (8, 64, 0))
+        root = sha256(b"\x02" + numbers + sha256(b"\x00" + chunk).digest()).digest()
+        proof = numbers + bytes(16) + chunk
+        self.assertEqual([was_active(root, proof, validator) for validator in (0, 1, 2, 64)], [True, False, True, None])
+        self.assertIsNone(was_active(root, proof[1:], 0))
 
     def test_memory(self):
         flags = bitmap_of("0000")
