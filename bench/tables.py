@@ -8,8 +8,9 @@ from math import exp, log
 from typing import Callable, NamedTuple
 
 import disk
+import rooted
 from measure import Call, costs, counts, own_costs, ratio, run
-from programs import COPIES, FIXED, LMDB, NATIVE, ORIGINAL, OURS, PERSISTENT, PLAIN, ROARING, SQLITE, STORE, WHOLE
+from programs import COPIES, FIXED, LMDB, NATIVE, ORIGINAL, OURS, PERSISTENT, PLAIN, ROARING, ROOTS, SQLITE, STORE, WHOLE
 
 LARGE, SMALL = 64 << 20, 1 << 20  # bytes of dense bitmaps
 HISTORICAL = 1 << 17  # bytes of historical bitmaps, which are 2^20 bits
@@ -611,6 +612,19 @@ def stores(session):
     return {"stores": rows}
 
 
+def roots(session):
+    """Costs of roots of versions and of their proofs, by SHA-256, of the Rust crate in `native`.
+
+    A commit flips 100 bits in the first table, and in the last one a bit."""
+    rows = []
+    for columns, lines in rooted.tables(session):
+        head(*columns)
+        for names, figures in lines:
+            say(*names, *("not measured" if each is None else each.cell() for each in figures))
+            rows += [each.row() for each in figures if each is not None]
+    return {"roots": rows}
+
+
 def names_of(calls):
     """The names of some calls."""
     return [call.name for call in calls]
@@ -635,5 +649,6 @@ TABLES = {
     "commits": Table(commits, list(KEEPS), [OURS, COPIES, ROARING, PERSISTENT], [], 1),
     "peers": Table(peers, COMPARED, [OURS, FIXED, ROARING], [], 2),
     "stores": Table(stores, list(disk.WAYS), [STORE, SQLITE, LMDB, WHOLE], [], 4),
+    "roots": Table(roots, rooted.CALLS, [ROOTS], [], 3),
     "alone": Table(alone, FAST + SLOW + BATCHES + names_of(PAST + ALONE), [OURS], [], 6),
 }
