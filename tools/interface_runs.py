@@ -5,9 +5,10 @@ usage: interface_runs.py LIBRARY COUNT   COUNT random scripts on the shared libr
                                          there are, and fails if a function never succeeds or a status is never returned: 2000 scripts suffice
 
 The scripts are those of tools/check_runs.py, with fixed seeds. Half of them begin with an index of the kept commits, and each may add or drop one
-later. After each step come reads of the bitmap, of a past one and of the commits, whose values are computed from the model's lists, edits of many bits
-at once, and calls with wrong arguments. Histories, deltas and logs are compared with those of tools/formats.py, also if their bytes are changed. So are
-checks of proofs of random bitmaps with those of tools/roots.py. At the end of a script the library has freed all its blocks. They are counted by tools/fail_allocations.c, which tools/check_frees.py preloads.
+later. After each step come reads of the bitmap, of a past one and of the commits, whose values are computed from the model's lists, edits of many
+bits at once, and calls with wrong arguments. Histories, deltas and logs are compared with those of tools/formats.py, also if their bytes are changed.
+So are checks of proofs of random bitmaps with those of tools/roots.py. At the end of a script the library has freed all its blocks. They are counted
+by tools/fail_allocations.c, which tools/check_frees.py preloads when it starts this program. Without it the program ends with an error.
 """
 
 import re
