@@ -42,6 +42,7 @@ HAND_WRITTEN = [
     Mutant("the numbers of commits end with the first ones", "api", "native/src/bitmap/versions.rs", "self.commits.next_back()", "self.commits.next()"),
     Mutant("a range of lengths has the end that it leaves out", "api", "native/src/bitmap/ranges.rs", "above.checked_sub(1)", "above.checked_sub(0)"),
     Mutant("a root has the digests of the retained chunks alone", "roots", "native/src/roots.rs", "    digests.extend_from_slice(pruned);\n", ""),
+    Mutant("a root has bits past the length", "roots", "native/src/roots.rs", "    chunk[bits.div_ceil(8)..].fill(0);\n", ""),
     Mutant("a root counts no pruned chunk", "roots", "native/src/roots.rs", "bitmap.len(), bitmap.pruned_chunks() as u64, &", "bitmap.len(), 0, &"),
     Mutant("a version has the root of the current bitmap", "kept_roots", f"{ROOTS}/versions.rs", "self.0.root_at(number)", "self.0.root_at(number).map(|_| self.0.root())"),
     Mutant("a batch with roots appends another bit", "kept_roots", f"{ROOTS}/batch.rs", "self.0.edits().push(bit)", "self.0.edits().push(!bit)"),

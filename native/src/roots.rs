@@ -89,9 +89,21 @@ fn chunk_count<const N: usize>(bitmap: &impl Readable<N>) -> u64 {
     bitmap.len().div_ceil(8 * N as u64)
 }
 
+/// The chunk at an index, with zeros from the length of the bitmap on, where the bits that `get_chunk` returns may have any value.
+fn padded_chunk<const N: usize>(bitmap: &impl Readable<N>, index: usize) -> [u8; N] {
+    let width = 8 * N as u64;
+    let bits = (bitmap.len() - index as u64 * width).min(width) as usize;
+    let mut chunk = bitmap.get_chunk(index);
+    if !bits.is_multiple_of(8) {
+        chunk[bits / 8] &= (1 << (bits % 8)) - 1;
+    }
+    chunk[bits.div_ceil(8)..].fill(0);
+    chunk
+}
+
 /// Returns the digests of all chunks of a bitmap, by their index: those of `pruned`, and then those of the retained chunks.
 ///
-/// `pruned` has the digests of the pruned chunks, which were kept when these were pruned. It is empty if no chunk is pruned. The bitmap may be a
+/// The bits of the last chunk from the length on count as zeros, also if `get_chunk` of the bitmap returns others. `pruned` has the digests of the pruned chunks, which were kept when these were pruned. It is empty if no chunk is pruned. The bitmap may be a
 /// past version, or a batch.
 ///
 /// # Memory
@@ -158,7 +170,7 @@ pub fn try_chunk_digests<D: Digest, const N: usize>(
     let count = chunk_count(bitmap) as usize;
     let mut digests = Vec::with_capacity_within(Global, count)?;
     digests.extend_from_slice(pruned);
-    digests.extend((pruned.len()..count).map(|index| leaf_digest(hash, &bitmap.get_chunk(index))));
+    digests.extend((pruned.len()..count).map(|index| leaf_digest(hash, &padded_chunk(bitmap, index))));
     Ok(digests)
 }
 

@@ -446,6 +446,41 @@ fn a_proof_stays_good_when_chunks_are_pruned() {
     }
 }
 
+/// A bitmap whose bits are set, also those of its chunks past the length, which may have any value.
+struct Loose(u64);
+
+impl Readable<2> for Loose {
+    fn complete_chunks(&self) -> usize {
+        (self.0 / 16) as usize
+    }
+
+    fn get_chunk(&self, _: usize) -> [u8; 2] {
+        [0xff; 2]
+    }
+
+    fn last_chunk(&self) -> ([u8; 2], u64) {
+        ([0xff; 2], (self.0 - 1) % 16 + 1)
+    }
+
+    fn pruned_chunks(&self) -> usize {
+        0
+    }
+
+    fn len(&self) -> u64 {
+        self.0
+    }
+}
+
+#[test]
+fn bits_past_the_length_are_in_no_root() {
+    for len in 1..=48 {
+        let bitmap = BitMap::<2>::ones(len);
+        let digests = chunk_digests(&Sha256, &bitmap, &[]);
+        assert_eq!(chunk_digests(&Sha256, &Loose(len), &[]), digests, "{len} bits");
+        assert_eq!(bitmap_root(&Sha256, &Loose(len), &digests), bitmap_root(&Sha256, &bitmap, &digests));
+    }
+}
+
 /// Each version of a bitmap has its tree in the version of the stored digests under the same number. Commits set bits, append, remove and prune.
 #[test]
 fn stored_digests_follow_the_commits_of_a_bitmap() {
