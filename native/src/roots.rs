@@ -103,8 +103,8 @@ fn padded_chunk<const N: usize>(bitmap: &impl Readable<N>, index: usize) -> [u8;
 
 /// Returns the digests of all chunks of a bitmap, by their index: those of `pruned`, and then those of the retained chunks.
 ///
-/// The bits of the last chunk from the length on count as zeros, also if `get_chunk` of the bitmap returns others. `pruned` has the digests of the pruned chunks, which were kept when these were pruned. It is empty if no chunk is pruned. The bitmap may be a
-/// past version, or a batch.
+/// `pruned` has the digests of the pruned chunks, which were kept when these were pruned. It is empty if no chunk is pruned. The bitmap may be a
+/// past version, or a batch. The bits of the last chunk from the length on count as zeros, also if `get_chunk` of the bitmap returns others.
 ///
 /// # Memory
 ///
