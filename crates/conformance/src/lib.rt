@@ -18,7 +18,9 @@ mod dense;
 #[cfg(test)]
 mod dense_helpers;
 #[cfg(test)]
-mod ends;
+mod deque_and_iterators;
+#[cfg(test)]
+mod greatest_positions;
 #[cfg(test)]
 mod long_equality;
 #[cfg(test)]
@@ -31,7 +33,5 @@ mod pruned;
 mod ranges;
 #[cfg(test)]
 mod readers;
-#[cfg(test)]
-mod strange;
 #[cfg(test)]
 mod widths;

@@ -3,7 +3,7 @@
 //! A tool runs each test many times, and makes another allocation fail in each run. A test ends early if its set-up fails.
 //! After a failed call the test shows that the value is unchanged and can be used. As a plain test, no allocation fails.
 
-mod applied;
+mod batch;
 mod indexed;
 mod no_allocation;
 

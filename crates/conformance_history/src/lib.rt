@@ -4,9 +4,7 @@
 #[cfg(test)]
 mod allocation_failures;
 #[cfg(test)]
-mod applied;
-#[cfg(test)]
-mod calls;
+mod batch;
 #[cfg(test)]
 mod changes;
 #[cfg(test)]
@@ -16,9 +14,13 @@ mod checks;
 #[cfg(test)]
 mod chunks;
 #[cfg(test)]
-mod ends;
+mod each_call;
+#[cfg(test)]
+mod greatest_positions;
 #[cfg(test)]
 mod lengths;
+#[cfg(test)]
+mod lists_from;
 #[cfg(test)]
 mod long_batches;
 #[cfg(test)]
@@ -35,5 +37,3 @@ mod records;
 mod rewound;
 #[cfg(test)]
 mod set_chunks;
-#[cfg(test)]
-mod starts;

@@ -2,7 +2,7 @@
 
 use crate::checks::{equal, expect};
 use crate::commands::{is_done, len};
-use crate::in_place::{ones_at, two_commits};
+use crate::read_sessions::{ones_at, two_commits};
 use bitmap_core::bitmap::Readable;
 use bitmap_session::command::Command;
 use bitmap_session::reply::{Refusal, Reply};

@@ -10,11 +10,11 @@ mod checks;
 #[cfg(test)]
 mod commands;
 #[cfg(test)]
+mod decoded_sessions;
+#[cfg(test)]
 mod edits;
 #[cfg(test)]
-mod ends;
-#[cfg(test)]
-mod in_place;
+mod greatest_positions;
 #[cfg(test)]
 mod kept;
 #[cfg(test)]
@@ -22,6 +22,6 @@ mod lists;
 #[cfg(test)]
 mod methods;
 #[cfg(test)]
-mod read;
+mod read_sessions;
 #[cfg(test)]
 mod saved;

@@ -2,6 +2,8 @@
 #![tactic(auto)]
 
 #[cfg(test)]
+mod at;
+#[cfg(test)]
 mod at_for;
 #[cfg(test)]
 mod checked_calls;
@@ -9,7 +11,5 @@ mod checked_calls;
 mod checks;
 #[cfg(test)]
 mod gathered;
-#[cfg(test)]
-mod in_place;
 #[cfg(test)]
 mod indexed;
