@@ -8,7 +8,7 @@
 -- Sorted: the indices of a map's chunks in the order of its places, and sorted.
 -- Applied: the pending edits, applied in steps, give the pending bitmap.
 -- AppliedInAnyOrder: chunks written in any order of their indices.
--- AppliedRun: so they do if the appended run is applied after the other chunks.
+-- AppliedChunks: so they do if the appended chunks are applied after the others.
 -- Appends: several bits appended at once.
 -- Ranges: the bits of a range set at once.
 -- WholeChunks: the bits of a chunk replaced at once.
@@ -28,7 +28,7 @@ pub mod Record
 pub mod Sorted
 pub mod Applied
 pub mod AppliedInAnyOrder
-pub mod AppliedRun
+pub mod AppliedChunks
 pub mod Appends
 pub mod Ranges
 pub mod WholeChunks

@@ -13,7 +13,7 @@ use Rattle.historical_bitmap.specs.Pending.{edits_of}
 use Rattle.historical_bitmap.specs.Record.{bit_or_else}
 use Rattle.historical_bitmap.specs.Undo.{put_back}
 use Rattle.historical_bitmap.proofs.Pending.Applied.{put_bit}
-use Rattle.historical_bitmap.proofs.Pending.AppliedRun.{same_bits}
+use Rattle.historical_bitmap.proofs.Pending.AppliedChunks.{same_bits}
 use Rattle.historical_bitmap.proofs.Records.UndoneInSteps.{put_len, put_one_len, put_one_other, put_one_same, put_pruned}
 
 -- the chunks at the first `count` indices have the bits of their entries, and the other chunks are as before

@@ -122,7 +122,7 @@ pub type CleanBitMap<const N: usize> = BitMap<N, Clean>;
 /// A batch can edit at most 2^31 - 1 chunks besides those that it appends. An edit of one more returns `AllocError`.
 ///
 /// # Complexity
-/// The appended run has the chunks that the batch appended. They and the chunk that `set_bit` or `pop` wrote last are found in constant time.
+/// The *appended chunks* are those that the batch appended in order. They and the chunk that `set_bit` or `pop` wrote last are found in constant time.
 /// A search among the other edited chunks visits at most 16 nodes of the trie, whatever their indices.
 ///
 /// `len`, `pruned_chunks` and `complete_chunks` take constant time. A chunk takes a copy of its bytes, and at most one search among the edited chunks.

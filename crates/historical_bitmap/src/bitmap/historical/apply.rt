@@ -72,23 +72,23 @@ fn write_all<const N: usize>(current: &mut Prunable<N>, edited: EditedChunks<N>)
     ensures value { current.new ≡ put_back N current.old (edits_of edited.entry) }
     ensures sorted { IsStrictlySortedBy nat_cmp (keys_of edited.entry) }
 {
-    let (others, from, run) = edited.into_parts();
+    let (others, from, appended) = edited.into_parts();
     write_chunks(current, &others);
-    write_run(current, from, &run);
+    write_appended(current, from, &appended);
 }
 
-// Replaces the bits of the chunks of a run. Does not allocate.
-fn write_run<const N: usize>(current: &mut Prunable<N>, from: usize, run: &Vec<[u8; N]>)
+// Replaces the bits of the appended chunks. Does not allocate.
+fn write_appended<const N: usize>(current: &mut Prunable<N>, from: usize, appended: &Vec<[u8; N]>)
     requires width { IsWidth N }
-    requires retained { (at : ℕ) → at < length run.now.items → current.old.pruned ≤ from + at }
-    requires fits { (at : ℕ) (other : List ℕ) → at < length run.now.items
-        → IsOldChunk N (bit_len N current.old) (from + at) (get_or run.now.items at other) }
+    requires retained { (at : ℕ) → at < length appended.now.items → current.old.pruned ≤ from + at }
+    requires fits { (at : ℕ) (other : List ℕ) → at < length appended.now.items
+        → IsOldChunk N (bit_len N current.old) (from + at) (get_or appended.now.items at other) }
     ensures value { current.new
-        ≡ put_back N current.old (edits_of (appended_entries from run.now.items)) }
+        ≡ put_back N current.old (edits_of (appended_entries from appended.now.items)) }
 {
     let _ = current.len();
-    for at in 0..run.len() {
-        current.set_chunk_by_index(from + at, &run[at]);
+    for at in 0..appended.len() {
+        current.set_chunk_by_index(from + at, &appended[at]);
     }
 }
 

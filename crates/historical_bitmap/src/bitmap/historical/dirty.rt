@@ -116,7 +116,7 @@ impl<const N: usize> BitMap<N, Dirty<N>> {
     ///
     /// # Complexity
     ///
-    /// Constant in the appended run and in the chunk that `set_bit` or `pop` wrote last; else a search among the edited chunks.
+    /// Constant in an appended chunk and in the chunk that `set_bit` or `pop` wrote last; else a search among the edited chunks.
     pub fn get_bit(&self, bit: u64) -> bool
         requires { IsRetained N (pending_of N self.now) bit }
         ensures { result ≡ bit_at N (pending_of N self.now) bit }
@@ -331,7 +331,7 @@ impl<const N: usize> BitMap<N, Dirty<N>> {
     ///
     /// # Complexity
     ///
-    /// Constant within the appended run and within the chunk of the last `pop`; else a few searches among the edited chunks.
+    /// Constant within an appended chunk and within the chunk of the last `pop`; else a few searches among the edited chunks.
     #[inline]
     pub fn pop(&mut self) -> bool
         requires { 0 < length (pending_of N self.old).bits }
@@ -420,7 +420,7 @@ impl<const N: usize> BitMap<N, Dirty<N>> {
     /// Allocates the reverse record. If there is no capacity for them, also the chunks by which the current bitmap grows, and a place in the list of commits.
     /// The record has at most one entry per marked chunk, and at most one more if the batch popped down to whole chunks.
     /// It is allocated once, with capacity for at most one more entry per edited chunk that is also pruned or cut off.
-    /// Unless the edited chunks outside the appended run were first edited in ascending order, also allocates at most twice for their indices.
+    /// Unless the edited chunks that were not appended were first edited in ascending order, also allocates at most twice for their indices.
     /// Frees these before it returns.
     /// If the bitmap is indexed, also allocates the entries of the index, and a new trie for it if dropped commits have left many nodes in the old one.
     ///
@@ -428,7 +428,7 @@ impl<const N: usize> BitMap<N, Dirty<N>> {
     ///
     /// Per entry of the record, and per edited chunk. Amortized, since the current bitmap and the list of commits may have to reallocate to grow.
     /// If the bitmap is indexed, per entry also at most two searches, each of which visits at most 16 nodes.
-    /// Unless the edited chunks outside the appended run were first edited in ascending order, also one pass over the nodes of the trie that finds them.
+    /// Unless the edited chunks that were not appended were first edited in ascending order, also one pass over the nodes of the trie that finds them.
     /// A `set_range` that ran out of memory leaves the nodes of the chunks that it had inserted, which are visited too.
     /// Independent of the bitmap's length and of the number of kept commits.
     #[inline(always)]
@@ -510,7 +510,7 @@ impl<const N: usize> BitMap<N, Dirty<N>> {
     ///
     /// # Complexity
     ///
-    /// Constant in the appended run and in the chunk that `set_bit` or `pop` wrote last; else a search among the edited chunks, and a second one with
+    /// Constant in an appended chunk and in the chunk that `set_bit` or `pop` wrote last; else a search among the edited chunks, and a second one with
     /// a copy of the chunk if it is not yet edited.
     /// Amortized, if it allocates.
     #[inline]
@@ -543,7 +543,7 @@ impl<const N: usize> BitMap<N, Dirty<N>> {
     ///
     /// # Complexity
     ///
-    /// Linear in the bytes of the range. Per chunk of it outside the appended run, a few searches among the edited chunks;
+    /// Linear in the bytes of the range. Per chunk of it that was not appended, a few searches among the edited chunks;
     /// per chunk that is not yet edited, a copy of it. Amortized, if it allocates.
     pub fn set_range(&mut self, range: Range<u64>, value: bool) -> Result<Edit<'_, N>, AllocError>
         requires from { pruned_bits N (pending_of N self.old) ≤ range.start }
@@ -576,7 +576,7 @@ impl<const N: usize> BitMap<N, Dirty<N>> {
     ///
     /// # Complexity
     ///
-    /// Amortized constant in the appended run.
+    /// Amortized constant in an appended chunk.
     /// Else a copy of the chunk, with a few searches among the edited chunks. Amortized, if it allocates.
     #[inline]
     pub fn push(&mut self, value: bool) -> Result<Edit<'_, N>, AllocError>
@@ -607,7 +607,7 @@ impl<const N: usize> BitMap<N, Dirty<N>> {
     ///
     /// # Complexity
     ///
-    /// Amortized constant within one chunk of the appended run.
+    /// Amortized constant within one appended chunk.
     /// Else at most two chunks are copied, with a few searches among the edited chunks for each. Amortized, if it allocates.
     pub fn push_byte(&mut self, byte: u8) -> Result<Edit<'_, N>, AllocError>
         requires { bit_len N (pending_of N self.old) + 8 < 2 ^ 64 }
@@ -638,7 +638,7 @@ impl<const N: usize> BitMap<N, Dirty<N>> {
     ///
     /// # Complexity
     ///
-    /// At most two chunks are written: amortized constant per byte in the appended run, else with a few searches among the edited chunks for each.
+    /// At most two chunks are written: amortized constant per byte in appended chunks, else with a few searches among the edited chunks for each.
     /// Amortized, if it allocates.
     pub fn push_chunk(&mut self, chunk: &[u8; N]) -> Result<Edit<'_, N>, AllocError>
         requires { bit_len N (pending_of N self.old) + 8 * N < 2 ^ 64 }

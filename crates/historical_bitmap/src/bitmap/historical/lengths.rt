@@ -22,7 +22,7 @@ impl<const N: usize> BitMap<N, Dirty<N>> {
     ///
     /// # Complexity
     ///
-    /// At most linear in the edited chunks that are cut off, with a few searches for each one outside the appended run.
+    /// At most linear in the edited chunks that are cut off, with a few searches for each one that was not appended.
     /// Independent of the number of bits that are cut off.
     pub fn truncate(&mut self, n: u64)
         requires from { pruned_bits N (pending_of N self.old) ≤ n }
@@ -117,7 +117,7 @@ impl<const N: usize> BitMap<N, Dirty<N>> {
     ///
     /// # Complexity
     ///
-    /// Linear in the chunks of the new bits: amortized constant per byte in the appended run, else with a few searches among the edited chunks for each.
+    /// Linear in the chunks of the new bits: amortized constant per byte in appended chunks, else with a few searches among the edited chunks for each.
     pub fn extend_to(&mut self, n: u64) -> Result<Edit<'_, N>, AllocError>
         ensures* refused { sem 𝓛 (rests_if_refused N.row self.entry result) }
         ensures same_reference { IfOk result (IsOf self.entry) }
@@ -147,7 +147,7 @@ impl<const N: usize> BitMap<N, Dirty<N>> {
     ///
     /// # Complexity
     ///
-    /// Linear in the chunks of the new bits: amortized constant per byte in the appended run, else with a few searches among the edited chunks for each.
+    /// Linear in the chunks of the new bits: amortized constant per byte in appended chunks, else with a few searches among the edited chunks for each.
     pub fn extend_from_bitmap(&mut self, other: &DenseBitMap<N>) -> Result<Edit<'_, N>, AllocError>
         requires space { bit_len N (pending_of N self.old) + length other.now < 2 ^ 64 }
         ensures* refused { sem 𝓛 (rests_if_refused N.row self.entry result) }

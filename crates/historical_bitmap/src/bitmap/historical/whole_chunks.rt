@@ -119,7 +119,7 @@ impl<const N: usize> BitMap<N, Dirty<N>> {
     ///
     /// # Complexity
     ///
-    /// A copy of one chunk: constant per byte in the appended run, else with a few searches among the edited chunks. Amortized, if it allocates.
+    /// A copy of one chunk: constant per byte for an appended chunk, else with a few searches among the edited chunks. Amortized, if it allocates.
     pub fn set_chunk(&mut self, index: usize, chunk: &[u8; N]) -> Result<Edit<'_, N>, AllocError>
         requires retained { IsRetainedChunk N (pending_of N self.old) index }
         ensures* refused { sem 𝓛 (rests_if_refused N.row self.entry result) }

@@ -33,16 +33,16 @@ pub(crate) fn overwrite<const N: usize>(current: &mut Prunable<N>, len: u64, edi
 
 // Replaces the bits of edited chunks. Does not allocate.
 fn write_all<const N: usize>(current: &mut Prunable<N>, edited: EditedChunks<N>) {
-    let (others, from, run) = edited.into_parts();
+    let (others, from, appended) = edited.into_parts();
     write_chunks(current, &others);
-    write_run(current, from, &run);
+    write_appended(current, from, &appended);
 }
 
-// Replaces the bits of the chunks of a run. Does not allocate.
-fn write_run<const N: usize>(current: &mut Prunable<N>, from: usize, run: &Vec<[u8; N]>) {
+// Replaces the bits of the appended chunks. Does not allocate.
+fn write_appended<const N: usize>(current: &mut Prunable<N>, from: usize, appended: &Vec<[u8; N]>) {
     let _ = current.len();
-    for at in 0..run.len() {
-        current.set_chunk_by_index(from + at, &run[at]);
+    for at in 0..appended.len() {
+        current.set_chunk_by_index(from + at, &appended[at]);
     }
 }
 

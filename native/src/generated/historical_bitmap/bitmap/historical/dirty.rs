@@ -117,7 +117,7 @@ impl<const N: usize> BitMap<N, Dirty<N>> {
     ///
     /// # Complexity
     ///
-    /// Constant in the appended run and in the chunk that `set_bit` or `pop` wrote last; else a search among the edited chunks.
+    /// Constant in an appended chunk and in the chunk that `set_bit` or `pop` wrote last; else a search among the edited chunks.
     ///
     /// # Panics
     ///
@@ -366,7 +366,7 @@ impl<const N: usize> BitMap<N, Dirty<N>> {
     ///
     /// # Complexity
     ///
-    /// Constant within the appended run and within the chunk of the last `pop`; else a few searches among the edited chunks.
+    /// Constant within an appended chunk and within the chunk of the last `pop`; else a few searches among the edited chunks.
     ///
     /// # Panics
     ///
@@ -456,7 +456,7 @@ impl<const N: usize> BitMap<N, Dirty<N>> {
     /// Allocates the reverse record. If there is no capacity for them, also the chunks by which the current bitmap grows, and a place in the list of commits.
     /// The record has at most one entry per marked chunk, and at most one more if the batch popped down to whole chunks.
     /// It is allocated once, with capacity for at most one more entry per edited chunk that is also pruned or cut off.
-    /// Unless the edited chunks outside the appended run were first edited in ascending order, also allocates at most twice for their indices.
+    /// Unless the edited chunks that were not appended were first edited in ascending order, also allocates at most twice for their indices.
     /// Frees these before it returns.
     /// If the bitmap is indexed, also allocates the entries of the index, and a new trie for it if dropped commits have left many nodes in the old one.
     ///
@@ -464,7 +464,7 @@ impl<const N: usize> BitMap<N, Dirty<N>> {
     ///
     /// Per entry of the record, and per edited chunk. Amortized, since the current bitmap and the list of commits may have to reallocate to grow.
     /// If the bitmap is indexed, per entry also at most two searches, each of which visits at most 16 nodes.
-    /// Unless the edited chunks outside the appended run were first edited in ascending order, also one pass over the nodes of the trie that finds them.
+    /// Unless the edited chunks that were not appended were first edited in ascending order, also one pass over the nodes of the trie that finds them.
     /// A `set_range` that ran out of memory leaves the nodes of the chunks that it had inserted, which are visited too.
     /// Independent of the bitmap's length and of the number of kept commits.
     ///
@@ -525,7 +525,7 @@ impl<const N: usize> BitMap<N, Dirty<N>> {
     ///
     /// # Complexity
     ///
-    /// Constant in the appended run and in the chunk that `set_bit` or `pop` wrote last; else a search among the edited chunks, and a second one with
+    /// Constant in an appended chunk and in the chunk that `set_bit` or `pop` wrote last; else a search among the edited chunks, and a second one with
     /// a copy of the chunk if it is not yet edited.
     /// Amortized, if it allocates.
     ///
@@ -574,7 +574,7 @@ impl<const N: usize> BitMap<N, Dirty<N>> {
     ///
     /// # Complexity
     ///
-    /// Linear in the bytes of the range. Per chunk of it outside the appended run, a few searches among the edited chunks;
+    /// Linear in the bytes of the range. Per chunk of it that was not appended, a few searches among the edited chunks;
     /// per chunk that is not yet edited, a copy of it. Amortized, if it allocates.
     ///
     /// # Panics
@@ -612,7 +612,7 @@ impl<const N: usize> BitMap<N, Dirty<N>> {
     ///
     /// # Complexity
     ///
-    /// Amortized constant in the appended run.
+    /// Amortized constant in an appended chunk.
     /// Else a copy of the chunk, with a few searches among the edited chunks. Amortized, if it allocates.
     ///
     /// # Panics
@@ -649,7 +649,7 @@ impl<const N: usize> BitMap<N, Dirty<N>> {
     ///
     /// # Complexity
     ///
-    /// Amortized constant within one chunk of the appended run.
+    /// Amortized constant within one appended chunk.
     /// Else at most two chunks are copied, with a few searches among the edited chunks for each. Amortized, if it allocates.
     ///
     /// # Panics
@@ -685,7 +685,7 @@ impl<const N: usize> BitMap<N, Dirty<N>> {
     ///
     /// # Complexity
     ///
-    /// At most two chunks are written: amortized constant per byte in the appended run, else with a few searches among the edited chunks for each.
+    /// At most two chunks are written: amortized constant per byte in appended chunks, else with a few searches among the edited chunks for each.
     /// Amortized, if it allocates.
     ///
     /// # Panics

@@ -19,7 +19,7 @@ impl<const N: usize> BitMap<N, Dirty<N>> {
     ///
     /// # Complexity
     ///
-    /// At most linear in the edited chunks that are cut off, with a few searches for each one outside the appended run.
+    /// At most linear in the edited chunks that are cut off, with a few searches for each one that was not appended.
     /// Independent of the number of bits that are cut off.
     ///
     /// # Panics
@@ -110,7 +110,7 @@ impl<const N: usize> BitMap<N, Dirty<N>> {
     ///
     /// # Complexity
     ///
-    /// Linear in the chunks of the new bits: amortized constant per byte in the appended run, else with a few searches among the edited chunks for each.
+    /// Linear in the chunks of the new bits: amortized constant per byte in appended chunks, else with a few searches among the edited chunks for each.
     ///
     /// # Examples
     ///
@@ -144,7 +144,7 @@ impl<const N: usize> BitMap<N, Dirty<N>> {
     ///
     /// # Complexity
     ///
-    /// Linear in the chunks of the new bits: amortized constant per byte in the appended run, else with a few searches among the edited chunks for each.
+    /// Linear in the chunks of the new bits: amortized constant per byte in appended chunks, else with a few searches among the edited chunks for each.
     ///
     /// # Panics
     ///

@@ -139,7 +139,7 @@ impl<const N: usize> BitMap<N, Dirty<N>> {
     ///
     /// # Complexity
     ///
-    /// A copy of one chunk: constant per byte in the appended run, else with a few searches among the edited chunks. Amortized, if it allocates.
+    /// A copy of one chunk: constant per byte for an appended chunk, else with a few searches among the edited chunks. Amortized, if it allocates.
     ///
     /// # Panics
     ///

@@ -7,7 +7,7 @@ use Rattle.bitmap_core.specs.PrunedBits.{bit_len}
 use Rattle.historical_bitmap.specs.Pending.{edits_of}
 use Rattle.historical_bitmap.specs.Appended.{appended_entries}
 use Rattle.historical_bitmap.specs.Undo.{IsOldChunk, put_back}
-use Rattle.historical_bitmap.proofs.Pending.AppliedRun.{of_other, of_run, put_twice}
+use Rattle.historical_bitmap.proofs.Pending.AppliedChunks.{of_appended, of_other, put_twice}
 use Rattle.historical_bitmap.proofs.Records.UndoneInSteps.{put_len, put_pruned}
 use Rattle.historical_bitmap.proofs.bitmap.historical.apply.write_all.Goals as goal
 
@@ -27,8 +27,8 @@ write_chunks-requires g c =
       ),
     )
 
-pub write_run-requires : goal.write_run-requires
-write_run-requires g c =
+pub write_appended-requires : goal.write_appended-requires
+write_appended-requires g c =
     let r = c.into_parts-others.result in
     let pruned = ap (λ b. b.pruned) c.write_chunks.ensures.value ∙ put_pruned g.row.N c.args.current.now (edits_of r.0.entries) in
     let len = ap (λ b. bit_len g.row.N b) c.write_chunks.ensures.value ∙ put_len g.row.N c.args.current.now (edits_of r.0.entries) in (
@@ -38,8 +38,8 @@ write_run-requires g c =
         (
           c.requires.width,
           (
-            λ at h. omega (arith, pruned, of_run (λ bytes. c.args.current.now.pruned ≤ r.1 + at) r.1 r.2.items r.0.entries at [] h (subst (λ es. MatchOption (lookup (nat_eq (r.1 + at)) es) (Unit {0}) (λ bytes. c.args.current.now.pruned ≤ r.1 + at)) (sym c.into_parts-others.ensures.entries) (c.requires.retained (r.1 + at)))),
-            λ at other h. subst (λ (m : ℕ). IsOldChunk g.row.N m (r.1 + at) (get_or r.2.items at other)) (sym len) (of_run (IsOldChunk g.row.N (bit_len g.row.N c.args.current.now) (r.1 + at)) r.1 r.2.items r.0.entries at other h (subst (λ es. MatchOption (lookup (nat_eq (r.1 + at)) es) (Unit {0}) (IsOldChunk g.row.N (bit_len g.row.N c.args.current.now) (r.1 + at))) (sym c.into_parts-others.ensures.entries) (c.requires.fits (r.1 + at)))),
+            λ at h. omega (arith, pruned, of_appended (λ bytes. c.args.current.now.pruned ≤ r.1 + at) r.1 r.2.items r.0.entries at [] h (subst (λ es. MatchOption (lookup (nat_eq (r.1 + at)) es) (Unit {0}) (λ bytes. c.args.current.now.pruned ≤ r.1 + at)) (sym c.into_parts-others.ensures.entries) (c.requires.retained (r.1 + at)))),
+            λ at other h. subst (λ (m : ℕ). IsOldChunk g.row.N m (r.1 + at) (get_or r.2.items at other)) (sym len) (of_appended (IsOldChunk g.row.N (bit_len g.row.N c.args.current.now) (r.1 + at)) r.1 r.2.items r.0.entries at other h (subst (λ es. MatchOption (lookup (nat_eq (r.1 + at)) es) (Unit {0}) (IsOldChunk g.row.N (bit_len g.row.N c.args.current.now) (r.1 + at))) (sym c.into_parts-others.ensures.entries) (c.requires.fits (r.1 + at)))),
           ),
         ),
       ),
@@ -48,7 +48,7 @@ write_run-requires g c =
 pub returns-clause-value : goal.returns-clause-value
 returns-clause-value g c =
     let r = c.into_parts-others.result in
-    c.write_run.ensures.value
+    c.write_appended.ensures.value
     ∙ (ap (λ b. put_back g.row.N b (edits_of (appended_entries r.1 r.2.items))) c.write_chunks.ensures.value
     ∙ (put_twice g.row.N c.args.current.now r.1 r.2.items r.0.entries c.write_chunks.ensures.sorted (subst (λ es. IsStrictlySortedBy nat_cmp (keys_of es)) (sym c.into_parts-others.ensures.entries) c.into_parts-others.ensures.sorted)
     ∙ ap (λ es. put_back g.row.N c.args.current.now (edits_of es)) c.into_parts-others.ensures.entries))

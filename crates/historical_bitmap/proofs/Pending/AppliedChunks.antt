@@ -1,4 +1,4 @@
--- Edited chunks are written into the bitmap: first those outside the appended run, then the run.
+-- Edited chunks are written into the bitmap: first those that were not appended, then the appended ones.
 use Rattle.std.proofs.Common.{◌≡◌, ℕ, ◌+◌, ◌-◌, ◌*◌, ◌/◌, ◌<◌, ◌≤◌, suc, List, [], ◌∷◌, length, get_or, drop, Some, None, refl, sym, ap, ◌∙◌, subst, arith}
 use mathlib.Core.Logic.{inl, inr}
 use Rattle.std.proofs.Math.Seq.{drop-cons, drop-length}
@@ -26,39 +26,39 @@ module _ (n : ℕ) (b : PrunedBits) (from : ℕ) (xs : List (List ℕ)) (es : Li
   abbrev all : List (ℕ × List ℕ)
   all = with_appended from xs es
 
-  abbrev run : List (ℕ × List ℕ)
-  run = appended_entries from xs
+  abbrev appended : List (ℕ × List ℕ)
+  appended = appended_entries from xs
 
   abbrev once : PrunedBits
   once = put_back n b (edits_of es)
 
-  run_up : IsStrictlySortedBy nat_cmp (keys_of (appended_entries from xs))
+  appended_up : IsStrictlySortedBy nat_cmp (keys_of (appended_entries from xs))
   unfolding IsStrictlySortedBy
-  run_up = subst (λ ys. IsStrictlySortedBy nat_cmp (keys_of ys)) (append-nil (appended_entries from xs)) (appended_sorted from xs [] tt (λ q h. tt))
+  appended_up = subst (λ ys. IsStrictlySortedBy nat_cmp (keys_of ys)) (append-nil (appended_entries from xs)) (appended_sorted from xs [] tt (λ q h. tt))
 
   pub put_twice : IsStrictlySortedBy nat_cmp (keys_of es) → IsStrictlySortedBy nat_cmp (keys_of (with_appended from xs es)) → put_back n (put_back n b (edits_of es)) (edits_of (appended_entries from xs)) ≡ put_back n b (edits_of (with_appended from xs es))
-  put_twice up up_all = same_bits n (put_back n once (edits_of run)) (put_back n b (edits_of all)) pruned len bits
+  put_twice up up_all = same_bits n (put_back n once (edits_of appended)) (put_back n b (edits_of all)) pruned len bits
     where
-      pruned : (put_back n once (edits_of run)).pruned ≡ (put_back n b (edits_of all)).pruned
-      pruned = put_pruned n once (edits_of run) ∙ (put_pruned n b (edits_of es) ∙ sym (put_pruned n b (edits_of all)))
+      pruned : (put_back n once (edits_of appended)).pruned ≡ (put_back n b (edits_of all)).pruned
+      pruned = put_pruned n once (edits_of appended) ∙ (put_pruned n b (edits_of es) ∙ sym (put_pruned n b (edits_of all)))
 
-      len : bit_len n (put_back n once (edits_of run)) ≡ bit_len n (put_back n b (edits_of all))
-      len = put_len n once (edits_of run) ∙ (put_len n b (edits_of es) ∙ sym (put_len n b (edits_of all)))
+      len : bit_len n (put_back n once (edits_of appended)) ≡ bit_len n (put_back n b (edits_of all))
+      len = put_len n once (edits_of appended) ∙ (put_len n b (edits_of es) ∙ sym (put_len n b (edits_of all)))
 
       found : (o p : Option (List ℕ)) (k : ℕ) → bit_at n once k ≡ bit_or_else n p b k → bit_or_else n o once k ≡ bit_or_else n (first_of o p) b k
       found None p k e = e
       found (Some x) p k e = refl
 
-      bits : (k : ℕ) → IsRetained n (put_back n b (edits_of all)) k → bit_at n (put_back n once (edits_of run)) k ≡ bit_at n (put_back n b (edits_of all)) k
+      bits : (k : ℕ) → IsRetained n (put_back n b (edits_of all)) k → bit_at n (put_back n once (edits_of appended)) k ≡ bit_at n (put_back n b (edits_of all)) k
       bits k h =
           let there : IsRetained n b k = (omega (arith, h.0, ap (λ (q : ℕ). 8 * n * q) (put_pruned n b (edits_of all))), omega (arith, h.1, put_len n b (edits_of all))) in
           let still : IsRetained n once k = (omega (arith, there.0, ap (λ (q : ℕ). 8 * n * q) (put_pruned n b (edits_of es))), omega (arith, there.1, put_len n b (edits_of es))) in
-          put_bit n once run k run_up still
-          ∙ (found (lookup (nat_eq (k / (8 * n))) run) (lookup (nat_eq (k / (8 * n))) es) k (put_bit n b es k up there)
+          put_bit n once appended k appended_up still
+          ∙ (found (lookup (nat_eq (k / (8 * n))) appended) (lookup (nat_eq (k / (8 * n))) es) k (put_bit n b es k up there)
           ∙ (ap (λ o. bit_or_else n o b k) (sym (look from xs es (k / (8 * n))))
           ∙ sym (put_bit n b all k up_all there)))
 
--- a fact about each chunk holds for each of the others, and for each of the run
+-- a fact about each chunk holds for each of the others, and for each of the appended ones
 pub of_other : (P : List ℕ → Type 0) (from : ℕ) (xs : List (List ℕ)) (es : List (ℕ × List ℕ)) (q : ℕ) → ((q : ℕ) → from ≤ q → q < from + length xs → lookup (nat_eq q) es ≡ None) → MatchOption (lookup (nat_eq q) (with_appended from xs es)) (Unit {0}) P → MatchOption (lookup (nat_eq q) es) (Unit {0}) P
 of_other P from xs es q apart h = elim (cases_lt q from) [
   | inl l ↦ subst (λ o. MatchOption o (Unit {0}) P) (look_beside from xs es q (inl l)) h
@@ -68,12 +68,12 @@ of_other P from xs es q apart h = elim (cases_lt q from) [
   ]
 ]
 
-pub of_run : (P : List ℕ → Type 0) (from : ℕ) (xs : List (List ℕ)) (es : List (ℕ × List ℕ)) (i : ℕ) (d : List ℕ) → i < length xs → MatchOption (lookup (nat_eq (from + i)) (with_appended from xs es)) (Unit {0}) P → P (get_or xs i d)
-of_run P from xs es i d l h =
+pub of_appended : (P : List ℕ → Type 0) (from : ℕ) (xs : List (List ℕ)) (es : List (ℕ × List ℕ)) (i : ℕ) (d : List ℕ) → i < length xs → MatchOption (lookup (nat_eq (from + i)) (with_appended from xs es)) (Unit {0}) P → P (get_or xs i d)
+of_appended P from xs es i d l h =
     let place : from + i - from ≡ i = omega arith in
     subst (λ (j : ℕ). P (get_or xs j d)) place (subst (λ o. MatchOption o (Unit {0}) P) (look_in from xs es (from + i) d (omega arith, omega (arith, l))) h)
 
--- one chunk of the run is written
+-- one appended chunk is written
 pub rest_step : (n : ℕ) (b c : PrunedBits) (from i : ℕ) (xs : List (List ℕ)) (x : List ℕ) → i < length xs → x ≡ get_or xs i x → c ≡ with_chunk n b (from + i) x → put_back n c (edits_of (appended_entries (from + (i + 1)) (drop (i + 1) xs))) ≡ put_back n b (edits_of (appended_entries (from + i) (drop i xs)))
 rest_step n b c from i xs x h is e =
     let next : from + (i + 1) ≡ from + i + 1 = omega arith in
