@@ -3,7 +3,7 @@ use Rattle.std.specs.Prelude.{vec_len, vec_capacity}
 use Rattle.historical_bitmap.specs.CachedWord.{with_cached}
 use Rattle.historical_bitmap.specs.Edits.{from_to}
 use Rattle.historical_bitmap.specs.Pending.{old_chunk}
-use Rattle.historical_bitmap.proofs.bitmap.historical.pending.capture.Given as goal
+use Rattle.historical_bitmap.proofs.bitmap.historical.pending.prunes.capture.Given as goal
 
 abbrev pub invariant-loop-index : goal.invariant-loop-index
 invariant-loop-index g l = record {

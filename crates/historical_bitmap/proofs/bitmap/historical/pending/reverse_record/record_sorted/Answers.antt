@@ -4,7 +4,7 @@ use Rattle.std.specs.Map.{keys_of}
 use Rattle.historical_bitmap.specs.Pending.{AddsEntries, picked_between}
 use Rattle.historical_bitmap.proofs.Pending.Record.{adds_none, adds_twice}
 use Rattle.historical_bitmap.proofs.Pending.Sorted.{picked_members, picked_more}
-use Rattle.historical_bitmap.proofs.bitmap.historical.pending.record_sorted.Goals as goal
+use Rattle.historical_bitmap.proofs.bitmap.historical.pending.reverse_record.record_sorted.Goals as goal
 
 pub loop-index-init : goal.loop-index-init
 loop-index-init g c = adds_none g.row.N c.args.current.now c.args.edits.now _ c.args.record.now refl

@@ -2,8 +2,8 @@ use Rattle.std.proofs.Common.{[], arith, refl, sym, subst}
 use Rattle.historical_bitmap.specs.Pending.{AddsEntries}
 use Rattle.historical_bitmap.proofs.Pending.Record.{adds_more, adds_none}
 use Rattle.historical_bitmap.proofs.Pending.Sorted.{picked_none, picked_one}
-use Rattle.historical_bitmap.proofs.bitmap.historical.pending.record_between.Goals as goal
-use Rattle.historical_bitmap.proofs.bitmap.historical.pending.record_between.Goals.{else-from-index-via-then-from-index+else-index-to, else-from-index-via-else-from-index}
+use Rattle.historical_bitmap.proofs.bitmap.historical.pending.reverse_record.record_between.Goals as goal
+use Rattle.historical_bitmap.proofs.bitmap.historical.pending.reverse_record.record_between.Goals.{else-from-index-via-then-from-index+else-index-to, else-from-index-via-else-from-index}
 use mathlib.Core.Logic.{inl, inr}
 
 pub returns-in_ok-push : goal.returns-in_ok-push

@@ -3,7 +3,7 @@ use Rattle.std.proofs.lemmas.List.{take_all}
 use Rattle.historical_bitmap.specs.Pending.{AddsEntries, picked_between}
 use Rattle.historical_bitmap.proofs.Pending.Record.{adds_none, adds_twice}
 use Rattle.historical_bitmap.proofs.Pending.Sorted.{picked_more}
-use Rattle.historical_bitmap.proofs.bitmap.historical.pending.record_places.Goals as goal
+use Rattle.historical_bitmap.proofs.bitmap.historical.pending.reverse_record.record_places.Goals as goal
 
 pub loop-place-init : goal.loop-place-init
 loop-place-init g c = adds_none g.row.N c.args.current.now c.args.edits.now _ c.args.record.now refl

@@ -3,7 +3,7 @@ use Rattle.historical_bitmap.specs.Edits.{from_to}
 use Rattle.historical_bitmap.specs.Pending.{AddsEntries}
 use Rattle.historical_bitmap.proofs.Lists.Between.{range_more}
 use Rattle.historical_bitmap.proofs.Pending.Record.{adds_more}
-use Rattle.historical_bitmap.proofs.bitmap.historical.pending.record_range.Goals as goal
+use Rattle.historical_bitmap.proofs.bitmap.historical.pending.reverse_record.record_range.Goals as goal
 
 pub loop-index-preserved : goal.loop-index-preserved
 loop-index-preserved g c =

@@ -1,5 +1,5 @@
 use Rattle.std.proofs.Common.{ℕ, ◌+◌, ◌<◌, ◌≤◌, slice_index}
-use Rattle.historical_bitmap.proofs.bitmap.historical.pending.is_ascending.Given as goal
+use Rattle.historical_bitmap.proofs.bitmap.historical.pending.reverse_record.is_ascending.Given as goal
 
 abbrev pub invariant-loop-place : goal.invariant-loop-place
 invariant-loop-place g l = record {

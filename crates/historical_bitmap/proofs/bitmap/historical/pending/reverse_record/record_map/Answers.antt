@@ -3,7 +3,7 @@ use Rattle.std.specs.Map.{keys_of}
 use Rattle.std.specs.Prelude.{OnOk}
 use Rattle.historical_bitmap.specs.Pending.{AddsEntries}
 use Rattle.historical_bitmap.proofs.Pending.Sorted.{picked_are}
-use Rattle.historical_bitmap.proofs.bitmap.historical.pending.record_map.Goals as goal
+use Rattle.historical_bitmap.proofs.bitmap.historical.pending.reverse_record.record_map.Goals as goal
 
 pub returns-then-is_ascending : goal.returns-then-is_ascending
 returns-then-is_ascending g c =

@@ -1,6 +1,6 @@
 use Rattle.std.proofs.Common.{◌≡◌, ◌++◌, ◌∷◌, [], ap, ◌∙◌, arith}
 use Rattle.historical_bitmap.proofs.Pending.Writes.{captured_more}
-use Rattle.historical_bitmap.proofs.bitmap.historical.pending.capture.Goals as goal
+use Rattle.historical_bitmap.proofs.bitmap.historical.pending.prunes.capture.Goals as goal
 
 pub loop-index-preserved : goal.loop-index-preserved
 loop-index-preserved g c = record {

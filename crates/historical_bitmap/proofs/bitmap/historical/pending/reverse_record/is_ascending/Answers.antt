@@ -1,6 +1,6 @@
 use Rattle.std.proofs.Common.{arith}
 use Rattle.historical_bitmap.proofs.Pending.Sorted.{ascending_at, rises_more}
-use Rattle.historical_bitmap.proofs.bitmap.historical.pending.is_ascending.Goals as goal
+use Rattle.historical_bitmap.proofs.bitmap.historical.pending.reverse_record.is_ascending.Goals as goal
 
 pub loop-place-init : goal.loop-place-init
 loop-place-init g c = record { some = omega arith; rises = λ k within. absurd (omega (arith, within)) }
