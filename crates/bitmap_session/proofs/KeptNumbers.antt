@@ -2,7 +2,6 @@
 use Rattle.std.proofs.Common.{◌≡◌, ℕ, ◌-◌, ◌<◌, ◌≤◌, List, [], ◌∷◌, Bool, Option, Some, None, refl, sym, ap, subst, ◌∙◌, inl, inr, arith, length}
 use Rattle.std.specs.Prelude.{IfSome, nat_le, slice_get, suc}
 use Rattle.std.specs.List.{All, filter}
-use Rattle.std.specs.List.Sorted.{IsStrictlySortedBy}
 use Rattle.std.specs.Map.{keys_of}
 use Rattle.std.specs.Option.{option_map}
 use Rattle.std.specs.Ordering.{nat_cmp}
@@ -13,7 +12,7 @@ use Rattle.std.proofs.lemmas.Map.Keys.{sorted_head, sorted_tail}
 use Rattle.bitmap_core.specs.PrunedBits.{PrunedBits}
 use Rattle.historical_bitmap.specs.History.{LatestIsLast, latest, RiseInNumber}
 use Rattle.historical_bitmap.proofs.History.PastStates.{below}
-use Rattle.historical_bitmap.proofs.Pending.Record.{keys_push, sorted_push}
+use Rattle.historical_bitmap.proofs.Pending.Record.{keys_push, sorted_none, sorted_push}
 use Rattle.bitmap_session.specs.declared.command.Command.{Command}
 use Rattle.bitmap_session.specs.Replies.{ReplyValue}
 use Rattle.bitmap_session.specs.Laws.{HasRisingNumbers, IsGreatestOf, LatestIsGreatest, NoCommitsRise, NumbersRise, NumbersRiseOn}
@@ -52,10 +51,6 @@ fewer (Some last) p ks g = All-filter p (λ k. k ≤ last) ks g
 of_none : (last : Option ℕ) → IsGreatestOf last []
 of_none None = refl
 of_none (Some last) = All-nil (λ k. k ≤ last)
-
-sorted_none : IsStrictlySortedBy nat_cmp []
-unfolding IsStrictlySortedBy
-sorted_none = tt
 
 -- the kept numbers are strictly ascending, and none is above the last number
 abbrev pub Rise : History → Option ℕ → Type 0

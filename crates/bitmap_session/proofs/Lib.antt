@@ -1,4 +1,3 @@
-pub mod Counting
 pub mod Simulates
 pub mod Runs
 pub mod Steps

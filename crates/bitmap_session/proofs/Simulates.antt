@@ -8,7 +8,7 @@ use Rattle.historical_bitmap.specs.Edits.{IsWithin}
 use Rattle.bitmap_session.specs.Replies.{ReplyValue, Refusal}
 use Rattle.bitmap_session.specs.Replies.Refusal.{NoMemory}
 use Rattle.bitmap_session.specs.Machine.{Machine, State, Agrees, StepTo, Step, Accepts, Refuses, after, refusal_of, allocates, is_dirty, shown, state_after, touches}
-use Rattle.bitmap_session.proofs.Counting.{count_within}
+use Rattle.historical_bitmap.proofs.Lists.Counting.{count_within}
 
 or_assoc : (a b c : Bool) → (a || (b || c)) ≡ ((a || b) || c)
 or_assoc true b c = refl

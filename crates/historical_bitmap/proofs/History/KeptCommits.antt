@@ -17,7 +17,7 @@ use Rattle.historical_bitmap.specs.History.{undone, snapshots, costs, from_numbe
 use Rattle.historical_bitmap.specs.Record.{ReverseRecord, before}
 use Rattle.historical_bitmap.specs.Undo.{CanUndo}
 use Rattle.historical_bitmap.proofs.Lists.Maps.{none_under}
-use Rattle.historical_bitmap.proofs.History.Positions.{sorted_none}
+use Rattle.historical_bitmap.proofs.Pending.Record.{sorted_none}
 use Rattle.historical_bitmap.proofs.History.PastStates.{from_above, none_up_to, snapshot_at, snapshot_none, snapshots_numbers, can_undo_from, can_undo_rewound, snapshots_rewound, undone_push}
 
 -- ---- the numbers of a history are those of the commits

@@ -119,11 +119,6 @@ pub popped_again : {X : Type 0} (es more : List X) (e : X) (count : ℕ) → mor
 popped_again es more e count pushed whole = ap (λ k. take (k - 1) more) whole ∙ (ap before_latest pushed ∙ before_pushed es e)
 
 -- ---- a part of a list rises in number
--- no numbers rise
-pub sorted_none : IsStrictlySortedBy nat_cmp []
-unfolding IsStrictlySortedBy
-sorted_none = tt
-
 -- a commit with a greater number is appended
 pub rise_push : {X : Type 0} (es : List (ℕ × X)) (m : ℕ) (x : X) → RiseInNumber es → All (λ k. k < m) (keys_of es) → RiseInNumber (es ++ (m, x) ∷ [])
 rise_push es m x rise below = rw (keys_push es m x) (sorted_push (keys_of es) m rise below)

@@ -151,6 +151,7 @@ unfolding IsStrictlySortedBy
 sorted_push [] i h below = (tt, tt)
 sorted_push (k ∷ ks) i h below = (all_push (λ y. nat_cmp k y ≡ Less) ks i h.0 (less k i (All-head (λ k. k < i) k ks below)), sorted_push ks i h.1 (All-tail (λ k. k < i) k ks below))
 
+-- no numbers rise
 pub sorted_none : IsStrictlySortedBy nat_cmp []
 unfolding IsStrictlySortedBy
 sorted_none = tt

@@ -1,5 +1,5 @@
 use Rattle.std.proofs.Common.{arith}
-use Rattle.historical_bitmap.proofs.History.Positions.{sorted_none}
+use Rattle.historical_bitmap.proofs.Pending.Record.{sorted_none}
 use Rattle.historical_bitmap.proofs.bitmap.historical.dirty.keep_current.Goals as goal
 
 pub append-requires : goal.append-requires

@@ -1,4 +1,4 @@
-use Rattle.historical_bitmap.proofs.History.Positions.{sorted_none}
+use Rattle.historical_bitmap.proofs.Pending.Record.{sorted_none}
 use Rattle.historical_bitmap.proofs.bitmap.historical.commit_list.CommitList.clear.Goals as goal
 
 pub invariant_of-self : goal.invariant_of-self

@@ -1,4 +1,4 @@
-use Rattle.historical_bitmap.proofs.History.Positions.{sorted_none}
+use Rattle.historical_bitmap.proofs.Pending.Record.{sorted_none}
 use Rattle.historical_bitmap.proofs.bitmap.historical.commit_list.CommitList.new.Goals as goal
 
 pub invariant_of-result : goal.invariant_of-result

@@ -1,5 +1,6 @@
 use Rattle.std.proofs.Common.{[], arith}
-use Rattle.historical_bitmap.proofs.History.Positions.{rise_push, sorted_none}
+use Rattle.historical_bitmap.proofs.History.Positions.{rise_push}
+use Rattle.historical_bitmap.proofs.Pending.Record.{sorted_none}
 use Rattle.historical_bitmap.proofs.bitmap.historical.kept_row.KeptRow.of.Goals as goal
 
 pub invariant_of-result : goal.invariant_of-result
