@@ -13,14 +13,14 @@ use Rattle.bitmap_core.specs.PrunedBits.{PrunedBits}
 use Rattle.historical_bitmap.specs.History.{RiseInNumber, from_number, kept_under, up_to_number}
 use Rattle.historical_bitmap.specs.View.{history_of}
 use Rattle.historical_bitmap.proofs.History.KeptUnder.{kept_from_number, kept_up_to_number}
-use Rattle.historical_bitmap.proofs.History.PastStates.{below}
+use Rattle.historical_bitmap.proofs.History.PastStates.{less_from_nat_cmp}
 use Rattle.historical_bitmap.proofs.History.Rewound.{or_none}
 use Rattle.authenticated_history.specs.Versions.{Authenticated, AuthenticatesIf, Follows, bitmap_if, current_of, version_of}
 use Rattle.authenticated_history.proofs.Versions.{kept_push}
 
 -- ---- a commit
 last_above : {X : Type 0} (a : ℕ) (cs : List (ℕ × X)) (c : ℕ × X) → AllByRecursion (λ k. nat_cmp a k ≡ Less) (keys_of (cs ++ c ∷ [])) → a < c.0
-last_above a [] c h = below a c.0 h.0
+last_above a [] c h = less_from_nat_cmp a c.0 h.0
 last_above a (d ∷ cs) c h = last_above a cs c h.1
 
 -- nothing was kept under the number of the latest commit

@@ -11,15 +11,15 @@ use Rattle.std.proofs.lemmas.List.Kept.{IsStrictlySortedBy-filter}
 use Rattle.std.proofs.lemmas.Map.Keys.{sorted_head, sorted_tail}
 use Rattle.bitmap_core.specs.PrunedBits.{PrunedBits}
 use Rattle.historical_bitmap.specs.History.{LatestIsLast, latest, RiseInNumber}
-use Rattle.historical_bitmap.proofs.History.PastStates.{below}
+use Rattle.historical_bitmap.proofs.History.PastStates.{less_from_nat_cmp}
 use Rattle.historical_bitmap.proofs.Pending.Record.{keys_push, sorted_none, sorted_push}
 use Rattle.bitmap_session.specs.declared.command.Command.{Command}
 use Rattle.bitmap_session.specs.Replies.{ReplyValue}
 use Rattle.bitmap_session.specs.Laws.{HasRisingNumbers, IsGreatestOf, LatestIsGreatest, NoCommitsRise, NumbersRise, NumbersRiseOn}
 use Rattle.bitmap_session.specs.Machine.{Machine, Agrees, State, StepTo}
 use Rattle.bitmap_session.proofs.Runs.{step_is_run}
-use Rattle.bitmap_session.proofs.Steps.{itself}
-use Rattle.bitmap_session.proofs.Moves.{Moves, Stays, Starts, Keeps, Rewinds, Drops, Clears, IsAbove, moves}
+use Rattle.bitmap_session.proofs.Steps.{agrees_with_itself}
+use Rattle.bitmap_session.proofs.Moves.{Moves, Stays, Starts, Keeps, Rewinds, Drops, Clears, IsAbove, step_moves}
 
 abbrev pub History : Type 0
 History = List (ℕ × PrunedBits)
@@ -44,9 +44,9 @@ pub all_below : (last : Option ℕ) (ks : List ℕ) (number : ℕ) → IsAbove l
 all_below None ks number a g = rw g (All-nil (λ k. k < number))
 all_below (Some last) ks number a g = All-weaker (λ k. k ≤ last) (λ k. k < number) (λ k l. omega (arith, l, a)) ks g
 
-fewer : (last : Option ℕ) (p : ℕ → Bool) (ks : List ℕ) → IsGreatestOf last ks → IsGreatestOf last (filter p ks)
-fewer None p ks g = rw g refl
-fewer (Some last) p ks g = All-filter p (λ k. k ≤ last) ks g
+greatest_of_filtered : (last : Option ℕ) (p : ℕ → Bool) (ks : List ℕ) → IsGreatestOf last ks → IsGreatestOf last (filter p ks)
+greatest_of_filtered None p ks g = rw g refl
+greatest_of_filtered (Some last) p ks g = All-filter p (λ k. k ≤ last) ks g
 
 of_none : (last : Option ℕ) → IsGreatestOf last []
 of_none None = refl
@@ -74,7 +74,7 @@ keeps_rising {s} (Rewinds number e f) r =
 keeps_rising {s} (Drops number e f) r =
     rw (e, f, keys_where (nat_le number) s.history) (
       IsStrictlySortedBy-filter nat_cmp (nat_le number) (keys_of s.history) r.0,
-      fewer s.last (nat_le number) (keys_of s.history) r.1,
+      greatest_of_filtered s.last (nat_le number) (keys_of s.history) r.1,
     )
 keeps_rising {s} (Clears e f) r = rw (e, f) (sorted_none, of_none s.last)
 
@@ -82,7 +82,7 @@ keeps_rising {s} (Clears e f) r = rw (e, f) (sorted_none, of_none s.last)
 pub numbers_rise : (N : ℕ) → NumbersRise N
 numbers_rise N old new [] [] rise run = rw run rise
 numbers_rise N old new (command ∷ commands) (reply ∷ replies) rise run =
-    let next = keeps_rising (moves N old command reply run.0 run.1) (rise.rise, rise.last) in
+    let next = keeps_rising (step_moves N old command reply run.0 run.1) (rise.rise, rise.last) in
     numbers_rise N run.0 new commands replies (record { rise = next.0; last = next.1 }) run.2
 numbers_rise N old new [] (reply ∷ replies) rise run = absurd run
 numbers_rise N old new (command ∷ commands) [] rise run = absurd run
@@ -94,7 +94,7 @@ no_commits_rise s e = record { rise = rw e sorted_none; last = rw e (of_none s.l
 -- the states of machines that agree are the same
 pub numbers_rise_on : (N : ℕ) → NumbersRiseOn N
 numbers_rise_on N old new commands replies rise runs =
-    let run = runs old (itself old) in
+    let run = runs old (agrees_with_itself old) in
     let after = numbers_rise N old run.0 commands replies rise run.2 in
     rw run.1.same after
 
@@ -128,7 +128,7 @@ latest_greatest [] rise = refl
 latest_greatest (e ∷ []) rise = All-cons (λ k. k ≤ e.0) e.0 [] (omega arith) (All-nil (λ k. k ≤ e.0))
 latest_greatest (e ∷ f ∷ es) rise =
     let rest = latest_greatest (f ∷ es) (sorted_tail nat_cmp e.0 (keys_of (f ∷ es)) rise) in
-    let l = below e.0 f.0 (sorted_head nat_cmp e.0 (keys_of (f ∷ es)) rise).0 in
+    let l = less_from_nat_cmp e.0 f.0 (sorted_head nat_cmp e.0 (keys_of (f ∷ es)) rise).0 in
     rw (latest-cons e f es) (one_more e.0 f.0 (latest (f ∷ es)) (keys_of es) l rest)
 
 -- the law of the latest number

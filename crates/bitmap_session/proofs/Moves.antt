@@ -42,8 +42,8 @@ not_refused (Some previous) number h = elim (cases_lt previous number) [
   | inr l ↦ let e = rw (le-leb number previous l) at h in cc
 ]
 
-pub above : (N : ℕ) (s : State) (number : ℕ) → refusal_of N s (Commit number) ≡ None → IsAbove s.last number
-above N s number h =
+pub accepted_is_above : (N : ℕ) (s : State) (number : ℕ) → refusal_of N s (Commit number) ≡ None → IsAbove s.last number
+accepted_is_above N s number h =
     let reserved = when (number == 2 ^ 64 - 1) ReservedCommitNumber in
     let previous = option_and_then (λ previous. when (nat_le number previous) (NonMonotonicCommit previous number)) s.last in
     let beyond = rest_none (wants_batch s) (option_or reserved (option_or previous None)) h in
@@ -59,7 +59,7 @@ accepted_moves N s (PushChunk bytes) cost h = Stays refl refl
 accepted_moves N s Pop cost h = Stays refl refl
 accepted_moves N s (Set position value) cost h = Stays refl refl
 accepted_moves N s (Prune position) cost h = Stays refl refl
-accepted_moves N s (Commit number) cost h = Keeps number (shown s) (above N s number h) refl refl
+accepted_moves N s (Commit number) cost h = Keeps number (shown s) (accepted_is_above N s number h) refl refl
 accepted_moves N s Abort cost h = Stays refl refl
 accepted_moves N s (Rewind number) cost h = Rewinds number refl refl
 accepted_moves N s Len cost h = Stays refl refl
@@ -102,8 +102,8 @@ done_by N old command new None e (inl h) = (e, (h.1.0, h.1.2))
 done_by N old command new None e (inr h) = let reply_is = h.1.0 in cc
 
 -- a command that replies Done was accepted
-pub done : (N : ℕ) (old : Machine) (command : Command N) (new : Machine) → Step N old command Done new → IsAfter N old command new
-done N old command new step = done_by N old command new (refusal_of N old.state command) refl step
+pub done_is_after : (N : ℕ) (old : Machine) (command : Command N) (new : Machine) → Step N old command Done new → IsAfter N old command new
+done_is_after N old command new step = done_by N old command new (refusal_of N old.state command) refl step
 
 moves_by : (N : ℕ) (old : Machine) (command : Command N) (reply : ReplyValue) (new : Machine) (r : Option Refusal)
     → refusal_of N old.state command ≡ r
@@ -114,5 +114,5 @@ moves_by N old command reply new None e (inl h) = rw h.1.2 (accepted_moves N old
 moves_by N old command reply new None e (inr h) = rw h.1.1 (Stays refl refl)
 
 -- each step changes the history and the last number in one of these ways
-pub moves : (N : ℕ) (old : Machine) (command : Command N) (reply : ReplyValue) (new : Machine) → Step N old command reply new → Moves old.state new.state
-moves N old command reply new step = moves_by N old command reply new (refusal_of N old.state command) refl step
+pub step_moves : (N : ℕ) (old : Machine) (command : Command N) (reply : ReplyValue) (new : Machine) → Step N old command reply new → Moves old.state new.state
+step_moves N old command reply new step = moves_by N old command reply new (refusal_of N old.state command) refl step

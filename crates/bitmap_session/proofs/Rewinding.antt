@@ -15,7 +15,7 @@ use Rattle.bitmap_session.specs.Replies.{ReplyValue}
 use Rattle.bitmap_session.specs.Laws.{Rewinding, RunKeeping}
 use Rattle.bitmap_session.specs.Machine.{Machine, State, shown}
 use Rattle.bitmap_session.proofs.KeptNumbers.{History, all_below}
-use Rattle.bitmap_session.proofs.Moves.{Moves, Stays, Starts, Keeps, Rewinds, Drops, Clears, IsAbove, above, done, moves}
+use Rattle.bitmap_session.proofs.Moves.{Moves, Stays, Starts, Keeps, Rewinds, Drops, Clears, IsAbove, accepted_is_above, done_is_after, step_moves}
 
 -- ---- filtered histories
 kept_where : (p : ℕ → Bool) (m : ℕ) (es : History) → kept_under (filter (λ e. p e.0) es) m ≡ (if p m then kept_under es m else None)
@@ -110,9 +110,9 @@ pub record IsFrom (number : ℕ) (earlier : History) (s : State) : Type 0 where
   pub history : up_to_number number s.history ≡ filter (λ e. stays e.0) earlier
   pub last : MatchOption s.last ⊥ (λ last. number ≤ last)
 
-passes : (last : Option ℕ) (number next : ℕ) → IsAbove last next → MatchOption last ⊥ (λ l. number ≤ l) → number < next
-passes None number next a h = absurd h
-passes (Some last) number next a h = omega (arith, a, h)
+greater_than_target : (last : Option ℕ) (number next : ℕ) → IsAbove last next → MatchOption last ⊥ (λ l. number ≤ l) → number < next
+greater_than_target None number next a h = absurd h
+greater_than_target (Some last) number next a h = omega (arith, a, h)
 
 none_kept : (number : ℕ) (history : History) → history ≡ [] → IsSome (kept_under history number) → ⊥
 none_kept number history e kept = let k = rw e at kept in false≢true k
@@ -127,7 +127,7 @@ keeps_from : (number : ℕ) (earlier : History) {s t : State} → Moves s t → 
 keeps_from number earlier (Stays e f) kept b = record { stays = b.stays; history = rw e b.history; last = rw f b.last }
 keeps_from number earlier (Starts e f) kept b = absurd (none_kept number _ e kept)
 keeps_from number earlier {s} (Keeps k bitmap a e f) kept b =
-    let l = passes s.last number k a b.last in
+    let l = greater_than_target s.last number k a b.last in
     record {
       stays = b.stays;
       history = ap (up_to_number number) e ∙ (up_to_push number k bitmap s.history l ∙ b.history);
@@ -162,7 +162,7 @@ through N number earlier old new [] [] run b = rw run.1 (b, run.0)
 through N number earlier old new (command ∷ commands) (reply ∷ replies) run b =
     let mid = run.1.0 in
     let kept = kept_now N number mid new commands replies run.1.1.1 in
-    let next = keeps_from number earlier (moves N old command reply mid run.1.1.0) kept b in
+    let next = keeps_from number earlier (step_moves N old command reply mid run.1.1.0) kept b in
     through N number earlier mid new commands replies run.1.1.1 next
 through N number earlier old new [] (reply ∷ replies) run b = absurd run
 through N number earlier old new (command ∷ commands) [] run b = absurd run
@@ -245,11 +245,11 @@ pub rewinding : (N : ℕ) → Rewinding N
 rewinding N number before committed left back commands replies rise commit run rewind =
     let es = before.state.history in
     let bitmap = shown before.state in
-    let made = done N before (Commit number) committed commit in
-    let under = all_below before.state.last (keys_of es) number (above N before.state number made.0) rise.last in
+    let made = done_is_after N before (Commit number) committed commit in
+    let under = all_below before.state.last (keys_of es) number (accepted_is_above N before.state number made.0) rise.last in
     let begun = committed_from number bitmap es committed.state under (ap (λ m. m.state.history) made.1.1) (ap (λ m. m.state.last) made.1.1) in
     let arrived = through N number (es ++ (number, bitmap) ∷ []) committed left commands replies run begun in
-    let went = done N left (Rewind number) back rewind in
+    let went = done_is_after N left (Rewind number) back rewind in
     let found = found_again number bitmap (es ++ (number, bitmap) ∷ []) left.state arrived.0 arrived.1 (found_committed number bitmap es under) in
     let again = kept_are (up_to_number number left.state.history) (es ++ (number, bitmap) ∷ []) arrived.0.stays arrived.0.history in
     rw (went.1.1, made.1.1) (record {

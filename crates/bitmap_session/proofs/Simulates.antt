@@ -31,9 +31,9 @@ within_both xs ys zs w q h =
     let each = either_side (is_member nat_eq xs q) (is_member nat_eq ys q) (is_member nat_eq zs q) (w q) in
     rw is_member-append (each (rw is_member-append at h))
 
-either : (b : Bool) (zs xs ys : List ℕ) → IsWithin xs ys → IsWithin (if b then xs ++ zs else []) (if b then ys ++ zs else [])
-either true zs xs ys w = within_both xs ys zs w
-either false zs xs ys w = λ q h. h
+within_either : (b : Bool) (zs xs ys : List ℕ) → IsWithin xs ys → IsWithin (if b then xs ++ zs else []) (if b then ys ++ zs else [])
+within_either true zs xs ys w = within_both xs ys zs w
+within_either false zs xs ys w = λ q h. h
 
 -- a machine by its state and its touched chunks
 abbrev at_touched : State → List ℕ → Machine
@@ -45,7 +45,7 @@ agrees_after : (N : ℕ) (s : State) (marks touched : List ℕ) (command : Comma
     → Agrees new (after N (at_touched s marks) command cost)
     → Agrees new (after N (at_touched s touched) command cost)
 agrees_after N s marks touched command cost new w a =
-    let both = either (is_dirty s && is_dirty (state_after N s command 0)) (touches N s command) marks touched w in
+    let both = within_either (is_dirty s && is_dirty (state_after N s command 0)) (touches N s command) marks touched w in
     record { same = a.same; within = λ k h. both k (a.within k h) }
 
 -- a command that changes nothing leaves them in agreement

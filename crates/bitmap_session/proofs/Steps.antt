@@ -43,21 +43,21 @@ pub not_zero : (n : ℕ) → 0 < n → (n == 0) ≡ false
 not_zero n h = grind (arith, nat_tests)
 
 -- each machine agrees with itself
-pub itself : (m : Machine) → Agrees m m
-itself m = record { same = refl; within = λ q h. h }
+pub agrees_with_itself : (m : Machine) → Agrees m m
+agrees_with_itself m = record { same = refl; within = λ q h. h }
 
 -- a refused command replies its refusal, and changes nothing
 pub refused : (N : ℕ) (m : Machine) (command : Command N) (why : Refusal)
     → refusal_of N m.state command ≡ Some why
     → StepTo N Agrees m command (Refused why) m
-refused N m command why e = rw e (refl, itself m)
+refused N m command why e = rw e (refl, agrees_with_itself m)
 
 -- a command that allocates may run out of memory, and then changes nothing
 pub out_of_memory : (N : ℕ) (m : Machine) (command : Command N)
     → refusal_of N m.state command ≡ None
     → allocates N m.state command ≡ true
     → StepTo N Agrees m command (Refused NoMemory) m
-out_of_memory N m command e t = rw e (inr (t, (refl, itself m)))
+out_of_memory N m command e t = rw e (inr (t, (refl, agrees_with_itself m)))
 
 -- a command with no refusal may be accepted
 accepted : (N : ℕ) (m new : Machine) (command : Command N) (reply : ReplyValue)
@@ -75,8 +75,8 @@ pub wrong_mode_clean : (N : ℕ) (v : View ⊤) (command : Command N)
     → StepTo N Agrees (clean N v) command (Refused WrongMode) (clean N v)
 wrong_mode_clean N v (Start chunks) _ not_start _ _ = absurd (not_start chunks refl)
 wrong_mode_clean N v Begin _ _ not_begin _ = absurd (not_begin refl)
-wrong_mode_clean N v (Commit number) _ _ _ _ = (refl, itself _)
-wrong_mode_clean N v Abort _ _ _ _ = (refl, itself _)
+wrong_mode_clean N v (Commit number) _ _ _ _ = (refl, agrees_with_itself _)
+wrong_mode_clean N v Abort _ _ _ _ = (refl, agrees_with_itself _)
 wrong_mode_clean N v (Rewind number) _ _ _ not_rewind = absurd (not_rewind number refl)
 wrong_mode_clean N v (Push value) h _ _ _ = absurd h
 wrong_mode_clean N v (PushByte byte) h _ _ _ = absurd h
@@ -108,11 +108,11 @@ pub wrong_mode_dirty : (N : ℕ) (v : View PendingEdits) (command : Command N)
     → ((number : ℕ) → (command ≡ Commit number → ⊥))
     → (command ≡ Abort → ⊥)
     → StepTo N Agrees (dirty N v) command (Refused WrongMode) (dirty N v)
-wrong_mode_dirty N v (Start chunks) _ _ _ = (refl, itself _)
-wrong_mode_dirty N v Begin _ _ _ = (refl, itself _)
+wrong_mode_dirty N v (Start chunks) _ _ _ = (refl, agrees_with_itself _)
+wrong_mode_dirty N v Begin _ _ _ = (refl, agrees_with_itself _)
 wrong_mode_dirty N v (Commit number) _ not_commit _ = absurd (not_commit number refl)
 wrong_mode_dirty N v Abort _ _ not_abort = absurd (not_abort refl)
-wrong_mode_dirty N v (Rewind number) _ _ _ = (refl, itself _)
+wrong_mode_dirty N v (Rewind number) _ _ _ = (refl, agrees_with_itself _)
 wrong_mode_dirty N v (Push value) h _ _ = absurd h
 wrong_mode_dirty N v (PushByte byte) h _ _ = absurd h
 wrong_mode_dirty N v (PushChunk bytes) h _ _ = absurd h
@@ -254,7 +254,7 @@ dropped N number count old new c l h k e =
 pub started : (N chunks : ℕ) (old : View ⊤)
     → 8 * N * chunks < 2 ^ 64
     → StepTo N Agrees (clean N old) (Start chunks) Done (clean N (record { current = record { pruned = chunks; bits = [] }; commits = []; last = None; state = tt }))
-started N chunks old h = rw (fits_u64 (8 * N * chunks) h) (inl (refl, (0, omega arith, itself _)))
+started N chunks old h = rw (fits_u64 (8 * N * chunks) h) (inl (refl, (0, omega arith, agrees_with_itself _)))
 
 -- a start whose pruned bits do not fit u64 is refused
 start_refused : (N chunks : ℕ) (v : View ⊤)
@@ -324,19 +324,19 @@ was_committed N number v new e c h l k =
 
 pub aborted : (N : ℕ) (old : View PendingEdits)
     → StepTo N Agrees (dirty N old) Abort Done (clean N (record { current = old.current; commits = old.commits; last = old.last; state = tt }))
-aborted N old = inl (refl, (0, omega arith, itself _))
+aborted N old = inl (refl, (0, omega arith, agrees_with_itself _))
 
 -- a read in a batch touches no chunk
-pub still : (N : ℕ) (v : View PendingEdits) → Agrees (dirty N v) (record { state = (dirty N v).state; touched = marked_of N v ++ [] })
-still N v = record { same = refl; within = rw (append-nil (marked_of N v)) (λ q h. h) }
+pub read_touches_nothing : (N : ℕ) (v : View PendingEdits) → Agrees (dirty N v) (record { state = (dirty N v).state; touched = marked_of N v ++ [] })
+read_touches_nothing N v = record { same = refl; within = rw (append-nil (marked_of N v)) (λ q h. h) }
 
 pub len_shown : (N len : ℕ) (v : View PendingEdits) → len ≡ bit_len N (pending_of N v) → StepTo N Agrees (dirty N v) Len (Number len) (dirty N v)
-len_shown N len v e = inl (ap (λ x. Number x) e, (0, omega arith, still N v))
+len_shown N len v e = inl (ap (λ x. Number x) e, (0, omega arith, read_touches_nothing N v))
 
 pub pruned_chunks_shown : (N chunks : ℕ) (v : View PendingEdits)
     → chunks ≡ (pending_of N v).pruned
     → StepTo N Agrees (dirty N v) PrunedChunks (Number chunks) (dirty N v)
-pruned_chunks_shown N chunks v e = inl (ap (λ x. Number x) e, (0, omega arith, still N v))
+pruned_chunks_shown N chunks v e = inl (ap (λ x. Number x) e, (0, omega arith, read_touches_nothing N v))
 
 -- a position that passes the tests against the length and the pruned bits is not refused
 pub no_refusal_of : (N : ℕ) (s : State) (len first_bit position : ℕ)
@@ -352,13 +352,13 @@ pub bit_shown : (N position : ℕ) (value : Bool) (v : View PendingEdits)
     → first (wants_bit N (dirty N v).state position) ≡ None
     → value ≡ bit_at N (pending_of N v) position
     → StepTo N Agrees (dirty N v) (Get position) (Bit value) (dirty N v)
-bit_shown N position value v retained e = rw retained (inl (ap (λ x. Bit x) e, (0, omega arith, still N v)))
+bit_shown N position value v retained e = rw retained (inl (ap (λ x. Bit x) e, (0, omega arith, read_touches_nothing N v)))
 
 pub chunk_shown : (N position : ℕ) (bytes : List ℕ) (v : View PendingEdits)
     → first (wants_bit N (dirty N v).state position) ≡ None
     → bytes ≡ chunk N (pending_of N v) (position / (8 * N))
     → StepTo N Agrees (dirty N v) (Chunk position) (ReplyValue.Chunk bytes) (dirty N v)
-chunk_shown N position bytes v retained e = rw retained (inl (ap (λ x. ReplyValue.Chunk x) e, (0, omega arith, still N v)))
+chunk_shown N position bytes v retained e = rw retained (inl (ap (λ x. ReplyValue.Chunk x) e, (0, omega arith, read_touches_nothing N v)))
 
 -- a decode is a step that leaves the machine unchanged, given the decode error of the input
 decoded_by : (N : ℕ) (m stays : Machine) (decode_error : Option DecodeError) (value reply : ReplyValue)
@@ -370,20 +370,20 @@ decoded_by : (N : ℕ) (m stays : Machine) (decode_error : Option DecodeError) (
     (((reply ≡ value) × ((cost : ℕ) × (cost ≤ most_cost N m.touched m.state.current (shown m.state)) × Agrees m stays)) ⊎ (IsTrue true × Refuses N Agrees m NoMemory reply m))
     (λ r. Refuses N Agrees m r reply m)
 decoded_by N m stays None value reply a (inl e) = inl (e, (0, omega arith, a))
-decoded_by N m stays None value reply a (inr e) = inr (refl, (e, itself m))
-decoded_by N m stays (Some f) value reply a e = (e, itself m)
+decoded_by N m stays None value reply a (inr e) = inr (refl, (e, agrees_with_itself m))
+decoded_by N m stays (Some f) value reply a e = (e, agrees_with_itself m)
 
 decoded_clean : (N : ℕ) (v : View ⊤) (input : Vec ℕ) (range : RangeCfg) (reply : ReplyValue)
     → IsDecoded N (admits range) input.items reply
     → StepTo N Agrees (clean N v) (Decode input range) reply (clean N v)
 decoded_clean N v input range reply =
-    decoded_by N (clean N v) _ (pruned_error N (admits range) input.items) (decoded N input.items) reply (itself (clean N v))
+    decoded_by N (clean N v) _ (pruned_error N (admits range) input.items) (decoded N input.items) reply (agrees_with_itself (clean N v))
 
 decoded_dirty : (N : ℕ) (v : View PendingEdits) (input : Vec ℕ) (range : RangeCfg) (reply : ReplyValue)
     → IsDecoded N (admits range) input.items reply
     → StepTo N Agrees (dirty N v) (Decode input range) reply (dirty N v)
 decoded_dirty N v input range reply =
-    decoded_by N (dirty N v) _ (pruned_error N (admits range) input.items) (decoded N input.items) reply (still N v)
+    decoded_by N (dirty N v) _ (pruned_error N (admits range) input.items) (decoded N input.items) reply (read_touches_nothing N v)
 
 -- a decode is a step of a session in any state
 pub decoded_in : (N : ℕ) (s : session_state.State N) (input : Vec ℕ) (range : RangeCfg) (reply : ReplyValue)

@@ -15,7 +15,7 @@ use Rattle.bitmap_core.specs.PrunedBits.{PrunedBits, bit_len}
 use Rattle.historical_bitmap.specs.History.{LatestIsLast, RiseInNumber, kept_under, snapshots, undone}
 use Rattle.historical_bitmap.specs.Record.{ReverseRecord}
 use Rattle.historical_bitmap.specs.View.{View, commit_error, history_of}
-use Rattle.historical_bitmap.proofs.History.PastStates.{below}
+use Rattle.historical_bitmap.proofs.History.PastStates.{less_from_nat_cmp}
 use Rattle.log_frames.specs.Frames.{frame, frames, next, place_after}
 use Rattle.log_frames.specs.Header.{first_place, header}
 use Rattle.log_frames.specs.declared.frame.Place.{Place}
@@ -125,7 +125,7 @@ commits_go_on n first before (kept ∷ later) pos rise numbers pruned lens small
   record {
     fits = change_fits n kept.0 first.1 kept.1 pos lens.0 (omega (arith, numbers.0));
     small = small.0;
-    accepted = (number_follows first.0 kept.0 (below first.0 kept.0 rise.0.0) numbers.0, change_follows n kept.0 first.1 kept.1 pos pruned.0);
+    accepted = (number_follows first.0 kept.0 (less_from_nat_cmp first.0 kept.0 rise.0.0) numbers.0, change_follows n kept.0 first.1 kept.1 pos pruned.0);
   },
   subst (λ (s : Kept). GoesOn n s (commits_from n kept.1 later)) (sym (one_more n kept.0 first.1 kept.1 before (Some first.0) pos))
       (commits_go_on n kept (before ++ kept ∷ []) later pos rise.1 numbers.1 pruned.1 lens.1 small.1),
@@ -179,7 +179,7 @@ kept_at : (before : List (ℕ × PrunedBits)) (kept : ℕ × PrunedBits) (later 
 unfolding IsStrictlySortedBy
 kept_at [] kept later rise = rw (eq-eqb kept.0 kept.0 refl) refl
 kept_at (b ∷ bs) kept later rise =
-    let above : b.0 < kept.0 = below b.0 kept.0 (all_at (λ (k : ℕ). nat_cmp b.0 k ≡ Less) bs kept later rise.0) in
+    let above : b.0 < kept.0 = less_from_nat_cmp b.0 kept.0 (all_at (λ (k : ℕ). nat_cmp b.0 k ≡ Less) bs kept later rise.0) in
     rw (ne_eqb kept.0 b.0 (λ e. absurd (omega (arith, e, above)))) (kept_at bs kept later rise.1)
 
 found_at : (whole before : List (ℕ × PrunedBits)) (kept : ℕ × PrunedBits) (later : List (ℕ × PrunedBits)) → RiseInNumber whole → whole ≡ before ++ kept ∷ later → kept_under whole kept.0 ≡ Some kept.1
@@ -188,7 +188,7 @@ found_at whole before kept later rise split =
 
 neighbours_rise : (before : List (ℕ × PrunedBits)) (a b : ℕ × PrunedBits) (later : List (ℕ × PrunedBits)) → RiseInNumber (before ++ a ∷ b ∷ later) → a.0 < b.0
 unfolding IsStrictlySortedBy
-neighbours_rise [] a b later rise = below a.0 b.0 rise.0.0
+neighbours_rise [] a b later rise = less_from_nat_cmp a.0 b.0 rise.0.0
 neighbours_rise (x ∷ xs) a b later rise = neighbours_rise xs a b later rise.1
 
 older_kept : (history before later : List (ℕ × PrunedBits)) (a b : ℕ × PrunedBits) → RiseInNumber history → history ≡ before ++ a ∷ b ∷ later → kept_under history a.0 ≡ Some a.1
@@ -222,7 +222,7 @@ unfolding IsStrictlySortedBy last_kept
 numbers_below bound first [] rise h = (h, tt)
 numbers_below bound first (kept ∷ later) rise h =
     let others = numbers_below bound kept later rise.1 h in
-    (omega (arith, below first.0 kept.0 rise.0.0, others.0), others)
+    (omega (arith, less_from_nat_cmp first.0 kept.0 rise.0.0, others.0), others)
 
 unreserved : (current : PrunedBits) (last : Option ℕ) (history : List (ℕ × PrunedBits)) → RiseInNumber history → IsHistory (record { current = current; history = history; last = last }) → IfSome last (λ number. number < 2 ^ 64 - 1)
     → AllByRecursion (λ kept. kept.0 < 2 ^ 64 - 1) history

@@ -14,7 +14,7 @@ use Rattle.bitmap_session.specs.Laws.{HasRisingNumbers}
 use Rattle.bitmap_session.specs.Machine.{Machine, State, first, wants_batch}
 use Rattle.bitmap_session.specs.Replies.{Refusal}
 use Rattle.bitmap_session.specs.Replies.Refusal.{NoMemory, WrongMode}
-use Rattle.bitmap_session.proofs.Steps.{run_agrees, still}
+use Rattle.bitmap_session.proofs.Steps.{run_agrees, read_touches_nothing}
 
 -- ---- in a batch
 -- the edits are made
@@ -45,7 +45,7 @@ pub none_set : (N : ℕ) (v : View PendingEdits) (start end : ℕ) (value : Bool
     → EditsTo N (dirty N v) (sets_range N start end value) None (dirty N v)
 none_set N v start end value empty =
     let count : end - start ≡ 0 = omega (arith, empty) in
-    rw (le-ltb start end empty, count) (inl (refl, record { accepted = tt; agrees = still N v }))
+    rw (le-ltb start end empty, count) (inl (refl, record { accepted = tt; agrees = read_touches_nothing N v }))
 
 -- an append of zeros that fails has zeros to append
 pub longer_if_failed : (N : ℕ) (v : View PendingEdits) (len : ℕ)

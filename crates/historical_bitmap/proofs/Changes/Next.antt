@@ -53,20 +53,20 @@ next_none (x ∷ xs) from less =
     λ j f. not_first j x xs (λ e. absurd (omega (arith, e, f, first))) (next_none xs from (λ i l. less (suc i) (omega (arith, l))) j f)
 
 -- ---- the first of two lists
-neither : (xs ys : List ℕ) (j : ℕ) → is_member nat_eq xs j ≡ false → is_member nat_eq ys j ≡ false → is_member nat_eq (xs ++ ys) j ≡ false
-neither xs ys j f g = elim (cases_Bool (is_member nat_eq (xs ++ ys) j)) [
+no_member-append : (xs ys : List ℕ) (j : ℕ) → is_member nat_eq xs j ≡ false → is_member nat_eq ys j ≡ false → is_member nat_eq (xs ++ ys) j ≡ false
+no_member-append xs ys j f g = elim (cases_Bool (is_member nat_eq (xs ++ ys) j)) [
   | inr e ↦ e
   | inl e ↦ elim (in_either xs ys j e) [ inl h ↦ absurd (false≢true (sym f ∙ h)) | inr h ↦ absurd (false≢true (sym g ∙ h)) ]
 ]
 
 pub next_neither : (xs ys : List ℕ) (from : ℕ) → IsNextMember xs from None → IsNextMember ys from None → IsNextMember (xs ++ ys) from None
-next_neither xs ys from f g = λ j h. neither xs ys j (f j h) (g j h)
+next_neither xs ys from f g = λ j h. no_member-append xs ys j (f j h) (g j h)
 
 pub next_left : (xs ys : List ℕ) (from i : ℕ) → IsNextMember xs from (Some i) → ((j : ℕ) → from ≤ j → j < i → is_member nat_eq ys j ≡ false) → IsNextMember (xs ++ ys) from (Some i)
-next_left xs ys from i f none = (f.0, in_left xs ys i f.1, λ j h s. neither xs ys j (f.2 j h s) (none j h s))
+next_left xs ys from i f none = (f.0, in_left xs ys i f.1, λ j h s. no_member-append xs ys j (f.2 j h s) (none j h s))
 
 pub next_right : (xs ys : List ℕ) (from i : ℕ) → IsNextMember ys from (Some i) → ((j : ℕ) → from ≤ j → j < i → is_member nat_eq xs j ≡ false) → IsNextMember (xs ++ ys) from (Some i)
-next_right xs ys from i g none = (g.0, in_right xs ys i g.1, λ j h s. neither xs ys j (none j h s) (g.2 j h s))
+next_right xs ys from i g none = (g.0, in_right xs ys i g.1, λ j h s. no_member-append xs ys j (none j h s) (g.2 j h s))
 
 -- ---- the first of the records between two numbers
 -- the loop invariant of the search: the records that are left, and the first chunk that the records before them have an entry for
@@ -97,8 +97,8 @@ searched_one all left rest c from next one least e s joins own = record {
   least = joins s.seen (keys_of c.1.entries) s.least own;
 }
 
-pub searched : (all left : List (ℕ × ReverseRecord)) (from : ℕ) (next : Option ℕ) → left ≡ [] → SearchesOn all left from next → IsNextMember (named_chunks all) from next
-searched all left from next e s =
+pub search_ends : (all left : List (ℕ × ReverseRecord)) (from : ℕ) (next : Option ℕ) → left ≡ [] → SearchesOn all left from next → IsNextMember (named_chunks all) from next
+search_ends all left from next e s =
     let same : named_chunks all ≡ s.seen = s.split ∙ (ap (λ cs. s.seen ++ named_chunks cs) e ∙ append-nil s.seen) in
     subst (λ xs. IsNextMember xs from next) (sym same) s.least
 
@@ -108,8 +108,8 @@ pub differs_by : (n : ℕ) (old new : PrunedBits) (i : ℕ) (a b : Option (List 
 differs_by n old new i a b r e f h = sym (h ∙ (ap (λ o. not (option_eq (pointwise nat_eq) o b)) e ∙ ap (λ o. not (option_eq (pointwise nat_eq) (retained_bytes n old i) o)) f))
 
 -- chunks that do not differ are skipped
-pub skip : (d : ℕ → Bool) (lo mid hi : ℕ) → lo ≤ mid → mid ≤ hi → ((k : ℕ) → lo ≤ k → k < mid → d k ≡ false) → ones_between d lo hi ≡ ones_between d mid hi
-skip d lo mid hi l h none = ones_between-append d lo mid hi l h ∙ ap (λ xs. xs ++ ones_between d mid hi) (ones_between-false d lo mid none)
+pub ones_between-skip : (d : ℕ → Bool) (lo mid hi : ℕ) → lo ≤ mid → mid ≤ hi → ((k : ℕ) → lo ≤ k → k < mid → d k ≡ false) → ones_between d lo hi ≡ ones_between d mid hi
+ones_between-skip d lo mid hi l h none = ones_between-append d lo mid hi l h ∙ ap (λ xs. xs ++ ones_between d mid hi) (ones_between-false d lo mid none)
 
 -- the next chunk of a list that has each chunk that differs
 pub passes_named : (n : ℕ) (old new : PrunedBits) (names : List ℕ) → ((i : ℕ) → is_member nat_eq names i ≡ false → differs n old new i ≡ false) → (first : ℕ) (next : Option ℕ) → IsNextMember names first next → PassesEqual n old new first next
@@ -128,12 +128,12 @@ module _ (n : ℕ) (old new : PrunedBits) (first at end : ℕ) (same : changed_f
   -- the next chunk that may differ does
   pub change_here : (i : ℕ) → PassesEqual n old new at (Some i) → i < end → differs n old new i ≡ true → IsNextChange n old new first end (Some i)
   change_here i next inside other =
-      (inside, sym same ∙ (skip (differs n old new) at i end next.0 (omega (arith, inside)) next.1 ∙ ones_between-hit (differs n old new) i end inside other))
+      (inside, sym same ∙ (ones_between-skip (differs n old new) at i end next.0 (omega (arith, inside)) next.1 ∙ ones_between-hit (differs n old new) i end inside other))
 
   -- the next chunk that may differ does not
   pub change_later : (i : ℕ) → PassesEqual n old new at (Some i) → i < end → differs n old new i ≡ false → changed_from n old new (i + 1) end ≡ changed_from n old new first end
   change_later i next inside alike =
-      sym (skip (differs n old new) at (i + 1) end (omega (arith, next.0)) (omega (arith, inside)) (λ k l h. elim (cases_eq k i) [
+      sym (ones_between-skip (differs n old new) at (i + 1) end (omega (arith, next.0)) (omega (arith, inside)) (λ k l h. elim (cases_eq k i) [
         | inl e ↦ ap (differs n old new) e ∙ alike
         | inr ne ↦ next.1 k l (omega (arith, h, ne))
       ])) ∙ same

@@ -82,8 +82,8 @@ same_option None (Some y) e = absurd (false≢true e)
 same_option (Some x) None e = absurd (false≢true e)
 same_option (Some x) (Some y) e = ap Some ((pointwise_decides Decides-eqb x y).0 e)
 
-alike : (n : ℕ) (old new : PrunedBits) (i : ℕ) → differs n old new i ≡ false → retained_bytes n old i ≡ retained_bytes n new i
-alike n old new i f = same_option (retained_bytes n old i) (retained_bytes n new i) (is_true (option_eq (pointwise nat_eq) (retained_bytes n old i) (retained_bytes n new i)) f)
+same_retained_bytes : (n : ℕ) (old new : PrunedBits) (i : ℕ) → differs n old new i ≡ false → retained_bytes n old i ≡ retained_bytes n new i
+same_retained_bytes n old new i f = same_option (retained_bytes n old i) (retained_bytes n new i) (is_true (option_eq (pointwise nat_eq) (retained_bytes n old i) (retained_bytes n new i)) f)
   where
     is_true : (b : Bool) → not b ≡ false → b ≡ true
     is_true true e = refl
@@ -95,7 +95,7 @@ patched_changed n old new pos = same_from_bits n new (λ k. bit_or_else n (sent_
   where
     stays : (k : ℕ) → IsRetained n new k → differs n old new (k / (8 * n)) ≡ false → bit_at n old k ≡ bit_at n new k
     stays k has f =
-        let there : retained_bytes n old (k / (8 * n)) ≡ Some (chunk n new (k / (8 * n))) = alike n old new (k / (8 * n)) f ∙ bytes_there n new (k / (8 * n)) (has_chunk n new k pos has) in
+        let there : retained_bytes n old (k / (8 * n)) ≡ Some (chunk n new (k / (8 * n))) = same_retained_bytes n old new (k / (8 * n)) f ∙ bytes_there n new (k / (8 * n)) (has_chunk n new k pos has) in
         elim (is_there n old (k / (8 * n))) [
           | inl h ↦
               let bytes : chunk n old (k / (8 * n)) ≡ chunk n new (k / (8 * n)) = same_Some (chunk n old (k / (8 * n))) (chunk n new (k / (8 * n))) (sym (bytes_there n old (k / (8 * n)) h) ∙ there) in

@@ -14,11 +14,11 @@ use Rattle.historical_bitmap.specs.Changes.{changed, changed_from, differs, reta
 use Rattle.historical_bitmap.specs.Compared.{IsComparingPending}
 use Rattle.historical_bitmap.specs.Pending.{PendingEdits, edited_chunk, marked_chunks, PendingFits, pending_bits, pending_chunk}
 use Rattle.historical_bitmap.proofs.Changes.Unnamed.{bytes_none, bytes_there, IsSameChunk, not_different, same_bytes}
-use Rattle.historical_bitmap.proofs.Changes.Next.{skip}
+use Rattle.historical_bitmap.proofs.Changes.Next.{ones_between-skip}
 use Rattle.historical_bitmap.proofs.Pending.Chunks.{pending_chunk_is}
 use Rattle.historical_bitmap.proofs.Pending.Edits.{pending_len}
-use Rattle.historical_bitmap.proofs.Pending.MarkedChunks.{mark}
-use Rattle.historical_bitmap.proofs.Pending.Record.{unmarked}
+use Rattle.historical_bitmap.proofs.Pending.MarkedChunks.{marked_is_member}
+use Rattle.historical_bitmap.proofs.Pending.Record.{unmarked_bit_stays}
 
 module _ (n : ℕ) (b : PrunedBits) (l : PendingEdits) (pos : 0 < n) (fits : PendingFits n b l) where
   -- a chunk that is not marked is not edited
@@ -27,17 +27,17 @@ module _ (n : ℕ) (b : PrunedBits) (l : PendingEdits) (pos : 0 < n) (fits : Pen
     where
       by_case : (o : Option (List ℕ)) → edited_chunk l i ≡ o → o ≡ None
       by_case None e = refl
-      by_case (Some bytes) e = absurd (false≢true (sym out ∙ mark n b l i (inl (ap is_some e))))
+      by_case (Some bytes) e = absurd (false≢true (sym out ∙ marked_is_member n b l i (inl (ap is_some e))))
 
   -- it is the same in both bitmaps
   unmarked_same : (i : ℕ) → is_member nat_eq (marked_chunks n b l) i ≡ false → IsSameChunk n b (pending_bits n b l) i
   unmarked_same i out = record {
-    stays = λ k e h. unmarked n b l k pos fits h (rw e out);
+    stays = λ k e h. unmarked_bit_stays n b l k pos fits h (rw e out);
     found_here = λ k e h.
         let inside : k < l.len = omega (arith, h.1, pending_len n b l pos fits) in
         let prefix = mul-le (8 * n) b.pruned (8 * n) l.pruned (omega arith) fits.rises in
         let has : IsRetained n b k = (omega (arith, h.0, prefix), fits.covered k h.0 inside (ap (edited_chunk l) e ∙ unedited i out)) in
-        (has, sym (unmarked n b l k pos fits has (rw e out)).1);
+        (has, sym (unmarked_bit_stays n b l k pos fits has (rw e out)).1);
   }
 
   pub unmarked_alike : (i : ℕ) → is_member nat_eq (marked_chunks n b l) i ≡ false → differs n b (pending_bits n b l) i ≡ false
@@ -58,7 +58,7 @@ module _ (n : ℕ) (b : PrunedBits) (l : PendingEdits) (pos : 0 < n) (fits : Pen
   pub from_pruned : (end : ℕ) → changed_from n b (pending_bits n b l) b.pruned end ≡ changed_from n b (pending_bits n b l) 0 end
   from_pruned end = elim (cases_lt end b.pruned) [
     | inl h ↦ ones_between-none d b.pruned end (omega (arith, h)) ∙ sym (ones_between-false d 0 end (λ k s t. gone k (omega (arith, t, h))))
-    | inr h ↦ sym (skip d 0 b.pruned end (omega arith) h (λ k s t. gone k t))
+    | inr h ↦ sym (ones_between-skip d 0 b.pruned end (omega arith) h (λ k s t. gone k t))
   ]
     where
       d : ℕ → Bool

@@ -23,7 +23,7 @@ use Rattle.historical_bitmap.specs.Changes.{changed, differs, retained_bytes, wi
 use Rattle.historical_bitmap.specs.Pending.{diff_of, IsRecordOf, PendingEdits, PendingFits, edited_chunk, marked_chunks, pending_bits, pending_chunk}
 use Rattle.historical_bitmap.specs.Prepared.{AreIndices, changes_in}
 use Rattle.historical_bitmap.specs.Record.{ReverseRecord}
-use Rattle.historical_bitmap.proofs.Changes.Next.{not_first, skip}
+use Rattle.historical_bitmap.proofs.Changes.Next.{not_first, ones_between-skip}
 use Rattle.historical_bitmap.proofs.Changes.Pending.{pending_there, unmarked_alike}
 use Rattle.historical_bitmap.proofs.Changes.Unnamed.{bytes_there, chunk_from_bits, not_pruned}
 use Rattle.historical_bitmap.proofs.Lists.Between.{none_up_to}
@@ -64,8 +64,8 @@ pub left_out : (d : Bool) (bytes : Option (List ℕ)) → None ≡ bytes → Non
 left_out true bytes e = e
 left_out false bytes e = refl
 
-pub alike : (d : Bool) (bytes : Option (List ℕ)) → d ≡ false → None ≡ cond d bytes None
-alike d bytes e = rw e refl
+pub none_if_same : (d : Bool) (bytes : Option (List ℕ)) → d ≡ false → None ≡ cond d bytes None
+none_if_same d bytes e = rw e refl
 
 pub listed_here : (d : Bool) (bytes : Option (List ℕ)) (found : List ℕ) → d ≡ true → Some found ≡ bytes → Some found ≡ cond d bytes None
 listed_here d bytes found e f = rw e f
@@ -108,11 +108,11 @@ picked_all d (k ∷ ks) lo hi up within others =
       (within j (in_right (k ∷ []) ks j m)).1,
     ))
     (λ j l h m. others j (omega (arith, l, here.0)) h (not_first j k ks (λ e. absurd (omega (arith, e, l))) m)) in
-    let first = skip d lo k hi here.0 (omega (arith, here.1)) (λ j l h.
+    let first = ones_between-skip d lo k hi here.0 (omega (arith, here.1)) (λ j l h.
     others j l (omega (arith, h, here.1)) (not_first j k ks (λ e. absurd (omega (arith, e, h))) (none_up_to k j ks head (omega (arith, h))))) in
     elim (cases_Bool (d k)) [
       | inl e ↦ rw e (ap (λ xs. k ∷ xs) rest ∙ sym (first ∙ ones_between-hit d k hi here.1 e))
-      | inr e ↦ rw e (rest ∙ sym (first ∙ skip d k (k + 1) hi (omega arith) (omega (arith, here.1)) (λ j l h. ap d (same_from j k l h) ∙ e)))
+      | inr e ↦ rw e (rest ∙ sym (first ∙ ones_between-skip d k (k + 1) hi (omega arith) (omega (arith, here.1)) (λ j l h. ap d (same_from j k l h) ∙ e)))
     ]
   where
     same_from : (j k : ℕ) → k ≤ j → j < k + 1 → j ≡ k

@@ -35,8 +35,8 @@ pub record IsSameChunk (n : ℕ) (old new : PrunedBits) (i : ℕ) : Type 0 where
   pub stays : IsUnchanged n old new i
   pub found_here : IsUnchanged n new old i
 
-itself : (n : ℕ) (b : PrunedBits) (i : ℕ) → IsSameChunk n b b i
-itself n b i = record { stays = λ k e h. (h, refl); found_here = λ k e h. (h, refl) }
+same_chunk_itself : (n : ℕ) (b : PrunedBits) (i : ℕ) → IsSameChunk n b b i
+same_chunk_itself n b i = record { stays = λ k e h. (h, refl); found_here = λ k e h. (h, refl) }
 
 and_then : (n : ℕ) (a b c : PrunedBits) (i : ℕ) → IsSameChunk n a b i → IsSameChunk n b c i → IsSameChunk n a c i
 and_then n a b c i f g = record {
@@ -66,7 +66,7 @@ unnamed_same n r newer i can none = record {
 
 -- a chunk without an entry in any of some records is the same before and after their commits
 chain_same : (n : ℕ) (cs : List (ℕ × ReverseRecord)) (b : PrunedBits) (i : ℕ) → AllCanUndo n cs b → is_member nat_eq (named_chunks cs) i ≡ false → IsSameChunk n (undone n cs b) b i
-chain_same n [] b i all out = itself n b i
+chain_same n [] b i all out = same_chunk_itself n b i
 chain_same n (c ∷ cs) b i all out =
     let o = in_neither (keys_of c.1.entries) (named_chunks cs) i out in
     and_then n (before n c.1 (undone n cs b)) (undone n cs b) b i (unnamed_same n c.1 (undone n cs b) i all.0 (not_key i c.1.entries o.0)) (chain_same n cs b i all.1 o.1)
@@ -243,10 +243,10 @@ pruned_rises n from to cs b last old new kept order e f =
     rw (is_left n from cs b old kept.rise e, is_left n to cs b new kept.rise f) at below
 
 -- two kept states can be compared
-pub comparing : (n from to : ℕ) (cs : List (ℕ × ReverseRecord)) (b : PrunedBits) (last : Option ℕ) (old new : PrunedBits) (end : ℕ) → IsWidth n → from ≤ to → AreKept n b cs last
+pub kept_states_compare : (n from to : ℕ) (cs : List (ℕ × ReverseRecord)) (b : PrunedBits) (last : Option ℕ) (old new : PrunedBits) (end : ℕ) → IsWidth n → from ≤ to → AreKept n b cs last
     → kept_under (snapshots n cs b) from ≡ Some old → kept_under (snapshots n cs b) to ≡ Some new → bit_len n old < 2 ^ 64 → bit_len n new < 2 ^ 64
     → end ≡ max (chunk_total n old) (chunk_total n new) → IsComparing n from to cs old new end
-comparing n from to cs b last old new end width order kept e f short long last_is = record {
+kept_states_compare n from to cs b last old new end width order kept e f short long last_is = record {
   width = width;
   order = order;
   numbers = kept.rise;

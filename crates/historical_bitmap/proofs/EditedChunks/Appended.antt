@@ -20,10 +20,10 @@ use Rattle.chunk_map.specs.Trie.{IsAt}
 use Rattle.historical_bitmap.specs.Appended.{IsAppended, IsBeside, IsSlot, appended_entries, with_appended}
 use Rattle.historical_bitmap.specs.declared.bitmap.historical.edited.Slot.{Slot}
 use Rattle.historical_bitmap.specs.declared.bitmap.historical.edited.Slot.TheVariants.{Appended, Stored}
-use Rattle.historical_bitmap.proofs.EditedChunks.ReplacedChunk.{put_is, replaced_sorted, replaces}
+use Rattle.historical_bitmap.proofs.EditedChunks.ReplacedChunk.{put_is, replaced_sorted, with_chunk_puts}
 use Rattle.historical_bitmap.proofs.Lists.Between.{all_between}
 use Rattle.historical_bitmap.proofs.Lists.Maps.{not_some}
-use Rattle.historical_bitmap.proofs.History.PastStates.{below}
+use Rattle.historical_bitmap.proofs.History.PastStates.{less_from_nat_cmp}
 
 -- the first option if it has a value, else the second
 abbrev pub first_of : {X : Type 0} → Option X → Option X → Option X
@@ -86,27 +86,27 @@ appended_push from (x ∷ xs) v q = elim (cases_eq q from) [
 
 -- ---- the appended chunks with the others
 -- with a chunk there is one
-pub filled : (from : ℕ) (xs : List (List ℕ)) (es : List (ℕ × List ℕ)) → 0 < length xs + length es → 0 < length (with_appended from xs es)
-filled from [] [] h = absurd (omega (arith, h))
-filled from (x ∷ xs) [] h = omega arith
-filled from xs (e ∷ es) h = elim (cases_lt e.0 from) [
+pub with_appended_has_entries : (from : ℕ) (xs : List (List ℕ)) (es : List (ℕ × List ℕ)) → 0 < length xs + length es → 0 < length (with_appended from xs es)
+with_appended_has_entries from [] [] h = absurd (omega (arith, h))
+with_appended_has_entries from (x ∷ xs) [] h = omega arith
+with_appended_has_entries from xs (e ∷ es) h = elim (cases_lt e.0 from) [
   | inl l ↦ rw (lt-ltb e.0 from l) (omega arith)
   | inr l ↦ rw (le-ltb e.0 from l, length-append (appended_entries from xs) (e ∷ es)) (omega arith)
 ]
 
-pub look : (from : ℕ) (xs : List (List ℕ)) (es : List (ℕ × List ℕ)) (q : ℕ) → lookup (nat_eq q) (with_appended from xs es) ≡ first_of (lookup (nat_eq q) (appended_entries from xs)) (lookup (nat_eq q) es)
-look from xs [] q = first_none (lookup (nat_eq q) (appended_entries from xs))
-look from xs (e ∷ es) q = elim (cases_lt e.0 from) [
+pub lookup-with_appended : (from : ℕ) (xs : List (List ℕ)) (es : List (ℕ × List ℕ)) (q : ℕ) → lookup (nat_eq q) (with_appended from xs es) ≡ first_of (lookup (nat_eq q) (appended_entries from xs)) (lookup (nat_eq q) es)
+lookup-with_appended from xs [] q = first_none (lookup (nat_eq q) (appended_entries from xs))
+lookup-with_appended from xs (e ∷ es) q = elim (cases_lt e.0 from) [
   | inl l ↦ rw (lt-ltb e.0 from l) (elim (cases_eq q e.0) [
     | inl f ↦ rw (appended_low from xs q (omega (arith, f, l)), eq-eqb q e.0 f) refl
-    | inr ne ↦ rw (ne_eqb q e.0 ne) (look from xs es q)
+    | inr ne ↦ rw (ne_eqb q e.0 ne) (lookup-with_appended from xs es q)
   ])
   | inr l ↦ rw (le-ltb e.0 from l) (lookup_append (appended_entries from xs) (e ∷ es) q)
 ]
 
 -- an index that is appended, and one that is not
-pub inside : (from count q : ℕ) → (nat_le from q && nat_lt q (from + count)) ≡ true → (from ≤ q) × (q < from + count)
-inside from count q h = elim (cases_lt q from) [
+pub is_among_appended : (from count q : ℕ) → (nat_le from q && nat_lt q (from + count)) ≡ true → (from ≤ q) × (q < from + count)
+is_among_appended from count q h = elim (cases_lt q from) [
   | inl l ↦ absurd (false≢true (rw (lt-leb from q l) at h))
   | inr l ↦ elim (cases_lt q (from + count)) [
     | inl m ↦ (l, m)
@@ -114,8 +114,8 @@ inside from count q h = elim (cases_lt q from) [
   ]
 ]
 
-pub beside : (from count q : ℕ) → (nat_le from q && nat_lt q (from + count)) ≡ false → (q < from) ⊎ (from + count ≤ q)
-beside from count q h = elim (cases_lt q from) [
+pub is_beside_appended : (from count q : ℕ) → (nat_le from q && nat_lt q (from + count)) ≡ false → (q < from) ⊎ (from + count ≤ q)
+is_beside_appended from count q h = elim (cases_lt q from) [
   | inl l ↦ inl l
   | inr l ↦ elim (cases_lt q (from + count)) [
     | inl m ↦ absurd (false≢true (sym (rw (le-leb from q l, lt-ltb q (from + count) m) at h)))
@@ -128,42 +128,42 @@ appended_none from xs q (inl l) = appended_low from xs q l
 appended_none from xs q (inr l) = appended_high from xs q l
 
 -- an appended chunk is found among the appended ones, and any other chunk among the others
-pub look_in : (from : ℕ) (xs : List (List ℕ)) (es : List (ℕ × List ℕ)) (q : ℕ) (d : List ℕ) → (from ≤ q) × (q < from + length xs) → lookup (nat_eq q) (with_appended from xs es) ≡ Some (get_or xs (q - from) d)
-look_in from xs es q d h = look from xs es q ∙ ap (λ o. first_of o (lookup (nat_eq q) es)) (appended_at from xs q d h.0 h.1)
+pub lookup-in_appended : (from : ℕ) (xs : List (List ℕ)) (es : List (ℕ × List ℕ)) (q : ℕ) (d : List ℕ) → (from ≤ q) × (q < from + length xs) → lookup (nat_eq q) (with_appended from xs es) ≡ Some (get_or xs (q - from) d)
+lookup-in_appended from xs es q d h = lookup-with_appended from xs es q ∙ ap (λ o. first_of o (lookup (nat_eq q) es)) (appended_at from xs q d h.0 h.1)
 
 pub look_at : (from : ℕ) (xs : List (List ℕ)) (es : List (ℕ × List ℕ)) (q place : ℕ) (d : List ℕ) → q ≡ from + place → place < length xs → lookup (nat_eq q) (with_appended from xs es) ≡ Some (get_or xs place d)
 look_at from xs es q place d at h =
     let same : q - from ≡ place = omega (arith, at) in
-    look_in from xs es q d (omega (arith, at), omega (arith, at, h)) ∙ ap (λ (i : ℕ). Some (get_or xs i d)) same
+    lookup-in_appended from xs es q d (omega (arith, at), omega (arith, at, h)) ∙ ap (λ (i : ℕ). Some (get_or xs i d)) same
 
-pub look_beside : (from : ℕ) (xs : List (List ℕ)) (es : List (ℕ × List ℕ)) (q : ℕ) → ((q < from) ⊎ (from + length xs ≤ q)) → lookup (nat_eq q) (with_appended from xs es) ≡ lookup (nat_eq q) es
-look_beside from xs es q h = look from xs es q ∙ ap (λ o. first_of o (lookup (nat_eq q) es)) (appended_none from xs q h)
+pub lookup-beside_appended : (from : ℕ) (xs : List (List ℕ)) (es : List (ℕ × List ℕ)) (q : ℕ) → ((q < from) ⊎ (from + length xs ≤ q)) → lookup (nat_eq q) (with_appended from xs es) ≡ lookup (nat_eq q) es
+lookup-beside_appended from xs es q h = lookup-with_appended from xs es q ∙ ap (λ o. first_of o (lookup (nat_eq q) es)) (appended_none from xs q h)
 
 -- an appended chunk is replaced
 pub puts_in : (from : ℕ) (xs : List (List ℕ)) (es : List (ℕ × List ℕ)) (i place : ℕ) (v : List ℕ) → i ≡ from + place → place < length xs → Puts (with_appended from xs es) (with_appended from (set xs place v) es) i (Some v)
 puts_in from xs es i place v at h = λ q.
-    look from (set xs place v) es q
+    lookup-with_appended from (set xs place v) es q
     ∙ (ap (λ o. first_of o (lookup (nat_eq q) es)) (appended_set from xs place v q h ∙ ap (λ (j : ℕ). cond (nat_eq q j) (Some v) (lookup (nat_eq q) (appended_entries from xs))) (sym at))
     ∙ elim (cases_eq q i) [
       | inl e ↦ rw (eq-eqb q i e) refl
-      | inr ne ↦ rw (ne_eqb q i ne) (sym (look from xs es q))
+      | inr ne ↦ rw (ne_eqb q i ne) (sym (lookup-with_appended from xs es q))
     ])
 
 -- a chunk is appended
 pub puts_end : (from : ℕ) (xs : List (List ℕ)) (es : List (ℕ × List ℕ)) (i : ℕ) (v : List ℕ) → i ≡ from + length xs → Puts (with_appended from xs es) (with_appended from (xs ++ v ∷ []) es) i (Some v)
 puts_end from xs es i v at = λ q.
-    look from (xs ++ v ∷ []) es q
+    lookup-with_appended from (xs ++ v ∷ []) es q
     ∙ (ap (λ o. first_of o (lookup (nat_eq q) es)) (appended_push from xs v q ∙ ap (λ (j : ℕ). cond (nat_eq q j) (Some v) (lookup (nat_eq q) (appended_entries from xs))) (sym at))
     ∙ elim (cases_eq q i) [
       | inl e ↦ rw (eq-eqb q i e) refl
-      | inr ne ↦ rw (ne_eqb q i ne) (sym (look from xs es q))
+      | inr ne ↦ rw (ne_eqb q i ne) (sym (lookup-with_appended from xs es q))
     ])
 
 -- the first chunk is appended
 pub puts_begin : (from : ℕ) (es : List (ℕ × List ℕ)) (i : ℕ) (v : List ℕ) → Puts (with_appended from [] es) (with_appended i (v ∷ []) es) i (Some v)
-puts_begin from es i v = λ q. look i (v ∷ []) es q ∙ elim (cases_eq q i) [
+puts_begin from es i v = λ q. lookup-with_appended i (v ∷ []) es q ∙ elim (cases_eq q i) [
   | inl e ↦ rw (eq-eqb q i e) refl
-  | inr ne ↦ rw (ne_eqb q i ne) (sym (look from [] es q))
+  | inr ne ↦ rw (ne_eqb q i ne) (sym (lookup-with_appended from [] es q))
 ]
 
 -- the last appended chunk is removed
@@ -171,17 +171,17 @@ pub takes_end : (from : ℕ) (ys : List (List ℕ)) (es : List (ℕ × List ℕ)
 takes_end from ys es i v at none = λ q. elim (cases_eq q i) [
   | inl e ↦
       let past : from + length ys ≤ q = omega (arith, e, at) in
-      rw (eq-eqb q i e) (look_beside from ys es q (inr past) ∙ (ap (λ (j : ℕ). lookup (nat_eq j) es) e ∙ none))
+      rw (eq-eqb q i e) (lookup-beside_appended from ys es q (inr past) ∙ (ap (λ (j : ℕ). lookup (nat_eq j) es) e ∙ none))
   | inr ne ↦ rw (ne_eqb q i ne) (sym (puts_end from ys es i v at q ∙ rw (ne_eqb q i ne) refl))
 ]
 
 -- one of the other chunks is put or removed
 pub puts_other : (from : ℕ) (xs : List (List ℕ)) (es fs : List (ℕ × List ℕ)) (i : ℕ) (o : Option (List ℕ)) → ((i < from) ⊎ (from + length xs ≤ i)) → Puts es fs i o → Puts (with_appended from xs es) (with_appended from xs fs) i o
-puts_other from xs es fs i o out put = λ q. look from xs fs q ∙ elim (cases_eq q i) [
+puts_other from xs es fs i o out put = λ q. lookup-with_appended from xs fs q ∙ elim (cases_eq q i) [
   | inl e ↦
       let none : lookup (nat_eq q) (appended_entries from xs) ≡ None = ap (λ (j : ℕ). lookup (nat_eq j) (appended_entries from xs)) e ∙ appended_none from xs i out in
       rw (none, eq-eqb q i e) (put q ∙ rw (eq-eqb q i e) refl)
-  | inr ne ↦ rw (ne_eqb q i ne) (ap (λ p. first_of (lookup (nat_eq q) (appended_entries from xs)) p) (put q ∙ rw (ne_eqb q i ne) refl) ∙ sym (look from xs es q))
+  | inr ne ↦ rw (ne_eqb q i ne) (ap (λ p. first_of (lookup (nat_eq q) (appended_entries from xs)) p) (put q ∙ rw (ne_eqb q i ne) refl) ∙ sym (lookup-with_appended from xs es q))
 ]
 
 pub keeps_other : (n : ℕ) (from : ℕ) (xs : List (List ℕ)) (es fs : List (ℕ × List ℕ)) (i : ℕ) (o : Option (List ℕ)) → IsAppended n es from xs → ((i < from) ⊎ (from + length xs ≤ i)) → Puts es fs i o → IsAppended n fs from xs
@@ -198,16 +198,16 @@ pub keeps_in : (n : ℕ) (from : ℕ) (xs ys : List (List ℕ)) (es : List (ℕ 
 keeps_in n from xs ys es e ok = record { width = ok.width; apart = λ q l h. ok.apart q l (omega (arith, e, h)) }
 
 -- ---- the indices ascend
-less : (a b : ℕ) → a < b → nat_cmp a b ≡ Less
-less a b h = rw (lt-ltb a b h) refl
+nat_cmp_from_less : (a b : ℕ) → a < b → nat_cmp a b ≡ Less
+nat_cmp_from_less a b h = rw (lt-ltb a b h) refl
 
-above : (k : ℕ) (ks : List ℕ) (a : ℕ) → k < a → AllByRecursion (λ y. nat_cmp a y ≡ Less) ks → AllByRecursion (λ y. nat_cmp k y ≡ Less) ks
-above k [] a h all = tt
-above k (y ∷ ys) a h all = (less k y (omega (arith, h, below a y all.0)), above k ys a h all.1)
+less_than_all : (k : ℕ) (ks : List ℕ) (a : ℕ) → k < a → AllByRecursion (λ y. nat_cmp a y ≡ Less) ks → AllByRecursion (λ y. nat_cmp k y ≡ Less) ks
+less_than_all k [] a h all = tt
+less_than_all k (y ∷ ys) a h all = (nat_cmp_from_less k y (omega (arith, h, less_from_nat_cmp a y all.0)), less_than_all k ys a h all.1)
 
 appended_above : (k from : ℕ) (xs : List (List ℕ)) (es : List (ℕ × List ℕ)) → k < from → AllByRecursion (λ y. nat_cmp k y ≡ Less) (keys_of es) → AllByRecursion (λ y. nat_cmp k y ≡ Less) (keys_of (appended_entries from xs ++ es))
 appended_above k from [] es h all = all
-appended_above k from (x ∷ xs) es h all = (less k from h, appended_above k (from + 1) xs es (omega (arith, h)) all)
+appended_above k from (x ∷ xs) es h all = (nat_cmp_from_less k from h, appended_above k (from + 1) xs es (omega (arith, h)) all)
 
 with_above : (k from : ℕ) (xs : List (List ℕ)) (es : List (ℕ × List ℕ)) → k < from → AllByRecursion (λ y. nat_cmp k y ≡ Less) (keys_of es) → AllByRecursion (λ y. nat_cmp k y ≡ Less) (keys_of (with_appended from xs es))
 with_above k from xs [] h all = subst (λ ys. AllByRecursion (λ y. nat_cmp k y ≡ Less) (keys_of ys)) (append-nil (appended_entries from xs)) (appended_above k from xs [] h tt)
@@ -231,7 +231,7 @@ with_sorted from xs (e ∷ es) up apart = elim (cases_lt e.0 from) [
         | inl m ↦ absurd (not_some e.1 (sym (ap (λ t. cond t (Some e.1) (lookup (nat_eq e.0) es)) (eq-eqb e.0 e.0 refl)) ∙ apart e.0 l m))
         | inr m ↦ m
       ] in
-      rw (le-ltb e.0 from l) (appended_sorted from xs (e ∷ es) up (λ q h. (less q e.0 (omega (arith, h, past)), above q (keys_of es) e.0 (omega (arith, h, past)) up.0)))
+      rw (le-ltb e.0 from l) (appended_sorted from xs (e ∷ es) up (λ q h. (nat_cmp_from_less q e.0 (omega (arith, h, past)), less_than_all q (keys_of es) e.0 (omega (arith, h, past)) up.0)))
 ]
 
 pub none_beside : (first count i : ℕ) (xs : List (List ℕ)) → IsBeside first count i → count ≡ length xs → IsBeside first (length xs) i
@@ -244,16 +244,16 @@ lent_appended n from xs es i place v ok up at h = put_is (with_appended from xs 
 
 pub lent_stored : (n : ℕ) (from : ℕ) (xs : List (List ℕ)) (es : List (ℕ × List ℕ)) (i : ℕ) (old v : List ℕ) → IsAppended n es from xs → IsStrictlySortedBy nat_cmp (keys_of es) → IsBeside from (length xs) i → lookup (nat_eq i) es ≡ Some old → with_appended from xs (with_chunk es i v) ≡ with_chunk (with_appended from xs es) i v
 lent_stored n from xs es i old v ok up out found =
-    let put = replaces es i old v found in
+    let put = with_chunk_puts es i old v found in
     put_is (with_appended from xs es) (with_appended from xs (with_chunk es i v)) i old v (with_sorted from xs es up ok.apart)
-    (with_sorted from xs (with_chunk es i v) (replaced_sorted es i v up) (keeps_other n from xs es (with_chunk es i v) i (Some v) ok out put).apart) (look_beside from xs es i out ∙ found) (puts_other from xs es (with_chunk es i v) i (Some v) out put)
+    (with_sorted from xs (with_chunk es i v) (replaced_sorted es i v up) (keeps_other n from xs es (with_chunk es i v) i (Some v) ok out put).apart) (lookup-beside_appended from xs es i out ∙ found) (puts_other from xs es (with_chunk es i v) i (Some v) out put)
 
 -- ---- the first index from a number on
-has : {X : Type 0} (es : List (ℕ × X)) (q : ℕ) → is_member nat_eq (keys_of es) q ≡ is_some (lookup (nat_eq q) es)
-has es q = sym (is_some-lookup (nat_eq q) es)
+is_member-keys_of : {X : Type 0} (es : List (ℕ × X)) (q : ℕ) → is_member nat_eq (keys_of es) q ≡ is_some (lookup (nat_eq q) es)
+is_member-keys_of es q = sym (is_some-lookup (nat_eq q) es)
 
 same_member : (from : ℕ) (xs : List (List ℕ)) (es : List (ℕ × List ℕ)) (q : ℕ) → ((q < from) ⊎ (from + length xs ≤ q)) → is_member nat_eq (keys_of (with_appended from xs es)) q ≡ is_member nat_eq (keys_of es) q
-same_member from xs es q out = has (with_appended from xs es) q ∙ (ap is_some (look_beside from xs es q out) ∙ sym (has es q))
+same_member from xs es q out = is_member-keys_of (with_appended from xs es) q ∙ (ap is_some (lookup-beside_appended from xs es q out) ∙ sym (is_member-keys_of es q))
 
 -- if no chunk is appended from there on, the others have the first
 pub next_other : (from : ℕ) (xs : List (List ℕ)) (es : List (ℕ × List ℕ)) (low first : ℕ) (r : Option ℕ) → ((q : ℕ) → low ≤ q → from ≤ q → first ≤ q) → from + length xs ≤ first → IsNextMember (keys_of es) low r → IsNextMember (keys_of (with_appended from xs es)) low r
@@ -267,23 +267,23 @@ next_other from xs es low first r least past = go r
     go (Some i) h = (h.0, same_member from xs es i (out i h.0) ∙ h.1, λ j f s. same_member from xs es j (out j f) ∙ h.2 j f s)
 
 -- before the first appended index from there on, all indices are of other chunks
-under : (from : ℕ) (low first q : ℕ) → ((q : ℕ) → low ≤ q → from ≤ q → first ≤ q) → low ≤ q → q < first → q < from
-under from low first q least l h = elim (cases_lt q from) [ inl m ↦ m | inr m ↦ absurd (omega (arith, least q l m, h)) ]
+below_appended : (from : ℕ) (low first q : ℕ) → ((q : ℕ) → low ≤ q → from ≤ q → first ≤ q) → low ≤ q → q < first → q < from
+below_appended from low first q least l h = elim (cases_lt q from) [ inl m ↦ m | inr m ↦ absurd (omega (arith, least q l m, h)) ]
 
 -- an index of the others is first
 pub next_before : (from : ℕ) (xs : List (List ℕ)) (es : List (ℕ × List ℕ)) (low first i : ℕ) → ((q : ℕ) → low ≤ q → from ≤ q → first ≤ q) → i < first → IsNextMember (keys_of es) low (Some i) → IsNextMember (keys_of (with_appended from xs es)) low (Some i)
 next_before from xs es low first i least before h = (
   h.0,
-  same_member from xs es i (inl (under from low first i least h.0 before)) ∙ h.1,
-  λ j f s. same_member from xs es j (inl (under from low first j least f (omega (arith, s, before)))) ∙ h.2 j f s,
+  same_member from xs es i (inl (below_appended from low first i least h.0 before)) ∙ h.1,
+  λ j f s. same_member from xs es j (inl (below_appended from low first j least f (omega (arith, s, before)))) ∙ h.2 j f s,
 )
 
 -- an appended index is first
 pub next_appended : (from : ℕ) (xs : List (List ℕ)) (es : List (ℕ × List ℕ)) (low first : ℕ) → ((q : ℕ) → low ≤ q → from ≤ q → first ≤ q) → low ≤ first → (from ≤ first) × (first < from + length xs) → ((j : ℕ) → low ≤ j → j < first → is_member nat_eq (keys_of es) j ≡ false) → IsNextMember (keys_of (with_appended from xs es)) low (Some first)
 next_appended from xs es low first least l h none = (
   l,
-  has (with_appended from xs es) first ∙ ap is_some (look_in from xs es first [] h),
-  λ j f s. same_member from xs es j (inl (under from low first j least f s)) ∙ none j f s,
+  is_member-keys_of (with_appended from xs es) first ∙ ap is_some (lookup-in_appended from xs es first [] h),
+  λ j f s. same_member from xs es j (inl (below_appended from low first j least f s)) ∙ none j f s,
 )
 
 -- ---- the place of a chunk
@@ -303,11 +303,11 @@ stored_at es indices i place chunk at e = ap (λ (j : ℕ). lookup (nat_eq j) es
 -- ---- the contracts of calls on the others, restated for all chunks
 pub is_inside : (from count q : ℕ) (xs : List (List ℕ)) (b : Bool) → count ≡ length xs → b ≡ (nat_le from q && nat_lt q (from + count)) → b ≡ true → (from ≤ q) × (q < from + length xs)
 is_inside from count q xs b e is t =
-    let h = inside from count q (sym is ∙ t) in
+    let h = is_among_appended from count q (sym is ∙ t) in
     (h.0, omega (arith, h.1, e))
 
 pub is_beside : (from count q : ℕ) (xs : List (List ℕ)) (b : Bool) → count ≡ length xs → b ≡ (nat_le from q && nat_lt q (from + count)) → b ≡ false → (q < from) ⊎ (from + length xs ≤ q)
-is_beside from count q xs b e is t = elim (beside from count q (sym is ∙ t)) [ inl l ↦ inl l | inr m ↦ inr (omega (arith, m, e)) ]
+is_beside from count q xs b e is t = elim (is_beside_appended from count q (sym is ∙ t)) [ inl l ↦ inl l | inr m ↦ inr (omega (arith, m, e)) ]
 
 pub ok_map : {A E P Q : Type 0} (r : Result A E) → (P → Q) → OnOk r P → OnOk r Q
 ok_map (Ok x) f h = f h
@@ -366,20 +366,20 @@ pub absent_out : (from : ℕ) (xs : List (List ℕ)) (es : List (ℕ × List ℕ
 absent_out from xs es i none = elim (cases_lt i from) [
   | inl l ↦ inl l
   | inr l ↦ elim (cases_lt i (from + length xs)) [
-    | inl m ↦ absurd (not_some (get_or xs (i - from) []) (sym (look_in from xs es i [] (l, m)) ∙ none))
+    | inl m ↦ absurd (not_some (get_or xs (i - from) []) (sym (lookup-in_appended from xs es i [] (l, m)) ∙ none))
     | inr m ↦ inr m
   ]
 ]
 
 pub absent_other : (from : ℕ) (xs : List (List ℕ)) (es : List (ℕ × List ℕ)) (i : ℕ) → lookup (nat_eq i) (with_appended from xs es) ≡ None → lookup (nat_eq i) es ≡ None
-absent_other from xs es i none = sym (look_beside from xs es i (absent_out from xs es i none)) ∙ none
+absent_other from xs es i none = sym (lookup-beside_appended from xs es i (absent_out from xs es i none)) ∙ none
 
 -- ---- many of the other chunks are put
 module _ (from : ℕ) (xs : List (List ℕ)) (es fs : List (ℕ × List ℕ)) (indices : List ℕ) (chunk : ℕ → Option (List ℕ)) (absent : (q : ℕ) → is_member nat_eq indices q ≡ true → lookup (nat_eq q) (with_appended from xs es) ≡ None) where
   pub puts_each_other : PutsEach es fs indices chunk → PutsEach (with_appended from xs es) (with_appended from xs fs) indices chunk
-  puts_each_other put = λ q. look from xs fs q ∙ elim (cases_Bool (is_member nat_eq indices q)) [
+  puts_each_other put = λ q. lookup-with_appended from xs fs q ∙ elim (cases_Bool (is_member nat_eq indices q)) [
     | inl m ↦ rw (appended_none from xs q (absent_out from xs es q (absent q m)), m) (put q ∙ rw m refl)
-    | inr m ↦ rw m (ap (λ p. first_of (lookup (nat_eq q) (appended_entries from xs)) p) (put q ∙ rw m refl) ∙ sym (look from xs es q))
+    | inr m ↦ rw m (ap (λ p. first_of (lookup (nat_eq q) (appended_entries from xs)) p) (put q ∙ rw m refl) ∙ sym (lookup-with_appended from xs es q))
   ]
 
   keeps_each_other : (n : ℕ) → IsAppended n es from xs → PutsEach es fs indices chunk → IsAppended n fs from xs
@@ -403,13 +403,13 @@ module _ (from : ℕ) (xs : List (List ℕ)) (es fs : List (ℕ × List ℕ)) (i
 pub last_removed : (n : ℕ) (from : ℕ) (xs ys : List (List ℕ)) (es : List (ℕ × List ℕ)) (i : ℕ) (o : Option (List ℕ)) → IsAppended n es from xs → (from ≤ i) × (i < from + length xs) → ((q : ℕ) → i < q → lookup (nat_eq q) (with_appended from xs es) ≡ None) → o ≡ Some (get_or xs (length xs - 1) []) → xs ≡ ys ++ option_to_list o → IsAppended n es from ys × (o ≡ lookup (nat_eq i) (with_appended from xs es)) × Puts (with_appended from xs es) (with_appended from ys es) i None
 last_removed n from xs ys es i o ok h last value items = (
   keeps_in n from xs ys es (omega (arith, long)) ok,
-  value ∙ (ap (λ (j : ℕ). Some (get_or xs j [])) place ∙ sym (look_in from xs es i [] h)),
+  value ∙ (ap (λ (j : ℕ). Some (get_or xs j [])) place ∙ sym (lookup-in_appended from xs es i [] h)),
   subst (λ zs. Puts (with_appended from zs es) (with_appended from ys es) i None) (sym whole) (takes_end from ys es i (get_or xs (length xs - 1) []) (omega (arith, long, end)) (ok.apart i h.0 h.1)),
 )
   where
     end : from + length xs ≡ i + 1
     end = elim (cases_lt (i + 1) (from + length xs)) [
-      | inl m ↦ absurd (not_some (get_or xs (i + 1 - from) []) (sym (look_in from xs es (i + 1) [] (omega (arith, h.0), m)) ∙ last (i + 1) (omega arith)))
+      | inl m ↦ absurd (not_some (get_or xs (i + 1 - from) []) (sym (lookup-in_appended from xs es (i + 1) [] (omega (arith, h.0), m)) ∙ last (i + 1) (omega arith)))
       | inr m ↦ omega (arith, m, h.1)
     ]
 
@@ -428,10 +428,10 @@ module _ (from : ℕ) (xs : List (List ℕ)) (es : List (ℕ × List ℕ)) where
   all = keys_of (with_appended from xs es)
 
   appended_has : (q : ℕ) → (from ≤ q) × (q < from + length xs) → is_member nat_eq all q ≡ true
-  appended_has q h = sym (is_some-lookup (nat_eq q) (with_appended from xs es)) ∙ ap is_some (look_in from xs es q [] h)
+  appended_has q h = sym (is_some-lookup (nat_eq q) (with_appended from xs es)) ∙ ap is_some (lookup-in_appended from xs es q [] h)
 
   beside_appended : (q : ℕ) → ((q < from) ⊎ (from + length xs ≤ q)) → is_member nat_eq all q ≡ is_member nat_eq (keys_of es) q
-  beside_appended q h = sym (is_some-lookup (nat_eq q) (with_appended from xs es)) ∙ (ap is_some (look_beside from xs es q h) ∙ is_some-lookup (nat_eq q) es)
+  beside_appended q h = sym (is_some-lookup (nat_eq q) (with_appended from xs es)) ∙ (ap is_some (lookup-beside_appended from xs es q h) ∙ is_some-lookup (nat_eq q) es)
 
   pub parts_between : (ks : List ℕ) (lo first past hi : ℕ) → ks ≡ keys_of es → lo ≤ hi → hi < 2 ^ 64 → first ≡ max lo (min from hi) → past ≡ max lo (min (min (from + length xs) (2 ^ 64 - 1)) hi)
       → (lo ≤ first) × (first ≤ past) × (past ≤ hi) × (members_between all lo hi ≡ members_between ks lo first ++ (from_to first past ++ members_between ks past hi))

@@ -27,7 +27,7 @@ use Rattle.bitmap_core.proofs.Pruned.Positions.{place as place_of}
 use Rattle.chunk_map.specs.Entries.{Puts, with_chunk}
 use Rattle.historical_bitmap.specs.Pending.{CrossesByte, IsByteSetIn, IsClearFrom, IsSetIn, IsWritten, SetsIn}
 use Rattle.historical_bitmap.specs.CachedWord.{bit_with_word, chunk_with_word, is_cached_at, IsCachedWord, IsWordOf, IsWordPut, with_word}
-use Rattle.historical_bitmap.proofs.EditedChunks.ReplacedChunk.{lookup_at, lookup_beside, lookup_here, lookup_put, puts_here, puts_two_here, replaced_filled, replaced_keys, replaced_same, replaced_sorted, replaces, sets_here}
+use Rattle.historical_bitmap.proofs.EditedChunks.ReplacedChunk.{lookup_at, lookup_beside, lookup_here, lookup_put, puts_here, puts_two_here, replaced_filled, replaced_keys, replaced_same, replaced_sorted, with_chunk_puts, sets_here}
 use Rattle.historical_bitmap.proofs.Lists.Maps.{not_some}
 
 -- ---- places in a chunk
@@ -93,8 +93,8 @@ cases_word base count k = elim (cases_lt k base) [
 ]
 
 -- a bit of the chunk
-pub seen : (n : ℕ) (chunk : List ℕ) (base count word i k : ℕ) → 0 < n → 8 * n * i ≤ k → k < 8 * n * i + 8 * n → chunk_bit n (chunk_with_word n chunk base count word i) k ≡ bit_with_word n chunk base count word k
-seen n chunk base count word i k pos low high =
+pub chunk_bit-with_word : (n : ℕ) (chunk : List ℕ) (base count word i k : ℕ) → 0 < n → 8 * n * i ≤ k → k < 8 * n * i + 8 * n → chunk_bit n (chunk_with_word n chunk base count word i) k ≡ bit_with_word n chunk base count word k
+chunk_bit-with_word n chunk base count word i k pos low high =
     let at : 8 * n * i + k % (8 * n) ≡ k = omega (arith, rest_is n i k low high, low) in
     bit_from n (bit_with_word n chunk base count word) i k pos ∙ ap (bit_with_word n chunk base count word) at
 
@@ -103,7 +103,7 @@ pub word_written : (n : ℕ) (chunk : List ℕ) (base count word new i k : ℕ) 
 word_written n chunk base count word new i k value pos start end low high here others = record {
   size = from_size n (bit_with_word n chunk base count new) i;
   bits = record {
-    here = seen n chunk base count new i k pos (omega (arith, start, low)) (omega (arith, end, high)) ∙ (in_word n chunk base count new k low high ∙ here);
+    here = chunk_bit-with_word n chunk base count new i k pos (omega (arith, start, low)) (omega (arith, end, high)) ∙ (in_word n chunk base count new k low high ∙ here);
     others = λ j ne.
         let rest : k % (8 * n) ≡ k - 8 * n * i = rest_is n i k (omega (arith, start, low)) (omega (arith, end, high)) in
         bit_from n (bit_with_word n chunk base count new) i j pos ∙ (go (8 * n * i + j % (8 * n)) (λ e. ne (omega (arith, e, rest))) ∙ sym (bit_from n (bit_with_word n chunk base count word) i j pos));
@@ -281,7 +281,7 @@ module _ (n : ℕ) (es : List (ℕ × List ℕ)) (base count word k : ℕ) (widt
   found i ok = lookup_here es i (chunk_with_word n (stored i) base count word i) ok.found
 
   bit_is : (i : ℕ) → IsWordOf n es base count i → chunk_bit n (chunk_with_word n (stored i) base count word i) k ≡ eqb (bit_at word (k - base)) 1
-  bit_is i ok = seen n (stored i) base count word i k width.positive (omega (arith, ok.low, low)) (omega (arith, ok.high, high)) ∙ in_word n (stored i) base count word k low high
+  bit_is i ok = chunk_bit-with_word n (stored i) base count word i k width.positive (omega (arith, ok.low, low)) (omega (arith, ok.high, high)) ∙ in_word n (stored i) base count word k low high
 
   -- the bit is read
   pub read_in : (cached : Option ℕ) → MatchOption cached (count ≡ 0) (IsWordOf n es base count) → Some (eqb (bit_at word (k - base)) 1) ≡ option_map (λ chunk. chunk_bit n chunk k) (lookup (nat_eq (k / (8 * n))) (with_word n es cached base count word))
@@ -517,7 +517,7 @@ module _ (n i k count : ℕ) (value : Bool) (chunk : List ℕ) (pos : 0 < n) (lo
     bits = record {
       here =
           let zero : k - k ≡ 0 = omega arith in
-          seen n chunk k count (cond value 1 0) i k pos low (omega (arith, some, high)) ∙ (in_word n chunk k count (cond value 1 0) k (omega arith) (omega (arith, some)) ∙ (ap (λ t. eqb (bit_at (cond value 1 0) t) 1) zero ∙ first_bit value));
+          chunk_bit-with_word n chunk k count (cond value 1 0) i k pos low (omega (arith, some, high)) ∙ (in_word n chunk k count (cond value 1 0) k (omega arith) (omega (arith, some)) ∙ (ap (λ t. eqb (bit_at (cond value 1 0) t) 1) zero ∙ first_bit value));
       others = λ j ne.
           let rest : k % (8 * n) ≡ k - 8 * n * i = rest_is n i k low (omega (arith, some, high)) in
           bit_from n (bit_with_word n chunk k count (cond value 1 0)) i j pos ∙ begun_other j (λ e. ne (omega (arith, e, rest)));
@@ -527,7 +527,7 @@ module _ (n i k count : ℕ) (value : Bool) (chunk : List ℕ) (pos : 0 < n) (lo
   begun_sets : (first : List ℕ) (es : List (ℕ × List ℕ)) → lookup (nat_eq i) es ≡ Some chunk → SetsIn n first es (with_word n es (Some i) k count (cond value 1 0)) i k value begun
   begun_sets first es found = record {
     written = subst (λ o. IsWritten n (unwrap_or o first) k value begun) (sym found) begun_written;
-    edited = subst (λ o. Puts es (with_chunk es i (chunk_with_word n (unwrap_or o []) k count (cond value 1 0) i)) i (Some begun)) (sym found) (replaces es i chunk begun found);
+    edited = subst (λ o. Puts es (with_chunk es i (chunk_with_word n (unwrap_or o []) k count (cond value 1 0) i)) i (Some begun)) (sym found) (with_chunk_puts es i chunk begun found);
   }
 
 -- the tail that a new word makes

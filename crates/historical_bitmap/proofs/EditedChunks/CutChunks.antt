@@ -11,7 +11,7 @@ use Rattle.chunk_map.specs.Entries.{Puts}
 use Rattle.chunk_map.specs.Trie.{IsAt, without_place}
 use Rattle.historical_bitmap.specs.Pending.{DropsFrom, IsCut, IsPartSet, IsPartSetIn}
 use Rattle.historical_bitmap.specs.Appended.{IsAppended, with_appended}
-use Rattle.historical_bitmap.proofs.EditedChunks.Appended.{look_beside, look_in}
+use Rattle.historical_bitmap.proofs.EditedChunks.Appended.{lookup-beside_appended, lookup-in_appended}
 use Rattle.historical_bitmap.proofs.Lists.Members.{not_key}
 
 -- an index below the bound, and one that is not
@@ -51,16 +51,16 @@ module _ (n first from : ℕ) (xs : List (List ℕ)) (es fs : List (ℕ × List 
   look_low q h = elim (cases_lt q first) [
     | inl before ↦ beside (inl before) (inl before)
     | inr l ↦ elim (cases_lt q (first + length xs)) [
-      | inl m ↦ look_in first (take (from - first) xs) fs q [] (l, omega (arith, l, m, h, left_len)) ∙ (ap Some (get_or-take (from - first) xs (q - first) [] (omega (arith, l, h))) ∙ sym (look_in first xs es q [] (l, m)))
+      | inl m ↦ lookup-in_appended first (take (from - first) xs) fs q [] (l, omega (arith, l, m, h, left_len)) ∙ (ap Some (get_or-take (from - first) xs (q - first) [] (omega (arith, l, h))) ∙ sym (lookup-in_appended first xs es q [] (l, m)))
       | inr past ↦ beside (inr (omega (arith, past, left_len))) (inr past)
     ]
   ]
     where
       beside : ((q < first) ⊎ (first + length (take (from - first) xs) ≤ q)) → ((q < first) ⊎ (first + length xs ≤ q)) → lookup (nat_eq q) (with_appended first (take (from - first) xs) fs) ≡ lookup (nat_eq q) (with_appended first xs es)
-      beside new old = look_beside first (take (from - first) xs) fs q new ∙ (kept_below es fs from q put h ∙ sym (look_beside first xs es q old))
+      beside new old = lookup-beside_appended first (take (from - first) xs) fs q new ∙ (kept_below es fs from q put h ∙ sym (lookup-beside_appended first xs es q old))
 
   look_high : (q : ℕ) → from ≤ q → lookup (nat_eq q) (with_appended first (take (from - first) xs) fs) ≡ None
-  look_high q h = look_beside first (take (from - first) xs) fs q out ∙ none_from es fs from q put h
+  look_high q h = lookup-beside_appended first (take (from - first) xs) fs q out ∙ none_from es fs from q put h
     where
       out : (q < first) ⊎ (first + length (take (from - first) xs) ≤ q)
       out = elim (cases_lt q first) [ inl before ↦ inl before | inr l ↦ inr (omega (arith, l, h, left_len)) ]

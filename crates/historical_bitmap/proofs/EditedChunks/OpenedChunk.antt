@@ -11,8 +11,8 @@ use Rattle.historical_bitmap.proofs.Pending.Chunks.{chunk_with_bits}
 use Rattle.historical_bitmap.proofs.Pending.Writes.{zeros_past}
 
 -- a chunk of zeros
-zeros : (n : ℕ) → IsChunk n (replicate n 0)
-zeros n = record {
+zeros_are_a_chunk : (n : ℕ) → IsChunk n (replicate n 0)
+zeros_are_a_chunk n = record {
   len = length-replicate n 0;
   bytes = λ k. elim (cases_lt k n) [
     | inl h ↦ rw (get_or-replicate {A = ℕ} n k 0 0 h) (omega arith)
@@ -26,4 +26,4 @@ first_zeros n b k i pos e low whole =
     let start : 8 * n * i ≡ k = rw e (omega (arith, whole, place (8 * n) k)) in
     let before : 8 * n * b.pruned ≤ 8 * n * i = mul-le (8 * n) b.pruned (8 * n) i (omega arith) low in
     let past : bit_len n (truncated n b k) ≤ 8 * n * i = omega (arith, start, before, length-take (k - 8 * n * b.pruned) b.bits) in
-    chunk_with_bits n (truncated n b k) i (replicate n 0) pos (zeros n) (λ j at. zeros_past n (truncated n b k) i j pos past at)
+    chunk_with_bits n (truncated n b k) i (replicate n 0) pos (zeros_are_a_chunk n) (λ j at. zeros_past n (truncated n b k) i j pos past at)

@@ -74,18 +74,18 @@ sets_here n es i old new bit value some written = subst (λ o. IfSome o (λ chun
 pub replaced_same : (es : List (ℕ × List ℕ)) (i : ℕ) (chunk : List ℕ) → lookup (nat_eq i) es ≡ Some chunk → with_chunk es i chunk ≡ es
 replaced_same es i chunk e = set_value_same (is_at (nat_cmp i)) es chunk (same_lookup i es ∙ e)
 
-pub replaces : (es : List (ℕ × List ℕ)) (i : ℕ) (old new : List ℕ) → lookup (nat_eq i) es ≡ Some old → Puts es (with_chunk es i new) i (Some new)
-replaces es i old new e = λ q. lookup_replaced es i q new (rw e refl)
+pub with_chunk_puts : (es : List (ℕ × List ℕ)) (i : ℕ) (old new : List ℕ) → lookup (nat_eq i) es ≡ Some old → Puts es (with_chunk es i new) i (Some new)
+with_chunk_puts es i old new e = λ q. lookup_replaced es i q new (rw e refl)
 
 -- what replaces a chunk is the same entries with another chunk
 pub put_is : (es fs : List (ℕ × List ℕ)) (i : ℕ) (old new : List ℕ) → IsStrictlySortedBy nat_cmp (keys_of es) → IsStrictlySortedBy nat_cmp (keys_of fs) → lookup (nat_eq i) es ≡ Some old → Puts es fs i (Some new) → fs ≡ with_chunk es i new
-put_is es fs i old new up up_new e put = same_entries fs (with_chunk es i new) up_new (replaced_sorted es i new up) (λ q. put q ∙ sym (replaces es i old new e q))
+put_is es fs i old new up up_new e put = same_entries fs (with_chunk es i new) up_new (replaced_sorted es i new up) (λ q. put q ∙ sym (with_chunk_puts es i old new e q))
 
 -- a bit is written in a chunk, and in one that is new
-pub writes : (n : ℕ) (first : List ℕ) (es : List (ℕ × List ℕ)) (i k : ℕ) (value : Bool) (old new : List ℕ) → lookup (nat_eq i) es ≡ Some old → IsWritten n old k value new → SetsIn n first es (with_chunk es i new) i k value new
-writes n first es i k value old new e written = record {
+pub with_chunk_sets : (n : ℕ) (first : List ℕ) (es : List (ℕ × List ℕ)) (i k : ℕ) (value : Bool) (old new : List ℕ) → lookup (nat_eq i) es ≡ Some old → IsWritten n old k value new → SetsIn n first es (with_chunk es i new) i k value new
+with_chunk_sets n first es i k value old new e written = record {
   written = subst (λ o. IsWritten n (unwrap_or o first) k value new) (sym e) written;
-  edited = replaces es i old new e;
+  edited = with_chunk_puts es i old new e;
 }
 
 pub writes_new : (n : ℕ) (first : List ℕ) (es fs : List (ℕ × List ℕ)) (i k : ℕ) (value : Bool) (new : List ℕ) → lookup (nat_eq i) es ≡ None → IsWritten n first k value new → Puts es fs i (Some new) → SetsIn n first es fs i k value new
@@ -95,7 +95,7 @@ writes_new n first es fs i k value new none written put = record {
 }
 
 pub replaces_bit : (n : ℕ) (es : List (ℕ × List ℕ)) (i k : ℕ) (value : Bool) (old new : List ℕ) → lookup (nat_eq i) es ≡ Some old → IsWritten n old k value new → IfSome (lookup (nat_eq i) es) (λ chunk. IsSetIn n es (with_chunk es i new) i chunk k value)
-replaces_bit n es i k value old new e written = subst (λ o. IfSome o (λ chunk. IsSetIn n es (with_chunk es i new) i chunk k value)) (sym e) (record { bytes = new; written = written; edited = replaces es i old new e })
+replaces_bit n es i k value old new e written = subst (λ o. IfSome o (λ chunk. IsSetIn n es (with_chunk es i new) i chunk k value)) (sym e) (record { bytes = new; written = written; edited = with_chunk_puts es i old new e })
 
 -- a chunk that is put is found
 pub lookup_put : (es fs : List (ℕ × List ℕ)) (i : ℕ) (chunk : List ℕ) → Puts es fs i (Some chunk) → lookup (nat_eq i) fs ≡ Some chunk

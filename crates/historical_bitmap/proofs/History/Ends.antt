@@ -41,9 +41,9 @@ first_dropped m a all (c ∷ cs) rest leaves rise is e l = record {
 }
 
 -- then fewer commits are left
-pub fewer : {X : Type 0} (a : ℕ) (left rest : List (ℕ × X)) → Some a ≡ earliest left → rest ≡ drop 1 left → length rest < length left
-fewer a [] rest e is = cc
-fewer a (c ∷ cs) rest e is = omega (arith, ap (λ ds. length ds) is)
+pub fewer_without_earliest : {X : Type 0} (a : ℕ) (left rest : List (ℕ × X)) → Some a ≡ earliest left → rest ≡ drop 1 left → length rest < length left
+fewer_without_earliest a [] rest e is = cc
+fewer_without_earliest a (c ∷ cs) rest e is = omega (arith, ap (λ ds. length ds) is)
 
 -- the loop ends at the first number that is not below
 pub from_done : {X : Type 0} (m a : ℕ) (all left : List (ℕ × X)) → LeavesFrom m all left → Some a ≡ earliest left → m ≤ a → left ≡ from_number m all

@@ -23,8 +23,8 @@ use Rattle.historical_bitmap.proofs.Lists.Members.{not_key}
 
 -- ---- ascending numbers
 -- a number at an earlier position is at most one at a later position
-pub rises : (xs : List ℕ) → IsStrictlySortedBy nat_cmp xs → (i j : ℕ) → i ≤ j → j < length xs → get_or xs i 0 ≤ get_or xs j 0
-rises xs up i j h l = elim (cases_eq i j) [
+pub rises_by_position : (xs : List ℕ) → IsStrictlySortedBy nat_cmp xs → (i j : ℕ) → i ≤ j → j < length xs → get_or xs i 0 ≤ get_or xs j 0
+rises_by_position xs up i j h l = elim (cases_eq i j) [
   | inl e ↦ omega (arith, ap (λ m. get_or xs m 0) e)
   | inr ne ↦ omega (arith, below_from_sorted xs i j 0 up (omega arith) l)
 ]
@@ -44,8 +44,8 @@ none_in (x ∷ xs) (suc next) low high i less more l h =
 pub none_around : (xs : List ℕ) (next low high : ℕ) → IsStrictlySortedBy nat_cmp xs → next ≤ length xs → (0 < next → get_or xs (next - 1) 0 < low) → (next < length xs → high ≤ get_or xs next 0)
     → (i : ℕ) → low ≤ i → i < high → is_member nat_eq xs i ≡ false
 none_around xs next low high up within below above i l h = none_in xs next low high i
-    (λ k s w. omega (arith, rises xs up k (next - 1) (omega (arith, s)) (omega (arith, s, within)), below (omega (arith, s))))
-    (λ k s w. omega (arith, rises xs up next k s w, above (omega (arith, s, w))))
+    (λ k s w. omega (arith, rises_by_position xs up k (next - 1) (omega (arith, s)) (omega (arith, s, within)), below (omega (arith, s))))
+    (λ k s w. omega (arith, rises_by_position xs up next k s w, above (omega (arith, s, w))))
     l h
 
 -- entries without keys are none

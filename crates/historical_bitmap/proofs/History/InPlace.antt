@@ -29,9 +29,9 @@ pub before_len : (n : ℕ) (r : ReverseRecord) (newer : PrunedBits) → CanUndo 
 before_len n r newer can = len_from_bits n r.pruned r.len (λ k. bit_or_else n (kept r (k / (8 * n))) newer k) can.fits
 
 -- a bit that is found for the newer state is found for the older one, if the record between them keeps nothing of its chunk
-further : (n : ℕ) (b newer older : PrunedBits) (k : ℕ) (found : Option (List ℕ)) → bit_at n older k ≡ bit_at n newer k → IsFoundIn n found b k newer → IsFoundIn n found b k older
-further n b newer older k None same found_there = (found_there.0, found_there.1 ∙ sym same)
-further n b newer older k (Some bytes) same found_there = found_there ∙ sym same
+found_for_older : (n : ℕ) (b newer older : PrunedBits) (k : ℕ) (found : Option (List ℕ)) → bit_at n older k ≡ bit_at n newer k → IsFoundIn n found b k newer → IsFoundIn n found b k older
+found_for_older n b newer older k None same found_there = (found_there.0, found_there.1 ∙ sym same)
+found_for_older n b newer older k (Some bytes) same found_there = found_there ∙ sym same
 
 -- each bit of a past state is found
 pub found_in_place : (n : ℕ) (cs : List (ℕ × ReverseRecord)) (b : PrunedBits) (k : ℕ) → AllCanUndo n cs b → IsRetained n (undone n cs b) k → IsFoundIn n (first_kept cs (k / (8 * n))) b k (undone n cs b)
@@ -53,7 +53,7 @@ found_in_place n (c ∷ cs) b k all has = by_kept (kept c.1 (k / (8 * n))) refl 
     by_kept : (o : Option (List ℕ)) → kept c.1 (k / (8 * n)) ≡ o → (IsRetained n newer k → IsFoundIn n (first_kept cs (k / (8 * n))) b k newer)
         → IsFoundIn n (option_or o (first_kept cs (k / (8 * n)))) b k older
     by_kept (Some bytes) e next = sym (rw e at bit)
-    by_kept None e next = further n b newer older k (first_kept cs (k / (8 * n))) (rw e at bit) (next (all.0.unkept k has.0 inside e))
+    by_kept None e next = found_for_older n b newer older k (first_kept cs (k / (8 * n))) (rw e at bit) (next (all.0.unkept k has.0 inside e))
 
 -- the first of some records has the length and the pruned count of the bitmap before all of them
 pub first_extent : (n number : ℕ) (commits : List (ℕ × ReverseRecord)) (current : PrunedBits) (r : ReverseRecord) → IsWidth n → AllCanUndo n (past_number number commits) current

@@ -51,18 +51,18 @@ snapshots_numbers n (c ∷ cs) b = ap (λ rest. c.0 ∷ rest) (snapshots_numbers
 
 -- ---- ascending numbers
 -- a number before another in the order of a map is less than it
-pub below : (a b : ℕ) → nat_cmp a b ≡ Less → a < b
-below a b e = ranked a b Less (sym e)
+pub less_from_nat_cmp : (a b : ℕ) → nat_cmp a b ≡ Less → a < b
+less_from_nat_cmp a b e = ranked a b Less (sym e)
 
 -- if all numbers are greater than a, none is left out
 pub from_above : {X : Type 0} (m a : ℕ) (cs : List (ℕ × X)) → m ≤ a + 1 → AllByRecursion (λ k. nat_cmp a k ≡ Less) (keys_of cs) → from_number m cs ≡ cs
 from_above m a [] l h = refl
-from_above m a (c ∷ cs) l h = rw (le-leb m c.0 (omega (arith, below a c.0 h.0))) (ap (λ ys. c ∷ ys) (from_above m a cs l h.1))
+from_above m a (c ∷ cs) l h = rw (le-leb m c.0 (omega (arith, less_from_nat_cmp a c.0 h.0))) (ap (λ ys. c ∷ ys) (from_above m a cs l h.1))
 
 -- if all numbers are greater than a, none is at most a
 pub none_up_to : {X : Type 0} (m a : ℕ) (cs : List (ℕ × X)) → m ≤ a → AllByRecursion (λ k. nat_cmp a k ≡ Less) (keys_of cs) → up_to_number m cs ≡ []
 none_up_to m a [] l h = refl
-none_up_to m a (c ∷ cs) l h = rw (lt-leb c.0 m (omega (arith, below a c.0 h.0))) (none_up_to m a cs l h.1)
+none_up_to m a (c ∷ cs) l h = rw (lt-leb c.0 m (omega (arith, less_from_nat_cmp a c.0 h.0))) (none_up_to m a cs l h.1)
 
 -- ---- the oldest commits dropped
 -- exactly their states are dropped
@@ -93,7 +93,7 @@ can_undo_from n m (c ∷ cs) b h all =
 found_above : {X : Type 0} (m a : ℕ) (cs : List (ℕ × X)) (r : X) → AllByRecursion (λ k. nat_cmp a k ≡ Less) (keys_of cs) → kept_under cs m ≡ Some r → a < m
 found_above m a [] r h e = cc
 found_above m a (c ∷ cs) r h e = elim (cases_eq m c.0) [
-  | inl same ↦ omega (arith, below a c.0 h.0)
+  | inl same ↦ omega (arith, less_from_nat_cmp a c.0 h.0)
   | inr other ↦ found_above m a cs r h.1 (rw (ne_eqb m c.0 other) at e)
 ]
 

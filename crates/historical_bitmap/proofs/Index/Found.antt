@@ -61,20 +61,20 @@ next_first n k i (c ∷ cs) r bytes rise past there has none = elim (cases_order
 
 -- ---- with an index
 -- a commit without bytes at its place for the chunk keeps nothing of it
-unplaced : (places : List (ℕ × List (ℕ × List ℕ))) (cs : List (ℕ × ReverseRecord)) (i m : ℕ) (r : ReverseRecord) → IsIndexOf places cs → bytes_at places i m ≡ None → kept_under cs m ≡ Some r → kept r i ≡ None
-unplaced places cs i m r index none found = sym (index i m ∙ ap (λ o. kept_in o i) found) ∙ none
+unplaced_keeps_nothing : (places : List (ℕ × List (ℕ × List ℕ))) (cs : List (ℕ × ReverseRecord)) (i m : ℕ) (r : ReverseRecord) → IsIndexOf places cs → bytes_at places i m ≡ None → kept_under cs m ≡ Some r → kept r i ≡ None
+unplaced_keeps_nothing places cs i m r index none found = sym (index i m ∙ ap (λ o. kept_in o i) found) ∙ none
 
 -- the next bytes of a chunk in the index are those in the first later record that keeps any
 pub next_found : (places : List (ℕ × List (ℕ × List ℕ))) (cs : List (ℕ × ReverseRecord)) (n i : ℕ) (next : Option (List ℕ)) → RiseInNumber cs → IsIndexOf places cs → IsNextKept places i n next
     → next ≡ first_kept (past_number n cs) i
-next_found places cs n i None rise index none = sym (none_first n i cs rise (λ m r l found. unplaced places cs i m r index (none m l) found))
+next_found places cs n i None rise index none = sym (none_first n i cs rise (λ m r l found. unplaced_keeps_nothing places cs i m r index (none m l) found))
 next_found places cs n i (Some bytes) rise index (k, past, has, before) = of_record (kept_under cs k) refl
   where
     of_record : (o : Option ReverseRecord) → kept_under cs k ≡ o → Some bytes ≡ first_kept (past_number n cs) i
     of_record None absent = absurd (let f : Some bytes ≡ None = sym has ∙ (index i k ∙ ap (λ o. kept_in o i) absent) in cc)
     of_record (Some r) found =
         let keeps : kept r i ≡ Some bytes = sym (index i k ∙ ap (λ o. kept_in o i) found) ∙ has in
-        sym (next_first n k i cs r bytes rise past found keeps (λ m s within there. unplaced places cs i m s index (before m within.0 within.1) there))
+        sym (next_first n k i cs r bytes rise past found keeps (λ m s within there. unplaced_keeps_nothing places cs i m s index (before m within.0 within.1) there))
 
 -- no commit with a number past one and up to another keeps bytes of a chunk
 none_within : (from to i : ℕ) (cs : List (ℕ × ReverseRecord)) → RiseInNumber cs → NoneKeeps cs i (λ m. (from < m) × (m ≤ to)) → first_kept (between_numbers from to cs) i ≡ None
@@ -93,4 +93,4 @@ none_within from to i (c ∷ cs) rise none =
 pub none_kept_between : (rows : List (ℕ × List (ℕ × List ℕ))) (cs : List (ℕ × ReverseRecord)) (from to i : ℕ) → RiseInNumber cs → IsIndexOf rows cs → has_between from to (row_of rows i) ≡ false
     → first_kept (between_numbers from to cs) i ≡ None
 none_kept_between rows cs from to i rise index none =
-    none_within from to i cs rise (λ m r within found. unplaced rows cs i m r index (none_at_between from to (row_of rows i) none m within.0 within.1) found)
+    none_within from to i cs rise (λ m r within found. unplaced_keeps_nothing rows cs i m r index (none_at_between from to (row_of rows i) none m within.0 within.1) found)

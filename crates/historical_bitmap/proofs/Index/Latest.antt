@@ -15,7 +15,7 @@ use Rattle.std.specs.Prelude.{◌&&◌, Some, None, nat_eq, slice_get}
 use Rattle.historical_bitmap.specs.History.{kept_under, LatestRises, RiseInNumber}
 use Rattle.historical_bitmap.specs.Index.{AddsPlaces, EndsBefore, IsIndexOf, kept_in, KeepsOthers, last_kept, names, RemovesPlaces, RisesAt}
 use Rattle.historical_bitmap.specs.Record.{ReverseRecord}
-use Rattle.historical_bitmap.proofs.History.PastStates.{below}
+use Rattle.historical_bitmap.proofs.History.PastStates.{less_from_nat_cmp}
 use Rattle.historical_bitmap.proofs.History.Positions.{count_before, rise_take}
 use Rattle.historical_bitmap.proofs.History.Rewound.{or_none}
 use Rattle.historical_bitmap.proofs.Index.Updates.{last_is, one_removed}
@@ -40,7 +40,7 @@ kept_push (d ∷ cs) c m = elim (cases_eq m d.0) [
 ]
 
 last_above : {X : Type 0} (a : ℕ) (cs : List (ℕ × X)) (c : ℕ × X) → AllByRecursion (λ k. nat_cmp a k ≡ Less) (keys_of (cs ++ c ∷ [])) → a < c.0
-last_above a [] c h = below a c.0 h.0
+last_above a [] c h = less_from_nat_cmp a c.0 h.0
 last_above a (d ∷ cs) c h = last_above a cs c h.1
 
 -- from the number of a commit on there are no earlier ones

@@ -137,8 +137,8 @@ rise_removed (x ∷ xs) zero rise = rise.1
 rise_removed (x ∷ xs) (suc p) rise = (all_removed (λ k. nat_cmp x.0 k ≡ Less) xs p rise.0, rise_removed xs p rise.1)
 
 -- a number past all others is appended
-pub pushed : {X : Type 0} (es : List (ℕ × X)) (n : ℕ) (x : X) → lookup (nat_eq n) es ≡ None → Puts es (es ++ (n, x) ∷ []) n (Some x)
-pushed es n x none q = after es n x q ∙ elim (cases_eq q n) [
+pub push_puts : {X : Type 0} (es : List (ℕ × X)) (n : ℕ) (x : X) → lookup (nat_eq n) es ≡ None → Puts es (es ++ (n, x) ∷ []) n (Some x)
+push_puts es n x none q = after es n x q ∙ elim (cases_eq q n) [
   | inl e ↦ rw (eq-eqb q n e) (ap (λ k. option_or (lookup (nat_eq k) es) (Some x)) e ∙ ap (λ o. option_or o (Some x)) none)
   | inr ne ↦ rw (ne_eqb q n ne) (or_none (lookup (nat_eq q) es))
 ]
@@ -210,7 +210,7 @@ module _ (ks : List ℕ) (rs : List (List (ℕ × List ℕ))) (i p : ℕ) (apart
   -- bytes are appended to it
   pub row_pushed : (n : ℕ) (bytes : List ℕ) → ((m : ℕ) → n ≤ m → bytes_at (entries_of ks rs) i m ≡ None)
       → PutsAt (entries_of ks rs) (entries_of ks (slice_set rs p (slice_index_or rs p [] ++ (n, bytes) ∷ []))) i n (Some bytes)
-  row_pushed n bytes none = row_set n (Some bytes) (slice_index_or rs p [] ++ (n, bytes) ∷ []) (pushed (slice_index_or rs p []) n bytes (ap (lookup (nat_eq n)) (sym row_is) ∙ none n (omega arith)))
+  row_pushed n bytes none = row_set n (Some bytes) (slice_index_or rs p [] ++ (n, bytes) ∷ []) (push_puts (slice_index_or rs p []) n bytes (ap (lookup (nat_eq n)) (sym row_is) ∙ none n (omega arith)))
 
   -- the row is replaced by one without bytes, which is removed
   pub row_gone : (n : ℕ) (row d : List (ℕ × List ℕ)) → Puts (slice_index_or rs p []) row n None → length row ≡ 0
@@ -282,7 +282,7 @@ pub row_added : (ks : List ℕ) (rs : List (List (ℕ × List ℕ))) (i n : ℕ)
 row_added ks rs i n bytes apart sizes none absent =
     row_replaced (entries_of ks rs) (entries_of (ks ++ i ∷ []) (rs ++ ((n, bytes) ∷ []) ∷ [])) i n (Some bytes) (Some ((n, bytes) ∷ []))
     (puts_push ks rs i ((n, bytes) ∷ []) apart (apart_push ks i apart absent) sizes)
-    (subst (λ r. Puts r ((n, bytes) ∷ []) n (Some bytes)) (sym (ap (λ o. unwrap_or o []) none)) (pushed [] n bytes refl))
+    (subst (λ r. Puts r ((n, bytes) ∷ []) n (Some bytes)) (sym (ap (λ o. unwrap_or o []) none)) (push_puts [] n bytes refl))
 
 -- ---- the invariant
 pub rows_set : (n : ℕ) (ks : List ℕ) (rs : List (List (ℕ × List ℕ))) (p : ℕ) (row : List (ℕ × List ℕ)) → AreRows n ks rs → 0 < length row → AreRows n ks (slice_set rs p row)

@@ -17,7 +17,7 @@ use Rattle.historical_bitmap.specs.Index.{AddsPlaces, bytes_at, EndsBefore, IsIn
 use Rattle.historical_bitmap.specs.declared.bitmap.historical.record.ChunkDiff as stored
 use Rattle.historical_bitmap.specs.Stored.{diff_value, entry_values}
 use Rattle.historical_bitmap.specs.Record.{ChunkDiff, ReverseRecord, bytes_of, kept, kept_bytes}
-use Rattle.historical_bitmap.proofs.History.PastStates.{below}
+use Rattle.historical_bitmap.proofs.History.PastStates.{less_from_nat_cmp}
 use Rattle.historical_bitmap.proofs.History.Rewound.{or_assoc, or_none}
 use Rattle.historical_bitmap.proofs.Records.UndoneInSteps.{none_past}
 
@@ -80,8 +80,8 @@ pub parts_of : {N : ℕ} (i : ℕ) (all : List (ℕ × stored.ChunkDiff N)) → 
 parts_of i all = ap entry_values (sym (take-append-drop i all)) ∙ map-append (λ e. (e.0, diff_value e.1)) (take i all) (drop i all)
 
 -- one stored entry more
-pub stepped : {N : ℕ} (i : ℕ) (all : List (ℕ × stored.ChunkDiff N)) (e : ℕ × stored.ChunkDiff N) → i < length all → e ≡ get_or all i e → entry_values (take (i + 1) all) ≡ entry_values (take i all) ++ (e.0, diff_value e.1) ∷ []
-stepped i all e inside is =
+pub entry_values-take_more : {N : ℕ} (i : ℕ) (all : List (ℕ × stored.ChunkDiff N)) (e : ℕ × stored.ChunkDiff N) → i < length all → e ≡ get_or all i e → entry_values (take (i + 1) all) ≡ entry_values (take i all) ++ (e.0, diff_value e.1) ∷ []
+entry_values-take_more i all e inside is =
     ap entry_values (take_more all i e inside ∙ ap (λ x. take i all ++ x ∷ []) (sym is))
     ∙ map-append (λ e. (e.0, diff_value e.1)) (take i all) (e ∷ [])
 
@@ -142,7 +142,7 @@ next_ends number xs rest e old mid up ends adds m l =
     ∙ ends e.0 m l))
   where
     above : (a : ℕ) (xs rest : List (ℕ × ChunkDiff)) (e : ℕ × ChunkDiff) → AllByRecursion (λ k. nat_cmp a k ≡ Less) (keys_of (xs ++ e ∷ rest)) → a < e.0
-    above a [] rest e all = below a e.0 all.0
+    above a [] rest e all = less_from_nat_cmp a e.0 all.0
     above a (x ∷ xs) rest e all = above a xs rest e all.1
 
     unnamed : (xs rest : List (ℕ × ChunkDiff)) (e : ℕ × ChunkDiff) → IsStrictlySortedBy nat_cmp (keys_of (xs ++ e ∷ rest)) → names xs e.0 ≡ false

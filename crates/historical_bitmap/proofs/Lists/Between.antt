@@ -10,12 +10,12 @@ use Rattle.std.specs.Set.{is_member}
 use Rattle.bitmap_core.proofs.Lists.SetPositions.{ones_between-append, ones_between-false, ones_between-hit, ones_between-none, ones_between-same}
 use Rattle.historical_bitmap.specs.Edits.{from_to}
 use Rattle.historical_bitmap.specs.Pending.{members_between}
-use Rattle.historical_bitmap.proofs.History.PastStates.{below}
+use Rattle.historical_bitmap.proofs.History.PastStates.{less_from_nat_cmp}
 
 -- no number up to x is in a list of greater numbers
 pub none_up_to : (x j : ℕ) (xs : List ℕ) → AllByRecursion (λ k. nat_cmp x k ≡ Less) xs → j ≤ x → is_member nat_eq xs j ≡ false
 none_up_to x j [] h l = refl
-none_up_to x j (y ∷ ys) h l = rw (ne_eqb j y (λ e. absurd (omega (arith, e, l, below x y h.0)))) (none_up_to x j ys h.1 l)
+none_up_to x j (y ∷ ys) h l = rw (ne_eqb j y (λ e. absurd (omega (arith, e, l, less_from_nat_cmp x y h.0)))) (none_up_to x j ys h.1 l)
 
 -- ---- the list grows with its upper bound
 pub between_nothing : (xs : List ℕ) (from : ℕ) → members_between xs from from ≡ []

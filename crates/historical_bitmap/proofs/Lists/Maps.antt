@@ -21,8 +21,8 @@ is_at_is k q = elim (cases_order q k) [
 ]
 
 -- ---- ascending entries
-below : (a b : ℕ) → nat_cmp a b ≡ Less → a < b
-below a b e = elim (cases_order a b) [
+less_from_nat_cmp : (a b : ℕ) → nat_cmp a b ≡ Less → a < b
+less_from_nat_cmp a b e = elim (cases_order a b) [
   | inl f ↦ let g = rw (le-ltb a b (omega (arith, f)), eq-eqb a b f) at e in cc
   | inr (inl l) ↦ l
   | inr (inr l) ↦ let g = rw (le-ltb a b (omega (arith, l)), ne_eqb a b (λ f. absurd (omega (arith, f, l)))) at e in cc
@@ -31,7 +31,7 @@ below a b e = elim (cases_order a b) [
 -- no number up to k is a key if all keys are greater than k
 pub none_under : {X : Type 0} (es : List (ℕ × X)) (j k : ℕ) → j ≤ k → AllByRecursion (λ y. nat_cmp k y ≡ Less) (keys_of es) → lookup (nat_eq j) es ≡ None
 none_under [] j k h a = refl
-none_under (e ∷ es) j k h a = rw (ne_eqb j e.0 (λ f. absurd (omega (arith, f, h, below k e.0 a.0)))) (none_under es j k h a.1)
+none_under (e ∷ es) j k h a = rw (ne_eqb j e.0 (λ f. absurd (omega (arith, f, h, less_from_nat_cmp k e.0 a.0)))) (none_under es j k h a.1)
 
 lookup_head : {X : Type 0} (e : ℕ × X) (es : List (ℕ × X)) → lookup (nat_eq e.0) (e ∷ es) ≡ Some e.1
 lookup_head e es = ap (λ t. cond t (Some e.1) (lookup (nat_eq e.0) es)) (eq-eqb e.0 e.0 refl)

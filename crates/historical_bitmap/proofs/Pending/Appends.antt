@@ -13,7 +13,7 @@ use Rattle.historical_bitmap.specs.Record.{bit_or_else}
 use Rattle.historical_bitmap.specs.Pending.{PendingEdits, PendingFits, IsEdited, edited_chunk, pending_bit, marked_chunks, pending_bits, HasAppended, Appends}
 use Rattle.historical_bitmap.proofs.Lists.Members.{in_left, in_right}
 use Rattle.historical_bitmap.proofs.Pending.Edits.{same_pending, pending_len, pending_at, chunk_bit_is}
-use Rattle.historical_bitmap.proofs.Pending.MarkedChunks.{IsMarked, mark, how_marked}
+use Rattle.historical_bitmap.proofs.Pending.MarkedChunks.{IsMarked, marked_is_member, how_marked}
 
 -- the chunk of a position inside chunk i is chunk i
 pub index_of : (w i k : ℕ) → w * i ≤ k → k < w * i + w → k / w ≡ i
@@ -130,7 +130,7 @@ module _ (n : ℕ) (b : PrunedBits) (l m : PendingEdits) (xs : List Bool) (pos :
   append_marks some i s = go (how_marked n b m i s)
     where
       old_mark : IsMarked n b l i → is_member nat_eq (marked_chunks n b l ++ touched n (pending_bits n b l) (pushes xs)) i ≡ true
-      old_mark h = in_left (marked_chunks n b l) (touched n (pending_bits n b l) (pushes xs)) i (mark n b l i h)
+      old_mark h = in_left (marked_chunks n b l) (touched n (pending_bits n b l) (pushes xs)) i (marked_is_member n b l i h)
 
       new_mark : l.len < 8 * n * i + 8 * n → 8 * n * i < l.len + length xs → (k : ℕ) → k / (8 * n) ≡ i → l.len ≤ k → k < l.len + length xs → is_member nat_eq (marked_chunks n b l ++ touched n (pending_bits n b l) (pushes xs)) i ≡ true
       new_mark a z k e p h = in_right (marked_chunks n b l) (touched n (pending_bits n b l) (pushes xs)) i (subst (λ y. is_member nat_eq (touched n (pending_bits n b l) (pushes xs)) y ≡ true) e (pushes_touch n (pending_bits n b l) xs k (omega (arith, p, pending_len n b l pos fits)) (omega (arith, h, pending_len n b l pos fits))))

@@ -15,7 +15,7 @@ use Rattle.historical_bitmap.specs.Record.{bit_or_else}
 use Rattle.historical_bitmap.specs.Appended.{appended_entries, with_appended}
 use Rattle.historical_bitmap.specs.Undo.{put_back}
 use Rattle.historical_bitmap.proofs.Pending.Applied.{put_bit}
-use Rattle.historical_bitmap.proofs.EditedChunks.Appended.{first_of, look, look_beside, look_in, appended_sorted}
+use Rattle.historical_bitmap.proofs.EditedChunks.Appended.{first_of, lookup-with_appended, lookup-beside_appended, lookup-in_appended, appended_sorted}
 use Rattle.historical_bitmap.proofs.Records.UndoneInSteps.{put_len, put_pruned}
 
 -- bitmaps with the same pruned count, length and bits are equal
@@ -55,23 +55,23 @@ module _ (n : ℕ) (b : PrunedBits) (from : ℕ) (xs : List (List ℕ)) (es : Li
           let still : IsRetained n once k = (omega (arith, there.0, ap (λ (q : ℕ). 8 * n * q) (put_pruned n b (edits_of es))), omega (arith, there.1, put_len n b (edits_of es))) in
           put_bit n once appended k appended_up still
           ∙ (found (lookup (nat_eq (k / (8 * n))) appended) (lookup (nat_eq (k / (8 * n))) es) k (put_bit n b es k up there)
-          ∙ (ap (λ o. bit_or_else n o b k) (sym (look from xs es (k / (8 * n))))
+          ∙ (ap (λ o. bit_or_else n o b k) (sym (lookup-with_appended from xs es (k / (8 * n))))
           ∙ sym (put_bit n b all k up_all there)))
 
 -- a fact about each chunk holds for each of the others, and for each of the appended ones
 pub of_other : (P : List ℕ → Type 0) (from : ℕ) (xs : List (List ℕ)) (es : List (ℕ × List ℕ)) (q : ℕ) → ((q : ℕ) → from ≤ q → q < from + length xs → lookup (nat_eq q) es ≡ None) → MatchOption (lookup (nat_eq q) (with_appended from xs es)) (Unit {0}) P → MatchOption (lookup (nat_eq q) es) (Unit {0}) P
 of_other P from xs es q apart h = elim (cases_lt q from) [
-  | inl l ↦ subst (λ o. MatchOption o (Unit {0}) P) (look_beside from xs es q (inl l)) h
+  | inl l ↦ subst (λ o. MatchOption o (Unit {0}) P) (lookup-beside_appended from xs es q (inl l)) h
   | inr l ↦ elim (cases_lt q (from + length xs)) [
     | inl m ↦ subst (λ o. MatchOption o (Unit {0}) P) (sym (apart q l m)) tt
-    | inr m ↦ subst (λ o. MatchOption o (Unit {0}) P) (look_beside from xs es q (inr m)) h
+    | inr m ↦ subst (λ o. MatchOption o (Unit {0}) P) (lookup-beside_appended from xs es q (inr m)) h
   ]
 ]
 
 pub of_appended : (P : List ℕ → Type 0) (from : ℕ) (xs : List (List ℕ)) (es : List (ℕ × List ℕ)) (i : ℕ) (d : List ℕ) → i < length xs → MatchOption (lookup (nat_eq (from + i)) (with_appended from xs es)) (Unit {0}) P → P (get_or xs i d)
 of_appended P from xs es i d l h =
     let place : from + i - from ≡ i = omega arith in
-    subst (λ (j : ℕ). P (get_or xs j d)) place (subst (λ o. MatchOption o (Unit {0}) P) (look_in from xs es (from + i) d (omega arith, omega (arith, l))) h)
+    subst (λ (j : ℕ). P (get_or xs j d)) place (subst (λ o. MatchOption o (Unit {0}) P) (lookup-in_appended from xs es (from + i) d (omega arith, omega (arith, l))) h)
 
 -- one appended chunk is written
 pub rest_step : (n : ℕ) (b c : PrunedBits) (from i : ℕ) (xs : List (List ℕ)) (x : List ℕ) → i < length xs → x ≡ get_or xs i x → c ≡ with_chunk n b (from + i) x → put_back n c (edits_of (appended_entries (from + (i + 1)) (drop (i + 1) xs))) ≡ put_back n b (edits_of (appended_entries (from + i) (drop i xs)))

@@ -20,12 +20,12 @@ use Rattle.historical_bitmap.proofs.Pending.Edits.{pending_len}
 abbrev pub IsMarked : ℕ → PrunedBits → PendingEdits → ℕ → Type 0
 IsMarked n b l i = (is_some (edited_chunk l i) ≡ true) ⊎ (((k : ℕ) × (l.len ≤ k) × (k < bit_len n b) × (i ≡ k / (8 * n))) ⊎ ((b.pruned ≤ i) × (i < l.pruned)))
 
-pub mark : (n : ℕ) (b : PrunedBits) (l : PendingEdits) (i : ℕ) → IsMarked n b l i → is_member nat_eq (marked_chunks n b l) i ≡ true
-mark n b l i (inl e) = in_left (keys_of l.edited ++ map (λ k. k / (8 * n)) (from_to l.len (bit_len n b))) (from_to b.pruned l.pruned) i
+pub marked_is_member : (n : ℕ) (b : PrunedBits) (l : PendingEdits) (i : ℕ) → IsMarked n b l i → is_member nat_eq (marked_chunks n b l) i ≡ true
+marked_is_member n b l i (inl e) = in_left (keys_of l.edited ++ map (λ k. k / (8 * n)) (from_to l.len (bit_len n b))) (from_to b.pruned l.pruned) i
     (in_left (keys_of l.edited) (map (λ k. k / (8 * n)) (from_to l.len (bit_len n b))) i (sym (is_some-lookup (nat_eq i) l.edited) ∙ e))
-mark n b l i (inr (inl c)) = in_left (keys_of l.edited ++ map (λ k. k / (8 * n)) (from_to l.len (bit_len n b))) (from_to b.pruned l.pruned) i
+marked_is_member n b l i (inr (inl c)) = in_left (keys_of l.edited ++ map (λ k. k / (8 * n)) (from_to l.len (bit_len n b))) (from_to b.pruned l.pruned) i
     (in_right (keys_of l.edited) (map (λ k. k / (8 * n)) (from_to l.len (bit_len n b))) i (rw c.3 (member_map (λ k. k / (8 * n)) (from_to l.len (bit_len n b)) c.0 (from_to_member l.len (bit_len n b) c.0 c.1 c.2))))
-mark n b l i (inr (inr r)) = in_right (keys_of l.edited ++ map (λ k. k / (8 * n)) (from_to l.len (bit_len n b))) (from_to b.pruned l.pruned) i (from_to_member b.pruned l.pruned i r.0 r.1)
+marked_is_member n b l i (inr (inr r)) = in_right (keys_of l.edited ++ map (λ k. k / (8 * n)) (from_to l.len (bit_len n b))) (from_to b.pruned l.pruned) i (from_to_member b.pruned l.pruned i r.0 r.1)
 
 pub how_marked : (n : ℕ) (b : PrunedBits) (l : PendingEdits) (i : ℕ) → is_member nat_eq (marked_chunks n b l) i ≡ true → IsMarked n b l i
 how_marked n b l i h = elim (in_either (keys_of l.edited ++ map (λ k. k / (8 * n)) (from_to l.len (bit_len n b))) (from_to b.pruned l.pruned) i h) [
@@ -41,17 +41,17 @@ how_marked n b l i h = elim (in_either (keys_of l.edited ++ map (λ k. k / (8 * 
 
 marks_from : (n : ℕ) (b : PrunedBits) (l m : PendingEdits) (js : List ℕ) → ((i : ℕ) → IsMarked n b m i → IsMarked n b l i ⊎ (is_member nat_eq js i ≡ true)) → IsWithin (marked_chunks n b m) (marked_chunks n b l ++ js)
 marks_from n b l m js h i s = elim (h i (how_marked n b m i s)) [
-  | inl o ↦ in_left (marked_chunks n b l) js i (mark n b l i o)
+  | inl o ↦ in_left (marked_chunks n b l) js i (marked_is_member n b l i o)
   | inr o ↦ in_right (marked_chunks n b l) js i o
 ]
 
-only : (i j : ℕ) → i ≡ j → is_member nat_eq (j ∷ []) i ≡ true
-only i j e = or_left (nat_eq i j) false (eq-eqb i j e)
+is_member-one : (i j : ℕ) → i ≡ j → is_member nat_eq (j ∷ []) i ≡ true
+is_member-one i j e = or_left (nat_eq i j) false (eq-eqb i j e)
 
 write_marks : (n : ℕ) (b : PrunedBits) (l m : PendingEdits) (k : ℕ) (x : Bool) (total : ℕ) → Writes n b l k x total m → l.len ≤ total → IsWithin (marked_chunks n b m) (marked_chunks n b l ++ k / (8 * n) ∷ [])
 write_marks n b l m k x total w more = marks_from n b l m (k / (8 * n) ∷ []) (λ i s. elim s [
   | inl e ↦ elim (cases_eq i (k / (8 * n))) [
-    | inl f ↦ inr (only i (k / (8 * n)) f)
+    | inl f ↦ inr (is_member-one i (k / (8 * n)) f)
     | inr ne ↦ inl (inl (rw (w.edited i, ne_eqb i (k / (8 * n)) ne) at e))
   ]
   | inr (inl c) ↦ inl (inr (inl (c.0, (let h : total ≤ c.0 = rw w.len at c.1 in omega (arith, h, more)), c.2, c.3)))
@@ -61,13 +61,13 @@ write_marks n b l m k x total w more = marks_from n b l m (k / (8 * n) ∷ []) (
 pop_marks : (n : ℕ) (b : PrunedBits) (l m : PendingEdits) → Pops n l m → IsWithin (marked_chunks n b m) (marked_chunks n b l ++ (l.len - 1) / (8 * n) ∷ [])
 pop_marks n b l m w = marks_from n b l m ((l.len - 1) / (8 * n) ∷ []) (λ i s. elim s [
   | inl e ↦ elim (cases_eq i ((l.len - 1) / (8 * n))) [
-    | inl f ↦ inr (only i ((l.len - 1) / (8 * n)) f)
+    | inl f ↦ inr (is_member-one i ((l.len - 1) / (8 * n)) f)
     | inr ne ↦ inl (inl (rw (w.edited i, ne_eqb i ((l.len - 1) / (8 * n)) ne) at e))
   ]
   | inr (inl c) ↦
       let h : l.len - 1 ≤ c.0 = rw w.len at c.1 in
       elim (cases_lt c.0 l.len) [
-        | inl s ↦ inr (only i ((l.len - 1) / (8 * n)) (c.3 ∙ ap (λ k. k / (8 * n)) (omega (arith, h, s))))
+        | inl s ↦ inr (is_member-one i ((l.len - 1) / (8 * n)) (c.3 ∙ ap (λ k. k / (8 * n)) (omega (arith, h, s))))
         | inr s ↦ inl (inr (inl (c.0, s, c.2, c.3)))
       ]
   | inr (inr r) ↦ inl (inr (inr (r.0, rw w.pruned at r.1)))
@@ -92,11 +92,11 @@ edit_marks n b l m Pop pos fits w = rw (pending_len n b l pos fits) (pop_marks n
 edit_marks n b l m (Set k x) pos fits w = write_marks n b l m k x l.len w (omega arith)
 edit_marks n b l m (Prune k) pos fits w = prune_marks n b l m (k / (8 * n)) w
 
-empty : (lo hi : ℕ) → hi ≤ lo → from_to lo hi ≡ []
-empty lo hi h = let e : hi - lo ≡ 0 = omega arith in ap (range_with_len lo) e
+from_to-empty : (lo hi : ℕ) → hi ≤ lo → from_to lo hi ≡ []
+from_to-empty lo hi h = let e : hi - lo ≡ 0 = omega arith in ap (range_with_len lo) e
 
 pub unedited_marks : (n : ℕ) (b : PrunedBits) → marked_chunks n b (unedited n b) ≡ []
-unedited_marks n b = rw (empty (bit_len n b) (bit_len n b) (omega arith), empty b.pruned b.pruned (omega arith)) refl
+unedited_marks n b = rw (from_to-empty (bit_len n b) (bit_len n b) (omega arith), from_to-empty b.pruned b.pruned (omega arith)) refl
 
 -- no chunk that is pruned in the current bitmap is marked
 pub none_before : (n : ℕ) (b : PrunedBits) (l : PendingEdits) (q : ℕ) → 0 < n → PendingFits n b l → q < b.pruned → is_member nat_eq (marked_chunks n b l) q ≡ false

@@ -11,7 +11,7 @@ use Rattle.bitmap_core.specs.PrunedBits.{PrunedBits, bit_len}
 use Rattle.bitmap_core.proofs.Pruned.Positions.{place}
 use Rattle.chunk_map.specs.Entries.{IsNextMember}
 use Rattle.historical_bitmap.specs.Pending.{PendingEdits, marked_chunks}
-use Rattle.historical_bitmap.proofs.Pending.MarkedChunks.{IsMarked, mark, how_marked}
+use Rattle.historical_bitmap.proofs.Pending.MarkedChunks.{IsMarked, marked_is_member, how_marked}
 
 div-mono : (w j k : ℕ) → 0 < w → j ≤ k → j / w ≤ k / w
 div-mono w j k pos h = le-div (j / w) k w pos (omega (arith, h, place w j))
@@ -42,14 +42,14 @@ module _ (n : ℕ) (b : PrunedBits) (l : PendingEdits) (pos : 0 < n) where
       not (inr (inr r)) = absurd (omega (arith, p, r.1))
 
   pub edited_marked : (i : ℕ) → is_member nat_eq (keys_of l.edited) i ≡ true → is_member nat_eq (marked_chunks n b l) i ≡ true
-  edited_marked i e = mark n b l i (inl (is_some-lookup (nat_eq i) l.edited ∙ e))
+  edited_marked i e = marked_is_member n b l i (inl (is_some-lookup (nat_eq i) l.edited ∙ e))
 
   pub cut_marked : (i : ℕ) → l.len < bit_len n b → cut ≤ i → i ≤ last → is_member nat_eq (marked_chunks n b l) i ≡ true
   cut_marked i h a z =
       let end : 8 * n * i < bit_len n b = omega (arith, h, mul-le (8 * n) i (8 * n) last (omega arith) z, place (8 * n) (bit_len n b - 1)) in
       elim (cases_lt l.len (8 * n * i)) [
-        | inl s ↦ mark n b l i (inr (inl (8 * n * i, omega (arith, s), end, sym (ap (λ y. y / (8 * n)) (let e : 8 * n * i ≡ i * (8 * n) + 0 = omega arith in e) ∙ div-mul-add i (8 * n) 0 (omega arith)))))
-        | inr s ↦ mark n b l i (inr (inl (l.len, omega arith, h, (let up = le-div i l.len (8 * n) (omega arith) (omega (arith, s)) in omega (arith, up, a)))))
+        | inl s ↦ marked_is_member n b l i (inr (inl (8 * n * i, omega (arith, s), end, sym (ap (λ y. y / (8 * n)) (let e : 8 * n * i ≡ i * (8 * n) + 0 = omega arith in e) ∙ div-mul-add i (8 * n) 0 (omega arith)))))
+        | inr s ↦ marked_is_member n b l i (inr (inl (l.len, omega arith, h, (let up = le-div i l.len (8 * n) (omega arith) (omega (arith, s)) in omega (arith, up, a)))))
       ]
 
 module _ (n : ℕ) (b : PrunedBits) (l : PendingEdits) (pos : 0 < n) (from : ℕ) (low : l.pruned ≤ from) where
@@ -65,4 +65,4 @@ module _ (n : ℕ) (b : PrunedBits) (l : PendingEdits) (pos : 0 < n) (from : ℕ
   next_cut h up none = (omega arith, cut_marked n b l pos (max from (cut n b l pos)) h (omega arith) up, λ j f s. none_marked n b l pos j (omega (arith, low, f)) (none j f s) (λ _. inl (omega (arith, f, s))))
 
 pub next_pruned : (n : ℕ) (b : PrunedBits) (l : PendingEdits) (from : ℕ) → b.pruned ≤ from → from < l.pruned → IsNextMember (marked_chunks n b l) from (Some from)
-next_pruned n b l from low h = (omega arith, mark n b l from (inr (inr (low, h))), λ j f s. absurd (omega (arith, f, s)))
+next_pruned n b l from low h = (omega arith, marked_is_member n b l from (inr (inr (low, h))), λ j f s. absurd (omega (arith, f, s)))

@@ -19,7 +19,7 @@ use Rattle.historical_bitmap.specs.Pending.{PendingEdits, PendingFits, IsEdited,
 use Rattle.historical_bitmap.proofs.Lists.Members.{in_left, in_right}
 use Rattle.historical_bitmap.proofs.Pending.Appends.{index_of}
 use Rattle.historical_bitmap.proofs.Pending.Edits.{same_pending, pending_len, pending_at, chunk_bit_is, chunk_bit_past}
-use Rattle.historical_bitmap.proofs.Pending.MarkedChunks.{IsMarked, mark, how_marked}
+use Rattle.historical_bitmap.proofs.Pending.MarkedChunks.{IsMarked, marked_is_member, how_marked}
 
 -- ---- positions of a range
 -- a position that is not in a range
@@ -100,8 +100,8 @@ empty_range n b l lo hi x none = record { len = refl; pruned = refl; captured = 
 
 -- ---- the bits of a range set one by one
 -- the edits that set a number of positions
-abbrev run : ℕ → ℕ → Bool → List Edit
-run lo count x = map (λ position. Set position x) (range_with_len lo count)
+abbrev range_edits : ℕ → ℕ → Bool → List Edit
+range_edits lo count x = map (λ position. Set position x) (range_with_len lo count)
 
 -- one more position in front of a range
 one_more : (lo count k : ℕ) (x own : Bool) → cond (is_between (lo + 1) (lo + 1 + count) k) x (cond (eqb k lo) x own) ≡ cond (is_between lo (lo + suc count) k) x own
@@ -122,11 +122,11 @@ pub record HasRange (n : ℕ) (c : PrunedBits) (lo hi : ℕ) (x : Bool) (d : Pru
   pub len : bit_len n d ≡ bit_len n c
   pub bits : (k : ℕ) → pruned_bits n c ≤ k → bit_at n d k ≡ cond (is_between lo hi k) x (bit_at n c k)
 
-run_sets : (n : ℕ) (c : PrunedBits) (lo count : ℕ) (x : Bool) → pruned_bits n c ≤ lo → lo + count ≤ bit_len n c → HasRange n c lo (lo + count) x (after_all n c (run lo count x))
-run_sets n c lo zero x low within = record { pruned = refl; len = refl; bits = λ k p. rw (not_between lo (lo + 0) k (λ a z. absurd (omega (arith, a, z)))) refl }
-run_sets n c lo (suc count) x low within =
+range_edits_set : (n : ℕ) (c : PrunedBits) (lo count : ℕ) (x : Bool) → pruned_bits n c ≤ lo → lo + count ≤ bit_len n c → HasRange n c lo (lo + count) x (after_all n c (range_edits lo count x))
+range_edits_set n c lo zero x low within = record { pruned = refl; len = refl; bits = λ k p. rw (not_between lo (lo + 0) k (λ a z. absurd (omega (arith, a, z)))) refl }
+range_edits_set n c lo (suc count) x low within =
     let more = length-set c.bits (lo - pruned_bits n c) x in
-    let rest = run_sets n (set_at n c lo x) (lo + 1) count x (omega (arith, low)) (omega (arith, within, more)) in
+    let rest = range_edits_set n (set_at n c lo x) (lo + 1) count x (omega (arith, low)) (omega (arith, within, more)) in
     record {
       pruned = rest.pruned;
       len = rest.len ∙ omega (arith, more);
@@ -139,22 +139,22 @@ pub sets_range : (n : ℕ) (c : PrunedBits) (lo hi : ℕ) (x : Bool) → pruned_
 sets_range n c lo hi x low within = elim (cases_lt lo hi) [
   | inl some ↦
       let end : lo + (hi - lo) ≡ hi = omega (arith, some) in
-      subst (λ (z : ℕ). HasRange n c lo z x (after_all n c (sets lo hi x))) end (run_sets n c lo (hi - lo) x low (omega (arith, end, within)))
+      subst (λ (z : ℕ). HasRange n c lo z x (after_all n c (sets lo hi x))) end (range_edits_set n c lo (hi - lo) x low (omega (arith, end, within)))
   | inr none ↦
       let count : hi - lo ≡ 0 = omega (arith, none) in
-      subst (λ (m : ℕ). HasRange n c lo hi x (after_all n c (run lo m x))) (sym count) (record { pruned = refl; len = refl; bits = λ k p. rw (not_between lo hi k (λ a z. absurd (omega (arith, a, z, none)))) refl })
+      subst (λ (m : ℕ). HasRange n c lo hi x (after_all n c (range_edits lo m x))) (sym count) (record { pruned = refl; len = refl; bits = λ k p. rw (not_between lo hi k (λ a z. absurd (omega (arith, a, z, none)))) refl })
 ]
 
 -- the chunk of each of their positions is touched
-run_touches : (n : ℕ) (c : PrunedBits) (lo count : ℕ) (x : Bool) (k : ℕ) → lo ≤ k → k < lo + count → is_member nat_eq (touched n c (run lo count x)) (k / (8 * n)) ≡ true
-run_touches n c lo zero x k l h = absurd (omega (arith, l, h))
-run_touches n c lo (suc count) x k l h = elim (cases_eq k lo) [
+range_edits_touch : (n : ℕ) (c : PrunedBits) (lo count : ℕ) (x : Bool) (k : ℕ) → lo ≤ k → k < lo + count → is_member nat_eq (touched n c (range_edits lo count x)) (k / (8 * n)) ≡ true
+range_edits_touch n c lo zero x k l h = absurd (omega (arith, l, h))
+range_edits_touch n c lo (suc count) x k l h = elim (cases_eq k lo) [
   | inl e ↦ or_left (nat_eq (k / (8 * n)) (lo / (8 * n))) _ (eq-eqb (k / (8 * n)) (lo / (8 * n)) (ap (λ y. y / (8 * n)) e))
-  | inr ne ↦ or_right (nat_eq (k / (8 * n)) (lo / (8 * n))) _ (run_touches n (set_at n c lo x) (lo + 1) count x k (omega (arith, l, ne)) (omega (arith, h)))
+  | inr ne ↦ or_right (nat_eq (k / (8 * n)) (lo / (8 * n))) _ (range_edits_touch n (set_at n c lo x) (lo + 1) count x k (omega (arith, l, ne)) (omega (arith, h)))
 ]
 
 pub sets_touch : (n : ℕ) (c : PrunedBits) (lo hi : ℕ) (x : Bool) (k : ℕ) → lo ≤ k → k < hi → is_member nat_eq (touched n c (sets lo hi x)) (k / (8 * n)) ≡ true
-sets_touch n c lo hi x k l h = run_touches n c lo (hi - lo) x k l (omega (arith, l, h))
+sets_touch n c lo hi x k l h = range_edits_touch n c lo (hi - lo) x k l (omega (arith, l, h))
 
 -- ---- the bits of a range set at once
 module _ (n : ℕ) (b : PrunedBits) (l m : PendingEdits) (lo hi : ℕ) (x : Bool) (pos : 0 < n) (fits : PendingFits n b l) (low : 8 * n * l.pruned ≤ lo) (within : hi ≤ l.len) (w : SetsRange n b l lo hi x m) where
@@ -228,7 +228,7 @@ module _ (n : ℕ) (b : PrunedBits) (l m : PendingEdits) (lo hi : ℕ) (x : Bool
   range_marks i s = go (how_marked n b m i s)
     where
       old_mark : IsMarked n b l i → is_member nat_eq (marked_chunks n b l ++ touched n (pending_bits n b l) (sets lo hi x)) i ≡ true
-      old_mark h = in_left (marked_chunks n b l) (touched n (pending_bits n b l) (sets lo hi x)) i (mark n b l i h)
+      old_mark h = in_left (marked_chunks n b l) (touched n (pending_bits n b l) (sets lo hi x)) i (marked_is_member n b l i h)
 
       new_mark : IsReached n lo hi i → is_member nat_eq (marked_chunks n b l ++ touched n (pending_bits n b l) (sets lo hi x)) i ≡ true
       new_mark r = in_right (marked_chunks n b l) (touched n (pending_bits n b l) (sets lo hi x)) i (subst (λ j. is_member nat_eq (touched n (pending_bits n b l) (sets lo hi x)) j ≡ true) r.3 (sets_touch n (pending_bits n b l) lo hi x r.0 r.1 r.2))

@@ -28,13 +28,13 @@ use Rattle.historical_bitmap.proofs.Lists.Between.{all_between}
 use Rattle.historical_bitmap.proofs.Lists.Counting.{count_marked}
 use Rattle.historical_bitmap.proofs.Records.Restores.{bit_in_chunk, has_chunk}
 use Rattle.historical_bitmap.proofs.Pending.Edits.{pending_len, pending_at, unedited_fits, unedited_pending}
-use Rattle.historical_bitmap.proofs.Pending.MarkedChunks.{IsMarked, mark, marked_below, none_before, unedited_marks}
+use Rattle.historical_bitmap.proofs.Pending.MarkedChunks.{IsMarked, marked_is_member, marked_below, none_before, unedited_marks}
 use Rattle.historical_bitmap.proofs.Pending.NextMarked.{cut_marked, edited_marked, none_marked}
 
 -- a position in no marked chunk stays retained, with its bit
-pub unmarked : (n : ℕ) (b : PrunedBits) (l : PendingEdits) (k : ℕ) → 0 < n → PendingFits n b l → IsRetained n b k → is_member nat_eq (marked_chunks n b l) (k / (8 * n)) ≡ false → IsRetained n (pending_bits n b l) k × (bit_at n (pending_bits n b l) k ≡ bit_at n b k)
-unmarked n b l k pos fits h out =
-    let not : IsMarked n b l (k / (8 * n)) → ⊥ = λ s. false≢true (sym out ∙ mark n b l (k / (8 * n)) s) in
+pub unmarked_bit_stays : (n : ℕ) (b : PrunedBits) (l : PendingEdits) (k : ℕ) → 0 < n → PendingFits n b l → IsRetained n b k → is_member nat_eq (marked_chunks n b l) (k / (8 * n)) ≡ false → IsRetained n (pending_bits n b l) k × (bit_at n (pending_bits n b l) k ≡ bit_at n b k)
+unmarked_bit_stays n b l k pos fits h out =
+    let not : IsMarked n b l (k / (8 * n)) → ⊥ = λ s. false≢true (sym out ∙ marked_is_member n b l (k / (8 * n)) s) in
     let inside : k < l.len = elim (cases_lt k l.len) [ inl s ↦ s | inr s ↦ absurd (not (inr (inl (k, s, h.1, refl)))) ] in
     let low_chunk : b.pruned ≤ k / (8 * n) = le-div b.pruned k (8 * n) (omega arith) (omega (arith, h.0)) in
     let kept_chunk : l.pruned ≤ k / (8 * n) = elim (cases_lt (k / (8 * n)) l.pruned) [ inl s ↦ absurd (not (inr (inr (low_chunk, s)))) | inr s ↦ s ] in
@@ -42,7 +42,7 @@ unmarked n b l k pos fits h out =
     ((low, omega (arith, pending_len n b l pos fits, inside)), pending_at n b l pos fits k low inside ∙ same (edited_chunk l (k / (8 * n))) not_edited)
   where
     not_edited : is_some (edited_chunk l (k / (8 * n))) ≡ false
-    not_edited = elim (cases_Bool (is_some (edited_chunk l (k / (8 * n))))) [ inl e ↦ absurd (false≢true (sym out ∙ mark n b l (k / (8 * n)) (inl e))) | inr e ↦ e ]
+    not_edited = elim (cases_Bool (is_some (edited_chunk l (k / (8 * n))))) [ inl e ↦ absurd (false≢true (sym out ∙ marked_is_member n b l (k / (8 * n)) (inl e))) | inr e ↦ e ]
 
     same : (o : Option (List ℕ)) → is_some o ≡ false → bit_or_else n o b k ≡ bit_at n b k
     same None e = refl
@@ -71,7 +71,7 @@ record_leads_back n b l r pos fits h = record {
   pruned = h.pruned;
   chunks = λ i has. elim (cases_Bool (is_member nat_eq (marked_chunks n b l) i)) [
     | inl e ↦ let k : kept r i ≡ Some (chunk n b i) = kept_marked n b l r h i e ∙ kept_of_marked n b l i fits has.0 has.1 in rw k refl
-    | inr e ↦ let k = kept_unmarked n b l r h i e in rw k (λ j s t. unmarked n b l j pos fits t (rw s e))
+    | inr e ↦ let k = kept_unmarked n b l r h i e in rw k (λ j s t. unmarked_bit_stays n b l j pos fits t (rw s e))
   ];
 }
 
@@ -100,7 +100,7 @@ unnamed_unedited n b l r h i none = elim (cases_Bool (is_member nat_eq (marked_c
   where
     not_edited : (o : Option (List ℕ)) → edited_chunk l i ≡ o → is_member nat_eq (marked_chunks n b l) i ≡ false → o ≡ None
     not_edited None f e = refl
-    not_edited (Some bytes) f e = absurd (false≢true (sym e ∙ mark n b l i (inl (ap is_some f))))
+    not_edited (Some bytes) f e = absurd (false≢true (sym e ∙ marked_is_member n b l i (inl (ap is_some f))))
 
 pub record_can_undo : (n : ℕ) (b : PrunedBits) (l : PendingEdits) (r : ReverseRecord) → 0 < n → PendingFits n b l → IsRecordOf n b l r → CanUndo n r (pending_bits n b l)
 record_can_undo n b l r pos fits h = record {
@@ -108,7 +108,7 @@ record_can_undo n b l r pos fits h = record {
   fits = rw (h.pruned, h.len) (omega arith);
   pruned = λ i low high start.
       let p : b.pruned ≤ i = rw h.pruned at low in
-      let k : kept r i ≡ Some (get_or l.captured (i - b.pruned) []) = kept_marked n b l r h i (mark n b l i (inr (inr (p, high)))) ∙ rw (lt-ltb i l.pruned high) refl in
+      let k : kept r i ≡ Some (get_or l.captured (i - b.pruned) []) = kept_marked n b l r h i (marked_is_member n b l i (inr (inr (p, high)))) ∙ rw (lt-ltb i l.pruned high) refl in
       rw k refl;
   others = λ i high. elim (cases_Bool (is_member nat_eq (marked_chunks n b l) i)) [
     | inl e ↦ rw (kept_marked n b l r h i e, h.len) (old_of_marked n b l i pos high)
@@ -139,8 +139,8 @@ pub record_bound : (n : ℕ) (b : PrunedBits) (l : PendingEdits) (r : ReverseRec
 record_bound n b l r h = let c = count_marked (keys_of r.entries) (marked_chunks n b l) h.sorted (key_marked n b l r h) in omega (arith, c, length-keys_of r.entries)
 
 -- ---- one more entry
-less : (k i : ℕ) → k < i → nat_cmp k i ≡ Less
-less k i l = rw (lt-ltb k i l) refl
+nat_cmp_from_less : (k i : ℕ) → k < i → nat_cmp k i ≡ Less
+nat_cmp_from_less k i l = rw (lt-ltb k i l) refl
 
 all_push : (P : ℕ → Type 0) (ks : List ℕ) (i : ℕ) → AllByRecursion P ks → P i → AllByRecursion P (ks ++ i ∷ [])
 all_push P [] i h p = (p, tt)
@@ -149,7 +149,7 @@ all_push P (k ∷ ks) i h p = (h.0, all_push P ks i h.1 p)
 pub sorted_push : (ks : List ℕ) (i : ℕ) → IsStrictlySortedBy nat_cmp ks → All (λ k. k < i) ks → IsStrictlySortedBy nat_cmp (ks ++ i ∷ [])
 unfolding IsStrictlySortedBy
 sorted_push [] i h below = (tt, tt)
-sorted_push (k ∷ ks) i h below = (all_push (λ y. nat_cmp k y ≡ Less) ks i h.0 (less k i (All-head (λ k. k < i) k ks below)), sorted_push ks i h.1 (All-tail (λ k. k < i) k ks below))
+sorted_push (k ∷ ks) i h below = (all_push (λ y. nat_cmp k y ≡ Less) ks i h.0 (nat_cmp_from_less k i (All-head (λ k. k < i) k ks below)), sorted_push ks i h.1 (All-tail (λ k. k < i) k ks below))
 
 -- no numbers rise
 pub sorted_none : IsStrictlySortedBy nat_cmp []
@@ -313,7 +313,7 @@ module _ (n : ℕ) (b : PrunedBits) (l : PendingEdits) (pos : 0 < n) (fits : Pen
   ]
 
   pruned_marks : (q : ℕ) → b.pruned ≤ q → q < l.pruned → is_member nat_eq marks q ≡ true
-  pruned_marks q low h = mark n b l q (inr (inr (low, h)))
+  pruned_marks q low h = marked_is_member n b l q (inr (inr (low, h)))
 
   edited_marks : (q : ℕ) → l.pruned ≤ q → q < cut → is_member nat_eq marks q ≡ is_member nat_eq (keys_of l.edited) q
   edited_marks q low s = elim (cases_Bool (is_member nat_eq (keys_of l.edited) q)) [

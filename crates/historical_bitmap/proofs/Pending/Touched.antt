@@ -20,8 +20,8 @@ pub not_before : (w i k : ℕ) → i ≤ k / w → w * i ≤ k
 not_before w i k h = omega (arith, mul-le w i w (k / w) (omega arith) h, place w k)
 
 -- positions in different chunks are different
-apart : (n k j : ℕ) → is_member nat_eq (j / (8 * n) ∷ []) (k / (8 * n)) ≡ false → k ≢ j
-apart n k j h e = eqb-false (k / (8 * n)) (j / (8 * n)) (or_parts (nat_eq (k / (8 * n)) (j / (8 * n))) false h).0 (ap (λ x. x / (8 * n)) e)
+positions_apart : (n k j : ℕ) → is_member nat_eq (j / (8 * n) ∷ []) (k / (8 * n)) ≡ false → k ≢ j
+positions_apart n k j h e = eqb-false (k / (8 * n)) (j / (8 * n)) (or_parts (nat_eq (k / (8 * n)) (j / (8 * n))) false h).0 (ap (λ x. x / (8 * n)) e)
 
 prune_keeps : (n : ℕ) (b : PrunedBits) (q k : ℕ) → 0 < n → IsRetained n b k → is_member nat_eq (from_to b.pruned q) (k / (8 * n)) ≡ false → IsRetained n (pruned_to n b q) k × (bit_at n (pruned_to n b q) k ≡ bit_at n b k)
 prune_keeps n b q k pos h out = elim (cases_lt b.pruned q) [
@@ -38,11 +38,11 @@ prune_keeps n b q k pos h out = elim (cases_lt b.pruned q) [
 pub edit_keeps : (n : ℕ) (b : PrunedBits) (e : Edit) (k : ℕ) → 0 < n → IsAccepted n b e → IsRetained n b k → is_member nat_eq (touches n b e) (k / (8 * n)) ≡ false → IsRetained n (after n b e) k × (bit_at n (after n b e) k ≡ bit_at n b k)
 edit_keeps n b (Push x) k pos ok h out = ((h.0, omega (arith, h.1, length-append b.bits (x ∷ []))), get_or_append_left b.bits (x ∷ []) false (k - pruned_bits n b) (omega (arith, h.0, h.1)))
 edit_keeps n b Pop k pos ok h out =
-    let ne = apart n k (bit_len n b - 1) out in
+    let ne = positions_apart n k (bit_len n b - 1) out in
     let l : k < bit_len n b - 1 = omega (arith, h.1, ne) in
     ((h.0, omega (arith, l, length-take-le (length b.bits - 1) b.bits (omega arith))), get_or-take (length b.bits - 1) b.bits (k - pruned_bits n b) false (omega (arith, h.0, l)))
 edit_keeps n b (Set j x) k pos ok h out =
-    let ne = apart n k j out in
+    let ne = positions_apart n k j out in
     let other : k - pruned_bits n b ≢ j - pruned_bits n b = λ e. ne (omega (arith, h.0, ok.0, e)) in
     ((h.0, rw (length-set {A = Bool}) h.1), get_or-set_other b.bits (j - pruned_bits n b) (k - pruned_bits n b) x false other)
 edit_keeps n b (Prune j) k pos ok h out = prune_keeps n b (j / (8 * n)) k pos h out

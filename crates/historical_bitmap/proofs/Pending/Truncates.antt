@@ -19,7 +19,7 @@ use Rattle.historical_bitmap.proofs.Lists.Members.{in_left, in_right}
 use Rattle.historical_bitmap.proofs.Pending.Appends.{index_of}
 use Rattle.historical_bitmap.proofs.Pending.BatchEdits.{taken_some}
 use Rattle.historical_bitmap.proofs.Pending.Edits.{same_pending, pending_len, pending_at}
-use Rattle.historical_bitmap.proofs.Pending.MarkedChunks.{IsMarked, mark, how_marked}
+use Rattle.historical_bitmap.proofs.Pending.MarkedChunks.{IsMarked, marked_is_member, how_marked}
 use Rattle.historical_bitmap.proofs.Pending.Ranges.{before_end}
 
 -- ---- popping bits one by one
@@ -221,7 +221,7 @@ module _ (n : ℕ) (b : PrunedBits) (l m : PendingEdits) (total : ℕ) (pos : 0 
   truncate_marks i s = go (how_marked n b m i s)
     where
       old_mark : IsMarked n b l i → is_member nat_eq (marked_chunks n b l ++ touched n (pending_bits n b l) (pops (l.len - total))) i ≡ true
-      old_mark h = in_left (marked_chunks n b l) (touched n (pending_bits n b l) (pops (l.len - total))) i (mark n b l i h)
+      old_mark h = in_left (marked_chunks n b l) (touched n (pending_bits n b l) (pops (l.len - total))) i (marked_is_member n b l i h)
 
       new_mark : (k : ℕ) → k / (8 * n) ≡ i → total ≤ k → k < l.len → is_member nat_eq (marked_chunks n b l ++ touched n (pending_bits n b l) (pops (l.len - total))) i ≡ true
       new_mark k e p h =

@@ -22,13 +22,13 @@ use Rattle.historical_bitmap.specs.View.{View, IsEditedAt, IsRunOf, KeepsEdited,
 use Rattle.historical_bitmap.proofs.Lists.Members.{in_left, in_right}
 use Rattle.historical_bitmap.proofs.Pending.Appends.{index_of}
 use Rattle.historical_bitmap.proofs.Pending.Edits.{same_pending, pending_len, pending_at}
-use Rattle.historical_bitmap.proofs.Pending.MarkedChunks.{IsMarked, mark, how_marked}
+use Rattle.historical_bitmap.proofs.Pending.MarkedChunks.{IsMarked, marked_is_member, how_marked}
 use Rattle.historical_bitmap.proofs.Pending.Ranges.{not_between, at_start, before_end}
 
 -- ---- bits set one by one
 -- the edits that set a number of positions to the bits of some bytes
-abbrev run : ℕ → List ℕ → ℕ → ℕ → List Edit
-run n bytes lo count = map (λ position. Set position (chunk_bit n bytes position)) (range_with_len lo count)
+abbrev chunk_edits : ℕ → List ℕ → ℕ → ℕ → List Edit
+chunk_edits n bytes lo count = map (λ position. Set position (chunk_bit n bytes position)) (range_with_len lo count)
 
 -- one more position in front of a range
 one_more : (lo count k : ℕ) (value : ℕ → Bool) (own : Bool) → cond (is_between (lo + 1) (lo + 1 + count) k) (value k) (cond (eqb k lo) (value lo) own) ≡ cond (is_between lo (lo + suc count) k) (value k) own
@@ -49,12 +49,12 @@ record HasBits (n : ℕ) (c : PrunedBits) (lo hi : ℕ) (value : ℕ → Bool) (
   pub len : bit_len n d ≡ bit_len n c
   pub bits : (k : ℕ) → pruned_bits n c ≤ k → bit_at n d k ≡ cond (is_between lo hi k) (value k) (bit_at n c k)
 
-run_sets : (n : ℕ) (c : PrunedBits) (bytes : List ℕ) (lo count : ℕ) → pruned_bits n c ≤ lo → lo + count ≤ bit_len n c → HasBits n c lo (lo + count) (chunk_bit n bytes) (after_all n c (run n bytes lo count))
-run_sets n c bytes lo zero low within = record { pruned = refl; len = refl; bits = λ k p. rw (not_between lo (lo + 0) k (λ a z. absurd (omega (arith, a, z)))) refl }
-run_sets n c bytes lo (suc count) low within =
+chunk_edits_set : (n : ℕ) (c : PrunedBits) (bytes : List ℕ) (lo count : ℕ) → pruned_bits n c ≤ lo → lo + count ≤ bit_len n c → HasBits n c lo (lo + count) (chunk_bit n bytes) (after_all n c (chunk_edits n bytes lo count))
+chunk_edits_set n c bytes lo zero low within = record { pruned = refl; len = refl; bits = λ k p. rw (not_between lo (lo + 0) k (λ a z. absurd (omega (arith, a, z)))) refl }
+chunk_edits_set n c bytes lo (suc count) low within =
     let x = chunk_bit n bytes lo in
     let more = length-set c.bits (lo - pruned_bits n c) x in
-    let rest = run_sets n (set_at n c lo x) bytes (lo + 1) count (omega (arith, low)) (omega (arith, within, more)) in
+    let rest = chunk_edits_set n (set_at n c lo x) bytes (lo + 1) count (omega (arith, low)) (omega (arith, within, more)) in
     record {
       pruned = rest.pruned;
       len = rest.len ∙ omega (arith, more);
@@ -64,11 +64,11 @@ run_sets n c bytes lo (suc count) low within =
     }
 
 -- the chunk of each of their positions is touched
-run_touches : (n : ℕ) (c : PrunedBits) (bytes : List ℕ) (lo count k : ℕ) → lo ≤ k → k < lo + count → is_member nat_eq (touched n c (run n bytes lo count)) (k / (8 * n)) ≡ true
-run_touches n c bytes lo zero k l h = absurd (omega (arith, l, h))
-run_touches n c bytes lo (suc count) k l h = elim (cases_eq k lo) [
+chunk_edits_touch : (n : ℕ) (c : PrunedBits) (bytes : List ℕ) (lo count k : ℕ) → lo ≤ k → k < lo + count → is_member nat_eq (touched n c (chunk_edits n bytes lo count)) (k / (8 * n)) ≡ true
+chunk_edits_touch n c bytes lo zero k l h = absurd (omega (arith, l, h))
+chunk_edits_touch n c bytes lo (suc count) k l h = elim (cases_eq k lo) [
   | inl e ↦ or_left (nat_eq (k / (8 * n)) (lo / (8 * n))) _ (eq-eqb (k / (8 * n)) (lo / (8 * n)) (ap (λ y. y / (8 * n)) e))
-  | inr ne ↦ or_right (nat_eq (k / (8 * n)) (lo / (8 * n))) _ (run_touches n (set_at n c lo (chunk_bit n bytes lo)) bytes (lo + 1) count k (omega (arith, l, ne)) (omega (arith, h)))
+  | inr ne ↦ or_right (nat_eq (k / (8 * n)) (lo / (8 * n))) _ (chunk_edits_touch n (set_at n c lo (chunk_bit n bytes lo)) bytes (lo + 1) count k (omega (arith, l, ne)) (omega (arith, h)))
 ]
 
 -- ---- the bits of a chunk
@@ -96,7 +96,7 @@ module _ (n : ℕ) (c : PrunedBits) (i : ℕ) (bytes : List ℕ) (pos : 0 < n) (
   set_all : HasBits n c (8 * n * i) (chunk_end n c i) (chunk_bit n bytes) all
   set_all =
       let end : 8 * n * i + (chunk_end n c i - 8 * n * i) ≡ chunk_end n c i = omega (arith, some) in
-      subst (λ (z : ℕ). HasBits n c (8 * n * i) z (chunk_bit n bytes) all) end (run_sets n c bytes (8 * n * i) (chunk_end n c i - 8 * n * i) low (omega (arith, end)))
+      subst (λ (z : ℕ). HasBits n c (8 * n * i) z (chunk_bit n bytes) all) end (chunk_edits_set n c bytes (8 * n * i) (chunk_end n c i - 8 * n * i) low (omega (arith, end)))
 
   -- setting each of its bits replaces the chunk
   pub sets_replace : all ≡ with_chunk n c i bytes
@@ -113,7 +113,7 @@ module _ (n : ℕ) (c : PrunedBits) (i : ℕ) (bytes : List ℕ) (pos : 0 < n) (
   -- the chunk is touched
   pub sets_touch : is_member nat_eq (touched n c (sets_of n bytes (8 * n * i) (chunk_end n c i))) i ≡ true
   sets_touch = subst (λ j. is_member nat_eq (touched n c (sets_of n bytes (8 * n * i) (chunk_end n c i))) j ≡ true) (first_of n i pos)
-      (run_touches n c bytes (8 * n * i) (chunk_end n c i - 8 * n * i) (8 * n * i) (omega arith) (omega (arith, some)))
+      (chunk_edits_touch n c bytes (8 * n * i) (chunk_end n c i - 8 * n * i) (8 * n * i) (omega arith) (omega (arith, some)))
 
 -- ---- a chunk replaced at once
 -- a chunk that is cut at the length and then written replaces the chunk
@@ -203,7 +203,7 @@ module _ (n : ℕ) (b : PrunedBits) (l m : PendingEdits) (i : ℕ) (chunk : List
   chunk_marks q s = go (how_marked n b m q s)
     where
       old_mark : IsMarked n b l q → is_member nat_eq (marked_chunks n b l ++ more) q ≡ true
-      old_mark h = in_left (marked_chunks n b l) more q (mark n b l q h)
+      old_mark h = in_left (marked_chunks n b l) more q (marked_is_member n b l q h)
 
       go : IsMarked n b m q → is_member nat_eq (marked_chunks n b l ++ more) q ≡ true
       go (inl e) = elim (cases_eq q i) [

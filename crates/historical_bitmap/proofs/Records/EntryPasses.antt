@@ -18,7 +18,7 @@ use Rattle.historical_bitmap.specs.Record.{ReverseRecord, kept_bytes, bytes_of, 
 use Rattle.historical_bitmap.specs.Stored.{diff_value, entry_values}
 use Rattle.historical_bitmap.specs.Undo.{put_back, put_back_one, kept_between, pruned_chunk_bytes, IsOldChunk}
 use Rattle.historical_bitmap.specs.declared.bitmap.historical.record.ChunkDiff.{ChunkDiff}
-use Rattle.historical_bitmap.proofs.History.PastStates.{below}
+use Rattle.historical_bitmap.proofs.History.PastStates.{less_from_nat_cmp}
 use Rattle.historical_bitmap.proofs.Records.UndoneInSteps.{none_past}
 
 -- ---- a search by key
@@ -131,7 +131,7 @@ kept_nothing from to (e ∷ es) h = elim (cases_lt e.0 from) [
 kept_above : (from to a : ℕ) (es : List (ℕ × spec.ChunkDiff)) → from ≤ a → AllByRecursion (λ k. nat_cmp a k ≡ Less) (keys_of es) → kept_between from to es ≡ kept_between (from + 1) to es
 kept_above from to a [] l h = refl
 kept_above from to a (e ∷ es) l h =
-    let past = below a e.0 h.0 in
+    let past = less_from_nat_cmp a e.0 h.0 in
     let rest = kept_above from to a es l h.1 in
     elim (cases_Bool (nat_lt e.0 to)) [
       | inl t ↦ rw (le-leb from e.0 (omega arith), le-leb (from + 1) e.0 (omega arith), t) (ap (λ ys. option_to_list (kept_bytes e.1) ++ ys) rest)

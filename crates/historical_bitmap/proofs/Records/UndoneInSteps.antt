@@ -23,7 +23,7 @@ use Rattle.bitmap_core.proofs.Pruned.Positions.{front_of, place, same_bitmap, sa
 use Rattle.bitmap_core.proofs.Pruned.Edits.{bit_extended, bit_truncated, bit_unpruned_low, len_unpruned}
 use Rattle.historical_bitmap.specs.Record.{ChunkDiff, ReverseRecord, kept, kept_bytes, bytes_of, bit_or_else, before}
 use Rattle.historical_bitmap.specs.Undo.{resized, put_back_one, put_back, pruned_chunk_bytes, undone_in_steps, CanUndo}
-use Rattle.historical_bitmap.proofs.History.PastStates.{below}
+use Rattle.historical_bitmap.proofs.History.PastStates.{less_from_nat_cmp}
 
 -- ---- the length restored
 pub bit_resized : (n : ℕ) (b : PrunedBits) (len k : ℕ) → pruned_bits n b ≤ k → k < len → bit_at n (resized n b len) k ≡ bit_at n b k
@@ -99,7 +99,7 @@ same_from n (Some bytes) a b k e = refl
 -- if all keys are greater than a number, no number up to it is found
 pub none_past : {X : Type 0} (q a : ℕ) (cs : List (ℕ × X)) → q ≤ a → AllByRecursion (λ k. nat_cmp a k ≡ Less) (keys_of cs) → lookup (nat_eq q) cs ≡ None
 none_past q a [] l h = refl
-none_past q a (c ∷ cs) l h = rw (ne_eqb q c.0 (λ e. absurd (omega (arith, e, l, below a c.0 h.0)))) (none_past q a cs l h.1)
+none_past q a (c ∷ cs) l h = rw (ne_eqb q c.0 (λ e. absurd (omega (arith, e, l, less_from_nat_cmp a c.0 h.0)))) (none_past q a cs l h.1)
 
 -- after the entries from a least index on are put back, their bits are those that they keep, and the other bits are unchanged
 pub bit_put : (n : ℕ) (b : PrunedBits) (least : ℕ) (es : List (ℕ × ChunkDiff)) (k : ℕ) → IsStrictlySortedBy nat_cmp (keys_of es) → IsRetained n b k

@@ -1,7 +1,7 @@
 use Rattle.std.proofs.Common.{ℕ, arith}
 use Rattle.historical_bitmap.specs.Compared.{between_numbers}
 use Rattle.historical_bitmap.specs.Record.{ReverseRecord}
-use Rattle.historical_bitmap.proofs.Changes.Next.{searched, searched_one, searched_rises, searches_all}
+use Rattle.historical_bitmap.proofs.Changes.Next.{search_ends, searched_one, searched_rises, searches_all}
 use Rattle.historical_bitmap.proofs.History.Positions.{between_at, between_order, first_between, none_between}
 use Rattle.historical_bitmap.proofs.bitmap.historical.changes.next_named.Goals as goal
 
@@ -26,4 +26,4 @@ loop-position-preserved g c =
 pub returns : goal.returns
 returns g c =
     let order = between_order c.args.from c.args.to c.past-position.result c.past-position-end.result c.args.commits.now c.requires.order c.past-position.ensures.within c.past-position-end.ensures.within c.past-position.ensures.earlier c.past-position.ensures.later c.past-position-end.ensures.earlier in
-    searched (between_numbers c.args.from c.args.to c.args.commits.now) _ c.args.first c.loop-position.next (none_between c.loop-position.position c.past-position-end.result c.args.commits.now (omega (arith, order)) c.past-position-end.ensures.within) c.loop-position.invariant
+    search_ends (between_numbers c.args.from c.args.to c.args.commits.now) _ c.args.first c.loop-position.next (none_between c.loop-position.position c.past-position-end.result c.args.commits.now (omega (arith, order)) c.past-position-end.ensures.within) c.loop-position.invariant

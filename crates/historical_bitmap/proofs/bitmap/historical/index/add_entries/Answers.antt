@@ -5,7 +5,7 @@ use Rattle.std.specs.Ordering.{nat_cmp}
 use Rattle.std.specs.Prelude.{option_copied}
 use Rattle.historical_bitmap.specs.Index.{AddsPlaces, KeepsOthers}
 use Rattle.historical_bitmap.specs.Stored.{diff_value, entry_values}
-use Rattle.historical_bitmap.proofs.Index.Updates.{entries_left, entry_added, entry_skipped, next_ends, others_kept, parts_of, stepped}
+use Rattle.historical_bitmap.proofs.Index.Updates.{entries_left, entry_added, entry_skipped, next_ends, others_kept, parts_of, entry_values-take_more}
 use Rattle.historical_bitmap.proofs.bitmap.historical.index.add_entries.Goals as goal
 use Rattle.historical_bitmap.proofs.bitmap.historical.index.add_entries.Goals.{in-Some+in_ok-push, in_default}
 
@@ -35,7 +35,7 @@ loop-entry-preserved g c =
     let i = c.loop-entry.entry-index in
     let e = c.entry-item.result in
     let first = entry_values (take i all) in
-    subst (λ xs. AddsPlaces c.args.number xs c.args.index.now c.match-old_bytes.index) (sym (stepped i all e c.loop-entry-test.true c.entry-item.is))
+    subst (λ xs. AddsPlaces c.args.number xs c.args.index.now c.match-old_bytes.index) (sym (entry_values-take_more i all e c.loop-entry-test.true c.entry-item.is))
     (elim c.match-old_bytes.branch [
       | in-Some+in_ok-push w ↦
           subst (λ rows. AddsPlaces c.args.number (first ++ (e.0, diff_value e.1) ∷ []) c.args.index.now rows) (sym w.index-is)

@@ -7,7 +7,7 @@ use Rattle.historical_bitmap.specs.Changes.{differs, retained_bytes}
 use Rattle.historical_bitmap.specs.Pending.{pending_bits}
 use Rattle.historical_bitmap.proofs.Changes.Next.{differs_by}
 use Rattle.historical_bitmap.proofs.Changes.Pending.{pending_past, pending_pruned}
-use Rattle.historical_bitmap.proofs.Changes.Prepared.{alike, left_out, listed_here, new_bytes, old_bytes}
+use Rattle.historical_bitmap.proofs.Changes.Prepared.{none_if_same, left_out, listed_here, new_bytes, old_bytes}
 use Rattle.historical_bitmap.proofs.Changes.Unnamed.{bytes_none}
 use Rattle.historical_bitmap.proofs.bitmap.historical.prepared_changes.changed_bytes.Goals as goal
 use Rattle.historical_bitmap.proofs.bitmap.historical.prepared_changes.changed_bytes.Goals.{then-chunk-pruned_chunks-via-then-chunk-pruned_chunks, then-chunk-pruned_chunks-via-else-chunk-pruned_chunks+then-start-len}
@@ -33,7 +33,7 @@ returns-then-eq g c =
     let cut = len_truncated g.row.N c.args.grown.now c.args.old_len c.requires.is_extended.low c.requires.is_extended.high in
     let before = old_bytes g.row.N (truncated g.row.N c.args.grown.now c.args.old_len) c.args.edits.now c.args.grown.now c.args.chunk c.requires.is_extended.width.positive c.requires.is_extended.edits_fit c.requires.is_extended.grown_is c.requires.low c.get_chunk.result.now (omega (arith, c.if-start-old_len.true, start, cut)) c.get_chunk.ensures in
     let after = new_bytes g.row.N (truncated g.row.N c.args.grown.now c.args.old_len) c.args.edits.now c.args.grown.now c.args.chunk c.requires.is_extended.width.positive c.requires.is_extended.edits_fit c.requires.is_extended.grown_is c.requires.low c.chunk-bytes.result (omega (arith, c.if-chunk-pruned_chunks.false, c.pruned_chunks.ensures.value)) (omega (arith, c.if-start-len.false, start, c.len.ensures.value)) c.chunk-bytes.ensures.value c.chunk-bytes.ensures.known in
-    alike (differs g.row.N old new c.args.chunk) (retained_bytes g.row.N new c.args.chunk) (differs_by g.row.N old new c.args.chunk (Some c.get_chunk.result.now) (Some c.chunk-bytes.result) false before after (ap not c.if-eq.ensures))
+    none_if_same (differs g.row.N old new c.args.chunk) (retained_bytes g.row.N new c.args.chunk) (differs_by g.row.N old new c.args.chunk (Some c.get_chunk.result.now) (Some c.chunk-bytes.result) false before after (ap not c.if-eq.ensures))
 
 pub returns : goal.returns
 returns g c =

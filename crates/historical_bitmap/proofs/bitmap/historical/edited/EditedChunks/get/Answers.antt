@@ -1,5 +1,5 @@
 use Rattle.std.proofs.Common.{Some, ap, sym, ◌∙◌}
-use Rattle.historical_bitmap.proofs.EditedChunks.Appended.{look_at, look_beside, none_beside, slot_in, slot_out, stored_at}
+use Rattle.historical_bitmap.proofs.EditedChunks.Appended.{look_at, lookup-beside_appended, none_beside, slot_in, slot_out, stored_at}
 use Rattle.historical_bitmap.proofs.bitmap.historical.edited.EditedChunks.get.Goals as goal
 
 pub returns-in-Some-Appended-clause-value : goal.returns-in-Some-Appended-clause-value
@@ -18,7 +18,7 @@ returns-in-Some-Stored-clause-value g c =
     let es = c.self.inside.stored.entries in
     let many = c.len-count.ensures ∙ c.self.inside.appended.ok.0 in
     let at = slot_out c.self.inside.stored.indices first c.len-count.result c.args.index c.in-Some-Stored.place xs c.in-Some-Stored.field-0 c.in-Some-Stored.field-0-is c.in-Some-Stored.ensures many in
-    rw (sym c.self.view_is) (sym (look_beside first xs es c.args.index at.0 ∙ stored_at es c.self.inside.stored.indices c.args.index c.in-Some-Stored.place c.chunk_at.result.now at.1 c.chunk_at.ensures))
+    rw (sym c.self.view_is) (sym (lookup-beside_appended first xs es c.args.index at.0 ∙ stored_at es c.self.inside.stored.indices c.args.index c.in-Some-Stored.place c.chunk_at.result.now at.1 c.chunk_at.ensures))
 
 pub returns-in-None-clause-value : goal.returns-in-None-clause-value
 returns-in-None-clause-value g c =
@@ -27,4 +27,4 @@ returns-in-None-clause-value g c =
     let es = c.self.inside.stored.entries in
     let many = c.len-count.ensures ∙ c.self.inside.appended.ok.0 in
     let out = none_beside first c.len-count.result c.args.index xs c.in-None.ensures.0 many in
-    rw (sym c.self.view_is) (sym (look_beside first xs es c.args.index out ∙ c.in-None.ensures.1))
+    rw (sym c.self.view_is) (sym (lookup-beside_appended first xs es c.args.index out ∙ c.in-None.ensures.1))

@@ -1,5 +1,5 @@
 use Rattle.std.proofs.Common.{sym}
-use Rattle.historical_bitmap.proofs.EditedChunks.ReplacedChunk.{replaces}
+use Rattle.historical_bitmap.proofs.EditedChunks.ReplacedChunk.{with_chunk_puts}
 use Rattle.historical_bitmap.proofs.bitmap.historical.edited.EditedChunks.join_byte.Goals as goal
 
 pub returns-in-Some-clause-written : goal.returns-in-Some-clause-written
@@ -9,5 +9,5 @@ returns-in-Some-clause-written g c = λ yes. record {
   bytes = c.join_byte.new.chunk;
   size = c.known.ensures.len;
   written = c.join_byte.ensures;
-  edited = replaces c.args.self.now c.args.index c.in-Some.chunk.now c.join_byte.new.chunk (sym c.in-Some.ensures.value);
+  edited = with_chunk_puts c.args.self.now c.args.index c.in-Some.chunk.now c.join_byte.new.chunk (sym c.in-Some.ensures.value);
 }

@@ -2,7 +2,7 @@ use Rattle.std.proofs.Common.{◌≡◌, ◌<◌, ℕ, Some, None, [], ◌-◌, 
 use Rattle.std.specs.Prelude.{nat_eq}
 use Rattle.std.specs.Map.{lookup}
 use Rattle.historical_bitmap.specs.Appended.{with_appended}
-use Rattle.historical_bitmap.proofs.EditedChunks.Appended.{all_sorted, is_beside, is_inside, keeps_other, last_removed, look_beside, puts_other}
+use Rattle.historical_bitmap.proofs.EditedChunks.Appended.{all_sorted, is_beside, is_inside, keeps_other, last_removed, lookup-beside_appended, puts_other}
 use Rattle.historical_bitmap.proofs.bitmap.historical.edited.EditedChunks.remove.Goals as goal
 
 pub returns-then-is_in-clause-value : goal.returns-then-is_in-clause-value
@@ -47,7 +47,7 @@ returns-clause-value g c =
     let xs = c.self.inside.appended.items in
     let es = c.self.inside.stored.entries in
     let out = is_beside first c.len.result c.args.index xs c.is_in.result (c.len.ensures ∙ c.self.inside.appended.ok.0) c.is_in.ensures c.if-is_in.false in
-    rw (sym c.self.view_is) (c.remove.ensures.value ∙ sym (look_beside first xs es c.args.index out))
+    rw (sym c.self.view_is) (c.remove.ensures.value ∙ sym (lookup-beside_appended first xs es c.args.index out))
 
 pub returns-clause-removed : goal.returns-clause-removed
 returns-clause-removed g c =

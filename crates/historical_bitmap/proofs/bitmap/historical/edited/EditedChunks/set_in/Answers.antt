@@ -1,7 +1,7 @@
 use Rattle.std.proofs.Common.{[], sym, subst}
 use Rattle.std.specs.Prelude.{unwrap_or}
 use Rattle.historical_bitmap.specs.Pending.{IsPartSet}
-use Rattle.historical_bitmap.proofs.EditedChunks.ReplacedChunk.{replaces}
+use Rattle.historical_bitmap.proofs.EditedChunks.ReplacedChunk.{with_chunk_puts}
 use Rattle.historical_bitmap.proofs.bitmap.historical.edited.EditedChunks.set_in.Goals as goal
 
 pub returns-in-Some : goal.returns-in-Some
@@ -10,5 +10,5 @@ returns-in-Some g c =
     record {
       bytes = c.set_in.new.chunk;
       set = subst (λ o. IsPartSet g.row.N (unwrap_or o []) c.set_in.new.chunk c.args.from c.args.to c.args.value) c.in-Some.ensures.value part;
-      edited = replaces c.args.self.now c.args.index c.in-Some.chunk.now c.set_in.new.chunk (sym c.in-Some.ensures.value);
+      edited = with_chunk_puts c.args.self.now c.args.index c.in-Some.chunk.now c.set_in.new.chunk (sym c.in-Some.ensures.value);
     }
