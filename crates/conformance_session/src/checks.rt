@@ -1,4 +1,6 @@
-//! Assertions. Each is proved once here, and not again at each place that uses it.
+//! Assertions of the tests of this crate. Each is proved once in the crate, and not again at each place that uses it.
+//!
+//! Each test crate has its own assertions, because they may end the process, which the gate accepts only in the tests of a crate.
 
 ghost use Rattle.std.specs.Prelude.{◌≡◌, true};
 
