@@ -8,9 +8,9 @@
 
 ghost use Rattle.std.specs.Prelude.{◌≡◌, ℕ, ◌+◌, ◌*◌, ◌^◌, ◌<◌, ◌≤◌, ◌↔◌, ◌++◌, Bool, true, List, None, length, slice_index, IfErr, IfOk, IsTrue, OnErr, OnOk};
 ghost use Rattle.std.specs.Int.{div_ceil};
-ghost use Rattle.bitmap_core.specs.PrunedBits.{PrunedBits, bit_len};
+ghost use Rattle.bitmap_core.specs.PrunedBits.{PrunedBits};
 ghost use Rattle.bitmap_core.specs.Decoding.{admits, bits_error, bits_in, pruned_error, pruned_in, EncodesBits, EncodesPruned};
-ghost use Rattle.bitmap_core.specs.Encoding.{pruned_encoding, encoding};
+ghost use Rattle.bitmap_core.specs.Encoding.{FitsEncoding, FitsPrunedEncoding, IsPrefixCode, encoding, pruned_encoding};
 ghost use Rattle.bitmap_bytes.specs.Chunk.{IsWidth};
 
 use crate::bitmap::BitMap;
@@ -36,15 +36,12 @@ pub fn pruned_bits_are_accepted_where_encoded()
 
 /// An input begins with the encoding of at most one list of bits.
 pub fn one_encoding_of_bits()
-    ensures { (n : ℕ) (v w : List Bool) (xs ys : List ℕ) → 0 < n → length v < 2 ^ 64
-        → length w < 2 ^ 64 → encoding n v ++ xs ≡ encoding n w ++ ys → (v ≡ w) × (xs ≡ ys) }
+    ensures unique { IsPrefixCode FitsEncoding encoding }
 {}
 
 /// An input begins with the encoding of at most one bitmap with a pruned prefix.
 pub fn one_encoding_of_pruned_bits()
-    ensures { (n : ℕ) (b c : PrunedBits) (xs ys : List ℕ) → 0 < n → bit_len n b < 2 ^ 64
-        → bit_len n c < 2 ^ 64 → b.pruned < 2 ^ 64 → c.pruned < 2 ^ 64
-        → pruned_encoding n b ++ xs ≡ pruned_encoding n c ++ ys → (b ≡ c) × (xs ≡ ys) }
+    ensures unique { IsPrefixCode FitsPrunedEncoding pruned_encoding }
 {}
 
 /// If an input begins with the encoding of a list of bits, `bits_in` of the input is that list.

@@ -1,6 +1,6 @@
 //! Laws of the searches and counts over any bitmap.
 
-ghost use Rattle.std.specs.Prelude.{◌≡◌, ◌+◌, ◌≤◌, true, false, Some, IfSome, MatchOption};
+ghost use Rattle.std.specs.Prelude.{◌≡◌, ◌+◌, ◌≤◌, true, false, Some, IfNone, IfSome, MatchOption};
 ghost use Rattle.bitmap_core.specs.Meaning.{IsRetained};
 ghost use Rattle.bitmap_core.specs.Searches.{next_one, ones_count, HasNoNext, HasNoPrevious, IsNext, IsPrevious};
 
@@ -60,10 +60,11 @@ pub fn select_one_has_k_below<B: Readable<N>, const N: usize>(
     readable: &B,
     k: u64,
 ) -> Option<(u64, u64)>
-    ensures found { MatchOption result
-        (ones_count N (B.meaning readable.now) 0 (B.meaning readable.now).len ≤ k)
-        (λ r. IsRetained N (B.meaning readable.now) r.0 × ((B.meaning readable.now).bit r.0 ≡ true)
-        × (r.1 ≡ k)) }
+    ensures absent { IfNone result
+        (ones_count N (B.meaning readable.now) 0 (B.meaning readable.now).len ≤ k) }
+    ensures retained { IfSome result (λ r. IsRetained N (B.meaning readable.now) r.0) }
+    ensures set { IfSome result (λ r. (B.meaning readable.now).bit r.0 ≡ true) }
+    ensures below { IfSome result (λ r. r.1 ≡ k) }
     ensures counted { IfSome result (λ r. r.1 ≡ ones_count N (B.meaning readable.now) 0 r.0) }
 {
     let position = readable.select_one(k)?;
