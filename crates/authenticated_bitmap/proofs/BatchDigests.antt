@@ -8,7 +8,7 @@ use Rattle.bitmap_core.specs.Meaning.{pruned_meaning}
 use Rattle.bitmap_core.specs.PrunedBits.{PrunedBits, IsRetainedChunk, appended, bit_len, truncated, with_chunk}
 use Rattle.historical_bitmap.specs.Edits.{pushes}
 use Rattle.historical_bitmap.specs.Pending.{PendingEdits}
-use Rattle.historical_bitmap.specs.View.{View, IsRunOf, pending_of}
+use Rattle.historical_bitmap.specs.View.{View, AreEditsOf, pending_of}
 use Rattle.historical_bitmap.proofs.Pending.Lengthened.{run_appends}
 use Rattle.authenticated_bitmap.specs.Stored.{nodes, stored}
 use Rattle.authenticated_bitmap.specs.StoredBitmap.{HasWholeChunks, IsOnBaseOf, digests_in, full_chunks}
@@ -36,24 +36,24 @@ same_base v = record { current = refl; commits = refl; last = refl }
 
 -- ---- a chunk is appended
 module _ (old new : View PendingEdits) (has : HasWholeChunks old) (bytes : List ℕ) (known : IsChunk 32 bytes) where
-  push_pending : IsRunOf 32 old (pushes (chunk_bits 32 bytes)) new → pending_of 32 new ≡ appended (pending_of 32 old) (chunk_bits 32 bytes)
+  push_pending : AreEditsOf 32 old (pushes (chunk_bits 32 bytes)) new → pending_of 32 new ≡ appended (pending_of 32 old) (chunk_bits 32 bytes)
   push_pending run = run_appends 32 old new (chunk_bits 32 bytes) run
 
-  push_digests : IsRunOf 32 old (pushes (chunk_bits 32 bytes)) new → digests_in new ≡ digests_in old ++ bytes ∷ []
+  push_digests : AreEditsOf 32 old (pushes (chunk_bits 32 bytes)) new → digests_in new ≡ digests_in old ++ bytes ∷ []
   push_digests run =
       ap (λ b. full_chunks (pruned_meaning 32 b)) (push_pending run)
       ∙ appended_chunks (pending_of 32 old) has.pruned (length (digests_in old)) has.whole bytes known
 
-  push_whole : IsRunOf 32 old (pushes (chunk_bits 32 bytes)) new → HasWholeChunks new
+  push_whole : AreEditsOf 32 old (pushes (chunk_bits 32 bytes)) new → HasWholeChunks new
   push_whole run =
       has_whole new (length (digests_in old) + 1) (ap (λ (b : PrunedBits). b.pruned) (push_pending run) ∙ has.pruned)
       (ap (bit_len 32) (push_pending run) ∙ appended_len (pending_of 32 old) has.pruned (length (digests_in old)) has.whole bytes known)
 
-  pub tried_push_digests : {A E : Type 0} (r : Result A E) → OnOk r (IsRunOf 32 old (pushes (chunk_bits 32 bytes)) new) → OnOk r (digests_in new ≡ digests_in old ++ bytes ∷ [])
+  pub tried_push_digests : {A E : Type 0} (r : Result A E) → OnOk r (AreEditsOf 32 old (pushes (chunk_bits 32 bytes)) new) → OnOk r (digests_in new ≡ digests_in old ++ bytes ∷ [])
   tried_push_digests (Ok x) run = push_digests run
   tried_push_digests (Err x) run = tt
 
-  pub tried_push_whole : {A E : Type 0} (r : Result A E) → OnOk r (IsRunOf 32 old (pushes (chunk_bits 32 bytes)) new) → OnErr r (new ≡ old) → HasWholeChunks new
+  pub tried_push_whole : {A E : Type 0} (r : Result A E) → OnOk r (AreEditsOf 32 old (pushes (chunk_bits 32 bytes)) new) → OnErr r (new ≡ old) → HasWholeChunks new
   tried_push_whole (Ok x) run same = push_whole run
   tried_push_whole (Err x) run same = subst HasWholeChunks (sym same) has
 

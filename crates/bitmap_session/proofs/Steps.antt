@@ -17,7 +17,7 @@ use Rattle.historical_bitmap.specs.Record.{ReverseRecord}
 use Rattle.historical_bitmap.specs.declared.bitmap.historical.error.Error.{Error}
 use Rattle.historical_bitmap.specs.declared.bitmap.historical.error.Error.TheVariants.{Memory}
 use Rattle.historical_bitmap.specs.declared.bitmap.historical.error.RewindError.TheVariants as rewind_errors
-use Rattle.historical_bitmap.specs.View.{View, IsBatchOn, IsEditOf, IsRunOf, commit_error, commit_error_after, costs_of, history_of, marked_of, pending_of}
+use Rattle.historical_bitmap.specs.View.{View, IsBatchOn, IsEditOf, AreEditsOf, commit_error, commit_error_after, costs_of, history_of, marked_of, pending_of}
 use Rattle.bitmap_session.specs.declared.command.Command.{Command}
 use Rattle.bitmap_session.specs.declared.command.Command.TheVariants.{Start, Begin, Push, PushByte, PushChunk, Pop, Set, Prune, Commit, Abort, Rewind, Len, PrunedChunks, Get, Chunk, Ones, Encode, At, OnesAt, EncodeAt, Decode, Commits, Exists, Latest, Earliest, DropBefore, Clear, Entries}
 use Rattle.bitmap_session.specs.Replies.{ReplyValue, Refusal}
@@ -149,7 +149,7 @@ same_history : (N : ℕ) (c d : PrunedBits) (xs ys : List (ℕ × ReverseRecord)
 same_history N c d xs ys e f = rw (e, f) refl
 
 -- one edit is a run of one edit
-as_run : (N : ℕ) (old new : View PendingEdits) (e : Edit) → IsEditOf N old e new → IsRunOf N old (e ∷ []) new
+as_run : (N : ℕ) (old new : View PendingEdits) (e : Edit) → IsEditOf N old e new → AreEditsOf N old (e ∷ []) new
 as_run N old new e h = record {
   current = h.current;
   commits = h.commits;
@@ -160,7 +160,7 @@ as_run N old new e h = record {
 
 -- a run of edits leads to the state of the machine, and marks no more chunks than the machine touches
 pub run_agrees : (N : ℕ) (old new : View PendingEdits) (these : List Edit)
-    → IsRunOf N old these new
+    → AreEditsOf N old these new
     → Agrees (dirty N new) (record {
       state = edited (dirty N old).state (after_all N (pending_of N old) these);
       touched = marked_of N old ++ touched N (pending_of N old) these;
@@ -178,13 +178,13 @@ push_accepted N old new value space h = rw space (inl (refl, (0, omega arith, ru
 
 pub push_byte_accepted : (N : ℕ) (old new : View PendingEdits) (byte : ℕ)
     → is_past_64 (bit_len N (pending_of N old) + 8) ≡ false
-    → IsRunOf N old (pushes (byte_bits byte)) new
+    → AreEditsOf N old (pushes (byte_bits byte)) new
     → StepTo N Agrees (dirty N old) (PushByte byte) Done (dirty N new)
 push_byte_accepted N old new byte space h = rw space (inl (refl, (0, omega arith, run_agrees N old new _ h)))
 
 pub push_chunk_accepted : (N : ℕ) (old new : View PendingEdits) (bytes : List ℕ)
     → is_past_64 (bit_len N (pending_of N old) + 8 * N) ≡ false
-    → IsRunOf N old (pushes (chunk_bits N bytes)) new
+    → AreEditsOf N old (pushes (chunk_bits N bytes)) new
     → StepTo N Agrees (dirty N old) (PushChunk bytes) Done (dirty N new)
 push_chunk_accepted N old new bytes space h = rw space (inl (refl, (0, omega arith, run_agrees N old new _ h)))
 

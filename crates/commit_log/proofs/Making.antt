@@ -8,7 +8,7 @@ use Rattle.bitmap_core.proofs.Pruned.Edits.{len_truncated, bit_truncated, len_pr
 use Rattle.bitmap_core.proofs.Pruned.Positions.{bit_from_bits, len_from_bits, same_from_bits}
 use Rattle.historical_bitmap.specs.Record.{bit_or_else}
 use Rattle.historical_bitmap.specs.Pending.{PendingEdits}
-use Rattle.historical_bitmap.specs.View.{View, pending_of, IsEditOf, IsRunOf}
+use Rattle.historical_bitmap.specs.View.{View, pending_of, IsEditOf, AreEditsOf}
 use Rattle.bitmap_bytes.specs.Chunk.{chunk_bit}
 use Rattle.historical_bitmap.specs.Edits.{Edit}
 use Rattle.historical_bitmap.specs.Edits.Edit.{Prune}
@@ -25,11 +25,11 @@ is_made n pruned len bit b h = sym (same_from_bits n b bit (λ k r. sym (h.bits 
 has_same : (n pruned len : ℕ) (f g : ℕ → Bool) (b : PrunedBits) → Has n pruned len f b → ((k : ℕ) → k < len → f k ≡ g k) → Has n pruned len g b
 has_same n pruned len f g b h e = record { pruned_is = h.pruned_is; len_is = h.len_is; bits = λ k r. h.bits k r ∙ e k (omega (arith, r.1, h.len_is)) }
 
-on_run : (n : ℕ) (a b : View PendingEdits) (edits : List Edit) → IsRunOf n a edits b → IsOn a b
+on_run : (n : ℕ) (a b : View PendingEdits) (edits : List Edit) → AreEditsOf n a edits b → IsOn a b
 on_run n a b edits run = record { current = run.current; commits = run.commits; last = run.last }
 
 -- a shorter bitmap
-pub truncated_made : (n len : ℕ) (a b : View PendingEdits) (edits : List Edit) → pruned_bits n (pending_of n a) ≤ len → len ≤ bit_len n (pending_of n a) → IsRunOf n a edits b
+pub truncated_made : (n len : ℕ) (a b : View PendingEdits) (edits : List Edit) → pruned_bits n (pending_of n a) ≤ len → len ≤ bit_len n (pending_of n a) → AreEditsOf n a edits b
     → pending_of n b ≡ truncated n (pending_of n a) len → Makes n a len (bit_at n (pending_of n a)) b
 truncated_made n len a b edits low high run is =
     let size = len_truncated n (pending_of n a) len low high in
@@ -43,7 +43,7 @@ truncated_made n len a b edits low high run is =
     }
 
 -- a chunk with other bits
-pub replaced_made : (n i : ℕ) (bytes : List ℕ) (a b : View PendingEdits) (edits : List Edit) → IsRunOf n a edits b → pending_of n b ≡ with_chunk n (pending_of n a) i bytes
+pub replaced_made : (n i : ℕ) (bytes : List ℕ) (a b : View PendingEdits) (edits : List Edit) → AreEditsOf n a edits b → pending_of n b ≡ with_chunk n (pending_of n a) i bytes
     → Makes n a (bit_len n (pending_of n a)) (λ k. cond (eqb (k / (8 * n)) i) (chunk_bit n bytes k) (bit_at n (pending_of n a) k)) b
 replaced_made n i bytes a b edits run is =
     let old = pending_of n a in

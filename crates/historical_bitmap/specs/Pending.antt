@@ -167,8 +167,8 @@ Follows n b l (Set position value) m = Writes n b l position value l.len m
 Follows n b l (Prune position) m = Prunes n b l (position / (8 * n)) m
 
 -- the bits of a list of bytes, in order
-abbrev pub run_bits : List ℕ → List Bool
-run_bits bytes = map (bytes_bit bytes) (range_with_len 0 (8 * length bytes))
+abbrev pub bits_of_bytes : List ℕ → List Bool
+bits_of_bytes bytes = map (bytes_bit bytes) (range_with_len 0 (8 * length bytes))
 
 -- the n bytes of chunk i after an append: its pending bits below the length, then the appended values, then zeros
 pub record HasAppended (n : ℕ) (b : PrunedBits) (l : PendingEdits) (values : List Bool) (i : ℕ)

@@ -70,7 +70,7 @@ pub record IsEditOf (n : ℕ) (old : View PendingEdits) (edit : Edit)
   pub marks : IsWithin (marked_of n new) (marked_of n old ++ touches n (pending_of n old) edit)
 
 -- new is old after a list of edits
-pub record IsRunOf (n : ℕ) (old : View PendingEdits) (edits : List Edit)
+pub record AreEditsOf (n : ℕ) (old : View PendingEdits) (edits : List Edit)
     (new : View PendingEdits) : Type 0 where
   pub current : new.current ≡ old.current
   pub commits : new.commits ≡ old.commits

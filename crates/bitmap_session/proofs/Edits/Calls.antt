@@ -7,7 +7,7 @@ use Rattle.bitmap_core.specs.PrunedBits.{bit_len}
 use Rattle.historical_bitmap.specs.Edits.{AllAccepted}
 use Rattle.historical_bitmap.specs.Lengths.{AreEdited}
 use Rattle.historical_bitmap.specs.Pending.{PendingEdits}
-use Rattle.historical_bitmap.specs.View.{View, IsRunOf, pending_of}
+use Rattle.historical_bitmap.specs.View.{View, AreEditsOf, pending_of}
 use Rattle.bitmap_session.specs.Abstraction.{clean, dirty}
 use Rattle.bitmap_session.specs.Edits.{EditCall, EditsTo, Makes, sets_range}
 use Rattle.bitmap_session.specs.Laws.{HasRisingNumbers}
@@ -21,7 +21,7 @@ use Rattle.bitmap_session.proofs.Steps.{run_agrees, read_touches_nothing}
 pub made : (N : ℕ) (old new : View PendingEdits) (call : State → EditCall)
     → first (call (dirty N old).state).refusals ≡ None
     → AllAccepted N (pending_of N old) (call (dirty N old).state).edits
-    → IsRunOf N old (call (dirty N old).state).edits new
+    → AreEditsOf N old (call (dirty N old).state).edits new
     → EditsTo N (dirty N old) call None (dirty N new)
 made N old new call free accepted run = rw free (inl (refl, record { accepted = accepted; agrees = run_agrees N old new _ run }))
 

@@ -13,7 +13,7 @@ use Rattle.historical_bitmap.specs.Edits.Edit.{Push, Pop, Set, Prune}
 use Rattle.historical_bitmap.specs.Record.{ReverseRecord, before}
 use Rattle.historical_bitmap.specs.Record.ChunkDiff.{Modified, Removed, Added, Pruned}
 use Rattle.historical_bitmap.specs.Undo.{undone_in_steps}
-use Rattle.historical_bitmap.specs.Pending.{PendingEdits, unedited, edited_chunk, pending_bit, pending_bits, pending_chunk, old_chunk, marked_chunks, diff_of, edits_of, Follows, run_bits, IsEdited, PendingFits, IsWritten, IsSetIn, SetsIn, PutsTwo, IsByteSetIn, HasAppended, Appends, applied_in_steps}
+use Rattle.historical_bitmap.specs.Pending.{PendingEdits, unedited, edited_chunk, pending_bit, pending_bits, pending_chunk, old_chunk, marked_chunks, diff_of, edits_of, Follows, bits_of_bytes, IsEdited, PendingFits, IsWritten, IsSetIn, SetsIn, PutsTwo, IsByteSetIn, HasAppended, Appends, applied_in_steps}
 
 -- twenty true bits: the bytes FF, FF and 0F
 abbrev pub base : PrunedBits
@@ -274,7 +274,7 @@ pop_of_the_only_bit = record {
 }
 
 -- the bits of a list of bytes, the lowest first
-run : run_bits (5 ∷ 128 ∷ []) ≡ true ∷ false ∷ true ∷ replicate 12 false ++ true ∷ []
+run : bits_of_bytes (5 ∷ 128 ∷ []) ≡ true ∷ false ∷ true ∷ replicate 12 false ++ true ∷ []
 run = refl
 
 -- of 5 and 3, the first from 2 on is 3, and from 3 on too; from 6 on there is none

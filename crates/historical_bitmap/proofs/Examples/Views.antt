@@ -11,7 +11,7 @@ use Rattle.historical_bitmap.specs.Cost.{popped_to_chunks, most_cost}
 use Rattle.historical_bitmap.specs.Edits.{IsReached}
 use Rattle.historical_bitmap.specs.Edits.Edit.{Pop, Set}
 use Rattle.historical_bitmap.specs.Pending.{PendingEdits}
-use Rattle.historical_bitmap.specs.View.{View, history_of, costs_of, pending_of, marked_of, IsEditedAt, KeepsEdited, LeavesEdited, StaysEditedAt, IsEditOf, IsRunOf, IsBatchOn, commit_error}
+use Rattle.historical_bitmap.specs.View.{View, history_of, costs_of, pending_of, marked_of, IsEditedAt, KeepsEdited, LeavesEdited, StaysEditedAt, IsEditOf, AreEditsOf, IsBatchOn, commit_error}
 use Rattle.historical_bitmap.proofs.Examples.Histories.{current, commits}
 
 -- a clean bitmap with three commits, the last of them 3
@@ -105,7 +105,7 @@ popped_once_more = record { current = refl; commits = refl; last = refl; pending
       | inr b ↦ elim (cases_eq q 1) [ inl a ↦ rw a refl | inr d ↦ let e = rw (ne_eqb q 0 b, ne_eqb q 1 d) at h in cc ]
     ]
 
-popped_twice : IsRunOf 1 (popped_to 12) (Pop ∷ Pop ∷ []) (popped_to 10)
+popped_twice : AreEditsOf 1 (popped_to 12) (Pop ∷ Pop ∷ []) (popped_to 10)
 popped_twice = record { current = refl; commits = refl; last = refl; pending = refl; marks = λ q h. h }
 
 -- ---- a batch that has cleared bit 0 of the twelve: the first chunk is edited, and the second is not
@@ -187,7 +187,7 @@ cleared_once_more = record { current = refl; commits = refl; last = refl; pendin
 cleared_once : IsEditOf 1 (popped_to 12) (Set 11 false) cleared_twice → ⊥
 cleared_once edit = false≢true (edit.marks 0 refl)
 
-cleared_again : IsRunOf 1 cleared (Set 11 false ∷ Set 11 false ∷ []) cleared_twice
+cleared_again : AreEditsOf 1 cleared (Set 11 false ∷ Set 11 false ∷ []) cleared_twice
 cleared_again = record { current = refl; commits = refl; last = refl; pending = refl; marks = λ q h. marked q h }
   where
     marked : (q : ℕ) → is_member nat_eq (0 ∷ 1 ∷ []) q ≡ true → is_member nat_eq (0 ∷ 1 ∷ 1 ∷ []) q ≡ true

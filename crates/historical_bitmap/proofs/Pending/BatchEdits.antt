@@ -11,7 +11,7 @@ use Rattle.bitmap_core.specs.PrunedBits.{PrunedBits, pruned_bits, bit_at, last_b
 use Rattle.historical_bitmap.specs.Edits.{Edit, IsAccepted, pushes, sets}
 use Rattle.historical_bitmap.specs.Record.{ReverseRecord, bit_or_else}
 use Rattle.historical_bitmap.specs.Pending.{PendingEdits, PendingFits, Follows, Appends, HasAppended, IsRangeSet, SetsRange, Writes, edited_chunk, pending_bit, pending_bits, pending_chunk}
-use Rattle.historical_bitmap.specs.View.{View, IsEditOf, IsRunOf}
+use Rattle.historical_bitmap.specs.View.{View, IsEditOf, AreEditsOf}
 use Rattle.historical_bitmap.proofs.Pending.Edits.{edit_follows, pending_at, pending_len}
 use Rattle.historical_bitmap.proofs.Pending.MarkedChunks.{edit_marks}
 use Rattle.historical_bitmap.proofs.Pending.Appends.{append_is, append_fits, append_marks, pushes_are}
@@ -55,7 +55,7 @@ module _ (n : ℕ) (b : PrunedBits) (cs : List (ℕ × ReverseRecord)) (last : O
   tried_edit (Err x) e ok w = tt
 
   -- bits appended at once are a list of pushes
-  pub tried_run : {A E : Type 0} (r : Result A E) (values : List Bool) → 0 < length values → OnOk r (Appends n b l values m) → OnOk r (IsRunOf n old (pushes values) new)
+  pub tried_run : {A E : Type 0} (r : Result A E) (values : List Bool) → 0 < length values → OnOk r (Appends n b l values m) → OnOk r (AreEditsOf n old (pushes values) new)
   tried_run (Ok x) values some w = record {
     current = refl;
     commits = refl;
@@ -66,7 +66,7 @@ module _ (n : ℕ) (b : PrunedBits) (cs : List (ℕ × ReverseRecord)) (last : O
   tried_run (Err x) values some w = tt
 
   -- the bits of a range that are set at once are a list of edits that set them
-  pub tried_range : {A E : Type 0} (r : Result A E) (lo hi : ℕ) (value : Bool) → 8 * n * l.pruned ≤ lo → hi ≤ l.len → OnOk r (SetsRange n b l lo hi value m) → OnOk r (IsRunOf n old (sets lo hi value) new)
+  pub tried_range : {A E : Type 0} (r : Result A E) (lo hi : ℕ) (value : Bool) → 8 * n * l.pruned ≤ lo → hi ≤ l.len → OnOk r (SetsRange n b l lo hi value m) → OnOk r (AreEditsOf n old (sets lo hi value) new)
   tried_range (Ok x) lo hi value low within w = record {
     current = refl;
     commits = refl;

@@ -12,7 +12,7 @@ use Rattle.historical_bitmap.specs.Edits.{pushes}
 use Rattle.historical_bitmap.specs.Lengths.{AreEdited, IsJoined, JoinsChunks, OpensChunks, pushes_to}
 use Rattle.historical_bitmap.specs.Pending.{PendingEdits, PendingFits, IsEdited, HasAppended, Appends, edited_chunk, pending_bits, pending_chunk}
 use Rattle.historical_bitmap.specs.Record.{ReverseRecord}
-use Rattle.historical_bitmap.specs.View.{View, IsEditedAt, IsRunOf, LeavesEdited, pending_of}
+use Rattle.historical_bitmap.specs.View.{View, IsEditedAt, AreEditsOf, LeavesEdited, pending_of}
 use Rattle.historical_bitmap.proofs.EditedChunks.OpenedUpTo.{beside_opened, opened_at}
 use Rattle.historical_bitmap.proofs.Pending.Appends.{pushes_are}
 use Rattle.historical_bitmap.proofs.Pending.BatchEdits.{tried_run}
@@ -97,11 +97,11 @@ each_edited n l total pos more all q low high =
     each_chunk n l.len total (λ i. IsSome (edited_chunk l i)) pos more all q low (index_from n q (total - 1) pos (omega (arith, below)))
 
 -- pushes of some bits append them to the pending bitmap
-pub run_appends : (n : ℕ) (old new : View PendingEdits) (v : List Bool) → IsRunOf n old (pushes v) new → pending_of n new ≡ appended (pending_of n old) v
+pub run_appends : (n : ℕ) (old new : View PendingEdits) (v : List Bool) → AreEditsOf n old (pushes v) new → pending_of n new ≡ appended (pending_of n old) v
 run_appends n old new v run = run.pending ∙ pushes_are n (pending_of n old) v
 
 -- pushes of zeros up to a length extend the pending bitmap
-pub run_extends : (n : ℕ) (old new : View PendingEdits) (len : ℕ) → IsRunOf n old (pushes_to n (pending_of n old) len) new → pending_of n new ≡ extended n (pending_of n old) len
+pub run_extends : (n : ℕ) (old new : View PendingEdits) (len : ℕ) → AreEditsOf n old (pushes_to n (pending_of n old) len) new → pending_of n new ≡ extended n (pending_of n old) len
 run_extends n old new len run = run_appends n old new (replicate (len - bit_len n (pending_of n old)) false) run
 
 -- ---- the batch with zeros appended
@@ -119,8 +119,8 @@ module _ (n : ℕ) (b : PrunedBits) (cs : List (ℕ × ReverseRecord)) (last : O
   count : length (replicate (total - l.len) false) ≡ total - l.len
   count = length-replicate (total - l.len) false
 
-  pub zeros_run : {A E : Type 0} (r : Result A E) → OnOk r (Appends n b l (replicate (total - l.len) false) m) → OnOk r (IsRunOf n old (pushes_to n (pending_of n old) total) new)
-  zeros_run r w = subst (λ (k : ℕ). OnOk r (IsRunOf n old (pushes (replicate (total - k) false)) new)) (sym (pending_len n b l pos fits)) (tried_run n b cs last l m pos fits r (replicate (total - l.len) false) (omega (arith, count, more)) w)
+  pub zeros_run : {A E : Type 0} (r : Result A E) → OnOk r (Appends n b l (replicate (total - l.len) false) m) → OnOk r (AreEditsOf n old (pushes_to n (pending_of n old) total) new)
+  zeros_run r w = subst (λ (k : ℕ). OnOk r (AreEditsOf n old (pushes (replicate (total - k) false)) new)) (sym (pending_len n b l pos fits)) (tried_run n b cs last l m pos fits r (replicate (total - l.len) false) (omega (arith, count, more)) w)
 
   pub zeros_leave : {A E : Type 0} (r : Result A E) → OnOk r (Appends n b l (replicate (total - l.len) false) m) → OnOk r (LeavesEdited n (IsEditedAt n old) (bit_len n (pending_of n old)) total new)
   zeros_leave r w =

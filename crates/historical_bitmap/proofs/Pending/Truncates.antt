@@ -13,7 +13,7 @@ use Rattle.bitmap_core.proofs.Pruned.Positions.{place}
 use Rattle.historical_bitmap.specs.Edits.{IsWithin, after_all, pops, touched}
 use Rattle.historical_bitmap.specs.Record.{ReverseRecord, bit_or_else}
 use Rattle.historical_bitmap.specs.Pending.{CutsChunks, DropsFrom, PendingEdits, PendingFits, IsCut, IsEdited, IsPartSet, Truncates, edited_chunk, marked_chunks, pending_bit, pending_bits}
-use Rattle.historical_bitmap.specs.View.{View, IsRunOf, LeavesEdited, StaysEditedAt}
+use Rattle.historical_bitmap.specs.View.{View, AreEditsOf, LeavesEdited, StaysEditedAt}
 use Rattle.historical_bitmap.proofs.EditedChunks.CutChunks.{kept_below, none_from}
 use Rattle.historical_bitmap.proofs.Lists.Members.{in_left, in_right}
 use Rattle.historical_bitmap.proofs.Pending.Appends.{index_of}
@@ -245,12 +245,12 @@ module _ (n : ℕ) (b : PrunedBits) (cs : List (ℕ × ReverseRecord)) (last : O
   abbrev new : View PendingEdits
   new = record { current = b; commits = cs; last = last; state = m }
 
-  pub truncate_run : IsRunOf n old (pops (bit_len n (pending_bits n b l) - total)) new
+  pub truncate_run : AreEditsOf n old (pops (bit_len n (pending_bits n b l) - total)) new
   truncate_run =
       let len = pending_len n b l pos fits in
       let count : l.len - total ≡ bit_len n (pending_bits n b l) - total = ap (λ (k : ℕ). k - total) (sym len) in
       let at : bit_len n (pending_bits n b l) - (l.len - total) ≡ total = omega (arith, len, high) in
-      subst (λ k. IsRunOf n old (pops k) new) count (record {
+      subst (λ k. AreEditsOf n old (pops k) new) count (record {
         current = refl;
         commits = refl;
         last = refl;

@@ -18,7 +18,7 @@ use Rattle.historical_bitmap.specs.Edits.{Edit, IsWithin, after_all, chunk_end, 
 use Rattle.historical_bitmap.specs.Edits.Edit.{Set}
 use Rattle.historical_bitmap.specs.Record.{ReverseRecord}
 use Rattle.historical_bitmap.specs.Pending.{PendingEdits, PendingFits, IsEdited, SetsChunk, edited_chunk, marked_chunks, pending_bit, pending_bits}
-use Rattle.historical_bitmap.specs.View.{View, IsEditedAt, IsRunOf, KeepsEdited, LeavesEdited}
+use Rattle.historical_bitmap.specs.View.{View, IsEditedAt, AreEditsOf, KeepsEdited, LeavesEdited}
 use Rattle.historical_bitmap.proofs.Lists.Members.{in_left, in_right}
 use Rattle.historical_bitmap.proofs.Pending.Appends.{index_of}
 use Rattle.historical_bitmap.proofs.Pending.Edits.{same_pending, pending_len, pending_at}
@@ -223,7 +223,7 @@ module _ (n : ℕ) (b : PrunedBits) (cs : List (ℕ × ReverseRecord)) (last : O
   new = record { current = b; commits = cs; last = last; state = m }
 
   -- the bits of a chunk that are replaced at once are a list of edits that set them
-  pub tried_chunk : {A E : Type 0} (r : Result A E) → OnOk r (SetsChunk n l i chunk m) → OnOk r (IsRunOf n old (sets_of n chunk (8 * n * i) (chunk_end n (pending_bits n b l) i)) new)
+  pub tried_chunk : {A E : Type 0} (r : Result A E) → OnOk r (SetsChunk n l i chunk m) → OnOk r (AreEditsOf n old (sets_of n chunk (8 * n * i) (chunk_end n (pending_bits n b l) i)) new)
   tried_chunk (Ok x) w = record {
     current = refl;
     commits = refl;

@@ -23,7 +23,7 @@ use Rattle.bitmap_core.proofs.Pruned.Edits.{bit_truncated}
 use Rattle.chunk_map.specs.Entries.{Puts}
 use Rattle.historical_bitmap.specs.Edits.{from_to}
 use Rattle.historical_bitmap.specs.Record.{bit_or_else}
-use Rattle.historical_bitmap.specs.Pending.{CrossesByte, PendingEdits, PendingFits, IsEdited, IsSetIn, IsByteSetIn, PutsTwo, Writes, Pops, HasAppended, Appends, SetsIn, edited_chunk, pending_bits, pending_chunk, run_bits}
+use Rattle.historical_bitmap.specs.Pending.{CrossesByte, PendingEdits, PendingFits, IsEdited, IsSetIn, IsByteSetIn, PutsTwo, Writes, Pops, HasAppended, Appends, SetsIn, edited_chunk, pending_bits, pending_chunk, bits_of_bytes}
 use Rattle.historical_bitmap.proofs.Pending.Chunks.{chunk_with_bits}
 use Rattle.historical_bitmap.proofs.Pending.Edits.{pending_at, pending_len}
 
@@ -124,7 +124,7 @@ pops_inside n l m len pruned captured rest none some = go (edited_chunk l ((l.le
 
 -- ---- a run of bytes
 -- the bits of a whole chunk
-pub run_of_chunk : (n : ℕ) (bytes : List ℕ) → length bytes ≡ n → run_bits bytes ≡ chunk_bits n bytes
+pub run_of_chunk : (n : ℕ) (bytes : List ℕ) → length bytes ≡ n → bits_of_bytes bytes ≡ chunk_bits n bytes
 run_of_chunk n bytes e = ap (λ m. map (bytes_bit bytes) (range_with_len 0 (8 * m))) e ∙ map_range_same (bytes_bit bytes) (chunk_bit n bytes) 0 (8 * n) (λ i l h. sym (ap (λ j. eqb (bit_at_byte (get_or bytes j 0) (i % 8)) 1) (mod-eq_of_lt (omega arith))))
 
 -- ---- one more chunk is captured
@@ -134,21 +134,21 @@ captured_more f old kept more from i low h g =
     g ∙ (rw h (append_assoc old (map f (from_to from i)) (f i ∷ []) ∙ ap (λ ys. old ++ ys) (sym (ap (λ c. map f (range_with_len from c)) count ∙ map-range_with_len_more f from (i - from) i (omega arith)))))
 
 -- ---- bits are appended
-run_bit : (bytes : List ℕ) (t : ℕ) → get_or (run_bits bytes) t false ≡ bytes_bit bytes t
+run_bit : (bytes : List ℕ) (t : ℕ) → get_or (bits_of_bytes bytes) t false ≡ bytes_bit bytes t
 run_bit bytes t = elim (cases_lt t (8 * length bytes)) [
   | inl s ↦ get_or-map-range_with_len (bytes_bit bytes) 0 (8 * length bytes) t t false s (omega arith)
-  | inr s ↦ get_or_past (run_bits bytes) t false (omega (arith, s, length-map-range_with_len (bytes_bit bytes) 0 (8 * length bytes))) ∙ sym (rw (get_or_past bytes (t / 8) 0 (omega (arith, s)), bit_at-zero (t % 8)) refl)
+  | inr s ↦ get_or_past (bits_of_bytes bytes) t false (omega (arith, s, length-map-range_with_len (bytes_bit bytes) 0 (8 * length bytes))) ∙ sym (rw (get_or_past bytes (t / 8) 0 (omega (arith, s)), bit_at-zero (t % 8)) refl)
 ]
 
-pub run_len : (bytes : List ℕ) → length (run_bits bytes) ≡ 8 * length bytes
+pub run_len : (bytes : List ℕ) → length (bits_of_bytes bytes) ≡ 8 * length bytes
 run_len bytes = length-map-range_with_len (bytes_bit bytes) 0 (8 * length bytes)
 
-in_run : (bytes : List ℕ) (s t : ℕ) → s ≡ t → bytes_bit (bytes ++ []) s ≡ get_or (run_bits bytes) t false
+in_run : (bytes : List ℕ) (s t : ℕ) → s ≡ t → bytes_bit (bytes ++ []) s ≡ get_or (bits_of_bytes bytes) t false
 in_run bytes s t e = ap (λ ys. bytes_bit ys s) (append-nil bytes) ∙ (ap (λ (j : ℕ). bytes_bit bytes j) e ∙ sym (run_bit bytes t))
 
 module _ (n : ℕ) (b : PrunedBits) (l : PendingEdits) (bytes : List ℕ) (pos : 0 < n) where
   -- the chunk of the length takes the first bits
-  pub begun_has : (old new : List ℕ) → old ≡ pending_chunk n b l (l.len / (8 * n)) → length new ≡ n → ((i : ℕ) → i % (8 * n) < l.len % (8 * n) → chunk_bit n new i ≡ chunk_bit n old i) → ((i : ℕ) → l.len % (8 * n) ≤ i % (8 * n) → chunk_bit n new i ≡ bytes_bit (bytes ++ []) (i % (8 * n) - l.len % (8 * n))) → HasAppended n b l (run_bits bytes) (l.len / (8 * n)) new
+  pub begun_has : (old new : List ℕ) → old ≡ pending_chunk n b l (l.len / (8 * n)) → length new ≡ n → ((i : ℕ) → i % (8 * n) < l.len % (8 * n) → chunk_bit n new i ≡ chunk_bit n old i) → ((i : ℕ) → l.len % (8 * n) ≤ i % (8 * n) → chunk_bit n new i ≡ bytes_bit (bytes ++ []) (i % (8 * n) - l.len % (8 * n))) → HasAppended n b l (bits_of_bytes bytes) (l.len / (8 * n)) new
   begun_has old new is size kept joined = record {
     size = size;
     bits = λ k e.
@@ -160,7 +160,7 @@ module _ (n : ℕ) (b : PrunedBits) (l : PendingEdits) (bytes : List ℕ) (pos :
   }
 
   -- the next chunk takes the other bits
-  pub rest_has : (new : List ℕ) → length new ≡ n → ((i : ℕ) → chunk_bit n new i ≡ bytes_bit (bytes ++ []) (8 * n - l.len % (8 * n) + i % (8 * n))) → HasAppended n b l (run_bits bytes) (l.len / (8 * n) + 1) new
+  pub rest_has : (new : List ℕ) → length new ≡ n → ((i : ℕ) → chunk_bit n new i ≡ bytes_bit (bytes ++ []) (8 * n - l.len % (8 * n) + i % (8 * n))) → HasAppended n b l (bits_of_bytes bytes) (l.len / (8 * n) + 1) new
   rest_has new size bits = record {
     size = size;
     bits = λ k e.

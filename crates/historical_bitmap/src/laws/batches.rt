@@ -4,7 +4,7 @@ ghost use Rattle.std.specs.Prelude.{◌≡◌, ℕ, ◌+◌, ◌-◌, ◌*◌, �
 ghost use Rattle.bitmap_core.specs.PrunedBits.{bit_at, bit_len, popped, pruned_bits, pushed};
 ghost use Rattle.historical_bitmap.specs.Edits.{Edit};
 ghost use Rattle.historical_bitmap.specs.Pending.{PendingEdits};
-ghost use Rattle.historical_bitmap.specs.View.{IsBatchOn, IsEditedAt, IsEditOf, IsRunOf, pending_of, View};
+ghost use Rattle.historical_bitmap.specs.View.{IsBatchOn, IsEditedAt, IsEditOf, AreEditsOf, pending_of, View};
 
 use crate::bitmap::historical::{CleanBitMap, DirtyBitMap};
 use std::alloc::AllocError;
@@ -25,7 +25,7 @@ pub fn edited_is_a_batch()
     ensures edit { (n : ℕ) (begun : View ⊤) (old new : View PendingEdits) (edit : Edit)
         → IsBatchOn begun old → IsEditOf n old edit new → IsBatchOn begun new }
     ensures run { (n : ℕ) (begun : View ⊤) (old new : View PendingEdits) (edits : List Edit)
-        → IsBatchOn begun old → IsRunOf n old edits new → IsBatchOn begun new }
+        → IsBatchOn begun old → AreEditsOf n old edits new → IsBatchOn begun new }
 {}
 
 /// Aborts a batch, and returns the bitmap that the batch is on, unchanged.

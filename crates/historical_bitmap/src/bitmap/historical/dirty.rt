@@ -13,7 +13,7 @@ ghost use Rattle.historical_bitmap.specs.declared.bitmap.historical.error.Error.
 ghost use Rattle.historical_bitmap.specs.Edits.Edit.{Pop, Prune, Push, Set};
 ghost use Rattle.historical_bitmap.specs.Edits.{pushes, sets};
 ghost use Rattle.historical_bitmap.specs.History.{before_latest};
-ghost use Rattle.historical_bitmap.specs.View.{AddsCost, history_of, KeepsEdited, IsEditedAt, IsEditOf, IsRunOf, LeavesEdited, marked_of, pending_of, StaysEditedAt, commit_error};
+ghost use Rattle.historical_bitmap.specs.View.{AddsCost, history_of, KeepsEdited, IsEditedAt, IsEditOf, AreEditsOf, LeavesEdited, marked_of, pending_of, StaysEditedAt, commit_error};
 
 use crate::bitmap::historical::apply::overwrite;
 use crate::bitmap::historical::commit_list::CommitList;
@@ -190,7 +190,8 @@ impl<const N: usize> BitMap<N, Dirty<N>> {
     pub fn try_set_range(&mut self, range: Range<u64>, value: bool) -> Result<(), AllocError>
         requires from { pruned_bits N (pending_of N self.old) ≤ range.start }
         requires to { range.end ≤ bit_len N (pending_of N self.old) }
-        ensures ok { OnOk result (IsRunOf N self.old (sets range.start range.end value) self.new) }
+        ensures ok { OnOk result
+            (AreEditsOf N self.old (sets range.start range.end value) self.new) }
         ensures err { OnErr result (self.new ≡ self.old) }
         ensures holds { OnOk result
             ((bit : ℕ) → range.start ≤ bit → bit < range.end
@@ -253,7 +254,7 @@ impl<const N: usize> BitMap<N, Dirty<N>> {
     /// As `push_byte`.
     pub fn try_push_byte(&mut self, byte: u8) -> Result<(), AllocError>
         requires { bit_len N (pending_of N self.old) + 8 < 2 ^ 64 }
-        ensures ok { OnOk result (IsRunOf N self.old (pushes (byte_bits byte)) self.new) }
+        ensures ok { OnOk result (AreEditsOf N self.old (pushes (byte_bits byte)) self.new) }
         ensures err { OnErr result (self.new ≡ self.old) }
         ensures holds { OnOk result
             (KeepsEdited N self.old (bit_len N (pending_of N self.old)) self.new) }
@@ -284,7 +285,8 @@ impl<const N: usize> BitMap<N, Dirty<N>> {
     /// As `push_chunk`.
     pub fn try_push_chunk(&mut self, chunk: &[u8; N]) -> Result<(), AllocError>
         requires { bit_len N (pending_of N self.old) + 8 * N < 2 ^ 64 }
-        ensures ok { OnOk result (IsRunOf N self.old (pushes (chunk_bits N chunk.now)) self.new) }
+        ensures ok { OnOk result
+            (AreEditsOf N self.old (pushes (chunk_bits N chunk.now)) self.new) }
         ensures err { OnErr result (self.new ≡ self.old) }
         ensures holds { OnOk result
             (KeepsEdited N self.old (bit_len N (pending_of N self.old)) self.new) }
@@ -551,7 +553,7 @@ impl<const N: usize> BitMap<N, Dirty<N>> {
         ensures* refused { sem 𝓛 (rests_if_refused N.row self.entry result) }
         ensures same_reference { IfOk result (IsOf self.entry) }
         ensures ok { IfOk result
-            (λ e. IsRunOf N self.old (sets range.start range.end value) e.on.now) }
+            (λ e. AreEditsOf N self.old (sets range.start range.end value) e.on.now) }
         ensures holds { IfOk result
             (λ e. (bit : ℕ) → range.start ≤ bit → bit < range.end
             → KeepsEdited N self.old bit e.on.now) }
@@ -613,7 +615,7 @@ impl<const N: usize> BitMap<N, Dirty<N>> {
         requires { bit_len N (pending_of N self.old) + 8 < 2 ^ 64 }
         ensures* refused { sem 𝓛 (rests_if_refused N.row self.entry result) }
         ensures same_reference { IfOk result (IsOf self.entry) }
-        ensures ok { IfOk result (λ e. IsRunOf N self.old (pushes (byte_bits byte)) e.on.now) }
+        ensures ok { IfOk result (λ e. AreEditsOf N self.old (pushes (byte_bits byte)) e.on.now) }
         ensures holds { IfOk result
             (λ e. KeepsEdited N self.old (bit_len N (pending_of N self.old)) e.on.now) }
         ensures keeps { IfOk result
@@ -645,7 +647,7 @@ impl<const N: usize> BitMap<N, Dirty<N>> {
         ensures* refused { sem 𝓛 (rests_if_refused N.row self.entry result) }
         ensures same_reference { IfOk result (IsOf self.entry) }
         ensures ok { IfOk result
-            (λ e. IsRunOf N self.old (pushes (chunk_bits N chunk.now)) e.on.now) }
+            (λ e. AreEditsOf N self.old (pushes (chunk_bits N chunk.now)) e.on.now) }
         ensures holds { IfOk result
             (λ e. KeepsEdited N self.old (bit_len N (pending_of N self.old)) e.on.now) }
         ensures keeps { IfOk result

@@ -5,7 +5,7 @@ ghost use Rattle.bitmap_bytes.specs.Chunk.{byte_bits, chunk_bits};
 ghost use Rattle.bitmap_core.specs.PrunedBits.{bit_len, IsRetained, pruned_bits};
 ghost use Rattle.historical_bitmap.specs.Edits.Edit.{Prune, Push, Set};
 ghost use Rattle.historical_bitmap.specs.Edits.{pushes, sets};
-ghost use Rattle.historical_bitmap.specs.View.{KeepsEdited, IsEditedAt, IsEditOf, IsRunOf, LeavesEdited, pending_of};
+ghost use Rattle.historical_bitmap.specs.View.{KeepsEdited, IsEditedAt, IsEditOf, AreEditsOf, LeavesEdited, pending_of};
 
 use crate::bitmap::historical::{BitMap, Dirty, State};
 use std::alloc::AllocError;
@@ -89,7 +89,7 @@ impl<'a, const N: usize> Edit<'a, N> {
         ensures* refused { sem 𝓛 (rests_if_refused N.row self.entry.on result) }
         ensures same_reference { IfOk result (IsOf self.entry.on) }
         ensures ok { IfOk result
-            (λ e. IsRunOf N self.entry.on.now (sets range.start range.end value) e.on.now) }
+            (λ e. AreEditsOf N self.entry.on.now (sets range.start range.end value) e.on.now) }
         ensures holds { IfOk result
             (λ e. (bit : ℕ) → range.start ≤ bit → bit < range.end
             → KeepsEdited N self.entry.on.now bit e.on.now) }
@@ -152,7 +152,7 @@ impl<'a, const N: usize> Edit<'a, N> {
         ensures* refused { sem 𝓛 (rests_if_refused N.row self.entry.on result) }
         ensures same_reference { IfOk result (IsOf self.entry.on) }
         ensures ok { IfOk result
-            (λ e. IsRunOf N self.entry.on.now (pushes (byte_bits byte)) e.on.now) }
+            (λ e. AreEditsOf N self.entry.on.now (pushes (byte_bits byte)) e.on.now) }
         ensures holds { IfOk result
             (λ e. KeepsEdited N self.entry.on.now
             (bit_len N (pending_of N self.entry.on.now)) e.on.now) }
@@ -185,7 +185,7 @@ impl<'a, const N: usize> Edit<'a, N> {
         ensures* refused { sem 𝓛 (rests_if_refused N.row self.entry.on result) }
         ensures same_reference { IfOk result (IsOf self.entry.on) }
         ensures ok { IfOk result
-            (λ e. IsRunOf N self.entry.on.now (pushes (chunk_bits N chunk.now)) e.on.now) }
+            (λ e. AreEditsOf N self.entry.on.now (pushes (chunk_bits N chunk.now)) e.on.now) }
         ensures holds { IfOk result
             (λ e. KeepsEdited N self.entry.on.now
             (bit_len N (pending_of N self.entry.on.now)) e.on.now) }

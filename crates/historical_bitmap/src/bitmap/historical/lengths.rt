@@ -4,7 +4,7 @@ ghost use Rattle.std.specs.Prelude.{◌≡◌, ◌+◌, ◌-◌, ◌^◌, ◌<�
 ghost use Rattle.bitmap_core.specs.PrunedBits.{appended, bit_len, extended, pruned_bits, truncated};
 ghost use Rattle.historical_bitmap.specs.Edits.{pops, pushes};
 ghost use Rattle.historical_bitmap.specs.Lengths.{AreEdited, pushes_to};
-ghost use Rattle.historical_bitmap.specs.View.{IsEditedAt, IsRunOf, LeavesEdited, pending_of, StaysEditedAt};
+ghost use Rattle.historical_bitmap.specs.View.{IsEditedAt, AreEditsOf, LeavesEdited, pending_of, StaysEditedAt};
 
 use crate::bitmap::historical::edit::{Edit, Lent};
 use crate::bitmap::historical::{BitMap, Dirty, State};
@@ -28,7 +28,8 @@ impl<const N: usize> BitMap<N, Dirty<N>> {
         requires from { pruned_bits N (pending_of N self.old) ≤ n }
         requires to { n ≤ bit_len N (pending_of N self.old) }
         ensures pending { pending_of N self.new ≡ truncated N (pending_of N self.old) n }
-        ensures run { IsRunOf N self.old (pops (bit_len N (pending_of N self.old) - n)) self.new }
+        ensures run { AreEditsOf N self.old
+            (pops (bit_len N (pending_of N self.old) - n)) self.new }
         ensures keeps { LeavesEdited N (StaysEditedAt N self.old self.new) 0 0 self.new }
     {
         let _ = self.current.len();
@@ -53,7 +54,7 @@ impl<const N: usize> BitMap<N, Dirty<N>> {
         ensures pending { OnOk result
             (pending_of N self.new ≡ extended N (pending_of N self.old) n) }
         ensures ok { OnOk result
-            (IsRunOf N self.old (pushes_to N (pending_of N self.old) n) self.new) }
+            (AreEditsOf N self.old (pushes_to N (pending_of N self.old) n) self.new) }
         ensures err { OnErr result (self.new ≡ self.old) }
         ensures same { n ≤ bit_len N (pending_of N self.old) → self.new ≡ self.old }
         ensures keeps { OnOk result (LeavesEdited N (IsEditedAt N self.old)
@@ -85,7 +86,7 @@ impl<const N: usize> BitMap<N, Dirty<N>> {
         requires space { bit_len N (pending_of N self.old) + length other.now < 2 ^ 64 }
         ensures pending { OnOk result
             (pending_of N self.new ≡ appended (pending_of N self.old) other.now) }
-        ensures ok { OnOk result (IsRunOf N self.old (pushes other.now) self.new) }
+        ensures ok { OnOk result (AreEditsOf N self.old (pushes other.now) self.new) }
         ensures err { OnErr result (self.new ≡ self.old) }
         ensures keeps { OnOk result (LeavesEdited N (IsEditedAt N self.old)
             (bit_len N (pending_of N self.old))
@@ -124,7 +125,7 @@ impl<const N: usize> BitMap<N, Dirty<N>> {
         ensures pending { IfOk result
             (λ e. pending_of N e.on.now ≡ extended N (pending_of N self.old) n) }
         ensures ok { IfOk result
-            (λ e. IsRunOf N self.old (pushes_to N (pending_of N self.old) n) e.on.now) }
+            (λ e. AreEditsOf N self.old (pushes_to N (pending_of N self.old) n) e.on.now) }
         ensures same { n ≤ bit_len N (pending_of N self.old)
             → IfOk result (λ e. e.on.now ≡ self.old) }
         ensures keeps { IfOk result (λ e. LeavesEdited N (IsEditedAt N self.old)
@@ -154,7 +155,7 @@ impl<const N: usize> BitMap<N, Dirty<N>> {
         ensures same_reference { IfOk result (IsOf self.entry) }
         ensures pending { IfOk result
             (λ e. pending_of N e.on.now ≡ appended (pending_of N self.old) other.now) }
-        ensures ok { IfOk result (λ e. IsRunOf N self.old (pushes other.now) e.on.now) }
+        ensures ok { IfOk result (λ e. AreEditsOf N self.old (pushes other.now) e.on.now) }
         ensures keeps { IfOk result (λ e. LeavesEdited N (IsEditedAt N self.old)
             (bit_len N (pending_of N self.old))
             (bit_len N (pending_of N self.old) + length other.now) e.on.now) }
@@ -188,7 +189,7 @@ impl<'a, const N: usize> Edit<'a, N> {
         ensures same_reference { IfOk result (IsOf self.entry.on) }
         ensures pending { IfOk result
             (λ e. pending_of N e.on.now ≡ extended N (pending_of N self.entry.on.now) n) }
-        ensures ok { IfOk result (λ e. IsRunOf N self.entry.on.now
+        ensures ok { IfOk result (λ e. AreEditsOf N self.entry.on.now
             (pushes_to N (pending_of N self.entry.on.now) n) e.on.now) }
         ensures same { n ≤ bit_len N (pending_of N self.entry.on.now)
             → IfOk result (λ e. e.on.now ≡ self.entry.on.now) }
@@ -220,7 +221,7 @@ impl<'a, const N: usize> Edit<'a, N> {
         ensures same_reference { IfOk result (IsOf self.entry.on) }
         ensures pending { IfOk result
             (λ e. pending_of N e.on.now ≡ appended (pending_of N self.entry.on.now) other.now) }
-        ensures ok { IfOk result (λ e. IsRunOf N self.entry.on.now (pushes other.now) e.on.now) }
+        ensures ok { IfOk result (λ e. AreEditsOf N self.entry.on.now (pushes other.now) e.on.now) }
         ensures keeps { IfOk result (λ e. LeavesEdited N (IsEditedAt N self.entry.on.now)
             (bit_len N (pending_of N self.entry.on.now))
             (bit_len N (pending_of N self.entry.on.now) + length other.now) e.on.now) }

@@ -4,7 +4,7 @@ ghost use Rattle.std.specs.Prelude.{◌≡◌, ◌+◌, ◌*◌, IfOk, IsOk, OnE
 ghost use Rattle.bitmap_core.specs.PrunedBits.{IsRetainedChunk, with_chunk};
 ghost use Rattle.historical_bitmap.specs.Changes.{retained_bytes as retained_bytes_of};
 ghost use Rattle.historical_bitmap.specs.Edits.{chunk_end, sets_of};
-ghost use Rattle.historical_bitmap.specs.View.{IsEditedAt, IsRunOf, KeepsEdited, LeavesEdited, pending_of};
+ghost use Rattle.historical_bitmap.specs.View.{IsEditedAt, AreEditsOf, KeepsEdited, LeavesEdited, pending_of};
 
 use crate::bitmap::historical::edit::{Edit, Lent};
 use crate::bitmap::historical::pending_changes::{current_bytes, pending_bytes};
@@ -84,7 +84,7 @@ impl<const N: usize> BitMap<N, Dirty<N>> {
     pub fn try_set_chunk(&mut self, index: usize, chunk: &[u8; N]) -> Result<(), AllocError>
         requires retained { IsRetainedChunk N (pending_of N self.old) index }
         ensures ok { OnOk result
-            (IsRunOf N self.old (sets_of N chunk.now (8 * N * index)
+            (AreEditsOf N self.old (sets_of N chunk.now (8 * N * index)
             (chunk_end N (pending_of N self.old) index)) self.new) }
         ensures whole { OnOk result
             (pending_of N self.new ≡ with_chunk N (pending_of N self.old) index chunk.now) }
@@ -125,7 +125,7 @@ impl<const N: usize> BitMap<N, Dirty<N>> {
         ensures* refused { sem 𝓛 (rests_if_refused N.row self.entry result) }
         ensures same_reference { IfOk result (IsOf self.entry) }
         ensures ok { IfOk result
-            (λ e. IsRunOf N self.old
+            (λ e. AreEditsOf N self.old
             (sets_of N chunk.now (8 * N * index) (chunk_end N (pending_of N self.old) index))
             e.on.now) }
         ensures whole { IfOk result
@@ -165,7 +165,7 @@ impl<'a, const N: usize> Edit<'a, N> {
         ensures* refused { sem 𝓛 (rests_if_refused N.row self.entry.on result) }
         ensures same_reference { IfOk result (IsOf self.entry.on) }
         ensures ok { IfOk result
-            (λ e. IsRunOf N self.entry.on.now
+            (λ e. AreEditsOf N self.entry.on.now
             (sets_of N chunk.now (8 * N * index)
             (chunk_end N (pending_of N self.entry.on.now) index)) e.on.now) }
         ensures whole { IfOk result

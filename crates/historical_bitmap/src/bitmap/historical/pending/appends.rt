@@ -3,7 +3,7 @@
 ghost use Rattle.std.specs.Prelude.{◌≡◌, ℕ, ◌+◌, ◌-◌, ◌*◌, ◌/◌, ◌%◌, ◌^◌, ◌<◌, ◌≤◌, ◌++◌, ◌∷◌, length, replicate, true, false, Ok, OnOk, OnErr, IsOk, IsSome, []};
 ghost use Rattle.bitmap_bytes.specs.Chunk.{bytes_bit, byte_bits, chunk_bit, chunk_bits, IsWidth};
 ghost use Rattle.bitmap_core.specs.PrunedBits.{PrunedBits};
-ghost use Rattle.historical_bitmap.specs.Pending.{Appends, edited_chunk, PendingFits, run_bits};
+ghost use Rattle.historical_bitmap.specs.Pending.{Appends, edited_chunk, PendingFits, bits_of_bytes};
 
 use crate::bitmap::historical::cached_word::{cross_byte, join_byte, settle};
 use crate::bitmap::historical::joined::append_bits;
@@ -89,7 +89,8 @@ impl<const N: usize> Dirty<N> {
         requires some { 0 < length bytes.now }
         requires short { length bytes.now ≤ N }
         requires fits { self.old.len + 8 * length bytes.now < 2 ^ 64 }
-        ensures ok { OnOk result (Appends N current.now self.old (run_bits bytes.now) self.new) }
+        ensures ok { OnOk result
+            (Appends N current.now self.old (bits_of_bytes bytes.now) self.new) }
         ensures err { OnErr result (self.new ≡ self.old) }
         ensures edited { IsSome (edited_chunk self.old (self.old.len / (8 * N)))
             → self.old.len % (8 * N) + 8 * length bytes.now ≤ 8 * N → IsOk result }

@@ -5,7 +5,7 @@ use Rattle.std.specs.Prelude.{nat_eq}
 use Rattle.std.specs.Map.{lookup}
 use Rattle.chunk_map.specs.Entries.{Puts}
 use Rattle.historical_bitmap.proofs.Pending.Ends.{none_past_len, past_index}
-use Rattle.historical_bitmap.specs.Pending.{PutsTwo, run_bits}
+use Rattle.historical_bitmap.specs.Pending.{PutsTwo, bits_of_bytes}
 use Rattle.historical_bitmap.proofs.Pending.Writes.{begun_has, rest_has, appends_one, appends_two, run_len}
 use Rattle.historical_bitmap.proofs.bitmap.historical.pending.Dirty.append.Goals as goal
 
@@ -22,7 +22,7 @@ returns-then-count-space-clause-ok g c =
     let space : 8 * length c.args.bytes.now ≤ 8 * g.row.N - c.args.self.now.len % (8 * g.row.N) = rw (c.chunk_width.ensures, c.chunk_width-2.ensures, at) at c.if-count-space.true in
     let has = begun_has n b l bytes pos c.chunk-begun.result c.join.new.chunk (rw index at c.chunk-begun.ensures.value) c.known.ensures.len (rw at at c.join.ensures.kept) (rw at at c.join.ensures.joined) in
     let put : Puts c.args.self.now.edited c.write.new.self (c.args.self.now.len / (8 * g.row.N)) (Some c.join.new.chunk) = subst (λ es. Puts es c.write.new.self (c.args.self.now.len / (8 * g.row.N)) (Some c.join.new.chunk)) (c.settle.ensures.value ∙ ap (λ l. l.edited) v) (rw index at c.in_ok-write.ensures.ok) in
-    rw c.settle.ensures.chunk (appends_one n b l _ (run_bits bytes) pos (omega (arith, c.requires.some, run_len bytes)) (omega (arith, at, run_len bytes)) (ap (λ l. l.pruned) v) (ap (λ l. l.captured) v) c.join.new.chunk (omega (arith, space, run_len bytes)) has put)
+    rw c.settle.ensures.chunk (appends_one n b l _ (bits_of_bytes bytes) pos (omega (arith, c.requires.some, run_len bytes)) (omega (arith, at, run_len bytes)) (ap (λ l. l.pruned) v) (ap (λ l. l.captured) v) c.join.new.chunk (omega (arith, space, run_len bytes)) has put)
 
 pub returns-clause-ok : goal.returns-clause-ok
 returns-clause-ok g c =
@@ -38,7 +38,7 @@ returns-clause-ok g c =
     let has = begun_has n b l bytes pos c.chunk-begun.result c.join.new.chunk (rw index at c.chunk-begun.ensures.value) c.known.ensures.len (rw at at c.join.ensures.kept) (rw at at c.join.ensures.joined) in
     let rest = rest_has n b l bytes pos c.rest_of-rest.result c.known-2.ensures.len (rw (c.chunk_width.ensures, c.chunk_width-2.ensures, at) at c.rest_of-rest.ensures) in
     let put : PutsTwo c.args.self.now.edited c.write_two.new.self (c.args.self.now.len / (8 * g.row.N)) c.join.new.chunk c.rest_of-rest.result = subst (λ es. PutsTwo es c.write_two.new.self (c.args.self.now.len / (8 * g.row.N)) c.join.new.chunk c.rest_of-rest.result) (c.settle.ensures.value ∙ ap (λ l. l.edited) v) (rw index at c.in_ok-write_two.ensures.ok) in
-    rw c.settle.ensures.chunk (appends_two n b l _ (run_bits bytes) pos (omega (arith, c.requires.some, run_len bytes)) (omega (arith, at, run_len bytes)) (ap (λ l. l.pruned) v) (ap (λ l. l.captured) v) c.join.new.chunk c.rest_of-rest.result (omega (arith, space, run_len bytes)) (omega (arith, c.requires.short, run_len bytes)) has rest put)
+    rw c.settle.ensures.chunk (appends_two n b l _ (bits_of_bytes bytes) pos (omega (arith, c.requires.some, run_len bytes)) (omega (arith, at, run_len bytes)) (ap (λ l. l.pruned) v) (ap (λ l. l.captured) v) c.join.new.chunk c.rest_of-rest.result (omega (arith, space, run_len bytes)) (omega (arith, c.requires.short, run_len bytes)) has rest put)
 
 pub write_two-requires : goal.write_two-requires
 write_two-requires g c =
