@@ -3,17 +3,16 @@
 //! An edit makes each chunk that it writes to an edited chunk. The chunk stays edited until `pop` or `truncate` removes its first bit, or the batch ends.
 //! A further write to it does not allocate, and so succeeds.
 
-ghost use Rattle.std.specs.Prelude.{◌≡◌, ℕ, ◌+◌, ◌*◌, ◌/◌, ◌%◌, ◌^◌, ◌<◌, ◌≤◌, ◌==◌, [], ◌∷◌, ◌++◌, length, None, Some, IfErr, IfOk, IsOk, OnErr, OnOk, unwrap_or, alloc_error};
+ghost use Rattle.std.specs.Prelude.{◌≡◌, ℕ, ◌+◌, ◌*◌, ◌/◌, ◌%◌, ◌^◌, ◌<◌, ◌≤◌, ◌==◌, [], ◌∷◌, ◌++◌, length, None, Some, IfOk, IsOk, OnErr, OnOk};
 ghost use Rattle.std.specs.List.{All};
 ghost use Rattle.std.specs.Map.{keys_of};
 ghost use Rattle.std.specs.Result.{result_err};
 ghost use Rattle.bitmap_bytes.specs.Chunk.{byte_bits, chunk_bits, IsWidth};
 ghost use Rattle.bitmap_core.specs.PrunedBits.{bit_at, bit_len, chunk, IsRetained, last_bit, pruned_bits};
-ghost use Rattle.historical_bitmap.specs.declared.bitmap.historical.error.Error.TheVariants.{Memory};
+ghost use Rattle.historical_bitmap.specs.Batch.{CommitGives};
 ghost use Rattle.historical_bitmap.specs.Edits.Edit.{Pop, Prune, Push, Set};
 ghost use Rattle.historical_bitmap.specs.Edits.{pushes, sets};
-ghost use Rattle.historical_bitmap.specs.History.{before_latest};
-ghost use Rattle.historical_bitmap.specs.View.{AddsCost, history_of, KeepsEdited, IsEditedAt, IsEditOf, AreEditsOf, LeavesEdited, marked_of, pending_of, StaysEditedAt, commit_error};
+ghost use Rattle.historical_bitmap.specs.View.{KeepsEdited, IsEditedAt, IsEditOf, AreEditsOf, LeavesEdited, marked_of, pending_of, StaysEditedAt, commit_error};
 
 use crate::bitmap::historical::apply::overwrite;
 use crate::bitmap::historical::commit_list::CommitList;
@@ -435,17 +434,7 @@ impl<const N: usize> BitMap<N, Dirty<N>> {
     /// Independent of the bitmap's length and of the number of kept commits.
     #[inline(always)]
     pub fn commit(mut self, number: u64) -> Result<CleanBitMap<N>, (DirtyBitMap<N>, Error)>
-        ensures accepted { OnOk result (commit_error self.entry.last number ≡ None) }
-        ensures refused { IfErr result
-            (λ e. e.1 ≡ unwrap_or (commit_error self.entry.last number) (Memory alloc_error)) }
-        ensures unchanged { IfErr result (λ e. e.0 ≡ self.entry) }
-        ensures current { IfOk result (λ b. b.current ≡ pending_of N self.entry) }
-        ensures history { IfOk result
-            (λ b. history_of N b ≡ history_of N self.entry
-            ++ (number, pending_of N self.entry) ∷ []) }
-        ensures earlier { IfOk result (λ b. before_latest b.commits ≡ self.entry.commits) }
-        ensures last { IfOk result (λ b. b.last ≡ Some number) }
-        ensures costs { IfOk result (AddsCost N self.entry number) }
+        ensures { CommitGives N self.entry number result }
     {
         if let Err(why) = check_number(self.last, number) {
             return Err((self, why));
@@ -469,15 +458,7 @@ impl<const N: usize> BitMap<N, Dirty<N>> {
     #[inline(never)]
     fn commit_edits(mut self, number: u64) -> Result<CleanBitMap<N>, (DirtyBitMap<N>, Error)>
         requires accepted { commit_error self.last number ≡ None }
-        ensures refused { IfErr result (λ e. e.1 ≡ Memory alloc_error) }
-        ensures unchanged { IfErr result (λ e. e.0 ≡ self.entry) }
-        ensures current { IfOk result (λ b. b.current ≡ pending_of N self.entry) }
-        ensures history { IfOk result
-            (λ b. history_of N b ≡ history_of N self.entry
-            ++ (number, pending_of N self.entry) ∷ []) }
-        ensures earlier { IfOk result (λ b. before_latest b.commits ≡ self.entry.commits) }
-        ensures last { IfOk result (λ b. b.last ≡ Some number) }
-        ensures costs { IfOk result (AddsCost N self.entry number) }
+        ensures { CommitGives N self.entry number result }
     {
         let alloc = self.state.allocator();
         if add_commit(&mut self.current, &mut self.commits, &self.state, number).is_err() {

@@ -1,4 +1,4 @@
-use Rattle.std.proofs.Common.{◌≡◌, None, sym, ◌∙◌, arith}
+use Rattle.std.proofs.Common.{◌≡◌, None, refl, sym, ◌∙◌, arith}
 use Rattle.std.specs.Map.{keys_of}
 use Rattle.historical_bitmap.specs.Pending.{pending_bits}
 use Rattle.historical_bitmap.specs.Prepared.{IsPrepared}
@@ -17,12 +17,22 @@ overwrite-requires g c =
     let prepared : IsPrepared g.row.N c.self.inside.current c.self.inside.commits c.self.inside.state c.args.number c.add_commit.new.current c.add_commit.new.commits = at_ok c.add_commit.result c.add_commit.ensures.prepared (sym c.is_err.ensures.value ∙ c.if-is_err.false) in
     (omega arith, (omega arith, rw (c.len-len.ensures.value, c.pruned_chunks-pruned.ensures.value, c.into_edited-edited.ensures) (can_apply g.row.N c.self.inside.current c.self.inside.commits c.add_commit.new.commits c.self.inside.state c.args.number c.add_commit.new.current c.len-len.ensures.width.positive c.self.invariant.0 prepared)))
 
-pub returns-clause-current : goal.returns-clause-current
-returns-clause-current g c =
+pub returns : goal.returns
+returns g c =
+    let accepted : commit_error c.self.inside.last c.args.number ≡ None = rw (sym c.self.view_is) at c.requires.accepted in
     let prepared : IsPrepared g.row.N c.self.inside.current c.self.inside.commits c.self.inside.state c.args.number c.add_commit.new.current c.add_commit.new.commits = at_ok c.add_commit.result c.add_commit.ensures.prepared (sym c.is_err.ensures.value ∙ c.if-is_err.false) in
     let made : c.overwrite.new.current ≡ pending_bits g.row.N c.self.inside.current c.self.inside.state =
     c.overwrite.ensures ∙ (rw (c.len-len.ensures.value, c.pruned_chunks-pruned.ensures.value, c.into_edited-edited.ensures) (pending_same g.row.N c.self.inside.current c.self.inside.commits c.add_commit.new.commits c.self.inside.state c.args.number c.add_commit.new.current c.len-len.ensures.width.positive c.self.invariant.0 prepared)) in
-    rw (← c.self.view_is) made
+    record {
+      accepted = c.requires.accepted;
+      refused = tt;
+      unchanged = tt;
+      current = rw (← c.self.view_is) made;
+      history = rw (← c.self.view_is, made) (history_then g.row.N c.self.inside.current c.self.inside.commits c.add_commit.new.commits c.self.inside.state c.args.number c.add_commit.new.current c.len-len.ensures.width.positive c.self.invariant.0 prepared c.self.inside.last c.ranges.number.fits accepted c.self.invariant.1);
+      earlier = rw (← c.self.view_is) (earlier_then g.row.N c.self.inside.current c.self.inside.commits c.add_commit.new.commits c.self.inside.state c.args.number c.add_commit.new.current c.len-len.ensures.width.positive c.self.invariant.0 prepared c.self.inside.last c.ranges.number.fits accepted c.self.invariant.1);
+      last = refl;
+      costs = rw (← c.self.view_is) (costs_then g.row.N c.self.inside.current c.self.inside.commits c.add_commit.new.commits c.self.inside.state c.args.number c.add_commit.new.current c.len-len.ensures.width.positive c.self.invariant.0 prepared c.self.inside.last c.ranges.number.fits accepted c.self.invariant.1);
+    }
 
 pub invariant_of-result : goal.invariant_of-result
 invariant_of-result g c =
@@ -31,23 +41,3 @@ invariant_of-result g c =
     let made : c.overwrite.new.current ≡ pending_bits g.row.N c.self.inside.current c.self.inside.state =
     c.overwrite.ensures ∙ (rw (c.len-len.ensures.value, c.pruned_chunks-pruned.ensures.value, c.into_edited-edited.ensures) (pending_same g.row.N c.self.inside.current c.self.inside.commits c.add_commit.new.commits c.self.inside.state c.args.number c.add_commit.new.current c.len-len.ensures.width.positive c.self.invariant.0 prepared)) in
     (tt, rw made (kept_then g.row.N c.self.inside.current c.self.inside.commits c.add_commit.new.commits c.self.inside.state c.args.number c.add_commit.new.current c.len-len.ensures.width.positive c.self.invariant.0 prepared c.self.inside.last c.ranges.number.fits accepted c.self.invariant.1))
-
-pub returns-clause-history : goal.returns-clause-history
-returns-clause-history g c =
-    let accepted : commit_error c.self.inside.last c.args.number ≡ None = rw (sym c.self.view_is) at c.requires.accepted in
-    let prepared : IsPrepared g.row.N c.self.inside.current c.self.inside.commits c.self.inside.state c.args.number c.add_commit.new.current c.add_commit.new.commits = at_ok c.add_commit.result c.add_commit.ensures.prepared (sym c.is_err.ensures.value ∙ c.if-is_err.false) in
-    let made : c.overwrite.new.current ≡ pending_bits g.row.N c.self.inside.current c.self.inside.state =
-    c.overwrite.ensures ∙ (rw (c.len-len.ensures.value, c.pruned_chunks-pruned.ensures.value, c.into_edited-edited.ensures) (pending_same g.row.N c.self.inside.current c.self.inside.commits c.add_commit.new.commits c.self.inside.state c.args.number c.add_commit.new.current c.len-len.ensures.width.positive c.self.invariant.0 prepared)) in
-    rw (← c.self.view_is, made) (history_then g.row.N c.self.inside.current c.self.inside.commits c.add_commit.new.commits c.self.inside.state c.args.number c.add_commit.new.current c.len-len.ensures.width.positive c.self.invariant.0 prepared c.self.inside.last c.ranges.number.fits accepted c.self.invariant.1)
-
-pub returns-clause-earlier : goal.returns-clause-earlier
-returns-clause-earlier g c =
-    let accepted : commit_error c.self.inside.last c.args.number ≡ None = rw (sym c.self.view_is) at c.requires.accepted in
-    let prepared : IsPrepared g.row.N c.self.inside.current c.self.inside.commits c.self.inside.state c.args.number c.add_commit.new.current c.add_commit.new.commits = at_ok c.add_commit.result c.add_commit.ensures.prepared (sym c.is_err.ensures.value ∙ c.if-is_err.false) in
-    rw (← c.self.view_is) (earlier_then g.row.N c.self.inside.current c.self.inside.commits c.add_commit.new.commits c.self.inside.state c.args.number c.add_commit.new.current c.len-len.ensures.width.positive c.self.invariant.0 prepared c.self.inside.last c.ranges.number.fits accepted c.self.invariant.1)
-
-pub returns-clause-costs : goal.returns-clause-costs
-returns-clause-costs g c =
-    let accepted : commit_error c.self.inside.last c.args.number ≡ None = rw (sym c.self.view_is) at c.requires.accepted in
-    let prepared : IsPrepared g.row.N c.self.inside.current c.self.inside.commits c.self.inside.state c.args.number c.add_commit.new.current c.add_commit.new.commits = at_ok c.add_commit.result c.add_commit.ensures.prepared (sym c.is_err.ensures.value ∙ c.if-is_err.false) in
-    rw (← c.self.view_is) (costs_then g.row.N c.self.inside.current c.self.inside.commits c.add_commit.new.commits c.self.inside.state c.args.number c.add_commit.new.current c.len-len.ensures.width.positive c.self.invariant.0 prepared c.self.inside.last c.ranges.number.fits accepted c.self.invariant.1)
