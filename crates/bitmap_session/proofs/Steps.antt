@@ -17,7 +17,7 @@ use Rattle.historical_bitmap.specs.Record.{ReverseRecord}
 use Rattle.historical_bitmap.specs.declared.bitmap.historical.error.Error.{Error}
 use Rattle.historical_bitmap.specs.declared.bitmap.historical.error.Error.TheVariants.{Memory}
 use Rattle.historical_bitmap.specs.declared.bitmap.historical.error.RewindError.TheVariants as rewind_errors
-use Rattle.historical_bitmap.specs.View.{View, IsBatchOn, IsEditOf, AreEditsOf, commit_error, commit_error_after, costs_of, history_of, marked_of, pending_of}
+use Rattle.historical_bitmap.specs.View.{View, IsBatchOn, AreEditsOf, commit_error, commit_error_after, costs_of, history_of, marked_of, pending_of}
 use Rattle.bitmap_session.specs.declared.command.Command.{Command}
 use Rattle.bitmap_session.specs.declared.command.Command.TheVariants.{Start, Begin, Push, PushByte, PushChunk, Pop, Set, Prune, Commit, Abort, Rewind, Len, PrunedChunks, Get, Chunk, Ones, Encode, At, OnesAt, EncodeAt, Decode, Commits, Exists, Latest, Earliest, DropBefore, Clear, Entries}
 use Rattle.bitmap_session.specs.Replies.{ReplyValue, Refusal}
@@ -148,17 +148,7 @@ same_state c d p q h i k l m n e1 e2 e3 e4 e5 = rw (e1, e2, e3, e4, e5) refl
 same_history : (N : ℕ) (c d : PrunedBits) (xs ys : List (ℕ × ReverseRecord)) → c ≡ d → xs ≡ ys → snapshots N xs c ≡ snapshots N ys d
 same_history N c d xs ys e f = rw (e, f) refl
 
--- one edit is a run of one edit
-as_run : (N : ℕ) (old new : View PendingEdits) (e : Edit) → IsEditOf N old e new → AreEditsOf N old (e ∷ []) new
-as_run N old new e h = record {
-  current = h.current;
-  commits = h.commits;
-  last = h.last;
-  pending = h.pending;
-  marks = rw (append-nil (touches N (pending_of N old) e)) h.marks;
-}
-
--- a run of edits leads to the state of the machine, and marks no more chunks than the machine touches
+-- a list of edits leads to the state of the machine, and marks no more chunks than the machine touches
 pub run_agrees : (N : ℕ) (old new : View PendingEdits) (these : List Edit)
     → AreEditsOf N old these new
     → Agrees (dirty N new) (record {
@@ -172,9 +162,9 @@ run_agrees N old new these h = record {
 
 pub push_accepted : (N : ℕ) (old new : View PendingEdits) (value : Bool)
     → is_past_64 (bit_len N (pending_of N old) + 1) ≡ false
-    → IsEditOf N old (Edit.Push value) new
+    → AreEditsOf N old (Edit.Push value ∷ []) new
     → StepTo N Agrees (dirty N old) (Push value) Done (dirty N new)
-push_accepted N old new value space h = rw space (inl (refl, (0, omega arith, run_agrees N old new _ (as_run N old new _ h))))
+push_accepted N old new value space h = rw space (inl (refl, (0, omega arith, run_agrees N old new _ h)))
 
 pub push_byte_accepted : (N : ℕ) (old new : View PendingEdits) (byte : ℕ)
     → is_past_64 (bit_len N (pending_of N old) + 8) ≡ false
@@ -190,21 +180,21 @@ push_chunk_accepted N old new bytes space h = rw space (inl (refl, (0, omega ari
 
 pub pop_accepted : (N : ℕ) (old new : View PendingEdits)
     → (length (pending_of N old).bits == 0) ≡ false
-    → IsEditOf N old Edit.Pop new
+    → AreEditsOf N old (Edit.Pop ∷ []) new
     → StepTo N Agrees (dirty N old) Pop (Bit (last_bit (pending_of N old))) (dirty N new)
-pop_accepted N old new some h = rw some (inl (refl, (0, omega arith, run_agrees N old new _ (as_run N old new _ h))))
+pop_accepted N old new some h = rw some (inl (refl, (0, omega arith, run_agrees N old new _ h)))
 
 pub set_accepted : (N : ℕ) (old new : View PendingEdits) (position : ℕ) (value : Bool)
     → first (wants_bit N (dirty N old).state position) ≡ None
-    → IsEditOf N old (Edit.Set position value) new
+    → AreEditsOf N old (Edit.Set position value ∷ []) new
     → StepTo N Agrees (dirty N old) (Set position value) Done (dirty N new)
-set_accepted N old new position value retained h = rw retained (inl (refl, (0, omega arith, run_agrees N old new _ (as_run N old new _ h))))
+set_accepted N old new position value retained h = rw retained (inl (refl, (0, omega arith, run_agrees N old new _ h)))
 
 pub prune_accepted : (N : ℕ) (old new : View PendingEdits) (position : ℕ)
     → nat_lt (bit_len N (pending_of N old)) position ≡ false
-    → IsEditOf N old (Edit.Prune position) new
+    → AreEditsOf N old (Edit.Prune position ∷ []) new
     → StepTo N Agrees (dirty N old) (Prune position) Done (dirty N new)
-prune_accepted N old new position within h = rw within (inl (refl, (0, omega arith, run_agrees N old new _ (as_run N old new _ h))))
+prune_accepted N old new position within h = rw within (inl (refl, (0, omega arith, run_agrees N old new _ h)))
 
 -- a batch begins with the commits and the last number of a bitmap, whose current bitmap is pending, and with no chunk marked
 pub begun : (N : ℕ) (bitmap : View ⊤) (batch : View PendingEdits)

@@ -8,7 +8,7 @@ use Rattle.bitmap_core.proofs.Pruned.Edits.{len_truncated, bit_truncated, len_pr
 use Rattle.bitmap_core.proofs.Pruned.Positions.{bit_from_bits, len_from_bits, same_from_bits}
 use Rattle.historical_bitmap.specs.Record.{bit_or_else}
 use Rattle.historical_bitmap.specs.Pending.{PendingEdits}
-use Rattle.historical_bitmap.specs.View.{View, pending_of, IsEditOf, AreEditsOf}
+use Rattle.historical_bitmap.specs.View.{View, pending_of, AreEditsOf}
 use Rattle.bitmap_bytes.specs.Chunk.{chunk_bit}
 use Rattle.historical_bitmap.specs.Edits.{Edit}
 use Rattle.historical_bitmap.specs.Edits.Edit.{Prune}
@@ -184,7 +184,7 @@ overlaid_is n None b k = refl
 overlaid_is n (Some bytes) b k = refl
 
 pub change_made : (n pruned len first : ℕ) (chunks : List (ℕ × List ℕ)) (a b c d : View PendingEdits) → 0 < n → Makes n a len (bit_at n (pending_of n a)) b
-    → Makes n b (bit_len n (pending_of n b)) (overlaid n chunks (bit_at n (pending_of n b))) c → IsEditOf n c (Prune first) d → first ≡ 8 * n * pruned → first ≤ len → (pending_of n a).pruned ≤ pruned
+    → Makes n b (bit_len n (pending_of n b)) (overlaid n chunks (bit_at n (pending_of n b))) c → AreEditsOf n c (Prune first ∷ []) d → first ≡ 8 * n * pruned → first ≤ len → (pending_of n a).pruned ≤ pruned
     → pending_of n d ≡ from_bits n pruned len (λ k. bit_or_else n (lookup (nat_eq (k / (8 * n))) chunks) (pending_of n a) k)
 change_made n pruned len first chunks a b c d pos m w edit is fits le =
     let whole = over_made n len chunks a b c m w in

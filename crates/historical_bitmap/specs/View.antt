@@ -4,7 +4,7 @@ use Rattle.bitmap_core.specs.PrunedBits.{PrunedBits, bit_len}
 use Rattle.historical_bitmap.specs.declared.bitmap.historical.error.Error.{Error}
 use Rattle.historical_bitmap.specs.declared.bitmap.historical.error.Error.TheVariants.{NonMonotonicCommit, ReservedCommitNumber}
 use Rattle.historical_bitmap.specs.Cost.{most_cost}
-use Rattle.historical_bitmap.specs.Edits.{Edit, IsReached, IsWithin, after, after_all, touches, touched}
+use Rattle.historical_bitmap.specs.Edits.{Edit, IsReached, IsWithin, after_all, touched}
 use Rattle.historical_bitmap.specs.History.{snapshots, costs}
 use Rattle.historical_bitmap.specs.Pending.{PendingEdits, edited_chunk, pending_bits, marked_chunks}
 use Rattle.historical_bitmap.specs.Record.{ReverseRecord}
@@ -42,11 +42,6 @@ AddsCost n batch number new =
 abbrev pub IsEditedAt : ℕ → View PendingEdits → ℕ → Type 0
 IsEditedAt n v position = IsSome (edited_chunk v.state (position / (8 * n)))
 
--- every edited chunk of the old batch is edited in the new one, and so is the chunk of a position
-abbrev pub KeepsEdited : ℕ → View PendingEdits → ℕ → View PendingEdits → Type 0
-KeepsEdited n old position new = IsEditedAt n new position
-    × ((other : ℕ) → IsEditedAt n old other → IsEditedAt n new other)
-
 -- the chunk of a position was edited, and starts before the new pending length: it has not lost all of its bits
 abbrev pub StaysEditedAt : ℕ → View PendingEdits → View PendingEdits → ℕ → Type 0
 StaysEditedAt n old new position = IsEditedAt n old position
@@ -60,16 +55,7 @@ pub record LeavesEdited (n : ℕ) (Meets : ℕ → Type 0) (lo hi : ℕ)
   pub only : (position : ℕ) → IsEditedAt n v position
       → Meets position ⊎ IsReached n lo hi (position / (8 * n))
 
--- new is old after an edit: the pending bitmap is edited, and each marked chunk was marked in old or is touched by the edit
-pub record IsEditOf (n : ℕ) (old : View PendingEdits) (edit : Edit)
-    (new : View PendingEdits) : Type 0 where
-  pub current : new.current ≡ old.current
-  pub commits : new.commits ≡ old.commits
-  pub last : new.last ≡ old.last
-  pub pending : pending_of n new ≡ after n (pending_of n old) edit
-  pub marks : IsWithin (marked_of n new) (marked_of n old ++ touches n (pending_of n old) edit)
-
--- new is old after a list of edits
+-- new is old after a list of edits: the pending bitmap is edited, and each marked chunk was marked in old or is touched by one of the edits
 pub record AreEditsOf (n : ℕ) (old : View PendingEdits) (edits : List Edit)
     (new : View PendingEdits) : Type 0 where
   pub current : new.current ≡ old.current

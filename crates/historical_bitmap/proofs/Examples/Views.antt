@@ -11,7 +11,7 @@ use Rattle.historical_bitmap.specs.Cost.{popped_to_chunks, most_cost}
 use Rattle.historical_bitmap.specs.Edits.{IsReached}
 use Rattle.historical_bitmap.specs.Edits.Edit.{Pop, Set}
 use Rattle.historical_bitmap.specs.Pending.{PendingEdits}
-use Rattle.historical_bitmap.specs.View.{View, history_of, costs_of, pending_of, marked_of, IsEditedAt, KeepsEdited, LeavesEdited, StaysEditedAt, IsEditOf, AreEditsOf, IsBatchOn, commit_error}
+use Rattle.historical_bitmap.specs.View.{View, history_of, costs_of, pending_of, marked_of, IsEditedAt, LeavesEdited, StaysEditedAt, AreEditsOf, IsBatchOn, commit_error}
 use Rattle.historical_bitmap.proofs.Examples.Histories.{current, commits}
 
 -- a clean bitmap with three commits, the last of them 3
@@ -92,11 +92,11 @@ no_chunks : most_cost 1 [] (bits 12) (bits 12) ≡ 0
 no_chunks = refl
 
 -- a pop of the twelfth bit: the pending bitmap has eleven, and the chunk of the new length is marked
-popped_once : IsEditOf 1 (popped_to 12) Pop (popped_to 11)
+popped_once : AreEditsOf 1 (popped_to 12) (Pop ∷ []) (popped_to 11)
 popped_once = record { current = refl; commits = refl; last = refl; pending = refl; marks = λ q h. h }
 
 -- a pop of a whole chunk of pending bits touches that chunk, not the last one of the current bitmap
-popped_once_more : IsEditOf 1 (popped_to 8) Pop (popped_to 7)
+popped_once_more : AreEditsOf 1 (popped_to 8) (Pop ∷ []) (popped_to 7)
 popped_once_more = record { current = refl; commits = refl; last = refl; pending = refl; marks = λ q h. marked q h }
   where
     marked : (q : ℕ) → is_member nat_eq (marked_of 1 (popped_to 7)) q ≡ true → is_member nat_eq (1 ∷ 1 ∷ 1 ∷ 1 ∷ 0 ∷ []) q ≡ true
@@ -126,22 +126,13 @@ holds_wide = refl
 abbrev cleared_twice : View PendingEdits
 cleared_twice = record { current = record { pruned = 0; bits = replicate 12 true }; commits = []; last = None; state = record { len = 12; pruned = 0; edited = (0, 254 ∷ []) ∷ (1, 7 ∷ []) ∷ []; captured = [] } }
 
-holds_more : KeepsEdited 1 cleared 11 cleared_twice
-holds_more = (refl, more)
+-- an edit of bit 11 leaves both chunks edited, and no other
+leaves_both : LeavesEdited 1 (IsEditedAt 1 cleared) 11 12 cleared_twice
+leaves_both = record { kept = λ q h. more q h; written = λ q low high. written q low high; only = λ q edited. only q edited }
   where
     more : (other : ℕ) → IsEditedAt 1 cleared other → IsEditedAt 1 cleared_twice other
     more other h = elim (cases_eq (other / 8) 0) [ inl a ↦ rw a refl | inr b ↦ let e = rw (ne_eqb (other / 8) 0 b) at h in cc ]
 
-holds_the_position_too : KeepsEdited 1 cleared 11 cleared → ⊥
-holds_the_position_too holds = false≢true holds.0
-
-holds_the_old_ones_too : KeepsEdited 1 cleared_twice 0 cleared → ⊥
-holds_the_old_ones_too holds = false≢true (holds.1 8 refl)
-
--- so that edit leaves both chunks edited, and no other
-leaves_both : LeavesEdited 1 (IsEditedAt 1 cleared) 11 12 cleared_twice
-leaves_both = record { kept = holds_more.1; written = λ q low high. written q low high; only = λ q edited. only q edited }
-  where
     written : (q : ℕ) → 11 ≤ q → q < 12 → IsEditedAt 1 cleared_twice q
     written q low high = let e : 11 ≡ q = omega (arith, low, high) in subst (IsEditedAt 1 cleared_twice) e refl
 
@@ -153,6 +144,9 @@ leaves_both = record { kept = holds_more.1; written = λ q low high. written q l
 
 leaves_the_written_one : LeavesEdited 1 (IsEditedAt 1 cleared) 11 12 cleared → ⊥
 leaves_the_written_one leaves = false≢true (leaves.written 11 (omega arith) (omega arith))
+
+leaves_the_old_ones_too : LeavesEdited 1 (IsEditedAt 1 cleared_twice) 0 1 cleared → ⊥
+leaves_the_old_ones_too leaves = false≢true (leaves.kept 8 refl)
 
 leaves_no_third : LeavesEdited 1 (IsEditedAt 1 cleared) 7 8 cleared_twice → ⊥
 leaves_no_third leaves = elim (leaves.only 8 refl) [ inl edited ↦ false≢true edited | inr r ↦ absurd (omega (arith, r.2, mul-div-le r.0 8, r.3)) ]
@@ -180,11 +174,11 @@ pop_leaves_no_empty_chunk : LeavesEdited 1 (StaysEditedAt 1 nine (eight ((1, 1 �
 pop_leaves_no_empty_chunk leaves = elim (leaves.only 8 refl) [ inl stays ↦ absurd (omega (arith, stays.1)) | inr r ↦ absurd (omega (arith, r.2)) ]
 
 -- the second batch is the first after an edit of bit 11; the first chunk was marked before, and still is
-cleared_once_more : IsEditOf 1 cleared (Set 11 false) cleared_twice
+cleared_once_more : AreEditsOf 1 cleared (Set 11 false ∷ []) cleared_twice
 cleared_once_more = record { current = refl; commits = refl; last = refl; pending = refl; marks = λ q h. h }
 
 -- after an edit of bit 11 alone the first chunk would not be marked
-cleared_once : IsEditOf 1 (popped_to 12) (Set 11 false) cleared_twice → ⊥
+cleared_once : AreEditsOf 1 (popped_to 12) (Set 11 false ∷ []) cleared_twice → ⊥
 cleared_once edit = false≢true (edit.marks 0 refl)
 
 cleared_again : AreEditsOf 1 cleared (Set 11 false ∷ Set 11 false ∷ []) cleared_twice

@@ -1,21 +1,22 @@
 -- The edits of a batch, derived from those of its pending edits.
-use Rattle.std.proofs.Common.{◌≡◌, ℕ, ◌+◌, ◌-◌, ◌*◌, ◌/◌, ◌<◌, ◌≤◌, length, get_or, List, Result, Ok, Err, refl, sym, ap, ◌∙◌, subst, arith, Bool, false}
+use Rattle.std.proofs.Common.{◌≡◌, ℕ, ◌+◌, ◌-◌, ◌*◌, ◌/◌, ◌<◌, ◌≤◌, length, get_or, List, [], ◌∷◌, Result, Ok, Err, refl, sym, ap, ◌∙◌, arith, Bool, false}
 use mathlib.Core.Logic.{inl, inr}
 use Rattle.std.proofs.lemmas.Bool.{cases_eq, cases_lt, eq-eqb, ne_eqb}
+use Rattle.std.proofs.lemmas.List.{append-nil}
 use Rattle.std.proofs.lemmas.Nat.{mod_below, mul-le}
 use Rattle.std.specs.Option.{option_map}
 use Rattle.std.specs.Prelude.{OnOk, OnErr, Option, Some, None, IsSome, MatchOption}
 use Rattle.bitmap_bytes.specs.Chunk.{chunk_bit}
 use Rattle.bitmap_core.proofs.Pruned.Positions.{place}
 use Rattle.bitmap_core.specs.PrunedBits.{PrunedBits, pruned_bits, bit_at, last_bit}
-use Rattle.historical_bitmap.specs.Edits.{Edit, IsAccepted, pushes, sets}
+use Rattle.historical_bitmap.specs.Edits.{Edit, IsAccepted, pushes, sets, touches}
 use Rattle.historical_bitmap.specs.Record.{ReverseRecord, bit_or_else}
-use Rattle.historical_bitmap.specs.Pending.{PendingEdits, PendingFits, Follows, Appends, HasAppended, IsRangeSet, SetsRange, Writes, edited_chunk, pending_bit, pending_bits, pending_chunk}
-use Rattle.historical_bitmap.specs.View.{View, IsEditOf, AreEditsOf}
+use Rattle.historical_bitmap.specs.Pending.{PendingEdits, PendingFits, Follows, Appends, HasAppended, SetsRange, Writes, edited_chunk, pending_bit, pending_bits}
+use Rattle.historical_bitmap.specs.View.{View, AreEditsOf}
 use Rattle.historical_bitmap.proofs.Pending.Edits.{edit_follows, pending_at, pending_len}
 use Rattle.historical_bitmap.proofs.Pending.MarkedChunks.{edit_marks}
 use Rattle.historical_bitmap.proofs.Pending.Appends.{append_is, append_fits, append_marks, pushes_are}
-use Rattle.historical_bitmap.proofs.Pending.Ranges.{range_is, range_fits, range_marks, reached_or_missed}
+use Rattle.historical_bitmap.proofs.Pending.Ranges.{range_is, range_fits, range_marks}
 
 -- a position that is not pruned by the pending edits is not pruned in the current bitmap
 pub past_prefix : (n : ℕ) (b : PrunedBits) (l : PendingEdits) (k : ℕ) → PendingFits n b l → 8 * n * l.pruned ≤ k → pruned_bits n b ≤ k
@@ -46,11 +47,11 @@ module _ (n : ℕ) (b : PrunedBits) (cs : List (ℕ × ReverseRecord)) (last : O
   new = record { current = b; commits = cs; last = last; state = m }
 
   -- an edit of the pending edits is an edit of the batch
-  pub edit_of : (e : Edit) → IsAccepted n (pending_bits n b l) e → Follows n b l e m → IsEditOf n old e new
-  edit_of e ok w = record { current = refl; commits = refl; last = refl; pending = (edit_follows n b l m e pos fits ok w).0; marks = edit_marks n b l m e pos fits w }
+  pub edit_of : (e : Edit) → IsAccepted n (pending_bits n b l) e → Follows n b l e m → AreEditsOf n old (e ∷ []) new
+  edit_of e ok w = record { current = refl; commits = refl; last = refl; pending = (edit_follows n b l m e pos fits ok w).0; marks = rw (append-nil (touches n (pending_bits n b l) e)) (edit_marks n b l m e pos fits w) }
 
   -- the same for a call that may fail
-  pub tried_edit : {A E : Type 0} (r : Result A E) (e : Edit) → IsAccepted n (pending_bits n b l) e → OnOk r (Follows n b l e m) → OnOk r (IsEditOf n old e new)
+  pub tried_edit : {A E : Type 0} (r : Result A E) (e : Edit) → IsAccepted n (pending_bits n b l) e → OnOk r (Follows n b l e m) → OnOk r (AreEditsOf n old (e ∷ []) new)
   tried_edit (Ok x) e ok w = edit_of e ok w
   tried_edit (Err x) e ok w = tt
 
@@ -125,17 +126,3 @@ tried_run_holds (Ok x) n b l m values pos some w = (
     ]
   ],
 )
-
--- the chunk of each position of a range that is set is edited, and edited chunks stay edited
-pub tried_range_holds : {A E : Type 0} (r : Result A E) (n : ℕ) (b : PrunedBits) (l m : PendingEdits) (lo hi : ℕ) (value : Bool) → 0 < n → OnOk r (SetsRange n b l lo hi value m)
-    → OnOk r ((k : ℕ) → lo ≤ k → k < hi → IsSome (edited_chunk m (k / (8 * n))) × ((j : ℕ) → IsSome (edited_chunk l (j / (8 * n))) → IsSome (edited_chunk m (j / (8 * n)))))
-tried_range_holds (Err x) n b l m lo hi value pos w = tt
-tried_range_holds (Ok x) n b l m lo hi value pos w =
-    let set : (k : ℕ) → lo ≤ k → k < hi → IsSome (edited_chunk m (k / (8 * n))) = λ k low high. taken_some (IsRangeSet n (pending_chunk n b l (k / (8 * n))) lo hi value (k / (8 * n))) (edited_chunk m (k / (8 * n))) (w.set k low high) in
-    λ k low high. (
-      set k low high,
-      λ j cached. elim (reached_or_missed n lo hi (j / (8 * n)) pos) [
-        | inl r ↦ subst (λ i. IsSome (edited_chunk m i)) r.3 (set r.0 r.1 r.2)
-        | inr out ↦ rw (w.others (j / (8 * n)) out) cached
-      ],
-    )

@@ -1,5 +1,5 @@
 -- Which chunks of a batch are edited after each edit.
-use Rattle.std.proofs.Common.{◌≡◌, ℕ, ◌+◌, ◌-◌, ◌*◌, ◌/◌, ◌%◌, ◌<◌, ◌≤◌, Bool, false, List, length, Result, Ok, Err, refl, sym, ap, ◌∙◌, subst, arith}
+use Rattle.std.proofs.Common.{◌≡◌, ℕ, ◌+◌, ◌-◌, ◌*◌, ◌/◌, ◌%◌, ◌<◌, ◌≤◌, Bool, false, List, [], ◌∷◌, length, Result, Ok, Err, refl, sym, ap, ◌∙◌, subst, arith}
 use mathlib.Core.Logic.{inl, inr, ◌⊎◌}
 use Rattle.std.proofs.Math.Nat.{mul-div-le}
 use Rattle.std.proofs.lemmas.List.{length-take-le}
@@ -12,7 +12,7 @@ use Rattle.bitmap_core.specs.PrunedBits.{PrunedBits, IsRetained, bit_at, bit_len
 use Rattle.historical_bitmap.specs.Edits.Edit.{Pop, Push, Set}
 use Rattle.historical_bitmap.specs.Record.{ReverseRecord}
 use Rattle.historical_bitmap.specs.Pending.{PendingEdits, PendingFits, Appends, HasAppended, IsEdited, IsRangeSet, IsWritten, Pops, Prunes, SetsRange, Writes, edited_chunk, pending_chunk}
-use Rattle.historical_bitmap.specs.View.{View, IsEditedAt, IsEditOf, KeepsEdited, LeavesEdited, StaysEditedAt, pending_of}
+use Rattle.historical_bitmap.specs.View.{View, IsEditedAt, AreEditsOf, LeavesEdited, StaysEditedAt, pending_of}
 use Rattle.historical_bitmap.proofs.Pending.Appends.{index_of}
 use Rattle.historical_bitmap.proofs.Pending.BatchEdits.{taken_some, tried_holds, tried_run_holds}
 use Rattle.historical_bitmap.proofs.Pending.Edits.{pending_len}
@@ -28,28 +28,28 @@ pub popped_len : (n : ℕ) (b : PrunedBits) → 0 < length b.bits → bit_len n 
 popped_len n b some = omega (arith, some, length-take-le (length b.bits - 1) b.bits (omega arith))
 
 -- a position before the last one is retained after a pop
-pub retained_after_pop : (n : ℕ) (old new : View PendingEdits) (k : ℕ) → IsEditOf n old Pop new → pruned_bits n (pending_of n old) ≤ k → k + 1 < bit_len n (pending_of n old) → IsRetained n (pending_of n new) k
+pub retained_after_pop : (n : ℕ) (old new : View PendingEdits) (k : ℕ) → AreEditsOf n old (Pop ∷ []) new → pruned_bits n (pending_of n old) ≤ k → k + 1 < bit_len n (pending_of n old) → IsRetained n (pending_of n new) k
 retained_after_pop n old new k edit low high =
     subst (λ b. IsRetained n b k) (sym edit.pending) (low, omega (arith, popped_len n (pending_of n old) (omega (arith, low, high)), high))
 
 -- a retained position is retained after a push that may fail, and its chunk stays edited
-pub retained_after_push : {A E : Type 0} (r : Result A E) (n : ℕ) (old new : View PendingEdits) (value : Bool) (k : ℕ) → OnOk r (IsEditOf n old (Push value) new) → OnErr r (new ≡ old) → IsRetained n (pending_of n old) k → IsRetained n (pending_of n new) k
+pub retained_after_push : {A E : Type 0} (r : Result A E) (n : ℕ) (old new : View PendingEdits) (value : Bool) (k : ℕ) → OnOk r (AreEditsOf n old (Push value ∷ []) new) → OnErr r (new ≡ old) → IsRetained n (pending_of n old) k → IsRetained n (pending_of n new) k
 retained_after_push (Ok x) n old new value k edit same retained =
     subst (λ b. IsRetained n b k) (sym edit.pending) (retained.0, omega (arith, retained.1, len_pushed n (pending_of n old) value))
 retained_after_push (Err x) n old new value k edit same retained = rw same retained
 
-pub edited_after_push : {A E : Type 0} (r : Result A E) (n : ℕ) (old new : View PendingEdits) (position k : ℕ) → OnOk r (KeepsEdited n old position new) → OnErr r (new ≡ old) → IsEditedAt n old k → IsEditedAt n new k
-edited_after_push (Ok x) n old new position k holds same edited = holds.1 k edited
-edited_after_push (Err x) n old new position k holds same edited = rw same edited
+pub edited_after_push : {A E : Type 0} (r : Result A E) (n : ℕ) (old new : View PendingEdits) (lo hi k : ℕ) → OnOk r (LeavesEdited n (IsEditedAt n old) lo hi new) → OnErr r (new ≡ old) → IsEditedAt n old k → IsEditedAt n new k
+edited_after_push (Ok x) n old new lo hi k leaves same edited = leaves.kept k edited
+edited_after_push (Err x) n old new lo hi k leaves same edited = rw same edited
 
 -- a bit that is set has its value
-pub set_has_its_value : {A E : Type 0} (r : Result A E) (n : ℕ) (old new : View PendingEdits) (value : Bool) (k : ℕ) → OnOk r (IsEditOf n old (Set k value) new) → IsOk r → IsRetained n (pending_of n old) k → bit_at n (pending_of n new) k ≡ value
+pub set_has_its_value : {A E : Type 0} (r : Result A E) (n : ℕ) (old new : View PendingEdits) (value : Bool) (k : ℕ) → OnOk r (AreEditsOf n old (Set k value ∷ []) new) → IsOk r → IsRetained n (pending_of n old) k → bit_at n (pending_of n new) k ≡ value
 set_has_its_value (Ok x) n old new value k edit ok retained =
     ap (λ b. bit_at n b k) edit.pending ∙ (bit_set n (pending_of n old) k value k retained retained.0 ∙ rw (eq-eqb k k refl) refl)
 set_has_its_value (Err x) n old new value k edit ok retained = absurd (false≢true ok)
 
 -- a pop and a push replace the last bit
-pub pushed_again : {A E : Type 0} (r : Result A E) (n : ℕ) (old between new : View PendingEdits) (value : Bool) → IsEditOf n old Pop between → OnOk r (IsEditOf n between (Push value) new) → IsOk r → pending_of n new ≡ pushed (popped (pending_of n old)) value
+pub pushed_again : {A E : Type 0} (r : Result A E) (n : ℕ) (old between new : View PendingEdits) (value : Bool) → AreEditsOf n old (Pop ∷ []) between → OnOk r (AreEditsOf n between (Push value ∷ []) new) → IsOk r → pending_of n new ≡ pushed (popped (pending_of n old)) value
 pushed_again (Ok x) n old between new value first second ok = second.pending ∙ ap (λ b. pushed b value) first.pending
 pushed_again (Err x) n old between new value first second ok = absurd (false≢true ok)
 

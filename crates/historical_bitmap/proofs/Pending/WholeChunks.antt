@@ -18,7 +18,7 @@ use Rattle.historical_bitmap.specs.Edits.{Edit, IsWithin, after_all, chunk_end, 
 use Rattle.historical_bitmap.specs.Edits.Edit.{Set}
 use Rattle.historical_bitmap.specs.Record.{ReverseRecord}
 use Rattle.historical_bitmap.specs.Pending.{PendingEdits, PendingFits, IsEdited, SetsChunk, edited_chunk, marked_chunks, pending_bit, pending_bits}
-use Rattle.historical_bitmap.specs.View.{View, IsEditedAt, AreEditsOf, KeepsEdited, LeavesEdited}
+use Rattle.historical_bitmap.specs.View.{View, IsEditedAt, AreEditsOf, LeavesEdited}
 use Rattle.historical_bitmap.proofs.Lists.Members.{in_left, in_right}
 use Rattle.historical_bitmap.proofs.Pending.Appends.{index_of}
 use Rattle.historical_bitmap.proofs.Pending.Edits.{same_pending, pending_len, pending_at}
@@ -251,10 +251,6 @@ module _ (n : ℕ) (b : PrunedBits) (cs : List (ℕ × ReverseRecord)) (last : O
     | inl e ↦ chunk_edited w q e
     | inr ne ↦ rw (other n b l m i chunk pos fits has w (q / (8 * n)) ne) edited
   ]
-
-  pub tried_chunk_holds : {A E : Type 0} (r : Result A E) → OnOk r (SetsChunk n l i chunk m) → OnOk r (KeepsEdited n old (8 * n * i) new)
-  tried_chunk_holds (Ok x) w = (chunk_edited w (8 * n * i) (first_of n i pos), stays w)
-  tried_chunk_holds (Err x) w = tt
 
   -- which chunks are edited
   pub tried_chunk_leaves : {A E : Type 0} (r : Result A E) → OnOk r (SetsChunk n l i chunk m) → OnOk r (LeavesEdited n (IsEditedAt n old) (8 * n * i) (chunk_end n (pending_bits n b l) i) new)

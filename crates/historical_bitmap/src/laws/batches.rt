@@ -4,7 +4,7 @@ ghost use Rattle.std.specs.Prelude.{◌≡◌, ℕ, ◌+◌, ◌-◌, ◌*◌, �
 ghost use Rattle.bitmap_core.specs.PrunedBits.{bit_at, bit_len, popped, pruned_bits, pushed};
 ghost use Rattle.historical_bitmap.specs.Edits.{Edit};
 ghost use Rattle.historical_bitmap.specs.Pending.{PendingEdits};
-ghost use Rattle.historical_bitmap.specs.View.{IsBatchOn, IsEditedAt, IsEditOf, AreEditsOf, pending_of, View};
+ghost use Rattle.historical_bitmap.specs.View.{IsBatchOn, IsEditedAt, AreEditsOf, pending_of, View};
 
 use crate::bitmap::historical::{CleanBitMap, DirtyBitMap};
 use std::alloc::AllocError;
@@ -18,13 +18,11 @@ pub fn begun_is_a_batch<const N: usize>(bitmap: CleanBitMap<N>) -> DirtyBitMap<N
     bitmap.into_dirty()
 }
 
-/// States that a batch on a bitmap is a batch on the same bitmap after an edit, and after a list of edits.
+/// States that a batch on a bitmap is a batch on the same bitmap after any edits.
 ///
 /// The body is empty: a caller only uses the contract. Does not allocate; constant time.
 pub fn edited_is_a_batch()
-    ensures edit { (n : ℕ) (begun : View ⊤) (old new : View PendingEdits) (edit : Edit)
-        → IsBatchOn begun old → IsEditOf n old edit new → IsBatchOn begun new }
-    ensures run { (n : ℕ) (begun : View ⊤) (old new : View PendingEdits) (edits : List Edit)
+    ensures { (n : ℕ) (begun : View ⊤) (old new : View PendingEdits) (edits : List Edit)
         → IsBatchOn begun old → AreEditsOf n old edits new → IsBatchOn begun new }
 {}
 

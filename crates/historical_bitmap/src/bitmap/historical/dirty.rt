@@ -12,7 +12,7 @@ ghost use Rattle.bitmap_core.specs.PrunedBits.{bit_at, bit_len, chunk, IsRetaine
 ghost use Rattle.historical_bitmap.specs.Batch.{CommitGives};
 ghost use Rattle.historical_bitmap.specs.Edits.Edit.{Pop, Prune, Push, Set};
 ghost use Rattle.historical_bitmap.specs.Edits.{pushes, sets};
-ghost use Rattle.historical_bitmap.specs.View.{KeepsEdited, IsEditedAt, IsEditOf, AreEditsOf, LeavesEdited, marked_of, pending_of, StaysEditedAt, commit_error};
+ghost use Rattle.historical_bitmap.specs.View.{IsEditedAt, AreEditsOf, LeavesEdited, marked_of, pending_of, StaysEditedAt, commit_error};
 
 use crate::bitmap::historical::apply::overwrite;
 use crate::bitmap::historical::commit_list::CommitList;
@@ -160,9 +160,8 @@ impl<const N: usize> BitMap<N, Dirty<N>> {
     #[inline]
     pub fn try_set_bit(&mut self, bit: u64, value: bool) -> Result<(), AllocError>
         requires { IsRetained N (pending_of N self.old) bit }
-        ensures ok { OnOk result (IsEditOf N self.old (Set bit value) self.new) }
+        ensures ok { OnOk result (AreEditsOf N self.old (Set bit value ∷ []) self.new) }
         ensures err { OnErr result (self.new ≡ self.old) }
-        ensures holds { OnOk result (KeepsEdited N self.old bit self.new) }
         ensures keeps { OnOk result
             (LeavesEdited N (IsEditedAt N self.old) bit (bit + 1) self.new) }
         ensures edited { IsEditedAt N self.old bit → IsOk result }
@@ -192,9 +191,6 @@ impl<const N: usize> BitMap<N, Dirty<N>> {
         ensures ok { OnOk result
             (AreEditsOf N self.old (sets range.start range.end value) self.new) }
         ensures err { OnErr result (self.new ≡ self.old) }
-        ensures holds { OnOk result
-            ((bit : ℕ) → range.start ≤ bit → bit < range.end
-            → KeepsEdited N self.old bit self.new) }
         ensures keeps { OnOk result
             (LeavesEdited N (IsEditedAt N self.old) range.start range.end self.new) }
         ensures edited { ((bit : ℕ) → range.start ≤ bit → bit < range.end
@@ -223,10 +219,8 @@ impl<const N: usize> BitMap<N, Dirty<N>> {
     #[inline]
     pub fn try_push(&mut self, value: bool) -> Result<(), AllocError>
         requires { bit_len N (pending_of N self.old) + 1 < 2 ^ 64 }
-        ensures ok { OnOk result (IsEditOf N self.old (Push value) self.new) }
+        ensures ok { OnOk result (AreEditsOf N self.old (Push value ∷ []) self.new) }
         ensures err { OnErr result (self.new ≡ self.old) }
-        ensures holds { OnOk result
-            (KeepsEdited N self.old (bit_len N (pending_of N self.old)) self.new) }
         ensures keeps { OnOk result
             (LeavesEdited N (IsEditedAt N self.old) (bit_len N (pending_of N self.old))
             (bit_len N (pending_of N self.old) + 1) self.new) }
@@ -255,8 +249,6 @@ impl<const N: usize> BitMap<N, Dirty<N>> {
         requires { bit_len N (pending_of N self.old) + 8 < 2 ^ 64 }
         ensures ok { OnOk result (AreEditsOf N self.old (pushes (byte_bits byte)) self.new) }
         ensures err { OnErr result (self.new ≡ self.old) }
-        ensures holds { OnOk result
-            (KeepsEdited N self.old (bit_len N (pending_of N self.old)) self.new) }
         ensures keeps { OnOk result
             (LeavesEdited N (IsEditedAt N self.old) (bit_len N (pending_of N self.old))
             (bit_len N (pending_of N self.old) + 8) self.new) }
@@ -287,8 +279,6 @@ impl<const N: usize> BitMap<N, Dirty<N>> {
         ensures ok { OnOk result
             (AreEditsOf N self.old (pushes (chunk_bits N chunk.now)) self.new) }
         ensures err { OnErr result (self.new ≡ self.old) }
-        ensures holds { OnOk result
-            (KeepsEdited N self.old (bit_len N (pending_of N self.old)) self.new) }
         ensures keeps { OnOk result
             (LeavesEdited N (IsEditedAt N self.old) (bit_len N (pending_of N self.old))
             (bit_len N (pending_of N self.old) + 8 * N) self.new) }
@@ -315,7 +305,7 @@ impl<const N: usize> BitMap<N, Dirty<N>> {
     /// As `prune_to_bit`.
     pub fn try_prune_to_bit(&mut self, bit: u64) -> Result<(), AllocError>
         requires { bit ≤ bit_len N (pending_of N self.old) }
-        ensures ok { OnOk result (IsEditOf N self.old (Prune bit) self.new) }
+        ensures ok { OnOk result (AreEditsOf N self.old (Prune bit ∷ []) self.new) }
         ensures err { OnErr result (self.new ≡ self.old) }
         ensures keeps { OnOk result (LeavesEdited N (IsEditedAt N self.old) 0 0 self.new) }
         ensures nothing { bit / (8 * N) ≤ (pending_of N self.old).pruned → IsOk result }
@@ -337,7 +327,7 @@ impl<const N: usize> BitMap<N, Dirty<N>> {
     pub fn pop(&mut self) -> bool
         requires { 0 < length (pending_of N self.old).bits }
         ensures value { result ≡ last_bit (pending_of N self.old) }
-        ensures edit { IsEditOf N self.old Pop self.new }
+        ensures edit { AreEditsOf N self.old (Pop ∷ []) self.new }
         ensures keeps { LeavesEdited N (StaysEditedAt N self.old self.new) 0 0 self.new }
     {
         let _ = self.current.len();
@@ -352,7 +342,7 @@ impl<const N: usize> BitMap<N, Dirty<N>> {
     fn pop_uncached(&mut self) -> bool
         requires { 0 < length (pending_of N self.old).bits }
         ensures value { result ≡ last_bit (pending_of N self.old) }
-        ensures edit { IsEditOf N self.old Pop self.new }
+        ensures edit { AreEditsOf N self.old (Pop ∷ []) self.new }
         ensures keeps { LeavesEdited N (StaysEditedAt N self.old self.new) 0 0 self.new }
     {
         let last = self.state.len() - 1;
@@ -368,7 +358,7 @@ impl<const N: usize> BitMap<N, Dirty<N>> {
     fn pop_other(&mut self) -> bool
         requires { 0 < length (pending_of N self.old).bits }
         ensures value { result ≡ last_bit (pending_of N self.old) }
-        ensures edit { IsEditOf N self.old Pop self.new }
+        ensures edit { AreEditsOf N self.old (Pop ∷ []) self.new }
         ensures keeps { LeavesEdited N (StaysEditedAt N self.old self.new) 0 0 self.new }
     {
         let _ = self.current.len();
@@ -501,8 +491,7 @@ impl<const N: usize> BitMap<N, Dirty<N>> {
         requires { IsRetained N (pending_of N self.old) bit }
         ensures* refused { sem 𝓛 (rests_if_refused N.row self.entry result) }
         ensures same_reference { IfOk result (IsOf self.entry) }
-        ensures ok { IfOk result (λ e. IsEditOf N self.old (Set bit value) e.on.now) }
-        ensures holds { IfOk result (λ e. KeepsEdited N self.old bit e.on.now) }
+        ensures ok { IfOk result (λ e. AreEditsOf N self.old (Set bit value ∷ []) e.on.now) }
         ensures keeps { IfOk result
             (λ e. LeavesEdited N (IsEditedAt N self.old) bit (bit + 1) e.on.now) }
         ensures edited { IsEditedAt N self.old bit → IsOk result }
@@ -535,9 +524,6 @@ impl<const N: usize> BitMap<N, Dirty<N>> {
         ensures same_reference { IfOk result (IsOf self.entry) }
         ensures ok { IfOk result
             (λ e. AreEditsOf N self.old (sets range.start range.end value) e.on.now) }
-        ensures holds { IfOk result
-            (λ e. (bit : ℕ) → range.start ≤ bit → bit < range.end
-            → KeepsEdited N self.old bit e.on.now) }
         ensures keeps { IfOk result
             (λ e. LeavesEdited N (IsEditedAt N self.old) range.start range.end e.on.now) }
         ensures edited { ((bit : ℕ) → range.start ≤ bit → bit < range.end
@@ -566,9 +552,7 @@ impl<const N: usize> BitMap<N, Dirty<N>> {
         requires { bit_len N (pending_of N self.old) + 1 < 2 ^ 64 }
         ensures* refused { sem 𝓛 (rests_if_refused N.row self.entry result) }
         ensures same_reference { IfOk result (IsOf self.entry) }
-        ensures ok { IfOk result (λ e. IsEditOf N self.old (Push value) e.on.now) }
-        ensures holds { IfOk result
-            (λ e. KeepsEdited N self.old (bit_len N (pending_of N self.old)) e.on.now) }
+        ensures ok { IfOk result (λ e. AreEditsOf N self.old (Push value ∷ []) e.on.now) }
         ensures keeps { IfOk result
             (λ e. LeavesEdited N (IsEditedAt N self.old) (bit_len N (pending_of N self.old))
             (bit_len N (pending_of N self.old) + 1) e.on.now) }
@@ -597,8 +581,6 @@ impl<const N: usize> BitMap<N, Dirty<N>> {
         ensures* refused { sem 𝓛 (rests_if_refused N.row self.entry result) }
         ensures same_reference { IfOk result (IsOf self.entry) }
         ensures ok { IfOk result (λ e. AreEditsOf N self.old (pushes (byte_bits byte)) e.on.now) }
-        ensures holds { IfOk result
-            (λ e. KeepsEdited N self.old (bit_len N (pending_of N self.old)) e.on.now) }
         ensures keeps { IfOk result
             (λ e. LeavesEdited N (IsEditedAt N self.old) (bit_len N (pending_of N self.old))
             (bit_len N (pending_of N self.old) + 8) e.on.now) }
@@ -629,8 +611,6 @@ impl<const N: usize> BitMap<N, Dirty<N>> {
         ensures same_reference { IfOk result (IsOf self.entry) }
         ensures ok { IfOk result
             (λ e. AreEditsOf N self.old (pushes (chunk_bits N chunk.now)) e.on.now) }
-        ensures holds { IfOk result
-            (λ e. KeepsEdited N self.old (bit_len N (pending_of N self.old)) e.on.now) }
         ensures keeps { IfOk result
             (λ e. LeavesEdited N (IsEditedAt N self.old) (bit_len N (pending_of N self.old))
             (bit_len N (pending_of N self.old) + 8 * N) e.on.now) }
@@ -658,7 +638,7 @@ impl<const N: usize> BitMap<N, Dirty<N>> {
         requires { bit ≤ bit_len N (pending_of N self.old) }
         ensures* refused { sem 𝓛 (rests_if_refused N.row self.entry result) }
         ensures same_reference { IfOk result (IsOf self.entry) }
-        ensures ok { IfOk result (λ e. IsEditOf N self.old (Prune bit) e.on.now) }
+        ensures ok { IfOk result (λ e. AreEditsOf N self.old (Prune bit ∷ []) e.on.now) }
         ensures keeps { IfOk result (λ e. LeavesEdited N (IsEditedAt N self.old) 0 0 e.on.now) }
         ensures nothing { bit / (8 * N) ≤ (pending_of N self.old).pruned → IsOk result }
     {

@@ -5,7 +5,7 @@ ghost use Rattle.bitmap_bytes.specs.Chunk.{byte_bits, chunk_bits};
 ghost use Rattle.bitmap_core.specs.PrunedBits.{bit_len, IsRetained, pruned_bits};
 ghost use Rattle.historical_bitmap.specs.Edits.Edit.{Prune, Push, Set};
 ghost use Rattle.historical_bitmap.specs.Edits.{pushes, sets};
-ghost use Rattle.historical_bitmap.specs.View.{KeepsEdited, IsEditedAt, IsEditOf, AreEditsOf, LeavesEdited, pending_of};
+ghost use Rattle.historical_bitmap.specs.View.{IsEditedAt, AreEditsOf, LeavesEdited, pending_of};
 
 use crate::bitmap::historical::{BitMap, Dirty, State};
 use std::alloc::AllocError;
@@ -57,8 +57,7 @@ impl<'a, const N: usize> Edit<'a, N> {
         requires { IsRetained N (pending_of N self.on.now) bit }
         ensures* refused { sem 𝓛 (rests_if_refused N.row self.entry.on result) }
         ensures same_reference { IfOk result (IsOf self.entry.on) }
-        ensures ok { IfOk result (λ e. IsEditOf N self.entry.on.now (Set bit value) e.on.now) }
-        ensures holds { IfOk result (λ e. KeepsEdited N self.entry.on.now bit e.on.now) }
+        ensures ok { IfOk result (λ e. AreEditsOf N self.entry.on.now (Set bit value ∷ []) e.on.now) }
         ensures keeps { IfOk result
             (λ e. LeavesEdited N (IsEditedAt N self.entry.on.now) bit (bit + 1) e.on.now) }
         ensures edited { IsEditedAt N self.entry.on.now bit → IsOk result }
@@ -90,9 +89,6 @@ impl<'a, const N: usize> Edit<'a, N> {
         ensures same_reference { IfOk result (IsOf self.entry.on) }
         ensures ok { IfOk result
             (λ e. AreEditsOf N self.entry.on.now (sets range.start range.end value) e.on.now) }
-        ensures holds { IfOk result
-            (λ e. (bit : ℕ) → range.start ≤ bit → bit < range.end
-            → KeepsEdited N self.entry.on.now bit e.on.now) }
         ensures keeps { IfOk result
             (λ e. LeavesEdited N (IsEditedAt N self.entry.on.now) range.start range.end e.on.now) }
         ensures edited { ((bit : ℕ) → range.start ≤ bit → bit < range.end
@@ -119,10 +115,7 @@ impl<'a, const N: usize> Edit<'a, N> {
         requires { bit_len N (pending_of N self.on.now) + 1 < 2 ^ 64 }
         ensures* refused { sem 𝓛 (rests_if_refused N.row self.entry.on result) }
         ensures same_reference { IfOk result (IsOf self.entry.on) }
-        ensures ok { IfOk result (λ e. IsEditOf N self.entry.on.now (Push value) e.on.now) }
-        ensures holds { IfOk result
-            (λ e. KeepsEdited N self.entry.on.now
-            (bit_len N (pending_of N self.entry.on.now)) e.on.now) }
+        ensures ok { IfOk result (λ e. AreEditsOf N self.entry.on.now (Push value ∷ []) e.on.now) }
         ensures keeps { IfOk result
             (λ e. LeavesEdited N (IsEditedAt N self.entry.on.now)
             (bit_len N (pending_of N self.entry.on.now))
@@ -153,9 +146,6 @@ impl<'a, const N: usize> Edit<'a, N> {
         ensures same_reference { IfOk result (IsOf self.entry.on) }
         ensures ok { IfOk result
             (λ e. AreEditsOf N self.entry.on.now (pushes (byte_bits byte)) e.on.now) }
-        ensures holds { IfOk result
-            (λ e. KeepsEdited N self.entry.on.now
-            (bit_len N (pending_of N self.entry.on.now)) e.on.now) }
         ensures keeps { IfOk result
             (λ e. LeavesEdited N (IsEditedAt N self.entry.on.now)
             (bit_len N (pending_of N self.entry.on.now))
@@ -186,9 +176,6 @@ impl<'a, const N: usize> Edit<'a, N> {
         ensures same_reference { IfOk result (IsOf self.entry.on) }
         ensures ok { IfOk result
             (λ e. AreEditsOf N self.entry.on.now (pushes (chunk_bits N chunk.now)) e.on.now) }
-        ensures holds { IfOk result
-            (λ e. KeepsEdited N self.entry.on.now
-            (bit_len N (pending_of N self.entry.on.now)) e.on.now) }
         ensures keeps { IfOk result
             (λ e. LeavesEdited N (IsEditedAt N self.entry.on.now)
             (bit_len N (pending_of N self.entry.on.now))
@@ -215,7 +202,7 @@ impl<'a, const N: usize> Edit<'a, N> {
         requires { bit ≤ bit_len N (pending_of N self.on.now) }
         ensures* refused { sem 𝓛 (rests_if_refused N.row self.entry.on result) }
         ensures same_reference { IfOk result (IsOf self.entry.on) }
-        ensures ok { IfOk result (λ e. IsEditOf N self.entry.on.now (Prune bit) e.on.now) }
+        ensures ok { IfOk result (λ e. AreEditsOf N self.entry.on.now (Prune bit ∷ []) e.on.now) }
         ensures keeps { IfOk result
             (λ e. LeavesEdited N (IsEditedAt N self.entry.on.now) 0 0 e.on.now) }
         ensures nothing { bit / (8 * N) ≤ (pending_of N self.entry.on.now).pruned → IsOk result }

@@ -4,7 +4,7 @@ ghost use Rattle.std.specs.Prelude.{◌≡◌, ◌+◌, ◌*◌, IfOk, IsOk, OnE
 ghost use Rattle.bitmap_core.specs.PrunedBits.{IsRetainedChunk, with_chunk};
 ghost use Rattle.historical_bitmap.specs.Changes.{retained_bytes as retained_bytes_of};
 ghost use Rattle.historical_bitmap.specs.Edits.{chunk_end, sets_of};
-ghost use Rattle.historical_bitmap.specs.View.{IsEditedAt, AreEditsOf, KeepsEdited, LeavesEdited, pending_of};
+ghost use Rattle.historical_bitmap.specs.View.{IsEditedAt, AreEditsOf, LeavesEdited, pending_of};
 
 use crate::bitmap::historical::edit::{Edit, Lent};
 use crate::bitmap::historical::pending_changes::{current_bytes, pending_bytes};
@@ -89,7 +89,6 @@ impl<const N: usize> BitMap<N, Dirty<N>> {
         ensures whole { OnOk result
             (pending_of N self.new ≡ with_chunk N (pending_of N self.old) index chunk.now) }
         ensures err { OnErr result (self.new ≡ self.old) }
-        ensures holds { OnOk result (KeepsEdited N self.old (8 * N * index) self.new) }
         ensures keeps { OnOk result
             (LeavesEdited N (IsEditedAt N self.old) (8 * N * index)
             (chunk_end N (pending_of N self.old) index) self.new) }
@@ -130,7 +129,6 @@ impl<const N: usize> BitMap<N, Dirty<N>> {
             e.on.now) }
         ensures whole { IfOk result
             (λ e. pending_of N e.on.now ≡ with_chunk N (pending_of N self.old) index chunk.now) }
-        ensures holds { IfOk result (λ e. KeepsEdited N self.old (8 * N * index) e.on.now) }
         ensures keeps { IfOk result
             (λ e. LeavesEdited N (IsEditedAt N self.old) (8 * N * index)
             (chunk_end N (pending_of N self.old) index) e.on.now) }
@@ -171,8 +169,6 @@ impl<'a, const N: usize> Edit<'a, N> {
         ensures whole { IfOk result
             (λ e. pending_of N e.on.now
             ≡ with_chunk N (pending_of N self.entry.on.now) index chunk.now) }
-        ensures holds { IfOk result
-            (λ e. KeepsEdited N self.entry.on.now (8 * N * index) e.on.now) }
         ensures keeps { IfOk result
             (λ e. LeavesEdited N (IsEditedAt N self.entry.on.now) (8 * N * index)
             (chunk_end N (pending_of N self.entry.on.now) index) e.on.now) }

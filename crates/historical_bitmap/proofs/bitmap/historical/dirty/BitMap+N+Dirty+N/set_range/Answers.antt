@@ -9,7 +9,6 @@ returns g c =
         refused = tt;
         same_reference = c.new.ensures.same;
         ok = rw c.new.ensures.value tried.ok;
-        holds = rw c.new.ensures.value tried.holds;
         keeps = rw c.new.ensures.value tried.keeps;
         edited = λ all. refl;
       },

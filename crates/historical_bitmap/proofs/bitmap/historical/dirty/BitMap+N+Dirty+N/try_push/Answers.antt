@@ -3,7 +3,7 @@ use Rattle.bitmap_core.specs.PrunedBits.{bit_len}
 use Rattle.historical_bitmap.specs.Edits.{IsAccepted}
 use Rattle.historical_bitmap.specs.Edits.Edit.{Push}
 use Rattle.historical_bitmap.specs.Pending.{pending_bits}
-use Rattle.historical_bitmap.proofs.Pending.BatchEdits.{past_prefix, tried_edit, tried_fits, tried_holds}
+use Rattle.historical_bitmap.proofs.Pending.BatchEdits.{past_prefix, tried_edit, tried_fits}
 use Rattle.historical_bitmap.proofs.Pending.Edits.{pending_len}
 use Rattle.historical_bitmap.proofs.Pending.Ends.{none_at_len, zero_at_len}
 use Rattle.historical_bitmap.proofs.Pending.EditedAfter.{tried_write_leaves}
@@ -40,10 +40,6 @@ push-requires g c =
 
 pub returns-clause-edited : goal.returns-clause-edited
 returns-clause-edited g c = rw (← c.self.view_is, pending_len g.row.N c.self.inside.current c.self.inside.state c.len.ensures.width.positive c.self.invariant.0) c.push.ensures.edited
-
-pub returns-clause-holds : goal.returns-clause-holds
-returns-clause-holds g c =
-    rw (← c.self.view_is, pending_len g.row.N c.self.inside.current c.self.inside.state c.len.ensures.width.positive c.self.invariant.0) (tried_holds c.push.result g.row.N c.self.inside.current c.self.inside.state c.push.new.self c.self.inside.state.len (c.self.inside.state.len + 1) c.args.value c.push.ensures.ok)
 
 pub returns-clause-keeps : goal.returns-clause-keeps
 returns-clause-keeps g c =

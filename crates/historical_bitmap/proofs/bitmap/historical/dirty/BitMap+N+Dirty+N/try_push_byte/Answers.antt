@@ -2,7 +2,7 @@ use Rattle.std.proofs.Common.{◌+◌, ◌^◌, ◌<◌, arith, refl, sym}
 use Rattle.bitmap_bytes.specs.Chunk.{byte_bits}
 use Rattle.bitmap_core.specs.PrunedBits.{bit_len}
 use Rattle.historical_bitmap.specs.Pending.{pending_bits}
-use Rattle.historical_bitmap.proofs.Pending.BatchEdits.{tried_run, tried_run_fits, tried_run_holds}
+use Rattle.historical_bitmap.proofs.Pending.BatchEdits.{tried_run, tried_run_fits}
 use Rattle.historical_bitmap.proofs.Pending.Edits.{pending_len}
 use Rattle.historical_bitmap.proofs.Pending.EditedAfter.{tried_run_leaves}
 use Rattle.historical_bitmap.proofs.bitmap.historical.dirty.BitMap+N+Dirty+N.try_push_byte.Goals as goal
@@ -21,10 +21,6 @@ returns-clause-ok g c =
 
 pub returns-clause-edited : goal.returns-clause-edited
 returns-clause-edited g c = rw (← c.self.view_is, pending_len g.row.N c.self.inside.current c.self.inside.state c.len.ensures.width.positive c.self.invariant.0) c.push_byte.ensures.edited
-
-pub returns-clause-holds : goal.returns-clause-holds
-returns-clause-holds g c =
-    rw (← c.self.view_is, pending_len g.row.N c.self.inside.current c.self.inside.state c.len.ensures.width.positive c.self.invariant.0) (tried_run_holds c.push_byte.result g.row.N c.self.inside.current c.self.inside.state c.push_byte.new.self (byte_bits c.args.byte) c.len.ensures.width.positive (omega arith) c.push_byte.ensures.ok)
 
 pub returns-clause-keeps : goal.returns-clause-keeps
 returns-clause-keeps g c =

@@ -1,7 +1,7 @@
 use Rattle.std.proofs.Common.{◌*◌, ◌≤◌, sym, arith}
 use Rattle.bitmap_core.specs.PrunedBits.{bit_len}
 use Rattle.historical_bitmap.specs.Pending.{pending_bits}
-use Rattle.historical_bitmap.proofs.Pending.BatchEdits.{past_prefix, tried_range, tried_range_fits, tried_range_holds}
+use Rattle.historical_bitmap.proofs.Pending.BatchEdits.{past_prefix, tried_range, tried_range_fits}
 use Rattle.historical_bitmap.proofs.Pending.Edits.{pending_len}
 use Rattle.historical_bitmap.proofs.Pending.EditedAfter.{tried_range_leaves}
 use Rattle.historical_bitmap.proofs.bitmap.historical.dirty.BitMap+N+Dirty+N.try_set_range.Goals as goal
@@ -26,10 +26,6 @@ returns-clause-ok g c =
     let pos = c.len.ensures.width.positive in
     let fits = c.self.invariant.0 in
     rw (← c.self.view_is) (tried_range g.row.N c.self.inside.current c.self.inside.commits c.self.inside.last c.self.inside.state c.set_range.new.self pos fits c.set_range.result c.args.range.start c.args.range.end c.args.value from (omega (arith, to, pending_len g.row.N c.self.inside.current c.self.inside.state pos fits)) c.set_range.ensures.ok)
-
-pub returns-clause-holds : goal.returns-clause-holds
-returns-clause-holds g c =
-    rw (← c.self.view_is) (tried_range_holds c.set_range.result g.row.N c.self.inside.current c.self.inside.state c.set_range.new.self c.args.range.start c.args.range.end c.args.value c.len.ensures.width.positive c.set_range.ensures.ok)
 
 pub returns-clause-keeps : goal.returns-clause-keeps
 returns-clause-keeps g c =

@@ -10,7 +10,6 @@ returns g c =
         same_reference = c.new.ensures.same;
         ok = rw c.new.ensures.value tried.ok;
         whole = rw c.new.ensures.value tried.whole;
-        holds = rw c.new.ensures.value tried.holds;
         keeps = rw c.new.ensures.value tried.keeps;
         edited = λ all. refl;
       },

@@ -3,7 +3,7 @@ use Rattle.std.specs.Prelude.{IsSome}
 use Rattle.bitmap_core.specs.PrunedBits.{IsRetainedChunk}
 use Rattle.historical_bitmap.specs.Pending.{edited_chunk, pending_bits}
 use Rattle.historical_bitmap.proofs.Pending.Edits.{pending_len}
-use Rattle.historical_bitmap.proofs.Pending.WholeChunks.{first_of, tried_chunk, tried_chunk_fits, tried_chunk_holds, tried_chunk_leaves, tried_chunk_whole}
+use Rattle.historical_bitmap.proofs.Pending.WholeChunks.{first_of, tried_chunk, tried_chunk_fits, tried_chunk_leaves, tried_chunk_whole}
 use Rattle.historical_bitmap.proofs.bitmap.historical.whole_chunks.BitMap+N+Dirty+N.try_set_chunk.Goals as goal
 
 pub set_chunk-requires : goal.set_chunk-requires
@@ -25,11 +25,6 @@ pub returns-clause-whole : goal.returns-clause-whole
 returns-clause-whole g c =
     let has : IsRetainedChunk g.row.N (pending_bits g.row.N c.self.inside.current c.self.inside.state) c.args.index = rw (sym c.self.view_is) at c.requires.retained in
     rw (← c.self.view_is) (tried_chunk_whole g.row.N c.self.inside.current c.self.inside.commits c.self.inside.last c.self.inside.state c.set_chunk.new.self c.len.ensures.width.positive c.self.invariant.0 c.args.index c.args.chunk.now has c.set_chunk.result c.set_chunk.ensures.ok)
-
-pub returns-clause-holds : goal.returns-clause-holds
-returns-clause-holds g c =
-    let has : IsRetainedChunk g.row.N (pending_bits g.row.N c.self.inside.current c.self.inside.state) c.args.index = rw (sym c.self.view_is) at c.requires.retained in
-    rw (← c.self.view_is) (tried_chunk_holds g.row.N c.self.inside.current c.self.inside.commits c.self.inside.last c.self.inside.state c.set_chunk.new.self c.len.ensures.width.positive c.self.invariant.0 c.args.index c.args.chunk.now has c.set_chunk.result c.set_chunk.ensures.ok)
 
 pub returns-clause-keeps : goal.returns-clause-keeps
 returns-clause-keeps g c =
