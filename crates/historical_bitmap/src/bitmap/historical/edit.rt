@@ -1,6 +1,6 @@
 //! Chained edits of a dirty bitmap.
 
-ghost use Rattle.std.specs.Prelude.{◌≡◌, ℕ, ◌+◌, ◌*◌, ◌/◌, ◌%◌, ◌^◌, ◌<◌, ◌≤◌, IfOk, IsOk};
+ghost use Rattle.std.specs.Prelude.{◌≡◌, ℕ, ◌+◌, ◌*◌, ◌/◌, ◌%◌, ◌^◌, ◌<◌, ◌≤◌, [], ◌∷◌, IfOk, IsOk};
 ghost use Rattle.bitmap_bytes.specs.Chunk.{byte_bits, chunk_bits};
 ghost use Rattle.bitmap_core.specs.PrunedBits.{bit_len, IsRetained, pruned_bits};
 ghost use Rattle.historical_bitmap.specs.Edits.Edit.{Prune, Push, Set};
